@@ -1,0 +1,34 @@
+-- Which messages a slot takes: the oldest that satisfy its predicate.
+use Rattle.std.specs.Prelude.{ℕ, ◌+◌, Bool, true, ◌==◌, not, nat_lt, nat_le, List, [], ◌∷◌, length, take, filter, map, Option, Some, None, if◌then◌else◌}
+use Rattle.std.specs.List.{enumerate_from}
+use Rattle.ccr_base.specs.declared.messages.Msg.{Msg}
+use Rattle.ccr_base.specs.declared.patterns.Pred.{Pred}
+use Rattle.ccr_base.specs.declared.patterns.Pred.TheVariants.{Any, Eq, Lt, Ge}
+use Rattle.ccr_base.specs.declared.patterns.Slot.{Slot}
+
+abbrev pub holds : Pred → ℕ → Bool
+holds Any value = true
+holds (Eq n) value = value == n
+holds (Lt n) value = nat_lt value n
+holds (Ge n) value = nat_le n value
+
+-- the messages that satisfy the predicate, oldest first
+abbrev pub fitting : Pred → List Msg → List Msg
+fitting pred messages = filter (λ (message : Msg). holds pred message.value) messages
+
+-- whether enough satisfy it
+abbrev pub is_choosable : Slot → List Msg → Bool
+is_choosable slot messages = nat_le slot.least (length (fitting slot.pred messages))
+
+-- the first of them, as many as the slot takes at most; none where they are too few
+abbrev pub choice : Slot → List Msg → Option (List Msg)
+choice slot messages = if is_choosable slot messages then Some (take slot.most (fitting slot.pred messages)) else None
+
+-- the places of the messages that satisfy the predicate, where the first message has this place
+abbrev pub places_from : ℕ → Pred → List Msg → List ℕ
+places_from place pred [] = []
+places_from place pred (message ∷ messages) = if holds pred message.value then place ∷ places_from (place + 1) pred messages else places_from (place + 1) pred messages
+
+-- the places of the choice
+abbrev pub chosen : Slot → List Msg → Option (List ℕ)
+chosen slot messages = if is_choosable slot messages then Some (take slot.most (places_from 0 slot.pred messages)) else None

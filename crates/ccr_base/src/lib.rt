@@ -1,0 +1,25 @@
+//! The words that every layer speaks: names, messages, patterns, tasks, handlers, policies and the gate.
+#![tactic(auto)]
+
+mod gate;
+mod handlers;
+mod list;
+mod messages;
+mod names;
+mod patterns;
+mod policies;
+mod tasks;
+
+pub use gate::{Gate, OpenGate, Point};
+pub use handlers::{Action, Expr, Handler};
+pub use list::{List, Name, OutOfMemory};
+pub use messages::{Msg, Sent, Value};
+pub use names::{
+    ActorNo, ArbiterNo, BranchNo, CauseNo, HandlerNo, MsgId, Place, PortNo, QueueNo, Spot, TaskId,
+};
+pub use patterns::{Pattern, Pred, Slot};
+pub use policies::{Group, Policy};
+pub use tasks::{By, Commit, Cut, How, Task};
+
+#[cfg(test)]
+mod tests;

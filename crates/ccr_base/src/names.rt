@@ -1,0 +1,47 @@
+//! Numbers and names: of actors, ports, tasks, messages, spots and places.
+
+/// The number of a port, from 0, in the order of the wiring. The others are likewise.
+pub type PortNo = u32;
+
+pub type QueueNo = u32;
+
+pub type CauseNo = u32;
+
+pub type HandlerNo = u32;
+
+pub type ArbiterNo = u32;
+
+pub type BranchNo = u32;
+/// The posters come first, then the workers, then the closer.
+pub type ActorNo = u32;
+
+/// The task that an attempt (from 0) of an actor fired.
+#[derive(Clone, Copy, Debug, PartialEq, Eq, PartialOrd, Ord, Hash)]
+pub struct TaskId {
+    pub actor: ActorNo,
+    pub attempt: u32,
+}
+
+/// A message: a post (from 0) of a poster's script, or a post (from 0) of a task.
+#[derive(Clone, Copy, Debug, PartialEq, Eq, PartialOrd, Ord, Hash)]
+pub enum MsgId {
+    Script { actor: ActorNo, place: u32 },
+    Task { task: TaskId, place: u32 },
+}
+
+/// Where a firing happens: a branch, or an await site (from 0) of a branch.
+#[derive(Clone, Copy, Debug, PartialEq, Eq)]
+pub enum Spot {
+    Branch(BranchNo),
+    Site(BranchNo, u32),
+}
+
+/// What has a lock of its own.
+#[derive(Clone, Copy, Debug, PartialEq, Eq)]
+pub enum Place {
+    Port(PortNo),
+    Arbiter(ArbiterNo),
+    Site(BranchNo, u32),
+    Queue(QueueNo),
+    Meter,
+}

@@ -1,0 +1,48 @@
+//! What a branch takes: slots with predicates, or a gather.
+
+ghost use Rattle.std.specs.Prelude.{◌≡◌};
+ghost use Rattle.ccr_base.specs.Choice.{holds};
+
+use crate::{List, PortNo, Value};
+
+/// What a slot asks of a message's value.
+#[derive(Clone, Copy, Debug, PartialEq, Eq)]
+pub enum Pred {
+    Any,
+    Eq(Value),
+    Lt(Value),
+    Ge(Value),
+}
+
+impl Pred {
+    pub fn holds(&self, value: Value) -> bool
+        ensures { result ≡ holds self.now value }
+    {
+        match *self {
+            Pred::Any => true,
+            Pred::Eq(n) => value == n,
+            Pred::Lt(n) => value < n,
+            Pred::Ge(n) => value >= n,
+        }
+    }
+}
+
+/// At least `least` and at most `most` of the port's oldest messages that satisfy the predicate.
+#[derive(Clone, Copy, Debug, PartialEq, Eq)]
+pub struct Slot {
+    pub port: PortNo,
+    pub least: u32,
+    pub most: u32,
+    pub pred: Pred,
+}
+
+/// What one firing takes. A gather takes `total` messages of two ports; which split is free.
+#[derive(Debug, Drop)]
+pub enum Pattern {
+    Slots(List<Slot>),
+    Gather {
+        total: u32,
+        first: PortNo,
+        second: PortNo,
+    },
+}

@@ -1,0 +1,2 @@
+//! Lists of causes, none of which stands twice.
+#![tactic(auto)]

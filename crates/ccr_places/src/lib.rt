@@ -1,0 +1,6 @@
+//! What each place keeps, and which note it may give: the steps of ports, arbiters, sites, queues and the meter.
+#![tactic(auto)]
+
+mod notes;
+
+pub use notes::{ClaimNote, Note};

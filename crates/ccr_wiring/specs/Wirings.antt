@@ -1,0 +1,84 @@
+-- What a wiring says of a branch, a queue, a handler and a cause.
+use Rattle.std.specs.Prelude.{ℕ, suc, ◌+◌, Bool, true, false, List, [], ◌∷◌, ◌++◌, map, flat_map, filter_map, Option, Some, None, option_map, unwrap_or}
+use Rattle.std.specs.List.{slice_get}
+use Rattle.std.specs.Option.{option_map_or}
+use Rattle.ccr_base.specs.declared.names.Spot.{Spot}
+use Rattle.ccr_base.specs.declared.names.Spot.TheVariants.{Branch, Site}
+use Rattle.ccr_base.specs.declared.handlers.Action.{Action}
+use Rattle.ccr_base.specs.declared.handlers.Action.TheVariants.{Post, Fail, Add, Remove, Await}
+use Rattle.ccr_wiring.specs.declared.parts.Parts.{Parts}
+use Rattle.ccr_wiring.specs.declared.parts.ArbiterPart.{ArbiterPart}
+use Rattle.ccr_wiring.specs.declared.parts.BranchPart.{BranchPart}
+use Rattle.ccr_wiring.specs.declared.parts.QueuePart.{QueuePart}
+use Rattle.ccr_base.specs.declared.policies.Policy.{Policy}
+use Rattle.ccr_base.specs.declared.policies.Policy.TheVariants.{Unbounded}
+use Rattle.ccr_wiring.specs.declared.parts.Kind.{Kind}
+
+-- a branch with its arbiter's number and kind
+pub record Seat : Type 0 where
+  pub arbiter : ℕ
+  pub kind : Kind
+  pub branch : BranchPart
+
+abbrev pub seats_of : ℕ → ArbiterPart → List Seat
+seats_of number arbiter = map (λ branch. record { arbiter = number; kind = arbiter.kind; branch = branch }) arbiter.branches
+
+-- the branches of the arbiters, of which the first has this number
+abbrev pub seats_from : ℕ → List ArbiterPart → List Seat
+seats_from number [] = []
+seats_from number (arbiter ∷ arbiters) = seats_of number arbiter ++ seats_from (number + 1) arbiters
+
+abbrev pub seats : Parts → List Seat
+seats wiring = seats_from 0 wiring.arbiters
+
+abbrev pub seat : Parts → ℕ → Option Seat
+seat wiring branch = slice_get (seats wiring) branch
+
+abbrev pub policy_of : Parts → ℕ → Policy
+policy_of wiring queue = option_map_or (λ (part : QueuePart). part.policy) (slice_get wiring.queues queue) Unbounded
+
+abbrev pub actions_of : Parts → ℕ → List Action
+actions_of wiring handler = option_map_or (λ part. part.handler.actions) (slice_get wiring.handlers handler) []
+
+abbrev pub exception_port : Parts → ℕ → Option ℕ
+exception_port wiring cause = option_map (λ part. part.port) (slice_get wiring.causes cause)
+
+abbrev pub await_port : Action → Option ℕ
+await_port (Await port) = Some port
+await_port _ = None
+
+-- the ports that a handler's actions await, site by site
+abbrev pub awaited : List Action → List ℕ
+awaited actions = filter_map await_port actions
+
+abbrev pub branch_of : Spot → ℕ
+branch_of (Branch branch) = branch
+branch_of (Site branch site) = branch
+
+abbrev pub is_branch : Spot → Bool
+is_branch (Branch branch) = true
+is_branch (Site branch site) = false
+
+-- the segment that a task fired at the spot runs
+abbrev pub segment_of : Spot → ℕ
+segment_of (Branch branch) = 0
+segment_of (Site branch site) = suc site
+
+-- the site at which a task fired at the spot is suspended
+abbrev pub next_site : Spot → Spot
+next_site spot = Site (branch_of spot) (segment_of spot)
+
+abbrev pub site_port : Parts → ℕ → ℕ → Option ℕ
+site_port wiring branch site = option_map_or (λ (s : Seat). slice_get (awaited (actions_of wiring s.branch.handler)) site) (seat wiring branch) None
+
+abbrev pub sites_from : ℕ → ℕ → List ℕ → List Spot
+sites_from branch site [] = []
+sites_from branch site (port ∷ ports) = Site branch site ∷ sites_from branch (site + 1) ports
+
+abbrev pub spots_from : Parts → ℕ → List Seat → List Spot
+spots_from wiring branch [] = []
+spots_from wiring branch (s ∷ ss) = Branch branch ∷ sites_from branch 0 (awaited (actions_of wiring s.branch.handler)) ++ spots_from wiring (branch + 1) ss
+
+-- each branch, followed by its sites
+abbrev pub spots : Parts → List Spot
+spots wiring = spots_from wiring 0 (seats wiring)

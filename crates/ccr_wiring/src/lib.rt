@@ -1,0 +1,8 @@
+//! Wirings: their parts, what makes parts valid, and the spots at which they fire.
+#![tactic(auto)]
+
+mod parts;
+
+pub use parts::{
+    ArbiterPart, BranchPart, CausePart, HandlerPart, Kind, Parts, PosterPart, QueuePart, SetPart,
+};

@@ -1,0 +1,73 @@
+//! The parts of a wiring, as plain data. A number that names a part is its place among its kind, from 0.
+
+use ccr_base::{Group, Handler, HandlerNo, List, Name, Pattern, Policy, PortNo, QueueNo, Sent};
+
+#[derive(Clone, Copy, Debug, PartialEq, Eq)]
+pub enum Kind {
+    Receive,
+    Choice,
+    Interleave,
+}
+
+#[derive(Debug, Drop)]
+pub struct QueuePart {
+    pub name: Name,
+    pub policy: Policy,
+}
+
+/// A port set: 1 to 8 ports.
+#[derive(Debug, Drop)]
+pub struct SetPart {
+    pub name: Name,
+    pub ports: List<PortNo>,
+}
+
+/// A cause, and the port that its exceptions go to.
+#[derive(Debug, Drop)]
+pub struct CausePart {
+    pub name: Name,
+    pub port: PortNo,
+}
+
+#[derive(Debug, Drop)]
+pub struct HandlerPart {
+    pub name: Name,
+    pub handler: Handler,
+}
+
+/// A branch. Branches are numbered through all arbiters.
+#[derive(Debug, Drop)]
+pub struct BranchPart {
+    pub name: Name,
+    pub group: Group,
+    pub queue: QueueNo,
+    pub handler: HandlerNo,
+    pub pattern: Pattern,
+}
+
+/// A receive has one branch of its own name.
+#[derive(Debug, Drop)]
+pub struct ArbiterPart {
+    pub name: Name,
+    pub kind: Kind,
+    pub branches: List<BranchPart>,
+}
+
+#[derive(Debug, Drop)]
+pub struct PosterPart {
+    pub name: Name,
+    pub posts: List<Sent>,
+}
+
+/// Everything that a wiring text says.
+#[derive(Debug, Drop)]
+pub struct Parts {
+    pub budget: u32,
+    pub queues: List<QueuePart>,
+    pub ports: List<Name>,
+    pub sets: List<SetPart>,
+    pub causes: List<CausePart>,
+    pub handlers: List<HandlerPart>,
+    pub arbiters: List<ArbiterPart>,
+    pub posters: List<PosterPart>,
+}
