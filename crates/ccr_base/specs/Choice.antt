@@ -1,6 +1,6 @@
 -- Which messages a slot takes: the oldest that satisfy its predicate.
-use Rattle.std.specs.Prelude.{ℕ, ◌+◌, Bool, true, ◌==◌, not, nat_lt, nat_le, List, [], ◌∷◌, length, take, filter, map, Option, Some, None, if◌then◌else◌}
-use Rattle.std.specs.List.{enumerate_from}
+use Rattle.std.specs.Prelude.{ℕ, ◌+◌, Bool, true, ◌==◌, nat_lt, nat_le, List, [], ◌∷◌, length, take, filter, flat_map, Option, Some, None, option_to_list, if◌then◌else◌}
+use Rattle.std.specs.List.{slice_get}
 use Rattle.ccr_base.specs.declared.messages.Msg.{Msg}
 use Rattle.ccr_base.specs.declared.patterns.Pred.{Pred}
 use Rattle.ccr_base.specs.declared.patterns.Pred.TheVariants.{Any, Eq, Lt, Ge}
@@ -32,3 +32,7 @@ places_from place pred (message ∷ messages) = if holds pred message.value then
 -- the places of the choice
 abbrev pub chosen : Slot → List Msg → Option (List ℕ)
 chosen slot messages = if is_choosable slot messages then Some (take slot.most (places_from 0 slot.pred messages)) else None
+
+-- the messages at these places
+abbrev pub messages_at : List Msg → List ℕ → List Msg
+messages_at messages places = flat_map (λ place. option_to_list (slice_get messages place)) places

@@ -1,6 +1,7 @@
 //! The words that every layer speaks: names, messages, patterns, tasks, handlers, policies and the gate.
 #![tactic(auto)]
 
+mod choices;
 mod gate;
 mod handlers;
 mod list;
@@ -10,6 +11,7 @@ mod patterns;
 mod policies;
 mod tasks;
 
+pub use choices::{can_choose, choose};
 pub use gate::{Gate, OpenGate, Point};
 pub use handlers::{Action, Expr, Handler};
 pub use list::{List, Name, OutOfMemory};

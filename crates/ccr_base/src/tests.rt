@@ -1,4 +1,7 @@
+ghost use Rattle.std.specs.Prelude.{◌≡◌};
+
 use super::*;
+use std::alloc::Global;
 use std::test::*;
 
 #[test]
@@ -11,5 +14,78 @@ fn pushes_and_removes(rt: HostRuntime) -> Result<(), Fail> {
     let second = list.remove(1);
     assert_eq!(rt; second, 1);
     assert_eq!(rt; list.as_slice(), [0, 2].as_slice());
+    Ok(())
+}
+
+/// A message of value `value`, the post `place` of a poster.
+fn message(alloc: Global, place: u32, value: u64) -> Msg {
+    Msg {
+        id: MsgId::Script { actor: 0, place },
+        port: 0,
+        value,
+        causes: List::new(alloc),
+    }
+}
+
+fn messages(alloc: Global, values: &[u64]) -> Result<Vec<Msg>, OutOfMemory> {
+    let mut found = Vec::new(alloc);
+    let mut place: u32 = 0;
+    for value in values {
+        found.push(message(alloc, place, *value))?;
+        place = place.wrapping_add(1);
+    }
+    Ok(found)
+}
+
+fn slot(least: u32, most: u32, pred: Pred) -> Slot
+    ensures { result ≡ record { port = 0; least = least; most = most; pred = pred } }
+{
+    Slot {
+        port: 0,
+        least,
+        most,
+        pred,
+    }
+}
+
+#[test]
+fn chooses_the_oldest(rt: HostRuntime) -> Result<(), Fail> {
+    let items = messages(rt.alloc(), &[3, 12, 4, 15, 9])?;
+    assert!(rt; items.len() == 5);
+    let large = slot(1, 2, Pred::Ge(9));
+    let places = choose(rt.alloc(), &items, &large)?.ok_or("none")?;
+    assert_eq!(rt; places.as_slice(), [1, 3].as_slice());
+    assert!(rt; can_choose(&items, &large));
+    let small = slot(2, 9, Pred::Lt(5));
+    let places = choose(rt.alloc(), &items, &small)?.ok_or("none")?;
+    assert_eq!(rt; places.as_slice(), [0, 2].as_slice());
+    let twelve = slot(2, 2, Pred::Eq(12));
+    assert!(rt; choose(rt.alloc(), &items, &twelve)?.is_none());
+    assert!(rt; !can_choose(&items, &twelve));
+    Ok(())
+}
+
+#[test]
+fn copies_are_equal(rt: HostRuntime) -> Result<(), Fail> {
+    let original = message(rt.alloc(), 7, 5);
+    let copied = original.copy(rt.alloc())?;
+    assert_eq!(rt; copied.id, MsgId::Script { actor: 0, place: 7 });
+    assert_eq!(rt; copied.value, 5);
+    let id = TaskId {
+        actor: 1,
+        attempt: 2,
+    };
+    let task = Task {
+        id,
+        root: id,
+        spot: Spot::Branch(0),
+        arbiter: 0,
+        queue: 0,
+        values: List::from_vec(Vec::from_slice(rt.alloc(), &[5, 6])?),
+        causes: List::new(rt.alloc()),
+    };
+    let copied = task.copy(rt.alloc())?;
+    assert_eq!(rt; copied.id, id);
+    assert_eq!(rt; copied.values.as_slice(), [5, 6].as_slice());
     Ok(())
 }

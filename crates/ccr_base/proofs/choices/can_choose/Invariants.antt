@@ -1,0 +1,8 @@
+use Rattle.std.proofs.Common.{◌≡◌, drop, length}
+use Rattle.std.specs.Prelude.{nat_le}
+use Rattle.ccr_base.specs.Choice.{fitting, is_choosable}
+use Rattle.ccr_base.proofs.choices.can_choose.Given as goal
+
+-- whether as many as are left to find satisfy it among the others
+abbrev pub invariant-loop-message : goal.invariant-loop-message
+invariant-loop-message l = nat_le l.left (length (fitting l.slot.pred (drop l.message-index l.items))) ≡ is_choosable l.slot l.items
