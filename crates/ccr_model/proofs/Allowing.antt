@@ -1,0 +1,345 @@
+-- The event that comes first is allowed.
+use Rattle.std.proofs.Common.{◌≡◌, ℕ, zero, suc, ◌+◌, ◌-◌, ◌<◌, ◌≤◌, ◌⊎◌, inl, inr, Bool, true, false, not, ◌&&◌, ◌||◌, List, [], ◌∷◌, ◌++◌, length, map, filter, flat_map, take, min, max, length-append, length-take, Option, Some, None, refl, sym, arith, ap, ◌∙◌, subst, append-nil}
+use Rattle.std.specs.Prelude.{◌==◌, if◌then◌else◌, find, nat_lt, nat_le, option_map, option_and_then, IfSome}
+use Rattle.std.specs.List.{slice_get, list_any}
+use Rattle.std.specs.Option.{option_map_or, option_or}
+use Rattle.std.proofs.lemmas.Grind.{common_steps}
+use Rattle.std.proofs.lemmas.Bool.Decides.{nat_tests}
+use Rattle.ccr_base.specs.declared.names.TaskId.{TaskId}
+use Rattle.ccr_base.specs.declared.names.MsgId.{MsgId}
+use Rattle.ccr_base.specs.declared.names.MsgId.TheVariants.{Script, Task}
+use Rattle.ccr_base.specs.declared.messages.Msg.{Msg}
+use Rattle.ccr_base.specs.declared.messages.Sent.{Sent}
+use Rattle.ccr_base.specs.declared.patterns.Pattern.{Pattern}
+use Rattle.ccr_base.specs.declared.patterns.Pattern.TheVariants.{Slots, Gather}
+use Rattle.ccr_base.specs.declared.names.Spot.{Spot}
+use Rattle.ccr_base.specs.declared.names.Spot.TheVariants.{Branch, Site}
+use Rattle.ccr_handler.specs.declared.plays.Play.{Play}
+use Rattle.ccr_handler.specs.declared.plays.PlayEnd.{PlayEnd}
+use Rattle.ccr_handler.specs.declared.plays.PlayEnd.TheVariants as plays
+use Rattle.ccr_wiring.specs.declared.parts.Parts.{Parts}
+use Rattle.ccr_wiring.specs.declared.parts.PosterPart.{PosterPart}
+use Rattle.ccr_wiring.specs.declared.parts.ArbiterPart.{ArbiterPart}
+use Rattle.ccr_wiring.specs.declared.parts.QueuePart.{QueuePart}
+use Rattle.ccr_model.specs.declared.history.Event.{Event}
+use Rattle.ccr_model.specs.declared.history.Event.TheVariants.{Post, Fire, Admit, Put, Start, End}
+use Rattle.ccr_model.specs.declared.history.EndHow.{EndHow}
+use Rattle.ccr_model.specs.declared.history.EndHow.TheVariants as ends
+use Rattle.ccr_base.specs.Names.{same_task, has_task, same_lists, same_options, same_message, without}
+use Rattle.ccr_model.specs.Posts.{posts_of_poster, posts_of_task, posts_of_tasks, held}
+use Rattle.ccr_wiring.specs.Wirings.{Seat, seat, spots, site_port, branch_of}
+use Rattle.ccr_model.specs.Firings.{Firing, firings, firing_of, firing_named, fired, started, ended}
+use Rattle.ccr_model.specs.TaskData.{seat_of, play_of}
+use Rattle.ccr_model.specs.Tasks.{is_interleave, is_branch_where, fired_by, waiting, queued, is_for_queue, running, running_by, started_as, has_post_left, count_unfinished}
+use Rattle.ccr_model.specs.Live.{is_live, has_room, is_none_of}
+use Rattle.ccr_model.specs.Choice.{is_choice, is_choice_of, engine_choice, engine_choice_of, engine_gather, choice_of_slots, are_first, are_split, are_oldest, oldest, names_of}
+use Rattle.ccr_model.specs.Rules.{refusal, refused, is_post, is_script_line, is_new, may_put, drop_at, cuts_at, has_budget, is_play_post, may_end, may_shed, ends_so, is_shed, is_first, is_oldest_waiting, may_enter, is_oldest_queued, may_start}
+use Rattle.ccr_model.specs.Legal.{IsAllowed, IsLegal}
+use Rattle.ccr_model.specs.Order.{post_from, script_post, fire_at, fire_from, next_attempt, put_first, run_task, run_with, task_post, how_of, admit_first, admit_from, start_from, first}
+use Rattle.ccr_model.proofs.PostNames.{along, both, refused_not, same_message-self}
+use Rattle.ccr_model.proofs.Quiet.{Among, some_of}
+use Rattle.ccr_model.proofs.Stable.{firing_named-append, find-append, firings-append}
+
+IfSome-or : (P : Event → Type 0) (a b : Option Event) → IfSome a P → IfSome b P → IfSome (option_or a b) P
+IfSome-or P None b p q = q
+IfSome-or P (Some e) b p q = p
+
+same_list-self : {X : Type 0} (same : X → X → Bool) → ((x : X) → same x x ≡ true) → (xs : List X) → same_lists same xs xs ≡ true
+same_list-self same self [] = refl
+same_list-self same self (x ∷ xs) = grind (arith, self x, same_list-self same self xs)
+
+pub same_task-self : (t : TaskId) → same_task t t ≡ true
+same_task-self t = grind (arith, nat_tests)
+
+eq-self : (n : ℕ) → (n == n) ≡ true
+eq-self n = grind (arith, nat_tests)
+
+-- what passes isn't refused
+passed : (b : Bool) (n : ℕ) (o : Option ℕ) → b ≡ true → o ≡ None → refused b n o ≡ None
+passed b n o is rest = rw (is, rest) refl
+
+-- Post of a script
+is_post-self : (i : MsgId) (s : Sent) → is_post (record { id = i; port = s.port; value = s.value; causes = s.causes }) s ≡ true
+is_post-self i s = rw (eq-self s.port, eq-self s.value, same_list-self (λ c d. c == d) eq-self s.causes) refl
+
+script_allowed : (w : Parts) (h : List Event) (n : ℕ) (p : PosterPart) → slice_get w.posters n ≡ Some p → (o : Option Sent) → slice_get p.posts (posts_of_poster h n) ≡ o → IfSome (option_map (script_post n (posts_of_poster h n)) o) (IsAllowed w h)
+script_allowed w h n p at None is = tt
+script_allowed w h n p at (Some s) is = passed _ 1 None (rw (at, is, eq-self (posts_of_poster h n), is_post-self (Script n (posts_of_poster h n)) s) refl) refl
+
+posts_allowed : (w : Parts) (h : List Event) (n : ℕ) (ps : List PosterPart) → ((k i : ℕ) (p : PosterPart) → n + k ≡ i → slice_get ps k ≡ Some p → slice_get w.posters i ≡ Some p) → IfSome (post_from h n ps) (IsAllowed w h)
+posts_allowed w h n [] at = tt
+posts_allowed w h n (p ∷ ps) at = IfSome-or (IsAllowed w h) _ _ (script_allowed w h n p (at 0 n p (omega arith) refl) (slice_get p.posts (posts_of_poster h n)) refl) (posts_allowed w h (n + 1) ps (λ k i q e is. at (suc k) i q (omega arith) is))
+
+-- Fire
+below_next : (c k : ℕ) (ts : List TaskId) → next_attempt c ts ≤ k → list_any (same_task (record { actor = c; attempt = k })) ts ≡ false
+below_next c k [] le = refl
+below_next c k (t ∷ ts) le = grind (arith, nat_tests, below_next c k ts)
+
+first-self : (xs : List Msg) (n : ℕ) → are_first xs (names_of (take n xs)) ≡ true
+first-self [] zero = refl
+first-self [] (suc n) = refl
+first-self (x ∷ xs) zero = refl
+first-self (x ∷ xs) (suc n) = rw (same_message-self x.id) (first-self xs n)
+
+are_first-is_split : (a b : List Msg) (names : List MsgId) → are_first b names ≡ true → are_split a b names ≡ true
+are_first-is_split [] b [] is = refl
+are_first-is_split [] b (n ∷ names) is = is
+are_first-is_split (m ∷ a) b [] is = refl
+are_first-is_split (m ∷ a) b (n ∷ names) is = rw is refl
+
+or_right : (a b : Bool) → b ≡ true → a || b ≡ true
+or_right true b is = refl
+or_right false b is = is
+
+split_both : (a b : List Msg) (n k : ℕ) → are_split a b (names_of (take n a ++ take k b)) ≡ true
+split_both a b zero k = are_first-is_split a b (names_of (take k b)) (first-self b k)
+split_both [] b (suc n) k = are_first-is_split [] b (names_of (take k b)) (first-self b k)
+split_both (x ∷ a) b (suc n) k = or_right (are_first b (names_of (take (suc n) (x ∷ a) ++ take k b))) _ (rw (same_message-self x.id) (split_both a b n k))
+
+names-length : (ms : List Msg) → length (names_of ms) ≡ length ms
+names-length [] = refl
+names-length (m ∷ ms) = grind (arith, names-length ms)
+
+takes-length : (a b : List Msg) (n k : ℕ) → length (names_of (take n a ++ take k b)) ≡ min n (length a) + min k (length b)
+takes-length a b n k = rw names-length (omega (arith, length-append (take n a) (take k b), length-take n a, length-take k b))
+
+gather_is : (total : ℕ) (a b : List Msg) (n k : ℕ) → min n (length a) + min k (length b) ≡ total → (length (names_of (take n a ++ take k b)) == total) && are_split a b (names_of (take n a ++ take k b)) ≡ true
+gather_is total a b n k e = rw (takes-length a b n k, e, eq-self total, split_both a b n k) refl
+
+-- the engine's gather is a choice
+gather_choice : (total p q : ℕ) (a b ms : List Msg) → engine_gather total p q a b ≡ Some ms → (length (names_of ms) == total) && are_split a b (names_of ms) ≡ true
+gather_choice total p q a b ms is = of_tests (nat_lt (length a + length b) total) (nat_lt p q) refl is
+  where
+    of_tests : (x y : Bool) → nat_lt (length a + length b) total ≡ x → (if x then None else if y then Some (take total a ++ take (total - length a) b) else Some (take (total - length b) a ++ take total b)) ≡ Some ms → (length (names_of ms) == total) && are_split a b (names_of ms) ≡ true
+    of_tests true y few e = absurd (cc)
+    of_tests false true few e =
+        let enough : total ≤ length a + length b = grind (arith, nat_tests) in
+        let same : ms ≡ take total a ++ take (total - length a) b = cc in
+        rw same (gather_is total a b total (total - length a) (omega arith))
+    of_tests false false few e =
+        let enough : total ≤ length a + length b = grind (arith, nat_tests) in
+        let same : ms ≡ take (total - length b) a ++ take total b = cc in
+        rw same (gather_is total a b (total - length b) total (omega arith))
+
+choice_allowed_of : (f : ℕ → List Msg) (p : Pattern) (ms : List Msg) → engine_choice_of f p ≡ Some ms → is_choice_of f p (names_of ms) ≡ true
+choice_allowed_of f (Slots slots) ms is = rw is (same_list-self same_message same_message-self (names_of ms))
+choice_allowed_of f (Gather total p q) ms is = gather_choice total p q (f p) (f q) ms is
+
+oldest_choice : (xs ms : List Msg) → oldest xs ≡ Some ms → are_oldest xs (names_of ms) ≡ true
+oldest_choice [] ms is = absurd (cc)
+oldest_choice (x ∷ xs) ms is = let same : ms ≡ x ∷ [] = cc in rw same (rw (same_message-self x.id) refl)
+
+choice_allowed : (w : Parts) (h : List Event) (s : Spot) (ms : List Msg) → engine_choice w h s ≡ Some ms → is_choice w h s (names_of ms) ≡ true
+choice_allowed w h (Branch b) ms is = of_option (seat w b) is
+  where
+    of_option : (o : Option Seat) → option_and_then (λ (s : Seat). engine_choice_of (held h) s.branch.pattern) o ≡ Some ms → option_map_or (λ (s : Seat). is_choice_of (held h) s.branch.pattern (names_of ms)) o false ≡ true
+    of_option None e = absurd (cc)
+    of_option (Some s) e = choice_allowed_of (held h) s.branch.pattern ms e
+choice_allowed w h (Site b k) ms is = of_option (site_port w b k) is
+  where
+    of_option : (o : Option ℕ) → option_and_then (λ port. oldest (held h port)) o ≡ Some ms → option_map_or (λ port. are_oldest (held h port) (names_of ms)) o false ≡ true
+    of_option None e = absurd (cc)
+    of_option (Some port) e = oldest_choice (held h port) ms e
+
+fire_allowed : (w : Parts) (c : ℕ) (h : List Event) (s : Spot) → c ≤ 32 → IfSome (fire_at w c h s) (IsAllowed w h)
+fire_allowed w c h s low = of_test (is_live w h s) (has_room w h s) refl refl (engine_choice w h s) refl
+  where
+    of_test : (a b : Bool) → is_live w h s ≡ a → has_room w h s ≡ b → (o : Option (List Msg)) → engine_choice w h s ≡ o → IfSome (if a && b then option_map (λ ms. Fire (record { actor = c; attempt = next_attempt c (fired h) }) s (names_of ms) (cuts_at w h s)) o else None) (IsAllowed w h)
+    of_test true true live room None is = tt
+    of_test true true live room (Some ms) is =
+        let new : is_new h (record { actor = c; attempt = next_attempt c (fired h) }) ≡ true = grind (arith, nat_tests, below_next c (next_attempt c (fired h)) (fired h)) in
+        passed _ 4 _ new (passed _ 5 _ live (passed _ 6 _ (choice_allowed w h s ms is) (passed _ 7 _ room (passed _ 8 None (same_list-self same_task same_task-self (cuts_at w h s)) refl))))
+    of_test true false live room o is = tt
+    of_test false b live room o is = tt
+
+fires_allowed : (w : Parts) (c : ℕ) (h : List Event) (ss : List Spot) → c ≤ 32 → IfSome (fire_from w c h ss) (IsAllowed w h)
+fires_allowed w c h [] low = tt
+fires_allowed w c h (s ∷ ss) low = IfSome-or (IsAllowed w h) _ _ (fire_allowed w c h s low) (fires_allowed w c h ss low)
+
+-- Put
+find_passes : {X : Type 0} (p : X → Bool) (xs : List X) (x : X) → find p xs ≡ Some x → p x ≡ true
+find_passes p [] x is = absurd (cc)
+find_passes p (y ∷ xs) x is = of_test (p y) refl is (find_passes p xs x)
+  where
+    of_test : (b : Bool) → p y ≡ b → (if b then Some y else find p xs) ≡ Some x → (find p xs ≡ Some x → p x ≡ true) → p x ≡ true
+    of_test true e at rest = let same : y ≡ x = cc in rw (← same) e
+    of_test false e at rest = rest at
+
+same_option-self : (o : Option TaskId) → same_options same_task o o ≡ true
+same_option-self None = refl
+same_option-self (Some t) = same_task-self t
+
+put_allowed : (w : Parts) (h : List Event) → IfSome (put_first w h) (IsAllowed w h)
+put_allowed w h = of_option (find (may_put w h) (fired h)) refl
+  where
+    of_option : (o : Option TaskId) → find (may_put w h) (fired h) ≡ o → IfSome (option_map (λ t. Put t (drop_at w h t)) o) (IsAllowed w h)
+    of_option None is = tt
+    of_option (Some t) is = passed _ 11 _ (find_passes (may_put w h) (fired h) t is) (passed _ 12 None (same_option-self (drop_at w h t)) refl)
+
+-- the next event of the running task
+pub some-below : {X : Type 0} (xs : List X) (n : ℕ) (x : X) → slice_get xs n ≡ Some x → n < length xs
+some-below [] n x is = absurd (cc)
+some-below (y ∷ xs) zero x is = omega arith
+some-below (y ∷ xs) (suc n) x is = omega (arith, some-below xs n x is)
+
+none-above : {X : Type 0} (xs : List X) (n : ℕ) → slice_get xs n ≡ None → length xs ≤ n
+none-above [] n is = omega arith
+none-above (y ∷ xs) zero is = absurd (cc)
+none-above (y ∷ xs) (suc n) is = omega (arith, none-above xs n is)
+
+ends_so-how : (e : PlayEnd) → ends_so (how_of e) e ≡ true
+ends_so-how plays.Done = refl
+ends_so-how (plays.Failed v) = eq-self v
+ends_so-how (plays.Yield k) = refl
+
+not_shed : (e : PlayEnd) → is_shed (how_of e) ≡ false
+not_shed plays.Done = refl
+not_shed (plays.Failed v) = refl
+not_shed (plays.Yield k) = refl
+
+run_allowed : (w : Parts) (h : List Event) (t : TaskId) → has_task (running h) t ≡ true → IsAllowed w h (run_task w h t)
+run_allowed w h t runs = of_option (slice_get (play_of w h t).posts (posts_of_task h t)) refl
+  where
+    of_option : (o : Option Sent) → slice_get (play_of w h t).posts (posts_of_task h t) ≡ o → IsAllowed w h (run_with w h t (play_of w h t) o)
+    of_option None is =
+        let whole : has_post_left w h t ≡ false = grind (arith, nat_tests, none-above (play_of w h t).posts (posts_of_task h t) is) in
+        passed _ 15 _ runs (passed _ 16 None (rw (not_shed (play_of w h t).end, whole, ends_so-how (play_of w h t).end) refl) refl)
+    of_option (Some s) is = of_budget (has_budget w h) refl
+      where
+        of_budget : (b : Bool) → has_budget w h ≡ b → IsAllowed w h (if b then task_post t (posts_of_task h t) s else End t ends.Shed)
+        of_budget true room = passed _ 2 _ (rw (runs, is, eq-self (posts_of_task h t), is_post-self (Task t (posts_of_task h t)) s) refl) (passed _ 3 None room refl)
+        of_budget false spent =
+            let left : has_post_left w h t ≡ true = grind (arith, nat_tests, some-below (play_of w h t).posts (posts_of_task h t) s is) in
+            let full : w.budget ≤ posts_of_tasks h = grind (arith, nat_tests) in
+            let much : nat_le w.budget (posts_of_tasks h + (count_unfinished w h - 1)) ≡ true = grind (arith, nat_tests) in
+            passed _ 15 _ runs (passed _ 16 None (rw (left, much) refl) refl)
+
+-- each firing is found by its name
+abbrev pub OneName : List Event → Type 0
+OneName h = (f : Firing) → Among f (firings h) → firing_named h f.task ≡ Some f
+
+find_none : (t : TaskId) (fs : List Firing) (g : Firing) → g.task ≡ t → has_task (map (λ (f : Firing). f.task) fs) t ≡ false → find (λ (f : Firing). same_task f.task t) (fs ++ g ∷ []) ≡ Some g
+find_none t [] g e new = rw (e, same_task-self t) refl
+find_none t (f ∷ fs) g e new = grind (arith, nat_tests, find_none t fs g e)
+
+Among-last : {X : Type 0} (x y : X) (xs : List X) → Among x (xs ++ y ∷ []) → Among x xs ⊎ (x ≡ y)
+Among-last x y [] (inl e) = inr e
+Among-last x y [] (inr h) = absurd h
+Among-last x y (z ∷ xs) (inl e) = inl (inl e)
+Among-last x y (z ∷ xs) (inr h) = elim (Among-last x y xs h) [ inl l ↦ inl (inr l) | inr r ↦ inr r ]
+
+OneName_fire : (h : List Event) (t : TaskId) (s : Spot) (ms : List MsgId) (cs : List TaskId) → has_task (fired h) t ≡ false → OneName h → OneName (h ++ Fire t s ms cs ∷ [])
+OneName_fire h t s ms cs new one f among = of_last (Among-last f _ (firings h) (rw firings-append at among))
+  where
+    of_last : Among f (firings h) ⊎ (f ≡ record { task = t; spot = s; messages = ms; cuts = cs }) → firing_named (h ++ Fire t s ms cs ∷ []) f.task ≡ Some f
+    of_last (inl old) = firing_named-append h (Fire t s ms cs ∷ []) f.task f (one f old)
+    of_last (inr e) = rw e (rw firings-append (find_none t (firings h) _ refl new))
+
+OneName_other : (h : List Event) (e : Event) → firing_of e ≡ [] → OneName h → OneName (h ++ e ∷ [])
+OneName_other h e none one f among = rw (firings-append, none, append-nil) (one f (let same : firings (h ++ e ∷ []) ≡ firings h = rw (firings-append, none, append-nil) refl in rw same at among))
+
+OneName_kept : (w : Parts) (h : List Event) (e : Event) → OneName h → IsAllowed w h e → OneName (h ++ e ∷ [])
+OneName_kept w h (Fire t s ms cs) one allowed = OneName_fire h t s ms cs (grind (arith, (refused_not (is_new h t) 4 _ allowed).0)) one
+OneName_kept w h (Post m) one allowed = OneName_other h (Post m) refl one
+OneName_kept w h (Admit t) one allowed = OneName_other h (Admit t) refl one
+OneName_kept w h (Put t d) one allowed = OneName_other h (Put t d) refl one
+OneName_kept w h (Start t a) one allowed = OneName_other h (Start t a) refl one
+OneName_kept w h (End t how) one allowed = OneName_other h (End t how) refl one
+
+pub OneName-legal : (w : Parts) (h : List Event) → IsLegal w h → OneName h
+OneName-legal w h legal = along w OneName (OneName_kept w) (λ f among. absurd among) h legal
+
+-- Admit
+pub filter_head : {X : Type 0} (p : X → Bool) (xs : List X) (x : X) (rest : List X) → filter p xs ≡ x ∷ rest → Among x xs
+filter_head p [] x rest is = absurd (cc)
+filter_head p (y ∷ xs) x rest is = of_test (p y) refl is (filter_head p xs x rest)
+  where
+    of_test : (b : Bool) → p y ≡ b → (if b then y ∷ filter p xs else filter p xs) ≡ x ∷ rest → (filter p xs ≡ x ∷ rest → Among x xs) → Among x (y ∷ xs)
+    of_test true e at more = inl (cc)
+    of_test false e at more = inr (more at)
+
+fired_where_some : (p : Firing → Bool) (fs : List Firing) (t : TaskId) → Among t (map (λ (f : Firing). f.task) (filter p fs)) → (f : Firing) × Among f fs × (p f ≡ true) × (f.task ≡ t)
+fired_where_some p [] t among = absurd among
+fired_where_some p (g ∷ fs) t among = of_test (p g) refl among (fired_where_some p fs t)
+  where
+    of_test : (b : Bool) → p g ≡ b → Among t (map (λ (f : Firing). f.task) (if b then g ∷ filter p fs else filter p fs)) → (Among t (map (λ (f : Firing). f.task) (filter p fs)) → (f : Firing) × Among f fs × (p f ≡ true) × (f.task ≡ t)) → (f : Firing) × Among f (g ∷ fs) × (p f ≡ true) × (f.task ≡ t)
+    of_test true e (inl same) rest = (g, inl refl, e, sym same)
+    of_test true e (inr more) rest = let r = rest more in (r.0, inr r.1, r.2, r.3)
+    of_test false e more rest = let r = rest more in (r.0, inr r.1, r.2, r.3)
+
+-- the oldest waiting task has its seat there
+waiting_seat : (w : Parts) (h : List Event) (n : ℕ) (t : TaskId) (ts : List TaskId) → OneName h → waiting w h n ≡ t ∷ ts → (s : Seat) × (seat_of w h t ≡ Some s) × (s.arbiter ≡ n)
+waiting_seat w h n t ts one is =
+    let found = fired_where_some (λ f. is_branch_where w (λ s. is_interleave s.kind && (s.arbiter == n)) f.spot) (firings h) t (filter_head _ _ t ts is) in
+    let named : firing_named h t ≡ Some found.0 = subst (λ u. firing_named h u ≡ Some found.0) found.3 (one found.0 found.1) in
+    rw named (of_spot found.0.spot found.2)
+  where
+    of_spot : (sp : Spot) → is_branch_where w (λ s. is_interleave s.kind && (s.arbiter == n)) sp ≡ true → (s : Seat) × (seat w (branch_of sp) ≡ Some s) × (s.arbiter ≡ n)
+    of_spot (Branch b) passes =
+        let r = some_of (λ (s : Seat). is_interleave s.kind && (s.arbiter == n)) (seat w b) passes in
+        (r.0, r.1, grind (arith, nat_tests, (both (is_interleave r.0.kind) (r.0.arbiter == n) r.2).1))
+    of_spot (Site b k) passes = absurd (cc)
+
+admit_allowed : (w : Parts) (h : List Event) (n : ℕ) → OneName h → IfSome (admit_first w h (waiting w h n)) (IsAllowed w h)
+admit_allowed w h n one = of_list (waiting w h n) refl
+  where
+    of_list : (ts : List TaskId) → waiting w h n ≡ ts → IfSome (admit_first w h ts) (IsAllowed w h)
+    of_list [] is = tt
+    of_list (t ∷ ts) is = of_test (may_enter w h t) refl
+      where
+        of_test : (b : Bool) → may_enter w h t ≡ b → IfSome (if b then Some (Admit t) else None) (IsAllowed w h)
+        of_test false e = tt
+        of_test true e =
+            let found = waiting_seat w h n t ts one is in
+            passed _ 9 _ (rw (found.1, found.2, is) (same_task-self t)) (passed _ 10 None e refl)
+
+admits_allowed : (w : Parts) (h : List Event) (n : ℕ) (xs : List ArbiterPart) → OneName h → IfSome (admit_from w h n xs) (IsAllowed w h)
+admits_allowed w h n [] one = tt
+admits_allowed w h n (x ∷ xs) one = IfSome-or (IsAllowed w h) _ _ (admit_allowed w h n one) (admits_allowed w h (n + 1) xs one)
+
+-- Start
+pub head_passes : (p : TaskId → Bool) (xs : List TaskId) (x : TaskId) (rest : List TaskId) → filter p xs ≡ x ∷ rest → p x ≡ true
+head_passes p [] x rest is = absurd (cc)
+head_passes p (y ∷ xs) x rest is = of_test (p y) refl is (head_passes p xs x rest)
+  where
+    of_test : (b : Bool) → p y ≡ b → (if b then y ∷ filter p xs else filter p xs) ≡ x ∷ rest → (filter p xs ≡ x ∷ rest → p x ≡ true) → p x ≡ true
+    of_test true e at more = let same : y ≡ x = cc in rw (← same) e
+    of_test false e at more = more at
+
+-- nobody runs, so the actor runs nothing
+none_by : (a : ℕ) (h : List Event) (gone : List TaskId) → without (started h) gone ≡ [] → without (flat_map (started_as a) h) gone ≡ []
+none_by a [] gone is = refl
+none_by a (Start t b ∷ h) gone is = grind (arith, none_by a h gone)
+none_by a (Post m ∷ h) gone is = none_by a h gone is
+none_by a (Fire t s ms cs ∷ h) gone is = none_by a h gone is
+none_by a (Admit t ∷ h) gone is = none_by a h gone is
+none_by a (Put t d ∷ h) gone is = none_by a h gone is
+none_by a (End t how ∷ h) gone is = none_by a h gone is
+
+start_allowed : (w : Parts) (c : ℕ) (h : List Event) (n : ℕ) → length w.posters ≤ c → c ≤ 32 → running h ≡ [] → IfSome (option_map (λ t. Start t c) (slice_get (queued w h n) 0)) (IsAllowed w h)
+start_allowed w c h n high low run = of_list (queued w h n) refl
+  where
+    of_list : (ts : List TaskId) → queued w h n ≡ ts → IfSome (option_map (λ t. Start t c) (slice_get ts 0)) (IsAllowed w h)
+    of_list [] is = tt
+    of_list (t ∷ ts) is =
+        let for_queue = head_passes (is_for_queue w h n) _ t ts is in
+        let found = some_of (λ (s : Seat). s.branch.queue == n) (seat_of w h t) for_queue in
+        let number : found.0.branch.queue ≡ n = grind (arith, nat_tests, found.2) in
+        let idle : running_by h c ≡ [] = none_by c h (ended h) run in
+        let ready : may_start w h c ≡ true = rw idle (grind (arith, nat_tests)) in
+        passed _ 13 _ (rw (found.1, number, is) (same_task-self t)) (passed _ 14 None ready refl)
+
+starts_allowed : (w : Parts) (c : ℕ) (h : List Event) (n : ℕ) (qs : List QueuePart) → length w.posters ≤ c → c ≤ 32 → running h ≡ [] → IfSome (start_from w c h n qs) (IsAllowed w h)
+starts_allowed w c h n [] high low run = tt
+starts_allowed w c h n (q ∷ qs) high low run = IfSome-or (IsAllowed w h) _ _ (start_allowed w c h n high low run) (starts_allowed w c h (n + 1) qs high low run)
+
+pub first_allowed : (w : Parts) (c : ℕ) (h : List Event) → length w.posters ≤ c → c ≤ 32 → IsLegal w h → IfSome (first w c h) (IsAllowed w h)
+first_allowed w c h high low legal =
+    IfSome-or (IsAllowed w h) _ _ (posts_allowed w h 0 w.posters (λ k i p e is. subst (λ j. slice_get w.posters j ≡ Some p) (let z : k ≡ i = omega arith in z) is))
+    (IfSome-or (IsAllowed w h) _ _ (fires_allowed w c h (spots w) low)
+    (IfSome-or (IsAllowed w h) _ _ (admits_allowed w h 0 w.arbiters (OneName-legal w h legal))
+    (IfSome-or (IsAllowed w h) _ _ (put_allowed w h) (run_or_start (running h) refl))))
+  where
+    run_or_start : (ts : List TaskId) → running h ≡ ts → IfSome (option_or (option_map (run_task w h) (slice_get ts 0)) (start_from w c h 0 w.queues)) (IsAllowed w h)
+    run_or_start [] run = starts_allowed w c h 0 w.queues high low run
+    run_or_start (t ∷ ts) run = run_allowed w h t (rw run (grind (arith, same_task-self t)))

@@ -1,0 +1,11 @@
+mod WorkedRuns
+mod WrongEvents
+pub mod HeldSteps
+pub mod PostNames
+pub mod TakenOnce
+pub mod TaskSteps
+pub mod Stable
+pub mod Quiet
+pub mod Allowing
+pub mod Covered
+pub mod Alone

@@ -1,0 +1,108 @@
+-- No two posts of a legal history have one name.
+use Rattle.std.proofs.Common.{◌≡◌, ℕ, ◌+◌, ◌<◌, ◌≤◌, Bool, true, false, not, ◌&&◌, ◌||◌, List, [], ◌∷◌, ◌++◌, length, filter, flat_map, Option, Some, None, refl, arith, ap, ◌∙◌, subst, append_assoc, append-nil}
+use Rattle.std.specs.Prelude.{◌==◌, if◌then◌else◌}
+use Rattle.std.specs.List.{list_any}
+use Rattle.std.proofs.lemmas.Grind.{common_steps}
+use Rattle.std.proofs.lemmas.Bool.Decides.{nat_tests}
+use Rattle.std.proofs.lemmas.List.Sums.{sum_by-append}
+use Rattle.ccr_base.specs.declared.names.TaskId.{TaskId}
+use Rattle.ccr_base.specs.declared.names.MsgId.{MsgId}
+use Rattle.ccr_base.specs.declared.names.MsgId.TheVariants.{Script, Task}
+use Rattle.ccr_base.specs.declared.messages.Msg.{Msg}
+use Rattle.ccr_base.specs.declared.names.Spot.{Spot}
+use Rattle.ccr_wiring.specs.declared.parts.Parts.{Parts}
+use Rattle.ccr_model.specs.declared.history.Event.{Event}
+use Rattle.ccr_model.specs.declared.history.Event.TheVariants.{Post, Fire, Admit, Put, Start, End}
+use Rattle.ccr_base.specs.Names.{same_task, same_message}
+use Rattle.ccr_model.specs.Posts.{posts, post_of, is_script_of, is_message_of, posts_of_poster, posts_of_task}
+use Rattle.ccr_model.specs.Rules.{refusal, refusal_of_post, refused}
+use Rattle.ccr_model.specs.Legal.{IsAllowed, IsLegal, IsLegalAfter}
+
+-- what the empty history has and each allowed event keeps, each legal history has
+along_after : (w : Parts) (P : List Event → Type 0) → ((h : List Event) (e : Event) → P h → IsAllowed w h e → P (h ++ e ∷ [])) → (past es : List Event) → P past → IsLegalAfter w past es → P (past ++ es)
+along_after w P keeps past [] p legal = rw (append-nil past) p
+along_after w P keeps past (e ∷ es) p legal = subst P (append_assoc past (e ∷ []) es) (along_after w P keeps (past ++ e ∷ []) es (keeps past e p legal.0) legal.1)
+
+pub along : (w : Parts) (P : List Event → Type 0) → ((h : List Event) (e : Event) → P h → IsAllowed w h e → P (h ++ e ∷ [])) → P [] → (h : List Event) → IsLegal w h → P h
+along w P keeps start h legal = along_after w P keeps [] h start legal
+
+-- how often the name stands among the messages
+abbrev pub times : MsgId → List Msg → ℕ
+times name ms = length (filter (λ (m : Msg). same_message m.id name) ms)
+
+-- how many messages the sender of the name sent
+abbrev pub sent_by : MsgId → List Msg → ℕ
+sent_by (Script a k) ms = length (filter (λ (m : Msg). is_script_of a m.id) ms)
+sent_by (Task t k) ms = length (filter (λ (m : Msg). is_message_of t m.id) ms)
+
+abbrev pub place_of : MsgId → ℕ
+place_of (Script a k) = k
+place_of (Task t k) = k
+
+-- a name that stands there is below what its sender sent, and stands there once
+pub record AreNamed (ms : List Msg) : Type 0 where
+  pub below : (name : MsgId) → 0 < times name ms → place_of name < sent_by name ms
+  pub once : (name : MsgId) → times name ms ≤ 1
+
+pub refused_not : (b : Bool) (n : ℕ) (o : Option ℕ) → refused b n o ≡ None → (b ≡ true) × (o ≡ None)
+refused_not true n o is = (refl, is)
+refused_not false n o is = absurd (cc)
+
+pub both : (a b : Bool) → a && b ≡ true → (a ≡ true) × (b ≡ true)
+both true b is = (refl, is)
+both false b is = absurd (cc)
+
+-- an allowed post has the place that comes next
+place_next : (w : Parts) (h : List Event) (m : Msg) (name : MsgId) → refusal_of_post w h m name ≡ None → place_of name ≡ sent_by name (posts h)
+place_next w h m (Script a k) is = grind (arith, nat_tests)
+place_next w h m (Task t k) is = grind (arith, nat_tests)
+
+pub same_message-self : (n : MsgId) → same_message n n ≡ true
+same_message-self (Script a k) = grind (arith, nat_tests)
+same_message-self (Task t k) = grind (arith, nat_tests)
+
+pub same_message-is : (m n : MsgId) → same_message m n ≡ true → m ≡ n
+same_message-is (Script a k) (Script b l) is = grind (arith, nat_tests)
+same_message-is (Script a k) (Task t l) is = absurd (cc)
+same_message-is (Task s k) (Script b l) is = absurd (cc)
+same_message-is (Task s k) (Task t l) is = grind (arith, nat_tests)
+
+times_more : (name : MsgId) (ms : List Msg) (m : Msg) → times name (ms ++ m ∷ []) ≡ times name ms + (if same_message m.id name then 1 else 0)
+times_more name ms m = grind (arith, common_steps)
+
+sent_more : (name : MsgId) (ms : List Msg) (m : Msg) → sent_by name ms ≤ sent_by name (ms ++ m ∷ [])
+sent_more (Script a k) ms m = grind (arith, common_steps)
+sent_more (Task t k) ms m = grind (arith, common_steps)
+
+sent_own : (ms : List Msg) (m : Msg) (name : MsgId) → m.id ≡ name → sent_by name (ms ++ m ∷ []) ≡ sent_by name ms + 1
+sent_own ms m (Script a k) is = grind (arith, nat_tests, common_steps)
+sent_own ms m (Task t k) is = grind (arith, nat_tests, common_steps)
+
+AreNamed-push : (ms : List Msg) (m : Msg) → AreNamed ms → place_of m.id ≡ sent_by m.id ms → AreNamed (ms ++ m ∷ [])
+AreNamed-push ms m named place = record {
+  below = λ name. λ some. below_push name (same_message m.id name) refl some;
+  once = λ name. once_push name (same_message m.id name) refl;
+}
+  where
+    below_push : (name : MsgId) (b : Bool) → same_message m.id name ≡ b → 0 < times name (ms ++ m ∷ []) → place_of name < sent_by name (ms ++ m ∷ [])
+    below_push name true is some = let e : m.id ≡ name = same_message-is m.id name is in subst (λ n. place_of n < sent_by n (ms ++ m ∷ [])) e (omega (arith, sent_own ms m m.id refl, place))
+    below_push name false is some = grind (arith, times_more name ms m, sent_more name ms m, named.below name)
+
+    once_push : (name : MsgId) (b : Bool) → same_message m.id name ≡ b → times name (ms ++ m ∷ []) ≤ 1
+    once_push name true is = let e : m.id ≡ name = same_message-is m.id name is in subst (λ n. times n (ms ++ m ∷ []) ≤ 1) e (grind (arith, times_more m.id ms m, named.below m.id, named.once m.id, place))
+    once_push name false is = grind (arith, times_more name ms m, named.once name)
+
+posts-push : (h : List Event) (e : Event) → posts (h ++ e ∷ []) ≡ posts h ++ post_of e
+posts-push h e = grind (arith, common_steps)
+
+pub named_kept : (w : Parts) (h : List Event) (e : Event) → AreNamed (posts h) → IsAllowed w h e → AreNamed (posts (h ++ e ∷ []))
+named_kept w h (Post m) named allowed = rw posts-push (AreNamed-push (posts h) m named (place_next w h m m.id allowed))
+named_kept w h (Fire t s ms cs) named allowed = rw (posts-push, append-nil) named
+named_kept w h (Admit t) named allowed = rw (posts-push, append-nil) named
+named_kept w h (Put t d) named allowed = rw (posts-push, append-nil) named
+named_kept w h (Start t a) named allowed = rw (posts-push, append-nil) named
+named_kept w h (End t how) named allowed = rw (posts-push, append-nil) named
+
+-- one fate, first part: no two posts have one name
+pub posted_once : (w : Parts) (h : List Event) → IsLegal w h → (name : MsgId) → times name (posts h) ≤ 1
+posted_once w h legal = (along w (λ g. AreNamed (posts g)) (named_kept w) (record { below = λ name. λ some. omega arith; once = λ name. omega arith }) h legal).once

@@ -1,0 +1,95 @@
+-- What is said of a task that fired stays so, whatever events come.
+use Rattle.std.proofs.Common.{◌≡◌, ℕ, zero, suc, Bool, true, false, not, ◌&&◌, ◌||◌, List, [], ◌∷◌, ◌++◌, length, drop, map, filter, flat_map, Option, Some, None, refl, sym, arith, ap, ◌∙◌, append-nil}
+use Rattle.std.specs.Prelude.{◌==◌, if◌then◌else◌, find}
+use Rattle.std.specs.List.{slice_get}
+use Rattle.std.specs.Option.{option_map_or, option_map}
+use Rattle.std.proofs.lemmas.Grind.{common_steps}
+use Rattle.std.proofs.lemmas.Bool.Decides.{nat_tests}
+use Rattle.ccr_base.specs.declared.names.TaskId.{TaskId}
+use Rattle.ccr_base.specs.declared.names.Spot.{Spot}
+use Rattle.ccr_base.specs.declared.names.Spot.TheVariants.{Branch, Site}
+use Rattle.ccr_wiring.specs.declared.parts.Parts.{Parts}
+use Rattle.ccr_model.specs.declared.history.Event.{Event}
+use Rattle.ccr_model.specs.declared.history.Event.TheVariants.{Post, Fire, Admit, Put, Start, End}
+use Rattle.ccr_base.specs.Names.{same_task, same_spot}
+use Rattle.ccr_wiring.specs.Wirings.{branch_of, segment_of, next_site}
+use Rattle.ccr_model.specs.Firings.{Firing, firings, firing_of, firing_named, spot_of, yielded, fired_at}
+use Rattle.ccr_model.specs.Sites.{before, yields_at, yielded_at, suspended, resumed, root_at, root_of}
+use Rattle.ccr_model.specs.TaskData.{Load, load_at, load_of, load_after, no_load, with_messages, messages_of, play_of}
+
+pub find-append : {X : Type 0} (p : X → Bool) (xs ys : List X) (x : X) → find p xs ≡ Some x → find p (xs ++ ys) ≡ Some x
+find-append p [] ys x is = absurd (cc)
+find-append p (y ∷ xs) ys x is = grind (arith, find-append p xs ys x)
+
+pub firings-append : (h es : List Event) → firings (h ++ es) ≡ firings h ++ firings es
+firings-append h es = grind (arith, common_steps)
+
+pub firing_named-append : (h es : List Event) (t : TaskId) (f : Firing) → firing_named h t ≡ Some f → firing_named (h ++ es) t ≡ Some f
+firing_named-append h es t f is = rw firings-append (find-append (λ (g : Firing). same_task g.task t) (firings h) (firings es) f is)
+
+pub before-append : (h es : List Event) (t : TaskId) (f : Firing) → firing_named h t ≡ Some f → before t (h ++ es) ≡ before t h
+before-append [] es t f is = absurd (cc)
+before-append (Fire u s ms cs ∷ h) es t f is = grind (arith, before-append h es t f)
+before-append (Post m ∷ h) es t f is = ap (λ g. Post m ∷ g) (before-append h es t f is)
+before-append (Admit u ∷ h) es t f is = ap (λ g. Admit u ∷ g) (before-append h es t f is)
+before-append (Put u d ∷ h) es t f is = ap (λ g. Put u d ∷ g) (before-append h es t f is)
+before-append (Start u a ∷ h) es t f is = ap (λ g. Start u a ∷ g) (before-append h es t f is)
+before-append (End u how ∷ h) es t f is = ap (λ g. End u how ∷ g) (before-append h es t f is)
+
+-- who fired before another fired
+firing_named-before : (h : List Event) (t u : TaskId) (f : Firing) → firing_named (before t h) u ≡ Some f → firing_named h u ≡ Some f
+firing_named-before [] t u f is = is
+firing_named-before (Fire v s ms cs ∷ h) t u f is = grind (arith, firing_named-before h t u f)
+firing_named-before (Post m ∷ h) t u f is = firing_named-before h t u f is
+firing_named-before (Admit v ∷ h) t u f is = firing_named-before h t u f is
+firing_named-before (Put v d ∷ h) t u f is = firing_named-before h t u f is
+firing_named-before (Start v a ∷ h) t u f is = firing_named-before h t u f is
+firing_named-before (End v how ∷ h) t u f is = firing_named-before h t u f is
+
+passes : {X : Type 0} (p : X → Bool) (xs : List X) (n : ℕ) (x : X) → slice_get (drop n (filter p xs)) 0 ≡ Some x → p x ≡ true
+passes p [] n x is = grind (arith, common_steps, is)
+passes p (y ∷ xs) zero x is = first_passes (p y) refl is (passes p xs zero x)
+  where
+    first_passes : (b : Bool) → p y ≡ b → slice_get (if b then y ∷ filter p xs else filter p xs) 0 ≡ Some x → (slice_get (filter p xs) 0 ≡ Some x → p x ≡ true) → p x ≡ true
+    first_passes true e at rest = grind (arith, e, at)
+    first_passes false e at rest = rest at
+passes p (y ∷ xs) (suc n) x is = grind (arith, passes p xs n x, passes p xs (suc n) x)
+
+some_firing : (h : List Event) (u : TaskId) (site : Spot) → yields_at h site u ≡ true → (f : Firing) × (firing_named h u ≡ Some f)
+some_firing h u site is = of_option (firing_named h u) refl is
+  where
+    of_option : (o : Option Firing) → firing_named h u ≡ o → option_map_or (λ spot. same_spot (next_site spot) site) (option_map (λ (f : Firing). f.spot) o) false ≡ true → (f : Firing) × (firing_named h u ≡ Some f)
+    of_option None e is = absurd (cc)
+    of_option (Some f) e is = (f, e)
+
+-- the resumed task fired
+resumed_fired : (h : List Event) (site : Spot) (t u : TaskId) → resumed h site t ≡ Some u → (f : Firing) × (firing_named h u ≡ Some f)
+resumed_fired h site t u is =
+    let found = some_firing (before t h) u site (passes (yields_at (before t h) site) (yielded (before t h)) (length (fired_at (before t h) site)) u is) in
+    (found.0, firing_named-before h t u found.0 found.1)
+
+resumed-append : (h es : List Event) (site : Spot) (t : TaskId) (f : Firing) → firing_named h t ≡ Some f → resumed (h ++ es) site t ≡ resumed h site t
+resumed-append h es site t f is = rw (before-append h es t f is) refl
+
+messages_of-append : (h es : List Event) (t : TaskId) (f : Firing) → firing_named h t ≡ Some f → messages_of (h ++ es) t ≡ messages_of h t
+messages_of-append h es t f is = rw (before-append h es t f is, firing_named-append h es t f is, is) refl
+
+pub root_at-append : (h es : List Event) (b k : ℕ) (t : TaskId) (f : Firing) → firing_named h t ≡ Some f → root_at (h ++ es) b k t ≡ root_at h b k t
+root_at-append h es b zero t f is = refl
+root_at-append h es b (suc k) t f is = rw (resumed-append h es (Site b k) t f is) (of_option (resumed h (Site b k) t) refl (λ u g e. root_at-append h es b k u g e))
+  where
+    of_option : (o : Option TaskId) → resumed h (Site b k) t ≡ o → ((u : TaskId) (g : Firing) → firing_named h u ≡ Some g → root_at (h ++ es) b k u ≡ root_at h b k u) → option_map_or (λ u. root_at (h ++ es) b k u) o t ≡ option_map_or (λ u. root_at h b k u) o t
+    of_option None e rest = refl
+    of_option (Some u) e rest = let found = resumed_fired h (Site b k) t u e in rest u found.0 found.1
+
+pub load_at-append : (w : Parts) (h es : List Event) (b k : ℕ) (t : TaskId) (f : Firing) → firing_named h t ≡ Some f → load_at w (h ++ es) b k t ≡ load_at w h b k t
+load_at-append w h es b zero t f is = rw (messages_of-append h es t f is) refl
+load_at-append w h es b (suc k) t f is = rw (messages_of-append h es t f is, resumed-append h es (Site b k) t f is) (ap (λ load. with_messages load (messages_of h t)) (of_option (resumed h (Site b k) t) refl (λ u g e. load_at-append w h es b k u g e)))
+  where
+    of_option : (o : Option TaskId) → resumed h (Site b k) t ≡ o → ((u : TaskId) (g : Firing) → firing_named h u ≡ Some g → load_at w (h ++ es) b k u ≡ load_at w h b k u) → option_map_or (λ u. load_after w b k (load_at w (h ++ es) b k u)) o no_load ≡ option_map_or (λ u. load_after w b k (load_at w h b k u)) o no_load
+    of_option None e rest = refl
+    of_option (Some u) e rest = let found = resumed_fired h (Site b k) t u e in ap (load_after w b k) (rest u found.0 found.1)
+
+-- the play of a task stays what it is
+pub play_of-append : (w : Parts) (h es : List Event) (t : TaskId) (f : Firing) → firing_named h t ≡ Some f → play_of w (h ++ es) t ≡ play_of w h t
+play_of-append w h es t f is = rw (firing_named-append h es t f is, is, load_at-append w h es (branch_of f.spot) (segment_of f.spot) t f is) refl

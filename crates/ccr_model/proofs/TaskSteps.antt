@@ -1,0 +1,114 @@
+-- Who is queued and who runs after one more event.
+use Rattle.std.proofs.Common.{◌≡◌, ℕ, Bool, true, false, not, ◌&&◌, ◌||◌, List, [], ◌∷◌, ◌++◌, length, map, filter, flat_map, Option, Some, None, option_to_list, refl, sym, arith, ap, ◌∙◌, append-nil}
+use Rattle.std.specs.Prelude.{◌==◌, if◌then◌else◌, find}
+use Rattle.std.specs.List.{list_any}
+use Rattle.std.proofs.lemmas.Grind.{common_steps}
+use Rattle.std.proofs.lemmas.Bool.Decides.{nat_tests}
+use Rattle.ccr_base.specs.declared.names.TaskId.{TaskId}
+use Rattle.ccr_base.specs.declared.names.MsgId.{MsgId}
+use Rattle.ccr_base.specs.declared.messages.Msg.{Msg}
+use Rattle.ccr_base.specs.declared.names.Spot.{Spot}
+use Rattle.ccr_wiring.specs.declared.parts.Parts.{Parts}
+use Rattle.ccr_model.specs.declared.history.Event.{Event}
+use Rattle.ccr_model.specs.declared.history.Event.TheVariants.{Post, Fire, Admit, Put, Start, End}
+use Rattle.ccr_model.specs.declared.history.EndHow.{EndHow}
+use Rattle.ccr_base.specs.Names.{same_task, has_task, without}
+use Rattle.ccr_model.specs.Firings.{Firing, firing_of, firings, firing_named, put, put_by, started, started_by, ended, dropped, dropped_by}
+use Rattle.ccr_model.specs.Tasks.{is_for_queue, queued, running}
+
+-- running, one lemma an event
+pub running-start : (h : List Event) (t : TaskId) (a : ℕ) → has_task (ended h) t ≡ false → running (h ++ Start t a ∷ []) ≡ running h ++ t ∷ []
+running-start h t a fresh = grind (arith, common_steps)
+
+without_both : (ts gone more : List TaskId) → without ts (gone ++ more) ≡ without (without ts gone) more
+without_both [] gone more = refl
+without_both (t ∷ ts) gone more = grind (arith, common_steps, without_both ts gone more)
+
+pub running-end : (h : List Event) (t : TaskId) (how : EndHow) → running (h ++ End t how ∷ []) ≡ without (running h) (t ∷ [])
+running-end h t how = grind (arith, common_steps, without_both (started h) (ended h) (t ∷ []))
+
+pub running-post : (h : List Event) (m : Msg) → running (h ++ Post m ∷ []) ≡ running h
+running-post h m = grind (arith, common_steps)
+
+pub running-fire : (h : List Event) (t : TaskId) (s : Spot) (ms : List MsgId) (cs : List TaskId) → running (h ++ Fire t s ms cs ∷ []) ≡ running h
+running-fire h t s ms cs = grind (arith, common_steps)
+
+pub running-put : (h : List Event) (t : TaskId) (d : Option TaskId) → running (h ++ Put t d ∷ []) ≡ running h
+running-put h t d = grind (arith, common_steps)
+
+pub running-admit : (h : List Event) (t : TaskId) → running (h ++ Admit t ∷ []) ≡ running h
+running-admit h t = grind (arith, common_steps)
+
+-- the firings after one more event
+pub firings-push : (h : List Event) (e : Event) → firings (h ++ e ∷ []) ≡ firings h ++ firing_of e
+firings-push h e = grind (arith, common_steps)
+
+find-push : {X : Type 0} (p : X → Bool) (xs : List X) (y : X) → p y ≡ false → find p (xs ++ y ∷ []) ≡ find p xs
+find-push p [] y out = grind arith
+find-push p (x ∷ xs) y out = grind (arith, find-push p xs y out)
+
+-- a new firing says nothing of the others
+pub firing_named-fire : (h : List Event) (t u : TaskId) (s : Spot) (ms : List MsgId) (cs : List TaskId) → same_task t u ≡ false → firing_named (h ++ Fire t s ms cs ∷ []) u ≡ firing_named h u
+firing_named-fire h t u s ms cs other = rw firings-push (find-push (λ (f : Firing). same_task f.task u) (firings h) _ other)
+
+-- an event that is no firing leaves all that is said of firings
+pub is_for_queue-start : (w : Parts) (h : List Event) (q : ℕ) (t u : TaskId) (a : ℕ) → is_for_queue w (h ++ Start t a ∷ []) q u ≡ is_for_queue w h q u
+is_for_queue-start w h q t u a = rw (firings-push, append-nil) refl
+
+is_for_queue-fire : (w : Parts) (h : List Event) (q : ℕ) (t u : TaskId) (s : Spot) (ms : List MsgId) (cs : List TaskId) → same_task t u ≡ false → is_for_queue w (h ++ Fire t s ms cs ∷ []) q u ≡ is_for_queue w h q u
+is_for_queue-fire w h q t u s ms cs other = rw (firing_named-fire h t u s ms cs other) refl
+
+filter_same : {X : Type 0} (p q : X → Bool) (xs : List X) → ((x : X) → p x ≡ q x) → filter p xs ≡ filter q xs
+filter_same p q [] same = refl
+filter_same p q (x ∷ xs) same = grind (arith, same x, filter_same p q xs same)
+
+put-push : (h : List Event) (e : Event) → put (h ++ e ∷ []) ≡ put h ++ put_by e
+put-push h e = grind (arith, common_steps)
+
+started-push : (h : List Event) (e : Event) → started (h ++ e ∷ []) ≡ started h ++ started_by e
+started-push h e = grind (arith, common_steps)
+
+dropped-push : (h : List Event) (e : Event) → dropped (h ++ e ∷ []) ≡ dropped h ++ dropped_by e
+dropped-push h e = grind (arith, common_steps)
+
+-- over plain lists: one more started, one more put
+lists_start : (f : TaskId → Bool) (ps ss ds : List TaskId) (t : TaskId) → filter f (without ps ((ss ++ t ∷ []) ++ ds)) ≡ without (filter f (without ps (ss ++ ds))) (t ∷ [])
+lists_start f [] ss ds t = refl
+lists_start f (p ∷ ps) ss ds t = grind (arith, common_steps, lists_start f ps ss ds t)
+
+lists_put : (f : TaskId → Bool) (ps ss ds more : List TaskId) (t : TaskId) → has_task (ss ++ (ds ++ more)) t ≡ false → filter f (without (ps ++ t ∷ []) (ss ++ (ds ++ more))) ≡ without (filter f (without ps (ss ++ ds))) more ++ (if f t then t ∷ [] else [])
+lists_put f [] ss ds more t fresh = grind arith
+lists_put f (p ∷ ps) ss ds more t fresh = grind (arith, common_steps, lists_put f ps ss ds more t fresh)
+
+-- queued, one lemma an event
+pub queued-start : (w : Parts) (h : List Event) (q : ℕ) (t : TaskId) (a : ℕ) → queued w (h ++ Start t a ∷ []) q ≡ without (queued w h q) (t ∷ [])
+queued-start w h q t a =
+    filter_same _ (is_for_queue w h q) _ (λ u. is_for_queue-start w h q t u a)
+    ∙ rw (put-push, started-push, dropped-push, append-nil, append-nil) (lists_start (is_for_queue w h q) (put h) (started h) (dropped h) t)
+
+is_for_queue-put : (w : Parts) (h : List Event) (q : ℕ) (t u : TaskId) (d : Option TaskId) → is_for_queue w (h ++ Put t d ∷ []) q u ≡ is_for_queue w h q u
+is_for_queue-put w h q t u d = rw (firings-push, append-nil) refl
+
+pub queued-put : (w : Parts) (h : List Event) (q : ℕ) (t : TaskId) (d : Option TaskId) → has_task (started h ++ (dropped h ++ option_to_list d)) t ≡ false → queued w (h ++ Put t d ∷ []) q ≡ without (queued w h q) (option_to_list d) ++ (if is_for_queue w h q t then t ∷ [] else [])
+queued-put w h q t d fresh =
+    filter_same _ (is_for_queue w h q) _ (λ u. is_for_queue-put w h q t u d)
+    ∙ rw (put-push, started-push, dropped-push, append-nil) (lists_put (is_for_queue w h q) (put h) (started h) (dropped h) (option_to_list d) t fresh)
+
+-- a firing of a task that wasn't put changes no queue
+filter_fire : (w : Parts) (h : List Event) (q : ℕ) (t : TaskId) (s : Spot) (ms : List MsgId) (cs ts : List TaskId) → has_task ts t ≡ false → filter (is_for_queue w (h ++ Fire t s ms cs ∷ []) q) ts ≡ filter (is_for_queue w h q) ts
+filter_fire w h q t s ms cs [] fresh = refl
+filter_fire w h q t s ms cs (u ∷ ts) fresh =
+    let parts = neither (same_task t u) (has_task ts t) fresh in
+    grind (arith, is_for_queue-fire w h q t u s ms cs parts.0, filter_fire w h q t s ms cs ts parts.1)
+  where
+    neither : (a b : Bool) → a || b ≡ false → (a ≡ false) × (b ≡ false)
+    neither false b is = (refl, is)
+    neither true b is = absurd (cc)
+
+has_task-without : (ts gone : List TaskId) (t : TaskId) → has_task ts t ≡ false → has_task (without ts gone) t ≡ false
+has_task-without [] gone t is = refl
+has_task-without (u ∷ ts) gone t is = grind (arith, has_task-without ts gone t)
+
+pub queued-fire : (w : Parts) (h : List Event) (q : ℕ) (t : TaskId) (s : Spot) (ms : List MsgId) (cs : List TaskId) → has_task (put h) t ≡ false → queued w (h ++ Fire t s ms cs ∷ []) q ≡ queued w h q
+queued-fire w h q t s ms cs fresh =
+    rw (put-push, started-push, dropped-push, append-nil, append-nil, append-nil) (filter_fire w h q t s ms cs (without (put h) (started h ++ dropped h)) (has_task-without (put h) (started h ++ dropped h) t fresh))

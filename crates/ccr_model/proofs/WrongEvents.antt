@@ -1,0 +1,236 @@
+-- Wrong events, each with its place and the rule that refuses it; fates and totals of the worked runs.
+use Rattle.std.proofs.Common.{◌≡◌, ℕ, Bool, true, false, List, [], ◌∷◌, ◌++◌, map, Option, Some, None, refl}
+use Rattle.ccr_base.specs.declared.names.TaskId.{TaskId}
+use Rattle.ccr_base.specs.declared.names.MsgId.{MsgId}
+use Rattle.ccr_base.specs.declared.names.MsgId.TheVariants.{Script, Task}
+use Rattle.ccr_base.specs.declared.messages.Msg.{Msg}
+use Rattle.ccr_base.specs.declared.messages.Sent.{Sent}
+use Rattle.ccr_base.specs.declared.patterns.Slot.{Slot}
+use Rattle.ccr_base.specs.declared.patterns.Pred.{Pred}
+use Rattle.ccr_base.specs.declared.patterns.Pred.TheVariants.{Any, Eq, Lt, Ge}
+use Rattle.ccr_base.specs.declared.patterns.Pattern.{Pattern}
+use Rattle.ccr_base.specs.declared.patterns.Pattern.TheVariants.{Slots, Gather}
+use Rattle.ccr_base.specs.declared.names.Spot.TheVariants.{Branch, Site}
+use Rattle.ccr_base.specs.declared.handlers.Action.{Action}
+use Rattle.ccr_base.specs.declared.handlers.Action.TheVariants.{Post as aPost, Fail as aFail, Add as aAdd, Remove as aRemove, Await as aAwait}
+use Rattle.ccr_base.specs.declared.handlers.Expr.TheVariants.{Number, Arg, Sum, Count}
+use Rattle.ccr_wiring.specs.declared.parts.Parts.{Parts}
+use Rattle.ccr_wiring.specs.declared.parts.QueuePart.{QueuePart}
+use Rattle.ccr_wiring.specs.declared.parts.HandlerPart.{HandlerPart}
+use Rattle.ccr_wiring.specs.declared.parts.CausePart.{CausePart}
+use Rattle.ccr_wiring.specs.declared.parts.PosterPart.{PosterPart}
+use Rattle.ccr_wiring.specs.declared.parts.ArbiterPart.{ArbiterPart}
+use Rattle.ccr_wiring.specs.declared.parts.BranchPart.{BranchPart}
+use Rattle.ccr_base.specs.declared.policies.Policy.{Policy}
+use Rattle.ccr_base.specs.declared.policies.Policy.TheVariants.{Unbounded, Discard, Throttle}
+use Rattle.ccr_wiring.specs.declared.parts.Kind.{Kind}
+use Rattle.ccr_wiring.specs.declared.parts.Kind.TheVariants as kinds
+use Rattle.ccr_base.specs.declared.policies.Group.{Group}
+use Rattle.ccr_base.specs.declared.policies.Group.TheVariants as groups
+use Rattle.ccr_model.specs.declared.history.Event.{Event}
+use Rattle.ccr_model.specs.declared.history.Event.TheVariants.{Post, Fire, Admit, Put, Start, End}
+use Rattle.ccr_model.specs.declared.history.EndHow.TheVariants as ends
+use Rattle.ccr_model.specs.declared.history.Fate.TheVariants as fates
+use Rattle.ccr_model.specs.declared.history.TaskState.TheVariants as states
+use Rattle.ccr_model.specs.declared.history.Totals.{Totals}
+use Rattle.ccr_model.specs.Fates.{fate}
+use Rattle.ccr_model.specs.Counts.{totals}
+use Rattle.ccr_model.proofs.WorkedRuns.{task, message, no_posts_wiring, no_posts_history, one_post_wiring, one_post_history, once_keeps_second_wiring, once_keeps_second_history, predicate_wiring, predicate_history, join_wiring, join_history, choice_wiring, choice_history, gather_wiring, gather_history, discard_wiring, discard_history, throttle_wiring, throttle_history, interleave_groups_wiring, interleave_groups_history, teardown_cuts_wiring, teardown_cuts_history, budget_shed_wiring, budget_shed_history, causes_shed_wiring, causes_shed_history, await_wiring, await_history, await_teardown_waits_wiring, await_teardown_waits_history, cause_lists_wiring, cause_lists_history, rival_joins_wiring, rival_joins_history, portset_wiring, portset_history, sum_wraps_wiring, sum_wraps_history, second_task_shed_wiring, second_task_shed_history, causes_failed_wiring, causes_failed_history, gather_reversed_wiring, gather_reversed_history, admitted_task_dropped_wiring, admitted_task_dropped_history, argument_past_end_wiring, argument_past_end_history, fail_before_await_wiring, fail_before_await_history, two_teardowns_wiring, two_teardowns_history}
+use Rattle.ccr_model.specs.Legal.{first_refusal, is_complete, is_covered}
+use Rattle.ccr_model.specs.Order.{first, finished_in}
+use Rattle.ccr_model.specs.Consequences.{keeps_laws_along}
+
+refused_by_1-1 : first_refusal one_post_wiring [] 0 (Post (message (Script 0 0) 0 8 ([])) ∷ Fire (task 1 0) (Branch 0) ((Script 0 0) ∷ []) ([]) ∷ Put (task 1 0) None ∷ Start (task 1 0) 1 ∷ End (task 1 0) ends.Done ∷ []) ≡ Some (0, 1)
+refused_by_1-1 = refl
+
+refused_by_6-1 : first_refusal one_post_wiring [] 0 (Post (message (Script 0 0) 0 7 ([])) ∷ Fire (task 1 0) (Branch 0) ((Script 0 1) ∷ []) ([]) ∷ Put (task 1 0) None ∷ Start (task 1 0) 1 ∷ End (task 1 0) ends.Done ∷ []) ≡ Some (1, 6)
+refused_by_6-1 = refl
+
+refused_by_4-1 : first_refusal one_post_wiring [] 0 (Post (message (Script 0 0) 0 7 ([])) ∷ Fire (task 33 0) (Branch 0) ((Script 0 0) ∷ []) ([]) ∷ Put (task 1 0) None ∷ Start (task 1 0) 1 ∷ End (task 1 0) ends.Done ∷ []) ≡ Some (1, 4)
+refused_by_4-1 = refl
+
+refused_by_8-1 : first_refusal one_post_wiring [] 0 (Post (message (Script 0 0) 0 7 ([])) ∷ Fire (task 1 0) (Branch 0) ((Script 0 0) ∷ []) ((task 1 0) ∷ []) ∷ Put (task 1 0) None ∷ Start (task 1 0) 1 ∷ End (task 1 0) ends.Done ∷ []) ≡ Some (1, 8)
+refused_by_8-1 = refl
+
+refused_by_4-2 : first_refusal one_post_wiring [] 0 (Post (message (Script 0 0) 0 7 ([])) ∷ Fire (task 1 0) (Branch 0) ((Script 0 0) ∷ []) ([]) ∷ Fire (task 1 0) (Branch 0) ((Script 0 0) ∷ []) ([]) ∷ Put (task 1 0) None ∷ Start (task 1 0) 1 ∷ End (task 1 0) ends.Done ∷ []) ≡ Some (2, 4)
+refused_by_4-2 = refl
+
+refused_by_11-1 : first_refusal one_post_wiring [] 0 (Post (message (Script 0 0) 0 7 ([])) ∷ Put (task 1 0) None ∷ Start (task 1 0) 1 ∷ End (task 1 0) ends.Done ∷ []) ≡ Some (1, 11)
+refused_by_11-1 = refl
+
+refused_by_9-1 : first_refusal one_post_wiring [] 0 (Post (message (Script 0 0) 0 7 ([])) ∷ Fire (task 1 0) (Branch 0) ((Script 0 0) ∷ []) ([]) ∷ Admit (task 1 0) ∷ Put (task 1 0) None ∷ Start (task 1 0) 1 ∷ End (task 1 0) ends.Done ∷ []) ≡ Some (2, 9)
+refused_by_9-1 = refl
+
+refused_by_12-1 : first_refusal one_post_wiring [] 0 (Post (message (Script 0 0) 0 7 ([])) ∷ Fire (task 1 0) (Branch 0) ((Script 0 0) ∷ []) ([]) ∷ Put (task 1 0) (Some (task 1 0)) ∷ Start (task 1 0) 1 ∷ End (task 1 0) ends.Done ∷ []) ≡ Some (2, 12)
+refused_by_12-1 = refl
+
+refused_by_14-1 : first_refusal one_post_wiring [] 0 (Post (message (Script 0 0) 0 7 ([])) ∷ Fire (task 1 0) (Branch 0) ((Script 0 0) ∷ []) ([]) ∷ Put (task 1 0) None ∷ Start (task 1 0) 0 ∷ End (task 1 0) ends.Done ∷ []) ≡ Some (3, 14)
+refused_by_14-1 = refl
+
+refused_by_16-1 : first_refusal one_post_wiring [] 0 (Post (message (Script 0 0) 0 7 ([])) ∷ Fire (task 1 0) (Branch 0) ((Script 0 0) ∷ []) ([]) ∷ Put (task 1 0) None ∷ Start (task 1 0) 1 ∷ End (task 1 0) ends.Shed ∷ []) ≡ Some (4, 16)
+refused_by_16-1 = refl
+
+refused_by_15-1 : first_refusal one_post_wiring [] 0 (Post (message (Script 0 0) 0 7 ([])) ∷ Fire (task 1 0) (Branch 0) ((Script 0 0) ∷ []) ([]) ∷ Put (task 1 0) None ∷ Start (task 1 0) 1 ∷ End (task 1 0) ends.Done ∷ End (task 1 0) ends.Done ∷ []) ≡ Some (5, 15)
+refused_by_15-1 = refl
+
+refused_by_5-1 : first_refusal once_keeps_second_wiring [] 0 (Post (message (Script 0 0) 0 7 ([])) ∷ Post (message (Script 0 1) 0 8 ([])) ∷ Fire (task 1 0) (Branch 0) ((Script 0 0) ∷ []) ([]) ∷ Fire (task 1 1) (Branch 0) ((Script 0 1) ∷ []) ([]) ∷ []) ≡ Some (3, 5)
+refused_by_5-1 = refl
+
+refused_by_5-2 : first_refusal choice_wiring [] 0 (Post (message (Script 0 0) 0 1 ([])) ∷ Post (message (Script 0 1) 1 2 ([])) ∷ Fire (task 1 0) (Branch 0) ((Script 0 0) ∷ []) ([]) ∷ Fire (task 1 1) (Branch 1) ((Script 0 1) ∷ []) ([]) ∷ []) ≡ Some (3, 5)
+refused_by_5-2 = refl
+
+refused_by_7-1 : first_refusal throttle_wiring [] 0 (Post (message (Script 0 0) 0 1 ([])) ∷ Post (message (Script 0 1) 0 2 ([])) ∷ Post (message (Script 0 2) 0 3 ([])) ∷ Fire (task 1 0) (Branch 0) ((Script 0 0) ∷ []) ([]) ∷ Fire (task 1 1) (Branch 0) ((Script 0 1) ∷ []) ([]) ∷ []) ≡ Some (4, 7)
+refused_by_7-1 = refl
+
+refused_by_7-2 : first_refusal throttle_wiring [] 0 (Post (message (Script 0 0) 0 1 ([])) ∷ Post (message (Script 0 1) 0 2 ([])) ∷ Post (message (Script 0 2) 0 3 ([])) ∷ Fire (task 1 0) (Branch 0) ((Script 0 0) ∷ []) ([]) ∷ Put (task 1 0) None ∷ Fire (task 1 1) (Branch 0) ((Script 0 1) ∷ []) ([]) ∷ []) ≡ Some (5, 7)
+refused_by_7-2 = refl
+
+refused_by_10-1 : first_refusal interleave_groups_wiring [] 0 (Post (message (Script 0 0) 0 1 ([])) ∷ Post (message (Script 0 1) 1 2 ([])) ∷ Post (message (Script 0 2) 2 3 ([])) ∷ Fire (task 1 0) (Branch 0) ((Script 0 0) ∷ []) ([]) ∷ Fire (task 1 1) (Branch 1) ((Script 0 1) ∷ []) ([]) ∷ Fire (task 1 2) (Branch 2) ((Script 0 2) ∷ []) ([]) ∷ Admit (task 1 0) ∷ Put (task 1 0) None ∷ Start (task 1 0) 1 ∷ Admit (task 1 1) ∷ []) ≡ Some (9, 10)
+refused_by_10-1 = refl
+
+refused_by_13-1 : first_refusal discard_wiring [] 0 (Post (message (Script 0 0) 0 1 ([])) ∷ Post (message (Script 0 1) 0 2 ([])) ∷ Post (message (Script 0 2) 0 3 ([])) ∷ Post (message (Script 0 3) 0 4 ([])) ∷ Fire (task 1 0) (Branch 0) ((Script 0 0) ∷ []) ([]) ∷ Fire (task 1 1) (Branch 0) ((Script 0 1) ∷ []) ([]) ∷ Fire (task 1 2) (Branch 0) ((Script 0 2) ∷ []) ([]) ∷ Fire (task 1 3) (Branch 0) ((Script 0 3) ∷ []) ([]) ∷ Put (task 1 0) None ∷ Put (task 1 1) None ∷ Put (task 1 2) (Some (task 1 0)) ∷ Put (task 1 3) (Some (task 1 1)) ∷ Start (task 1 3) 1 ∷ []) ≡ Some (12, 13)
+refused_by_13-1 = refl
+
+refused_by_2-1 : first_refusal budget_shed_wiring [] 0 (Post (message (Script 0 0) 0 5 ([])) ∷ Fire (task 1 0) (Branch 0) ((Script 0 0) ∷ []) ([]) ∷ Put (task 1 0) None ∷ Start (task 1 0) 1 ∷ Post (message (Task (task 1 0) 0) 0 6 ([])) ∷ []) ≡ Some (4, 2)
+refused_by_2-1 = refl
+
+refused_by_2-2 : first_refusal budget_shed_wiring [] 0 (Post (message (Script 0 0) 0 5 ([])) ∷ Fire (task 1 0) (Branch 0) ((Script 0 0) ∷ []) ([]) ∷ Put (task 1 0) None ∷ Start (task 1 0) 1 ∷ Post (message (Task (task 1 0) 1) 0 5 ([])) ∷ []) ≡ Some (4, 2)
+refused_by_2-2 = refl
+
+refused_by_2-3 : first_refusal budget_shed_wiring [] 0 (Post (message (Script 0 0) 0 5 ([])) ∷ Fire (task 1 0) (Branch 0) ((Script 0 0) ∷ []) ([]) ∷ Put (task 1 0) None ∷ Start (task 1 0) 1 ∷ Post (message (Task (task 1 0) 0) 0 5 ([])) ∷ Fire (task 1 1) (Branch 0) ((Task (task 1 0) 0) ∷ []) ([]) ∷ Put (task 1 1) None ∷ End (task 1 0) ends.Done ∷ Start (task 1 1) 1 ∷ Post (message (Task (task 1 1) 0) 0 5 ([])) ∷ Fire (task 1 2) (Branch 0) ((Task (task 1 1) 0) ∷ []) ([]) ∷ Put (task 1 2) None ∷ End (task 1 1) ends.Done ∷ Start (task 1 2) 1 ∷ Post (message (Task (task 1 2) 0) 0 5 ([])) ∷ Fire (task 1 3) (Branch 0) ((Task (task 1 2) 0) ∷ []) ([]) ∷ Put (task 1 3) None ∷ End (task 1 2) ends.Done ∷ Post (message (Task (task 1 3) 0) 0 5 ([])) ∷ []) ≡ Some (18, 2)
+refused_by_2-3 = refl
+
+refused_by_3-1 : first_refusal budget_shed_wiring [] 0 (Post (message (Script 0 0) 0 5 ([])) ∷ Fire (task 1 0) (Branch 0) ((Script 0 0) ∷ []) ([]) ∷ Put (task 1 0) None ∷ Start (task 1 0) 1 ∷ Post (message (Task (task 1 0) 0) 0 5 ([])) ∷ Fire (task 1 1) (Branch 0) ((Task (task 1 0) 0) ∷ []) ([]) ∷ Put (task 1 1) None ∷ End (task 1 0) ends.Done ∷ Start (task 1 1) 1 ∷ Post (message (Task (task 1 1) 0) 0 5 ([])) ∷ Fire (task 1 2) (Branch 0) ((Task (task 1 1) 0) ∷ []) ([]) ∷ Put (task 1 2) None ∷ End (task 1 1) ends.Done ∷ Start (task 1 2) 1 ∷ Post (message (Task (task 1 2) 0) 0 5 ([])) ∷ Fire (task 1 3) (Branch 0) ((Task (task 1 2) 0) ∷ []) ([]) ∷ Put (task 1 3) None ∷ End (task 1 2) ends.Done ∷ Start (task 1 3) 1 ∷ Post (message (Task (task 1 3) 0) 0 5 ([])) ∷ []) ≡ Some (19, 3)
+refused_by_3-1 = refl
+
+refused_by_16-2 : first_refusal budget_shed_wiring [] 0 (Post (message (Script 0 0) 0 5 ([])) ∷ Fire (task 1 0) (Branch 0) ((Script 0 0) ∷ []) ([]) ∷ Put (task 1 0) None ∷ Start (task 1 0) 1 ∷ End (task 1 0) ends.Shed ∷ []) ≡ Some (4, 16)
+refused_by_16-2 = refl
+
+refused_by_16-3 : first_refusal budget_shed_wiring [] 0 (Post (message (Script 0 0) 0 5 ([])) ∷ Fire (task 1 0) (Branch 0) ((Script 0 0) ∷ []) ([]) ∷ Put (task 1 0) None ∷ Start (task 1 0) 1 ∷ End (task 1 0) ends.Done ∷ []) ≡ Some (4, 16)
+refused_by_16-3 = refl
+
+refused_by_6-2 : first_refusal gather_wiring [] 0 (Post (message (Script 0 0) 0 1 ([])) ∷ Post (message (Script 0 1) 1 2 ([])) ∷ Post (message (Script 0 2) 1 3 ([])) ∷ Post (message (Script 0 3) 0 4 ([])) ∷ Fire (task 1 0) (Branch 0) ((Script 0 3) ∷ (Script 0 0) ∷ (Script 0 1) ∷ []) ([]) ∷ []) ≡ Some (4, 6)
+refused_by_6-2 = refl
+
+refused_by_6-3 : first_refusal gather_wiring [] 0 (Post (message (Script 0 0) 0 1 ([])) ∷ Post (message (Script 0 1) 1 2 ([])) ∷ Post (message (Script 0 2) 1 3 ([])) ∷ Post (message (Script 0 3) 0 4 ([])) ∷ Fire (task 1 0) (Branch 0) ((Script 0 1) ∷ (Script 0 2) ∷ (Script 0 0) ∷ []) ([]) ∷ []) ≡ Some (4, 6)
+refused_by_6-3 = refl
+
+refused_by_6-4 : first_refusal gather_wiring [] 0 (Post (message (Script 0 0) 0 1 ([])) ∷ Post (message (Script 0 1) 1 2 ([])) ∷ Post (message (Script 0 2) 1 3 ([])) ∷ Post (message (Script 0 3) 0 4 ([])) ∷ Fire (task 1 0) (Branch 0) ((Script 0 0) ∷ (Script 0 3) ∷ []) ([]) ∷ []) ≡ Some (4, 6)
+refused_by_6-4 = refl
+
+refused_by_8-2 : first_refusal teardown_cuts_wiring [] 0 (Post (message (Script 0 0) 0 1 ([])) ∷ Post (message (Script 0 1) 0 2 ([])) ∷ Post (message (Script 0 2) 1 3 ([])) ∷ Fire (task 1 0) (Branch 0) ((Script 0 0) ∷ []) ([]) ∷ Fire (task 1 1) (Branch 0) ((Script 0 1) ∷ []) ([]) ∷ Fire (task 1 2) (Branch 1) ((Script 0 2) ∷ []) ((task 1 0) ∷ []) ∷ []) ≡ Some (5, 8)
+refused_by_8-2 = refl
+
+refused_by_8-3 : first_refusal teardown_cuts_wiring [] 0 (Post (message (Script 0 0) 0 1 ([])) ∷ Post (message (Script 0 1) 0 2 ([])) ∷ Post (message (Script 0 2) 1 3 ([])) ∷ Fire (task 1 0) (Branch 0) ((Script 0 0) ∷ []) ([]) ∷ Fire (task 1 1) (Branch 0) ((Script 0 1) ∷ []) ([]) ∷ Fire (task 1 2) (Branch 1) ((Script 0 2) ∷ []) ([]) ∷ []) ≡ Some (5, 8)
+refused_by_8-3 = refl
+
+refused_by_11-2 : first_refusal teardown_cuts_wiring [] 0 (Post (message (Script 0 0) 0 1 ([])) ∷ Post (message (Script 0 1) 0 2 ([])) ∷ Post (message (Script 0 2) 1 3 ([])) ∷ Fire (task 1 0) (Branch 0) ((Script 0 0) ∷ []) ([]) ∷ Fire (task 1 1) (Branch 0) ((Script 0 1) ∷ []) ([]) ∷ Fire (task 1 2) (Branch 1) ((Script 0 2) ∷ []) ((task 1 0) ∷ (task 1 1) ∷ []) ∷ Put (task 1 0) None ∷ []) ≡ Some (6, 11)
+refused_by_11-2 = refl
+
+refused_by_16-4 : first_refusal await_wiring [] 0 (Post (message (Script 0 0) 0 1 ([])) ∷ Post (message (Script 0 1) 2 2 ([])) ∷ Post (message (Script 0 2) 1 3 ([])) ∷ Fire (task 1 0) (Branch 0) ((Script 0 0) ∷ []) ([]) ∷ Fire (task 1 1) (Branch 1) ((Script 0 1) ∷ []) ([]) ∷ Admit (task 1 0) ∷ Put (task 1 0) None ∷ Start (task 1 0) 1 ∷ End (task 1 0) ends.Done ∷ []) ≡ Some (8, 16)
+refused_by_16-4 = refl
+
+refused_by_5-3 : first_refusal await_wiring [] 0 (Post (message (Script 0 0) 0 1 ([])) ∷ Post (message (Script 0 1) 2 2 ([])) ∷ Post (message (Script 0 2) 1 3 ([])) ∷ Fire (task 1 0) (Branch 0) ((Script 0 0) ∷ []) ([]) ∷ Fire (task 1 1) (Branch 1) ((Script 0 1) ∷ []) ([]) ∷ Admit (task 1 0) ∷ Put (task 1 0) None ∷ Start (task 1 0) 1 ∷ Fire (task 1 2) (Site 0 0) ((Script 0 2) ∷ []) ([]) ∷ []) ≡ Some (8, 5)
+refused_by_5-3 = refl
+
+refused_by_6-5 : first_refusal await_wiring [] 0 (Post (message (Script 0 0) 0 1 ([])) ∷ Post (message (Script 0 1) 2 2 ([])) ∷ Post (message (Script 0 2) 1 3 ([])) ∷ Fire (task 1 0) (Branch 0) ((Script 0 0) ∷ []) ([]) ∷ Fire (task 1 1) (Branch 1) ((Script 0 1) ∷ []) ([]) ∷ Admit (task 1 0) ∷ Put (task 1 0) None ∷ Start (task 1 0) 1 ∷ End (task 1 0) ends.Yield ∷ Fire (task 1 2) (Site 0 0) ((Script 0 1) ∷ []) ([]) ∷ []) ≡ Some (9, 6)
+refused_by_6-5 = refl
+
+refused_by_10-2 : first_refusal await_wiring [] 0 (Post (message (Script 0 0) 0 1 ([])) ∷ Post (message (Script 0 1) 2 2 ([])) ∷ Post (message (Script 0 2) 1 3 ([])) ∷ Fire (task 1 0) (Branch 0) ((Script 0 0) ∷ []) ([]) ∷ Fire (task 1 1) (Branch 1) ((Script 0 1) ∷ []) ([]) ∷ Admit (task 1 0) ∷ Put (task 1 0) None ∷ Start (task 1 0) 1 ∷ End (task 1 0) ends.Yield ∷ Admit (task 1 1) ∷ []) ≡ Some (9, 10)
+refused_by_10-2 = refl
+
+refused_by_10-3 : first_refusal await_teardown_waits_wiring [] 0 (Post (message (Script 0 0) 0 1 ([])) ∷ Fire (task 1 0) (Branch 0) ((Script 0 0) ∷ []) ([]) ∷ Admit (task 1 0) ∷ Put (task 1 0) None ∷ Start (task 1 0) 1 ∷ Post (message (Task (task 1 0) 0) 2 1 ([])) ∷ Fire (task 1 1) (Branch 1) ((Task (task 1 0) 0) ∷ []) ([]) ∷ End (task 1 0) ends.Yield ∷ Admit (task 1 1) ∷ []) ≡ Some (8, 10)
+refused_by_10-3 = refl
+
+refused_by_12-2 : first_refusal discard_wiring [] 0 (Post (message (Script 0 0) 0 1 ([])) ∷ Post (message (Script 0 1) 0 2 ([])) ∷ Post (message (Script 0 2) 0 3 ([])) ∷ Post (message (Script 0 3) 0 4 ([])) ∷ Fire (task 1 0) (Branch 0) ((Script 0 0) ∷ []) ([]) ∷ Fire (task 1 1) (Branch 0) ((Script 0 1) ∷ []) ([]) ∷ Fire (task 1 2) (Branch 0) ((Script 0 2) ∷ []) ([]) ∷ Fire (task 1 3) (Branch 0) ((Script 0 3) ∷ []) ([]) ∷ Put (task 1 0) None ∷ Put (task 1 1) None ∷ Put (task 1 2) None ∷ []) ≡ Some (10, 12)
+refused_by_12-2 = refl
+
+refused_by_12-3 : first_refusal discard_wiring [] 0 (Post (message (Script 0 0) 0 1 ([])) ∷ Post (message (Script 0 1) 0 2 ([])) ∷ Post (message (Script 0 2) 0 3 ([])) ∷ Post (message (Script 0 3) 0 4 ([])) ∷ Fire (task 1 0) (Branch 0) ((Script 0 0) ∷ []) ([]) ∷ Fire (task 1 1) (Branch 0) ((Script 0 1) ∷ []) ([]) ∷ Fire (task 1 2) (Branch 0) ((Script 0 2) ∷ []) ([]) ∷ Fire (task 1 3) (Branch 0) ((Script 0 3) ∷ []) ([]) ∷ Put (task 1 0) None ∷ Put (task 1 1) None ∷ Put (task 1 2) (Some (task 1 1)) ∷ []) ≡ Some (10, 12)
+refused_by_12-3 = refl
+
+refused_by_12-4 : first_refusal discard_wiring [] 0 (Post (message (Script 0 0) 0 1 ([])) ∷ Post (message (Script 0 1) 0 2 ([])) ∷ Post (message (Script 0 2) 0 3 ([])) ∷ Post (message (Script 0 3) 0 4 ([])) ∷ Fire (task 1 0) (Branch 0) ((Script 0 0) ∷ []) ([]) ∷ Fire (task 1 1) (Branch 0) ((Script 0 1) ∷ []) ([]) ∷ Fire (task 1 2) (Branch 0) ((Script 0 2) ∷ []) ([]) ∷ Fire (task 1 3) (Branch 0) ((Script 0 3) ∷ []) ([]) ∷ Put (task 1 0) None ∷ Put (task 1 1) (Some (task 1 0)) ∷ []) ≡ Some (9, 12)
+refused_by_12-4 = refl
+
+refused_by_13-2 : first_refusal no_posts_wiring [] 0 (Start (task 1 0) 1 ∷ []) ≡ Some (0, 13)
+refused_by_13-2 = refl
+
+refused_by_15-2 : first_refusal no_posts_wiring [] 0 (End (task 1 0) ends.Done ∷ []) ≡ Some (0, 15)
+refused_by_15-2 = refl
+
+refused_by_6-6 : first_refusal no_posts_wiring [] 0 (Fire (task 1 0) (Branch 0) ((Script 0 0) ∷ []) ([]) ∷ []) ≡ Some (0, 6)
+refused_by_6-6 = refl
+
+refused_by_16-5 : first_refusal second_task_shed_wiring [] 0 (Post (message (Script 0 0) 0 1 ([])) ∷ Post (message (Script 0 1) 0 2 ([])) ∷ Fire (task 1 0) (Branch 0) ((Script 0 0) ∷ []) ([]) ∷ Fire (task 1 1) (Branch 0) ((Script 0 1) ∷ []) ([]) ∷ Put (task 1 0) None ∷ Put (task 1 1) None ∷ Start (task 1 0) 1 ∷ Start (task 1 1) 2 ∷ End (task 1 0) ends.Shed ∷ End (task 1 1) ends.Shed ∷ []) ≡ Some (9, 16)
+refused_by_16-5 = refl
+
+refused_by_13-3 : first_refusal second_task_shed_wiring [] 0 (Post (message (Script 0 0) 0 1 ([])) ∷ Post (message (Script 0 1) 0 2 ([])) ∷ Fire (task 1 0) (Branch 0) ((Script 0 0) ∷ []) ([]) ∷ Fire (task 1 1) (Branch 0) ((Script 0 1) ∷ []) ([]) ∷ Put (task 1 0) None ∷ Put (task 1 1) None ∷ Start (task 1 0) 1 ∷ Start (task 1 1) 2 ∷ Start (task 1 1) 3 ∷ []) ≡ Some (8, 13)
+refused_by_13-3 = refl
+
+right-0 : first_refusal second_task_shed_wiring [] 0 (Post (message (Script 0 0) 0 1 ([])) ∷ Post (message (Script 0 1) 0 2 ([])) ∷ Fire (task 1 0) (Branch 0) ((Script 0 0) ∷ []) ([]) ∷ Fire (task 1 1) (Branch 0) ((Script 0 1) ∷ []) ([]) ∷ Put (task 1 0) None ∷ Put (task 1 1) None ∷ Start (task 1 0) 1 ∷ Start (task 1 1) 2 ∷ End (task 1 0) ends.Shed ∷ Post (message (Task (task 1 1) 0) 1 1 ([])) ∷ End (task 1 1) ends.Done ∷ []) ≡ None
+right-0 = refl
+
+right-1 : first_refusal second_task_shed_wiring [] 0 (Post (message (Script 0 0) 0 1 ([])) ∷ Post (message (Script 0 1) 0 2 ([])) ∷ Fire (task 1 0) (Branch 0) ((Script 0 0) ∷ []) ([]) ∷ Fire (task 1 1) (Branch 0) ((Script 0 1) ∷ []) ([]) ∷ Put (task 1 0) None ∷ Put (task 1 1) None ∷ Start (task 1 0) 1 ∷ Start (task 1 1) 2 ∷ Post (message (Task (task 1 0) 0) 1 1 ([])) ∷ End (task 1 1) ends.Shed ∷ End (task 1 0) ends.Done ∷ []) ≡ None
+right-1 = refl
+
+fate-0 : fate discard_wiring discard_history (Script 0 0) ≡ Some (fates.Taken (task 1 0) states.Dropped)
+fate-0 = refl
+
+fate-1 : fate teardown_cuts_wiring teardown_cuts_history (Script 0 0) ≡ Some (fates.Taken (task 1 0) states.Cut)
+fate-1 = refl
+
+fate-2 : fate once_keeps_second_wiring once_keeps_second_history (Script 0 1) ≡ Some fates.Held
+fate-2 = refl
+
+fate-3 : fate await_teardown_waits_wiring await_teardown_waits_history (Task (task 1 0) 0) ≡ Some (fates.Taken (task 1 1) states.Waiting)
+fate-3 = refl
+
+fate-4 : fate await_wiring await_history (Script 0 0) ≡ Some (fates.Taken (task 1 0) (states.Ended ends.Yield))
+fate-4 = refl
+
+fate-5 : fate one_post_wiring one_post_history (Script 0 1) ≡ None
+fate-5 = refl
+
+no_posts-totals : totals no_posts_history ≡ record { posted = 0; taken = 0; held = 0; fired = 0; done = 0; failed = 0; shed = 0; yielded = 0; cut = 0; dropped = 0; unended = 0 }
+no_posts-totals = refl
+
+one_post-totals : totals one_post_history ≡ record { posted = 1; taken = 1; held = 0; fired = 1; done = 1; failed = 0; shed = 0; yielded = 0; cut = 0; dropped = 0; unended = 0 }
+one_post-totals = refl
+
+once_keeps_second-totals : totals once_keeps_second_history ≡ record { posted = 2; taken = 1; held = 1; fired = 1; done = 1; failed = 0; shed = 0; yielded = 0; cut = 0; dropped = 0; unended = 0 }
+once_keeps_second-totals = refl
+
+predicate-totals : totals predicate_history ≡ record { posted = 4; taken = 2; held = 2; fired = 2; done = 2; failed = 0; shed = 0; yielded = 0; cut = 0; dropped = 0; unended = 0 }
+predicate-totals = refl
+
+join-totals : totals join_history ≡ record { posted = 4; taken = 2; held = 2; fired = 1; done = 1; failed = 0; shed = 0; yielded = 0; cut = 0; dropped = 0; unended = 0 }
+join-totals = refl
+
+discard-totals : totals discard_history ≡ record { posted = 4; taken = 4; held = 0; fired = 4; done = 2; failed = 0; shed = 0; yielded = 0; cut = 0; dropped = 2; unended = 0 }
+discard-totals = refl
+
+throttle-totals : totals throttle_history ≡ record { posted = 3; taken = 3; held = 0; fired = 3; done = 3; failed = 0; shed = 0; yielded = 0; cut = 0; dropped = 0; unended = 0 }
+throttle-totals = refl
+
+interleave_groups-totals : totals interleave_groups_history ≡ record { posted = 3; taken = 3; held = 0; fired = 3; done = 3; failed = 0; shed = 0; yielded = 0; cut = 0; dropped = 0; unended = 0 }
+interleave_groups-totals = refl
+
+teardown_cuts-totals : totals teardown_cuts_history ≡ record { posted = 4; taken = 3; held = 1; fired = 3; done = 1; failed = 0; shed = 0; yielded = 0; cut = 2; dropped = 0; unended = 0 }
+teardown_cuts-totals = refl
+
+budget_shed-totals : totals budget_shed_history ≡ record { posted = 4; taken = 4; held = 0; fired = 4; done = 3; failed = 0; shed = 1; yielded = 0; cut = 0; dropped = 0; unended = 0 }
+budget_shed-totals = refl
+
+causes_failed-totals : totals causes_failed_history ≡ record { posted = 3; taken = 1; held = 2; fired = 1; done = 0; failed = 1; shed = 0; yielded = 0; cut = 0; dropped = 0; unended = 0 }
+causes_failed-totals = refl
+
+await-totals : totals await_history ≡ record { posted = 4; taken = 3; held = 1; fired = 3; done = 2; failed = 0; shed = 0; yielded = 1; cut = 0; dropped = 0; unended = 0 }
+await-totals = refl
+
+await_teardown_waits-totals : totals await_teardown_waits_history ≡ record { posted = 2; taken = 2; held = 0; fired = 2; done = 0; failed = 0; shed = 0; yielded = 1; cut = 0; dropped = 0; unended = 1 }
+await_teardown_waits-totals = refl
+
+cause_lists-totals : totals cause_lists_history ≡ record { posted = 3; taken = 2; held = 1; fired = 1; done = 1; failed = 0; shed = 0; yielded = 0; cut = 0; dropped = 0; unended = 0 }
+cause_lists-totals = refl
+
+portset-totals : totals portset_history ≡ record { posted = 5; taken = 3; held = 2; fired = 1; done = 1; failed = 0; shed = 0; yielded = 0; cut = 0; dropped = 0; unended = 0 }
+portset-totals = refl

@@ -1,0 +1,5 @@
+use Rattle.ccr_model.proofs.Covered.{IsCovered-legal}
+use Rattle.ccr_model.proofs.laws.legal_is_covered.Goals as goal
+
+pub returns : goal.returns
+returns c = IsCovered-legal

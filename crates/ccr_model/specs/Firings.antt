@@ -1,0 +1,96 @@
+-- What stands in the history of tasks.
+use Rattle.std.specs.Prelude.{ℕ, Bool, List, [], ◌∷◌, ◌++◌, map, filter, flat_map, find, Option, option_map, option_to_list}
+use Rattle.ccr_base.specs.declared.names.TaskId.{TaskId}
+use Rattle.ccr_base.specs.declared.names.MsgId.{MsgId}
+use Rattle.ccr_base.specs.declared.names.Spot.{Spot}
+use Rattle.ccr_model.specs.declared.history.Event.{Event}
+use Rattle.ccr_model.specs.declared.history.Event.TheVariants.{Fire, Admit, Put, Start, End}
+use Rattle.ccr_model.specs.declared.history.EndHow.{EndHow}
+use Rattle.ccr_model.specs.declared.history.EndHow.TheVariants.{Done, Failed, Yield, Shed}
+use Rattle.ccr_base.specs.Names.{same_task, same_spot}
+
+pub record Firing : Type 0 where
+  pub task : TaskId
+  pub spot : Spot
+  pub messages : List MsgId
+  pub cuts : List TaskId
+
+abbrev pub firing_of : Event → List Firing
+firing_of (Fire task spot messages cuts) = record { task = task; spot = spot; messages = messages; cuts = cuts } ∷ []
+firing_of _ = []
+
+abbrev pub firings : List Event → List Firing
+firings history = flat_map firing_of history
+
+-- the tasks of the firings that pass the test, in order
+abbrev pub fired_where : (Firing → Bool) → List Event → List TaskId
+fired_where test history = map (λ (f : Firing). f.task) (filter test (firings history))
+
+abbrev pub fired : List Event → List TaskId
+fired history = map (λ (f : Firing). f.task) (firings history)
+
+abbrev pub fired_at : List Event → Spot → List TaskId
+fired_at history spot = fired_where (λ f. same_spot f.spot spot) history
+
+abbrev pub firing_named : List Event → TaskId → Option Firing
+firing_named history task = find (λ (f : Firing). same_task f.task task) (firings history)
+
+abbrev pub spot_of : List Event → TaskId → Option Spot
+spot_of history task = option_map (λ (f : Firing). f.spot) (firing_named history task)
+
+abbrev pub cut : List Event → List TaskId
+cut history = flat_map (λ (f : Firing). f.cuts) (firings history)
+
+abbrev pub admitted_by : Event → List TaskId
+admitted_by (Admit task) = task ∷ []
+admitted_by _ = []
+
+-- the tasks that were admitted, over or not
+abbrev pub let_in : List Event → List TaskId
+let_in history = flat_map admitted_by history
+
+abbrev pub put_by : Event → List TaskId
+put_by (Put task dropped) = task ∷ []
+put_by _ = []
+
+abbrev pub put : List Event → List TaskId
+put history = flat_map put_by history
+
+abbrev pub dropped_by : Event → List TaskId
+dropped_by (Put task dropped) = option_to_list dropped
+dropped_by _ = []
+
+abbrev pub dropped : List Event → List TaskId
+dropped history = flat_map dropped_by history
+
+abbrev pub started_by : Event → List TaskId
+started_by (Start task actor) = task ∷ []
+started_by _ = []
+
+abbrev pub started : List Event → List TaskId
+started history = flat_map started_by history
+
+abbrev pub ended_by : Event → List TaskId
+ended_by (End task how) = task ∷ []
+ended_by _ = []
+
+abbrev pub ended : List Event → List TaskId
+ended history = flat_map ended_by history
+
+abbrev pub yielded_by : Event → List TaskId
+yielded_by (End task Yield) = task ∷ []
+yielded_by _ = []
+
+abbrev pub yielded : List Event → List TaskId
+yielded history = flat_map yielded_by history
+
+-- the segments after which their root is over
+abbrev pub last_by : Event → List TaskId
+last_by (End task Done) = task ∷ []
+last_by (End task (Failed value)) = task ∷ []
+last_by (End task Shed) = task ∷ []
+last_by (Put task dropped) = option_to_list dropped
+last_by _ = []
+
+abbrev pub last_segments : List Event → List TaskId
+last_segments history = flat_map last_by history

@@ -1,0 +1,48 @@
+-- Legal, complete, quiet and covered histories.
+use Rattle.std.specs.Prelude.{◌≡◌, ℕ, ◌+◌, Bool, true, false, ◌==◌, ◌&&◌, ◌||◌, not, nat_le, List, [], ◌∷◌, ◌++◌, length, Option, Some, None, option_map, if◌then◌else◌}
+use Rattle.std.specs.List.{list_any}
+use Rattle.ccr_wiring.specs.declared.parts.Parts.{Parts}
+use Rattle.ccr_wiring.specs.declared.parts.PosterPart.{PosterPart}
+use Rattle.ccr_model.specs.declared.history.Event.{Event}
+use Rattle.ccr_model.specs.declared.history.Event.TheVariants.{End}
+use Rattle.ccr_model.specs.declared.history.EndHow.TheVariants.{Shed}
+use Rattle.ccr_model.specs.Posts.{posts_of_poster, posts_of_tasks}
+use Rattle.ccr_model.specs.Tasks.{count_unfinished}
+use Rattle.ccr_model.specs.Rules.{refusal}
+
+abbrev pub IsAllowed : Parts → List Event → Event → Type 0
+IsAllowed wiring history event = refusal wiring history event ≡ None
+
+-- each of the events is allowed after the past and those before it
+abbrev pub IsLegalAfter : Parts → List Event → List Event → Type 0
+IsLegalAfter wiring past [] = Unit {0}
+IsLegalAfter wiring past (event ∷ events) = IsAllowed wiring past event × IsLegalAfter wiring (past ++ event ∷ []) events
+
+abbrev pub IsLegal : Parts → List Event → Type 0
+IsLegal wiring history = IsLegalAfter wiring [] history
+
+-- no event is allowed after the history
+abbrev pub IsQuiet : Parts → List Event → Type 0
+IsQuiet wiring history = (event : Event) → IsAllowed wiring history event → ⊥
+
+-- the place, from this one on, and the rule of the first event that isn't allowed
+abbrev pub first_refusal : Parts → List Event → ℕ → List Event → Option (ℕ × ℕ)
+first_refusal wiring past place [] = None
+first_refusal wiring past place (event ∷ events) = elim (refusal wiring past event) [ None ↦ first_refusal wiring (past ++ event ∷ []) (place + 1) events | Some rule ↦ Some (place, rule) ]
+
+abbrev pub is_shed_end : Event → Bool
+is_shed_end (End task Shed) = true
+is_shed_end _ = false
+
+abbrev pub has_shed : List Event → Bool
+has_shed history = list_any is_shed_end history
+
+abbrev pub are_whole_from : List Event → ℕ → List PosterPart → Bool
+are_whole_from history number [] = true
+are_whole_from history number (poster ∷ posters) = (posts_of_poster history number == length poster.posts) && are_whole_from history (number + 1) posters
+
+abbrev pub is_complete : Parts → List Event → Bool
+is_complete wiring history = are_whole_from history 0 wiring.posters && (not (has_shed history) || (posts_of_tasks history == wiring.budget))
+
+abbrev pub is_covered : Parts → List Event → Bool
+is_covered wiring history = not (has_shed history) || nat_le wiring.budget (posts_of_tasks history + count_unfinished wiring history)

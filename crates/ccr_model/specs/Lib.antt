@@ -1,0 +1,15 @@
+pub mod Posts
+pub mod Firings
+pub mod Sites
+pub mod TaskData
+pub mod Tasks
+pub mod Live
+pub mod Choice
+pub mod Rules
+pub mod Legal
+pub mod Order
+pub mod Fates
+pub mod Counts
+pub mod Valid
+pub mod Laws
+pub mod Consequences

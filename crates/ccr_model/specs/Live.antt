@@ -1,0 +1,38 @@
+-- Which spots may fire once more.
+use Rattle.std.specs.Prelude.{ℕ, Bool, true, false, not, ◌==◌, ◌&&◌, nat_lt, List, length, Option}
+use Rattle.std.specs.Option.{option_map_or}
+use Rattle.ccr_base.specs.declared.names.TaskId.{TaskId}
+use Rattle.ccr_base.specs.declared.names.Spot.{Spot}
+use Rattle.ccr_base.specs.declared.names.Spot.TheVariants.{Branch, Site}
+use Rattle.ccr_wiring.specs.declared.parts.Parts.{Parts}
+use Rattle.ccr_base.specs.declared.policies.Group.{Group}
+use Rattle.ccr_base.specs.declared.policies.Group.TheVariants.{Once, Always, Choice, Teardown, Exclusive, Concurrent}
+use Rattle.ccr_base.specs.declared.policies.Policy.{Policy}
+use Rattle.ccr_base.specs.declared.policies.Policy.TheVariants.{Unbounded, Discard, Throttle}
+use Rattle.ccr_model.specs.declared.history.Event.{Event}
+use Rattle.ccr_wiring.specs.Wirings.{Seat, seat, policy_of}
+use Rattle.ccr_model.specs.Firings.{fired_at}
+use Rattle.ccr_model.specs.Sites.{suspended}
+use Rattle.ccr_model.specs.Tasks.{fired_by, is_teardown, coming}
+
+abbrev pub is_none_of : List TaskId → Bool
+is_none_of tasks = length tasks == 0
+
+abbrev pub is_live_in : Parts → List Event → ℕ → ℕ → Group → Bool
+is_live_in wiring history branch arbiter Always = true
+is_live_in wiring history branch arbiter Once = is_none_of (fired_at history (Branch branch))
+is_live_in wiring history branch arbiter Choice = is_none_of (fired_by wiring (λ s. s.arbiter == arbiter) history)
+is_live_in wiring history branch arbiter _ = is_none_of (fired_by wiring (λ s. (s.arbiter == arbiter) && is_teardown s.branch.group) history)
+
+abbrev pub is_live : Parts → List Event → Spot → Bool
+is_live wiring history (Branch branch) = option_map_or (λ (s : Seat). is_live_in wiring history branch s.arbiter s.branch.group) (seat wiring branch) false
+is_live wiring history (Site branch site) = not (is_none_of (suspended history (Site branch site)))
+
+abbrev pub has_room_in : Parts → List Event → ℕ → Policy → Bool
+has_room_in wiring history queue (Throttle n) = nat_lt (length (coming wiring history queue)) n
+has_room_in wiring history queue _ = true
+
+-- whether the queue lets the spot fire
+abbrev pub has_room : Parts → List Event → Spot → Bool
+has_room wiring history (Branch branch) = option_map_or (λ (s : Seat). has_room_in wiring history s.branch.queue (policy_of wiring s.branch.queue)) (seat wiring branch) true
+has_room wiring history (Site branch site) = true

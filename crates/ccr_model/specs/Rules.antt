@@ -1,0 +1,133 @@
+-- Which event is allowed after which history: one definition a rule, true where the rule lets it pass.
+use Rattle.std.specs.Prelude.{◌≡◌, ℕ, ◌+◌, ◌-◌, Bool, true, false, not, ◌==◌, ◌&&◌, ◌||◌, nat_lt, nat_le, List, [], ◌∷◌, length, Option, Some, None, option_and_then, is_none, if◌then◌else◌}
+use Rattle.std.specs.List.{slice_get, list_all}
+use Rattle.std.specs.Option.{option_map_or}
+use Rattle.ccr_base.specs.declared.names.TaskId.{TaskId}
+use Rattle.ccr_base.specs.declared.names.MsgId.{MsgId}
+use Rattle.ccr_base.specs.declared.names.MsgId.TheVariants.{Script, Task}
+use Rattle.ccr_base.specs.declared.messages.Msg.{Msg}
+use Rattle.ccr_base.specs.declared.messages.Sent.{Sent}
+use Rattle.ccr_base.specs.declared.names.Spot.{Spot}
+use Rattle.ccr_base.specs.declared.names.Spot.TheVariants.{Branch, Site}
+use Rattle.ccr_handler.specs.declared.plays.Play.{Play}
+use Rattle.ccr_handler.specs.declared.plays.PlayEnd.{PlayEnd}
+use Rattle.ccr_handler.specs.declared.plays.PlayEnd.TheVariants as plays
+use Rattle.ccr_wiring.specs.declared.parts.Parts.{Parts}
+use Rattle.ccr_wiring.specs.declared.parts.PosterPart.{PosterPart}
+use Rattle.ccr_base.specs.declared.policies.Policy.{Policy}
+use Rattle.ccr_base.specs.declared.policies.Policy.TheVariants.{Unbounded, Discard, Throttle}
+use Rattle.ccr_model.specs.declared.history.Event.{Event}
+use Rattle.ccr_model.specs.declared.history.Event.TheVariants.{Post, Fire, Admit, Put, Start, End}
+use Rattle.ccr_model.specs.declared.history.EndHow.{EndHow}
+use Rattle.ccr_model.specs.declared.history.EndHow.TheVariants as ends
+use Rattle.ccr_base.specs.Names.{same_task, has_task, same_lists, same_options, without}
+use Rattle.ccr_model.specs.Posts.{posts_of_poster, posts_of_task, posts_of_tasks}
+use Rattle.ccr_wiring.specs.Wirings.{Seat, seat, policy_of, is_branch}
+use Rattle.ccr_model.specs.Firings.{fired, cut, let_in, put, spot_of}
+use Rattle.ccr_model.specs.TaskData.{seat_of, play_of}
+use Rattle.ccr_model.specs.Tasks.{is_interleave, is_teardown, is_concurrent, waiting, queued, running, running_by, admitted, has_post_left, count_unfinished}
+use Rattle.ccr_model.specs.Live.{is_live, has_room, is_none_of}
+use Rattle.ccr_model.specs.Choice.{is_choice}
+
+-- whether the message is the post, but for its name
+abbrev pub is_post : Msg → Sent → Bool
+is_post message sent = (message.port == sent.port) && (message.value == sent.value) && same_lists (λ c d. c == d) message.causes sent.causes
+
+-- rule 1
+abbrev pub is_script_line : Parts → List Event → ℕ → ℕ → Msg → Bool
+is_script_line wiring history actor place message = (place == posts_of_poster history actor) && option_map_or (is_post message) (option_and_then (λ (p : PosterPart). slice_get p.posts place) (slice_get wiring.posters actor)) false
+
+-- rule 2
+abbrev pub is_play_post : Parts → List Event → TaskId → ℕ → Msg → Bool
+is_play_post wiring history task place message = has_task (running history) task && (place == posts_of_task history task) && option_map_or (is_post message) (slice_get (play_of wiring history task).posts place) false
+
+-- rule 3
+abbrev pub has_budget : Parts → List Event → Bool
+has_budget wiring history = nat_lt (posts_of_tasks history) wiring.budget
+
+-- rule 4
+abbrev pub is_new : List Event → TaskId → Bool
+is_new history task = not (has_task (fired history) task) && nat_le task.actor 32
+
+-- rule 8: the tasks that a firing at the spot cuts
+abbrev pub cuts_at : Parts → List Event → Spot → List TaskId
+cuts_at wiring history (Branch branch) = option_map_or (λ (s : Seat). if is_teardown s.branch.group then waiting wiring history s.arbiter else []) (seat wiring branch) []
+cuts_at wiring history (Site branch site) = []
+
+abbrev pub is_first : List TaskId → TaskId → Bool
+is_first tasks task = option_map_or (same_task task) (slice_get tasks 0) false
+
+-- rule 9
+abbrev pub is_oldest_waiting : Parts → List Event → TaskId → Bool
+is_oldest_waiting wiring history task = option_map_or (λ (s : Seat). is_first (waiting wiring history s.arbiter) task) (seat_of wiring history task) false
+
+abbrev pub is_concurrent_task : Parts → List Event → TaskId → Bool
+is_concurrent_task wiring history task = option_map_or (λ (s : Seat). is_concurrent s.branch.group) (seat_of wiring history task) false
+
+-- rule 10
+abbrev pub may_enter : Parts → List Event → TaskId → Bool
+may_enter wiring history task = option_map_or (λ (s : Seat). (if is_concurrent s.branch.group then list_all (is_concurrent_task wiring history) (admitted wiring history s.arbiter) else is_none_of (admitted wiring history s.arbiter))) (seat_of wiring history task) false
+
+abbrev pub needs_no_admission : Parts → Spot → Bool
+needs_no_admission wiring (Branch branch) = option_map_or (λ (s : Seat). not (is_interleave s.kind)) (seat wiring branch) false
+needs_no_admission wiring (Site branch site) = true
+
+-- rule 11
+abbrev pub may_put : Parts → List Event → TaskId → Bool
+may_put wiring history task = not (has_task (put history) task) && not (has_task (cut history) task) && option_map_or (λ spot. needs_no_admission wiring spot || has_task (let_in history) task) (spot_of history task) false
+
+abbrev pub drop_by : Policy → List TaskId → Option TaskId
+drop_by (Discard n) tasks = if nat_le n (length tasks) then slice_get tasks 0 else None
+drop_by _ tasks = None
+
+-- rule 12: the task that this put drops
+abbrev pub drop_at : Parts → List Event → TaskId → Option TaskId
+drop_at wiring history task = option_and_then (λ (s : Seat). drop_by (policy_of wiring s.branch.queue) (queued wiring history s.branch.queue)) (seat_of wiring history task)
+
+-- rule 13
+abbrev pub is_oldest_queued : Parts → List Event → TaskId → Bool
+is_oldest_queued wiring history task = option_map_or (λ (s : Seat). is_first (queued wiring history s.branch.queue) task) (seat_of wiring history task) false
+
+-- rule 14
+abbrev pub may_start : Parts → List Event → ℕ → Bool
+may_start wiring history actor = nat_le (length wiring.posters) actor && nat_le actor 32 && is_none_of (running_by history actor)
+
+abbrev pub ends_so : EndHow → PlayEnd → Bool
+ends_so ends.Done plays.Done = true
+ends_so (ends.Failed v) (plays.Failed u) = v == u
+ends_so ends.Yield (plays.Yield site) = true
+ends_so _ _ = false
+
+abbrev pub is_shed : EndHow → Bool
+is_shed ends.Shed = true
+is_shed _ = false
+
+-- rule 16
+abbrev pub may_shed : Parts → List Event → TaskId → Bool
+may_shed wiring history task = has_post_left wiring history task && nat_le wiring.budget (posts_of_tasks history + (count_unfinished wiring history - 1))
+
+abbrev pub may_end : Parts → List Event → TaskId → EndHow → Bool
+may_end wiring history task how = if is_shed how then may_shed wiring history task else not (has_post_left wiring history task) && ends_so how (play_of wiring history task).end
+
+-- the number, where the test fails; else what the other tests say
+abbrev pub refused : Bool → ℕ → Option ℕ → Option ℕ
+refused true rule others = others
+refused false rule others = Some rule
+
+abbrev pub refusal_of_post : Parts → List Event → Msg → MsgId → Option ℕ
+refusal_of_post wiring history message (Script actor place) = refused (is_script_line wiring history actor place message) 1 None
+refusal_of_post wiring history message (Task task place) = refused (is_play_post wiring history task place message) 2 (refused (has_budget wiring history) 3 None)
+
+-- the first rule that refuses the event after the history
+abbrev pub refusal : Parts → List Event → Event → Option ℕ
+refusal wiring history (Post message) = refusal_of_post wiring history message message.id
+refusal wiring history (Fire task spot messages cuts) =
+    refused (is_new history task) 4
+    (refused (is_live wiring history spot) 5
+    (refused (is_choice wiring history spot messages) 6
+    (refused (has_room wiring history spot) 7
+    (refused (same_lists same_task cuts (cuts_at wiring history spot)) 8 None))))
+refusal wiring history (Admit task) = refused (is_oldest_waiting wiring history task) 9 (refused (may_enter wiring history task) 10 None)
+refusal wiring history (Put task dropped) = refused (may_put wiring history task) 11 (refused (same_options same_task dropped (drop_at wiring history task)) 12 None)
+refusal wiring history (Start task actor) = refused (is_oldest_queued wiring history task) 13 (refused (may_start wiring history actor) 14 None)
+refusal wiring history (End task how) = refused (has_task (running history) task) 15 (refused (may_end wiring history task how) 16 None)

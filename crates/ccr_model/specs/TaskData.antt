@@ -1,0 +1,56 @@
+-- The data of a task: where it belongs, its values and its causes.
+use Rattle.std.specs.Prelude.{ℕ, zero, suc, Bool, false, ◌==◌, List, [], ◌++◌, map, flat_map, Option, option_map, option_and_then}
+use Rattle.std.specs.Option.{option_map_or}
+use Rattle.ccr_base.specs.declared.names.TaskId.{TaskId}
+use Rattle.ccr_base.specs.declared.messages.Msg.{Msg}
+use Rattle.ccr_base.specs.declared.names.Spot.{Spot}
+use Rattle.ccr_base.specs.declared.names.Spot.TheVariants.{Branch, Site}
+use Rattle.ccr_handler.specs.declared.plays.Play.{Play}
+use Rattle.ccr_handler.specs.declared.plays.PlayEnd.TheVariants.{Done}
+use Rattle.ccr_wiring.specs.declared.parts.Parts.{Parts}
+use Rattle.ccr_model.specs.declared.history.Event.{Event}
+use Rattle.ccr_model.specs.Posts.{messages_named}
+use Rattle.ccr_wiring.specs.Wirings.{Seat, seat, branch_of, segment_of, actions_of, exception_port}
+use Rattle.ccr_model.specs.Firings.{Firing, firing_named, spot_of}
+use Rattle.ccr_cause.specs.Causes.{union}
+use Rattle.ccr_handler.specs.Playing.{play, actions_from}
+use Rattle.ccr_model.specs.Sites.{before, resumed}
+
+-- what a segment starts with
+pub record Load : Type 0 where
+  pub values : List ℕ
+  pub causes : List ℕ
+
+abbrev pub messages_of : List Event → TaskId → List Msg
+messages_of history task = option_map_or (λ (f : Firing). messages_named (before task history) f.messages) (firing_named history task) []
+
+abbrev pub seat_of : Parts → List Event → TaskId → Option Seat
+seat_of wiring history task = option_and_then (λ spot. seat wiring (branch_of spot)) (spot_of history task)
+
+-- the play of a segment of the branch with this load
+abbrev pub play_at : Parts → ℕ → ℕ → Load → Play
+play_at wiring branch segment load = play (exception_port wiring) load.values segment load.causes (actions_from segment (option_map_or (λ (s : Seat). actions_of wiring s.branch.handler) (seat wiring branch) []))
+
+-- the load with the messages' values and causes behind it
+abbrev pub with_messages : Load → List Msg → Load
+with_messages load messages = record { values = load.values ++ map (λ (m : Msg). m.value) messages; causes = union load.causes (flat_map (λ (m : Msg). m.causes) messages) }
+
+abbrev pub no_load : Load
+no_load = record { values = []; causes = [] }
+
+-- what a segment leaves to the next
+abbrev pub load_after : Parts → ℕ → ℕ → Load → Load
+load_after wiring branch segment load = record load { causes = (play_at wiring branch segment load).causes }
+
+abbrev pub load_at : Parts → List Event → ℕ → ℕ → TaskId → Load
+load_at wiring history branch zero task = with_messages no_load (messages_of history task)
+load_at wiring history branch (suc site) task = with_messages (option_map_or (λ (u : TaskId). load_after wiring branch site (load_at wiring history branch site u)) (resumed history (Site branch site) task) no_load) (messages_of history task)
+
+abbrev pub load_of : Parts → List Event → TaskId → Load
+load_of wiring history task = option_map_or (λ spot. load_at wiring history (branch_of spot) (segment_of spot) task) (spot_of history task) no_load
+
+abbrev pub no_play : Play
+no_play = record { posts = []; end = Done; causes = [] }
+
+abbrev pub play_of : Parts → List Event → TaskId → Play
+play_of wiring history task = option_map_or (λ spot. play_at wiring (branch_of spot) (segment_of spot) (load_at wiring history (branch_of spot) (segment_of spot) task)) (spot_of history task) no_play

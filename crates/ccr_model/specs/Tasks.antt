@@ -1,0 +1,89 @@
+-- Who is where: each is a filter of the history.
+use Rattle.std.specs.Prelude.{ℕ, Bool, true, false, not, ◌==◌, ◌&&◌, nat_lt, List, [], ◌∷◌, ◌++◌, length, filter, flat_map, Option, if◌then◌else◌}
+use Rattle.std.specs.List.{list_any}
+use Rattle.std.specs.Option.{option_map_or}
+use Rattle.ccr_base.specs.declared.names.TaskId.{TaskId}
+use Rattle.ccr_base.specs.declared.names.Spot.{Spot}
+use Rattle.ccr_base.specs.declared.names.Spot.TheVariants.{Branch, Site}
+use Rattle.ccr_wiring.specs.declared.parts.Parts.{Parts}
+use Rattle.ccr_wiring.specs.declared.parts.Kind.{Kind}
+use Rattle.ccr_wiring.specs.declared.parts.Kind.TheVariants as kinds
+use Rattle.ccr_base.specs.declared.policies.Group.{Group}
+use Rattle.ccr_base.specs.declared.policies.Group.TheVariants as groups
+use Rattle.ccr_model.specs.declared.history.Event.{Event}
+use Rattle.ccr_model.specs.declared.history.Event.TheVariants.{Start}
+use Rattle.ccr_base.specs.Names.{same_task, has_task, without}
+use Rattle.ccr_model.specs.Posts.{posts_of_task}
+use Rattle.ccr_wiring.specs.Wirings.{Seat, seat, branch_of, is_branch}
+use Rattle.ccr_model.specs.Firings.{Firing, fired_where, spot_of, cut, let_in, put, dropped, started, ended, last_segments}
+use Rattle.ccr_model.specs.Sites.{root_of}
+use Rattle.ccr_model.specs.TaskData.{seat_of, play_of}
+
+abbrev pub is_interleave : Kind → Bool
+is_interleave kinds.Interleave = true
+is_interleave _ = false
+
+abbrev pub is_teardown : Group → Bool
+is_teardown groups.Teardown = true
+is_teardown _ = false
+
+abbrev pub is_concurrent : Group → Bool
+is_concurrent groups.Concurrent = true
+is_concurrent _ = false
+
+-- whether the spot is a branch whose seat passes the test
+abbrev pub is_branch_where : Parts → (Seat → Bool) → Spot → Bool
+is_branch_where wiring test (Branch branch) = option_map_or test (seat wiring branch) false
+is_branch_where wiring test (Site branch site) = false
+
+-- the tasks that such branches fired, in order
+abbrev pub fired_by : Parts → (Seat → Bool) → List Event → List TaskId
+fired_by wiring test history = fired_where (λ f. is_branch_where wiring test f.spot) history
+
+-- the tasks that branches of the Interleave fired, neither admitted nor cut
+abbrev pub waiting : Parts → List Event → ℕ → List TaskId
+waiting wiring history interleave = without (fired_by wiring (λ s. is_interleave s.kind && (s.arbiter == interleave)) history) (let_in history ++ cut history)
+
+abbrev pub is_for_queue : Parts → List Event → ℕ → TaskId → Bool
+is_for_queue wiring history queue task = option_map_or (λ (s : Seat). s.branch.queue == queue) (seat_of wiring history task) false
+
+-- the tasks put into the queue, neither started nor dropped
+abbrev pub queued : Parts → List Event → ℕ → List TaskId
+queued wiring history queue = filter (is_for_queue wiring history queue) (without (put history) (started history ++ dropped history))
+
+abbrev pub running : List Event → List TaskId
+running history = without (started history) (ended history)
+
+abbrev pub started_as : ℕ → Event → List TaskId
+started_as actor (Start task by) = if by == actor then task ∷ [] else []
+started_as actor _ = []
+
+-- the tasks that the actor started, not ended
+abbrev pub running_by : List Event → ℕ → List TaskId
+running_by history actor = without (flat_map (started_as actor) history) (ended history)
+
+-- whether some segment of the root ended done, failed or shed, or was dropped
+abbrev pub is_over : List Event → TaskId → Bool
+is_over history root = list_any (λ task. same_task (root_of history task) root) (last_segments history)
+
+abbrev pub is_in_arbiter : Parts → List Event → ℕ → TaskId → Bool
+is_in_arbiter wiring history arbiter task = option_map_or (λ (s : Seat). s.arbiter == arbiter) (seat_of wiring history task) false
+
+-- the roots that were admitted and aren't over
+abbrev pub admitted : Parts → List Event → ℕ → List TaskId
+admitted wiring history interleave = filter (λ task. is_in_arbiter wiring history interleave task && not (is_over history task)) (let_in history)
+
+-- the tasks that branches fired for the queue, neither started, dropped nor cut
+abbrev pub coming : Parts → List Event → ℕ → List TaskId
+coming wiring history queue = without (fired_by wiring (λ s. s.branch.queue == queue) history) (started history ++ dropped history ++ cut history)
+
+-- whether a post of the task's play is left
+abbrev pub has_post_left : Parts → List Event → TaskId → Bool
+has_post_left wiring history task = nat_lt (posts_of_task history task) (length (play_of wiring history task).posts)
+
+-- the running tasks that have a post left
+abbrev pub unfinished : Parts → List Event → List TaskId
+unfinished wiring history = filter (has_post_left wiring history) (running history)
+
+abbrev pub count_unfinished : Parts → List Event → ℕ
+count_unfinished wiring history = length (unfinished wiring history)

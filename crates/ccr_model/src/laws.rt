@@ -1,0 +1,44 @@
+//! Laws over every legal history. Each is the contract of a function that does nothing.
+
+ghost use Rattle.std.specs.Prelude.{◌≡◌, ◌≤◌, ◌+◌, ℕ, List, Some, None, Option, IfSome, true, length};
+ghost use Rattle.ccr_wiring.specs.declared.parts.Parts.{Parts};
+ghost use Rattle.ccr_base.specs.declared.names.MsgId.{MsgId};
+ghost use Rattle.ccr_model.specs.declared.history.Event.{Event};
+ghost use Rattle.ccr_model.specs.Legal.{IsLegal};
+ghost use Rattle.ccr_model.specs.Legal.{IsAllowed, IsQuiet, has_shed};
+ghost use Rattle.ccr_model.specs.Order.{first};
+ghost use Rattle.ccr_model.specs.Posts.{posts_of_tasks};
+ghost use Rattle.ccr_model.specs.Tasks.{count_unfinished};
+ghost use Rattle.ccr_model.specs.Consequences.{is_alone};
+ghost use Rattle.ccr_model.specs.Valid.{HasPortsApart, HasQueues};
+ghost use Rattle.ccr_model.specs.Laws.{times_posted, times_taken};
+
+/// No two posts have one name.
+pub fn posts_have_names_of_their_own()
+    ensures { (wiring : Parts) (history : List Event) → IsLegal wiring history → (name : MsgId) → times_posted history name ≤ 1 }
+{}
+
+/// At most one firing names a message, and it names it once.
+pub fn messages_are_taken_once()
+    ensures { (wiring : Parts) → HasPortsApart wiring → (history : List Event) → IsLegal wiring history → (name : MsgId) → times_taken history name ≤ 1 }
+{}
+
+/// What one thread puts first is allowed.
+pub fn first_is_allowed()
+    ensures { (wiring : Parts) (closer : ℕ) (history : List Event) → length wiring.posters ≤ closer → closer ≤ 32 → IsLegal wiring history → IfSome (first wiring closer history) (IsAllowed wiring history) }
+{}
+
+/// Where it puts nothing first, nothing is allowed.
+pub fn none_first_is_quiet()
+    ensures { (wiring : Parts) (closer : ℕ) (history : List Event) → HasQueues wiring → first wiring closer history ≡ None → IsQuiet wiring history }
+{}
+
+/// Where a task was shed, posts and running tasks with a post left use the budget up.
+pub fn legal_is_covered()
+    ensures { (wiring : Parts) (history : List Event) → IsLegal wiring history → has_shed history ≡ true → wiring.budget ≤ posts_of_tasks history + count_unfinished wiring history }
+{}
+
+/// The admitted roots of an Interleave that are not over are all concurrent, or one.
+pub fn exclusive_roots_are_alone()
+    ensures { (wiring : Parts) (history : List Event) → IsLegal wiring history → (interleave : ℕ) → is_alone wiring history interleave ≡ true }
+{}

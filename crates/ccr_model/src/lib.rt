@@ -1,0 +1,11 @@
+//! Events, histories, which event is allowed after which history, and the serial order.
+#![tactic(auto)]
+
+mod history;
+mod laws;
+
+pub use history::{EndHow, Event, Fate, TaskState, Totals};
+pub use laws::{
+    exclusive_roots_are_alone, first_is_allowed, legal_is_covered, messages_are_taken_once,
+    none_first_is_quiet, posts_have_names_of_their_own,
+};
