@@ -34,7 +34,7 @@ use Rattle.ccr_model.specs.Choice.{is_choice, is_choice_of, engine_choice, engin
 use Rattle.ccr_model.specs.Rules.{refusal, refusal_of_post, refused, is_post, is_script_line, is_new, is_first, is_oldest_waiting, may_enter, may_put, drop_at, is_oldest_queued, cuts_at, has_budget, is_play_post}
 use Rattle.ccr_model.specs.Legal.{IsAllowed, IsQuiet}
 use Rattle.ccr_model.specs.Order.{first, post_from, script_post, fire_at, fire_from, admit_first, admit_from, put_first, run_task, start_from}
-use Rattle.ccr_model.specs.Valid.{HasQueues}
+use Rattle.ccr_wiring.specs.Valid.{HasQueues}
 use Rattle.ccr_model.proofs.PostNames.{both, refused_not}
 
 -- x is a member

@@ -24,7 +24,7 @@ use Rattle.ccr_model.specs.Choice.{names_of, joined, choice_of_slots, are_first,
 use Rattle.ccr_model.specs.Live.{is_live, has_room}
 use Rattle.ccr_model.specs.Rules.{refusal, refused, is_new}
 use Rattle.ccr_model.specs.Legal.{IsAllowed, IsLegal}
-use Rattle.ccr_model.specs.Valid.{has_port, are_apart, slot_ports, names_ports_once, HasPortsApart}
+use Rattle.ccr_wiring.specs.Valid.{has_port, are_apart, slot_ports, names_ports_once, HasPortsApart}
 use Rattle.ccr_model.proofs.PostNames.{times, along, both, refused_not, same_message-self, same_message-is, AreNamed, named_kept}
 
 -- how often the name stands in the list of names

@@ -10,6 +10,5 @@ pub mod Legal
 pub mod Order
 pub mod Fates
 pub mod Counts
-pub mod Valid
 pub mod Laws
 pub mod Consequences

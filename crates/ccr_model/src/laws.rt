@@ -10,7 +10,7 @@ ghost use Rattle.ccr_model.specs.Order.{first};
 ghost use Rattle.ccr_model.specs.Posts.{posts_of_tasks};
 ghost use Rattle.ccr_model.specs.Tasks.{count_unfinished};
 ghost use Rattle.ccr_model.specs.Consequences.{is_alone};
-ghost use Rattle.ccr_model.specs.Valid.{HasPortsApart, HasQueues};
+ghost use Rattle.ccr_wiring.specs.Valid.{HasPortsApart, HasQueues};
 ghost use Rattle.ccr_model.specs.Laws.{times_posted, times_taken};
 
 /// No two posts have one name.

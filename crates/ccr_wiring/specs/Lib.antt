@@ -1,1 +1,9 @@
 pub mod Wirings
+pub mod Groups
+pub mod Names
+pub mod References
+pub mod Repeats
+pub mod Limits
+pub mod Spots
+pub mod Codes
+pub mod Valid

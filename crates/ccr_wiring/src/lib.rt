@@ -2,7 +2,9 @@
 #![tactic(auto)]
 
 mod parts;
+mod wiring;
 
 pub use parts::{
     ArbiterPart, BranchPart, CausePart, HandlerPart, Kind, Parts, PosterPart, QueuePart, SetPart,
 };
+pub use wiring::Wiring;

@@ -1,0 +1,50 @@
+-- Where the first line ends.
+use Rattle.std.proofs.Common.{◌≡◌, ◌≢◌, ℕ, zero, suc, ◌+◌, ◌<◌, List, [], ◌∷◌, get_or, take, drop, length, refl, arith}
+use Rattle.std.proofs.lemmas.Bool.Decides.{nat_tests}
+use Rattle.std.specs.Prelude.{true, false}
+use Rattle.ccr_text.specs.Lines.{cut}
+use Rattle.ccr_text.specs.Words.{is_mark, pieces}
+
+cut_at_suc : (text : List ℕ) (i : ℕ) → ((k : ℕ) → k < i → get_or text k 0 ≢ 10) → i < length text → get_or text i 0 ≡ 10 → cut text ≡ take i text ∷ cut (drop (suc i) text)
+cut_at_suc [] i none below here = absurd (omega arith)
+cut_at_suc (b ∷ bytes) zero none below here = grind (arith, nat_tests)
+cut_at_suc (b ∷ bytes) (suc i) none below here =
+    let other : b ≢ 10 = none 0 (omega arith) in
+    let rest : cut bytes ≡ take i bytes ∷ cut (drop (suc i) bytes) = cut_at_suc bytes i (λ k h. none (suc k) (omega arith)) (omega arith) here in
+    grind (arith, nat_tests, rest, other)
+
+-- the first LF stands at i
+pub cut_at : (text : List ℕ) (i : ℕ) → ((k : ℕ) → k < i → get_or text k 0 ≢ 10) → i < length text → get_or text i 0 ≡ 10 → cut text ≡ take i text ∷ cut (drop (i + 1) text)
+cut_at text i none below here = let e : i + 1 ≡ suc i = omega arith in rw e (cut_at_suc text i none below here)
+
+-- there is no LF
+pub cut_none : (b : ℕ) (bytes : List ℕ) → ((k : ℕ) → k < length (b ∷ bytes) → get_or (b ∷ bytes) k 0 ≢ 10) → cut (b ∷ bytes) ≡ (b ∷ bytes) ∷ []
+cut_none b [] none = let other : b ≢ 10 = none 0 (omega arith) in grind (arith, nat_tests, other)
+cut_none b (c ∷ bytes) none =
+    let other : b ≢ 10 = none 0 (omega arith) in
+    let rest : cut (c ∷ bytes) ≡ (c ∷ bytes) ∷ [] = cut_none c bytes (λ k h. none (suc k) (omega arith)) in
+    grind (arith, nat_tests, rest, other)
+
+pub cut_whole : (text : List ℕ) → text ≢ [] → ((k : ℕ) → k < length text → get_or text k 0 ≢ 10) → cut text ≡ text ∷ []
+cut_whole [] some none = absurd (some refl)
+cut_whole (b ∷ bytes) some none = cut_none b bytes none
+
+pieces_at_suc : (line : List ℕ) (i : ℕ) → ((k : ℕ) → k < i → is_mark (get_or line k 0) ≡ true) → i < length line → is_mark (get_or line i 0) ≡ false → pieces line ≡ take i line ∷ pieces (drop (suc i) line)
+pieces_at_suc [] i marks below here = absurd (omega arith)
+pieces_at_suc (b ∷ bytes) zero marks below here = rw here refl
+pieces_at_suc (b ∷ bytes) (suc i) marks below here =
+    let mark : is_mark b ≡ true = marks 0 (omega arith) in
+    let rest : pieces bytes ≡ take i bytes ∷ pieces (drop (suc i) bytes) = pieces_at_suc bytes i (λ k h. marks (suc k) (omega arith)) (omega arith) here in
+    rw (mark, rest) refl
+
+-- the first byte that is no mark stands at i
+pub pieces_at : (line : List ℕ) (i : ℕ) → ((k : ℕ) → k < i → is_mark (get_or line k 0) ≡ true) → i < length line → is_mark (get_or line i 0) ≡ false → pieces line ≡ take i line ∷ pieces (drop (i + 1) line)
+pieces_at line i marks below here = let e : i + 1 ≡ suc i = omega arith in rw e (pieces_at_suc line i marks below here)
+
+-- there is none
+pub pieces_whole : (line : List ℕ) → ((k : ℕ) → k < length line → is_mark (get_or line k 0) ≡ true) → pieces line ≡ line ∷ []
+pieces_whole [] marks = refl
+pieces_whole (b ∷ bytes) marks =
+    let mark : is_mark b ≡ true = marks 0 (omega arith) in
+    let rest : pieces bytes ≡ bytes ∷ [] = pieces_whole bytes (λ k h. marks (suc k) (omega arith)) in
+    rw (mark, rest) refl

@@ -1,0 +1,100 @@
+//! What a word may be.
+
+ghost use Rattle.std.specs.Prelude.{◌≡◌, ◌<◌, [], ◌∷◌, IfOk, IfSome, IfNone, length};
+ghost use Rattle.std.specs.List.{list_all};
+ghost use Rattle.ccr_text.specs.Words.{is_mark, is_clean, pieces, words_of, number_of, with_digit, is_name_of, may_be_in_name};
+
+use ccr_base::{List, Name, OutOfMemory};
+use std::alloc::Global;
+
+pub(crate) fn is_mark_byte(byte: u8) -> bool
+    ensures { result ≡ is_mark byte }
+{
+    (33..=126).contains(&byte)
+}
+
+pub(crate) fn is_clean_line(line: &[u8]) -> bool
+    ensures { result ≡ is_clean line.now }
+{
+    line.iter()
+        .all(|byte| matches!(*byte, b' ' | b'\t' | b'\r') || is_mark_byte(*byte))
+}
+
+/// What stands before the first byte that is no mark, and what stands behind that byte.
+fn cut_word(line: &[u8]) -> (&[u8], Option<&[u8]>)
+    ensures whole { IfNone result.1 (pieces line.now ≡ result.0.now ∷ []) }
+    ensures cut { IfSome result.1 (λ after. pieces line.now ≡ result.0.now ∷ pieces after.now) }
+    ensures shorter { IfSome result.1 (λ after. length after.now < length line.now) }
+{
+    for (place, byte) in line.iter().enumerate() {
+        if !is_mark_byte(*byte) {
+            return (&line[..place], Some(&line[place + 1..]));
+        }
+    }
+    (line, None)
+}
+
+/// The words of a line.
+pub(crate) fn words_in(alloc: Global, line: &[u8]) -> Result<List<Name>, OutOfMemory>
+    ensures { IfOk result (λ words. words ≡ words_of line.now) }
+{
+    let mut words = List::new(alloc);
+    let mut rest = Some(line);
+    'pieces: while let Some(bytes) = rest {
+        let (word, after) = cut_word(bytes);
+        if !word.is_empty() {
+            let word = List::from_vec(Vec::from_slice(alloc, word)?);
+            words.push(word).map_err(|(refused, _)| refused)?;
+        }
+        rest = after;
+    }
+    Ok(words)
+}
+
+fn with_digit(number: u64, byte: u8) -> Option<u64>
+    ensures { result ≡ with_digit number byte }
+{
+    if !byte.is_ascii_digit() {
+        return None;
+    }
+    number.checked_mul(10)?.checked_add(u64::from(byte - b'0'))
+}
+
+/// The value of decimal digits, where it is below 2^64.
+pub fn read_number(word: &[u8]) -> Option<u64>
+    ensures { result ≡ number_of word.now }
+{
+    if word.is_empty() {
+        return None;
+    }
+    let mut number: u64 = 0;
+    for byte in word {
+        number = with_digit(number, *byte)?;
+    }
+    Some(number)
+}
+
+fn is_name_byte(byte: u8) -> bool
+    ensures { result ≡ may_be_in_name byte }
+{
+    byte.is_ascii_alphanumeric() || byte == b'_' || byte == b'-'
+}
+
+fn are_name_bytes(bytes: &[u8]) -> bool
+    ensures { result ≡ list_all may_be_in_name bytes.now }
+{
+    bytes.iter().all(|byte| is_name_byte(*byte))
+}
+
+/// Whether the word is a name: 1 to 16 bytes, a letter and then letters, digits, _ and -.
+pub fn is_name(word: &[u8]) -> bool
+    ensures { result ≡ is_name_of word.now }
+{
+    let Some((first, others)) = word.split_first() else {
+        return false;
+    };
+    if !first.is_ascii_alphabetic() || others.len() >= 16 {
+        return false;
+    }
+    are_name_bytes(others)
+}

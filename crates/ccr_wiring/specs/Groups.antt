@@ -1,0 +1,48 @@
+-- Which groups the branches of an arbiter may have, and how many branches it has.
+use Rattle.std.specs.Prelude.{ℕ, Bool, true, false, not, ◌&&◌, ◌||◌, List, [], ◌∷◌}
+use Rattle.std.specs.List.{list_any}
+use Rattle.std.specs.Str.{bytes_eq}
+use Rattle.ccr_base.specs.declared.policies.Group.{Group}
+use Rattle.ccr_base.specs.declared.policies.Group.TheVariants as groups
+use Rattle.ccr_wiring.specs.declared.parts.Kind.{Kind}
+use Rattle.ccr_wiring.specs.declared.parts.Kind.TheVariants as kinds
+use Rattle.ccr_wiring.specs.declared.parts.ArbiterPart.{ArbiterPart}
+use Rattle.ccr_wiring.specs.declared.parts.BranchPart.{BranchPart}
+use Rattle.ccr_wiring.specs.declared.parts.Parts.{Parts}
+
+-- whether an arbiter of this kind may have a branch of this group
+abbrev pub may_have : Kind → Group → Bool
+may_have kinds.Receive groups.Once = true
+may_have kinds.Receive groups.Always = true
+may_have kinds.Choice groups.Choice = true
+may_have kinds.Interleave groups.Teardown = true
+may_have kinds.Interleave groups.Exclusive = true
+may_have kinds.Interleave groups.Concurrent = true
+may_have _ _ = false
+
+abbrev pub is_receive : Kind → Bool
+is_receive kinds.Receive = true
+is_receive _ = false
+
+-- whether this is exactly one branch, and it bears the name
+abbrev pub is_one_named : List ℕ → List BranchPart → Bool
+is_one_named name (branch ∷ []) = bytes_eq branch.name name
+is_one_named name _ = false
+
+-- a branch of a group that the arbiter's kind doesn't have, or a receive without exactly one branch of its own name
+abbrev pub is_misgrouped : ArbiterPart → Bool
+is_misgrouped arbiter = list_any (λ (branch : BranchPart). not (may_have arbiter.kind branch.group)) arbiter.branches || (is_receive arbiter.kind && not (is_one_named arbiter.name arbiter.branches))
+
+abbrev pub has_misgrouped : Parts → Bool
+has_misgrouped parts = list_any is_misgrouped parts.arbiters
+
+abbrev pub is_empty : {X : Type 0} → List X → Bool
+is_empty [] = true
+is_empty (x ∷ xs) = false
+
+-- a choice or an Interleave without a branch
+abbrev pub is_branchless : ArbiterPart → Bool
+is_branchless arbiter = not (is_receive arbiter.kind) && is_empty arbiter.branches
+
+abbrev pub has_branchless : Parts → Bool
+has_branchless parts = list_any is_branchless parts.arbiters

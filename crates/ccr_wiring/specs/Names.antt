@@ -1,0 +1,44 @@
+-- The names that a wiring declares. They share one space.
+use Rattle.std.specs.Prelude.{ℕ, Bool, false, not, ◌||◌, List, [], ◌∷◌, ◌++◌, map, flat_map, if◌then◌else◌}
+use Rattle.std.specs.List.{list_any}
+use Rattle.std.specs.Str.{bytes_eq}
+use Rattle.ccr_text.specs.Words.{is_name_of}
+use Rattle.ccr_wiring.specs.declared.parts.ArbiterPart.{ArbiterPart}
+use Rattle.ccr_wiring.specs.declared.parts.BranchPart.{BranchPart}
+use Rattle.ccr_wiring.specs.declared.parts.CausePart.{CausePart}
+use Rattle.ccr_wiring.specs.declared.parts.HandlerPart.{HandlerPart}
+use Rattle.ccr_wiring.specs.declared.parts.PosterPart.{PosterPart}
+use Rattle.ccr_wiring.specs.declared.parts.QueuePart.{QueuePart}
+use Rattle.ccr_wiring.specs.declared.parts.SetPart.{SetPart}
+use Rattle.ccr_wiring.specs.declared.parts.Parts.{Parts}
+use Rattle.ccr_wiring.specs.Groups.{is_receive}
+
+-- an arbiter's name and those of its branches. A receive and its one branch share a name, which counts once
+abbrev pub arbiter_names : ArbiterPart → List (List ℕ)
+arbiter_names arbiter = arbiter.name ∷ (if is_receive arbiter.kind then [] else map (λ (branch : BranchPart). branch.name) arbiter.branches)
+
+-- every name that the parts declare
+abbrev pub declared_names : Parts → List (List ℕ)
+declared_names parts = map (λ (part : QueuePart). part.name) parts.queues
+    ++ parts.ports
+    ++ map (λ (part : SetPart). part.name) parts.sets
+    ++ map (λ (part : CausePart). part.name) parts.causes
+    ++ map (λ (part : HandlerPart). part.name) parts.handlers
+    ++ flat_map arbiter_names parts.arbiters
+    ++ map (λ (part : PosterPart). part.name) parts.posters
+
+abbrev pub has_name : List (List ℕ) → List ℕ → Bool
+has_name names name = list_any (bytes_eq name) names
+
+-- whether some name stands twice
+abbrev pub has_repeated : List (List ℕ) → Bool
+has_repeated [] = false
+has_repeated (name ∷ names) = has_name names name || has_repeated names
+
+-- a declared name is declared already
+abbrev pub has_repeated_name : Parts → Bool
+has_repeated_name parts = has_repeated (declared_names parts)
+
+-- a declared name isn't of the form of a name
+abbrev pub has_malformed_name : Parts → Bool
+has_malformed_name parts = list_any (λ name. not (is_name_of name)) (declared_names parts)

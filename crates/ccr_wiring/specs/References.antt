@@ -1,0 +1,67 @@
+-- Numbers that name nothing.
+use Rattle.std.specs.Prelude.{ℕ, Bool, false, ◌||◌, nat_le, List, length}
+use Rattle.std.specs.List.{list_any}
+use Rattle.ccr_base.specs.declared.messages.Sent.{Sent}
+use Rattle.ccr_base.specs.declared.handlers.Action.{Action}
+use Rattle.ccr_base.specs.declared.handlers.Action.TheVariants.{Post, Fail, Add, Remove, Await}
+use Rattle.ccr_base.specs.declared.patterns.Pattern.{Pattern}
+use Rattle.ccr_base.specs.declared.patterns.Pattern.TheVariants.{Slots, Gather}
+use Rattle.ccr_base.specs.declared.patterns.Slot.{Slot}
+use Rattle.ccr_wiring.specs.declared.parts.ArbiterPart.{ArbiterPart}
+use Rattle.ccr_wiring.specs.declared.parts.BranchPart.{BranchPart}
+use Rattle.ccr_wiring.specs.declared.parts.CausePart.{CausePart}
+use Rattle.ccr_wiring.specs.declared.parts.HandlerPart.{HandlerPart}
+use Rattle.ccr_wiring.specs.declared.parts.PosterPart.{PosterPart}
+use Rattle.ccr_wiring.specs.declared.parts.SetPart.{SetPart}
+use Rattle.ccr_wiring.specs.declared.parts.Parts.{Parts}
+
+-- whether the number names none of so many
+abbrev pub is_beyond : ℕ → ℕ → Bool
+is_beyond count number = nat_le count number
+
+-- whether one of the numbers names none of so many
+abbrev pub has_beyond : ℕ → List ℕ → Bool
+has_beyond count numbers = list_any (is_beyond count) numbers
+
+abbrev pub no_port : Parts → ℕ → Bool
+no_port parts port = is_beyond (length parts.ports) port
+
+abbrev pub no_cause : Parts → ℕ → Bool
+no_cause parts cause = is_beyond (length parts.causes) cause
+
+abbrev pub action_is_dangling : Parts → Action → Bool
+action_is_dangling parts (Post port expr) = no_port parts port
+action_is_dangling parts (Await port) = no_port parts port
+action_is_dangling parts (Add cause) = no_cause parts cause
+action_is_dangling parts (Remove cause) = no_cause parts cause
+action_is_dangling parts (Fail expr) = false
+
+abbrev pub pattern_is_dangling : Parts → Pattern → Bool
+pattern_is_dangling parts (Slots slots) = list_any (λ (slot : Slot). no_port parts slot.port) slots
+pattern_is_dangling parts (Gather total first second) = no_port parts first || no_port parts second
+
+abbrev pub branch_is_dangling : Parts → BranchPart → Bool
+branch_is_dangling parts branch = is_beyond (length parts.queues) branch.queue || is_beyond (length parts.handlers) branch.handler || pattern_is_dangling parts branch.pattern
+
+abbrev pub post_is_dangling : Parts → Sent → Bool
+post_is_dangling parts post = no_port parts post.port || has_beyond (length parts.causes) post.causes
+
+abbrev pub set_is_dangling : Parts → SetPart → Bool
+set_is_dangling parts set = has_beyond (length parts.ports) set.ports
+
+abbrev pub handler_is_dangling : Parts → HandlerPart → Bool
+handler_is_dangling parts part = list_any (action_is_dangling parts) part.handler.actions
+
+abbrev pub arbiter_is_dangling : Parts → ArbiterPart → Bool
+arbiter_is_dangling parts arbiter = list_any (branch_is_dangling parts) arbiter.branches
+
+abbrev pub poster_is_dangling : Parts → PosterPart → Bool
+poster_is_dangling parts poster = list_any (post_is_dangling parts) poster.posts
+
+-- a port, queue, handler or cause is named that the parts don't have
+abbrev pub has_dangling : Parts → Bool
+has_dangling parts = list_any (set_is_dangling parts) parts.sets
+    || list_any (λ (part : CausePart). no_port parts part.port) parts.causes
+    || list_any (handler_is_dangling parts) parts.handlers
+    || list_any (arbiter_is_dangling parts) parts.arbiters
+    || list_any (poster_is_dangling parts) parts.posters
