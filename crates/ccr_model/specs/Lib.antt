@@ -12,3 +12,4 @@ pub mod Fates
 pub mod Counts
 pub mod Laws
 pub mod Consequences
+pub mod Views

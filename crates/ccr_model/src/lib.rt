@@ -1,10 +1,12 @@
 //! Events, histories, which event is allowed after which history, and the serial order.
 #![tactic(auto)]
 
+pub mod firings;
 mod history;
 mod laws;
+pub mod posts;
 
-pub use history::{EndHow, Event, Fate, TaskState, Totals};
+pub use history::{EndHow, Event, Fate, History, TaskState, Totals};
 pub use laws::{
     exclusive_roots_are_alone, first_is_allowed, legal_is_covered, messages_are_taken_once,
     none_first_is_quiet, posts_have_names_of_their_own,

@@ -1,0 +1,6 @@
+use Rattle.std.proofs.Common.{◌≡◌, ◌≤◌, take}
+use Rattle.ccr_model.specs.Posts.{posts_of_task}
+use Rattle.ccr_model.proofs.posts.posts_of_task.Given as goal
+
+abbrev pub invariant-loop-event : goal.invariant-loop-event
+invariant-loop-event l = record { count : l.count ≡ posts_of_task (take l.event-index l.events) l.task; bound : l.count ≤ l.event-index }
