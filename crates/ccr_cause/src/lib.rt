@@ -1,2 +1,9 @@
 //! Lists of causes, none of which stands twice.
 #![tactic(auto)]
+
+mod lists;
+
+pub use lists::{add, remove, union};
+
+#[cfg(test)]
+mod tests;

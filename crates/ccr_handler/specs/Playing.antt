@@ -5,8 +5,8 @@ use Rattle.ccr_base.specs.declared.handlers.Action.{Action}
 use Rattle.ccr_base.specs.declared.handlers.Action.TheVariants.{Post, Fail, Add, Remove, Await}
 use Rattle.ccr_base.specs.declared.handlers.Expr.{Expr}
 use Rattle.ccr_base.specs.declared.handlers.Expr.TheVariants.{Number, Arg, Sum, Count}
-use Rattle.ccr_handler.specs.declared.plays.Play.{Play}
-use Rattle.ccr_handler.specs.declared.plays.PlayEnd.TheVariants.{Done, Failed, Yield}
+use Rattle.ccr_handler.specs.declared.segments.Play.{Play}
+use Rattle.ccr_handler.specs.declared.segments.PlayEnd.TheVariants.{Done, Failed, Yield}
 use Rattle.ccr_cause.specs.Causes.{with_cause, without_cause}
 
 -- version 2: values become lists of numbers, and this the combination of them

@@ -1,6 +1,11 @@
 //! What a segment of a handler posts, how it ends, and its causes at the end.
 #![tactic(auto)]
 
-mod plays;
+mod actions;
+mod segments;
+mod values;
 
-pub use plays::{Play, PlayEnd};
+pub use segments::{Play, PlayEnd, plays};
+
+#[cfg(test)]
+mod tests;

@@ -1,0 +1,67 @@
+//! Joining two lists of causes, putting a cause in and taking one out.
+
+ghost use Rattle.std.specs.Prelude.{◌≡◌, ◌<◌, length, Some, IfOk, IfSome, IfNone, OnOk, OnErr};
+ghost use Rattle.std.specs.List.{slice_get};
+ghost use Rattle.ccr_cause.specs.Causes.{has_cause, with_cause, without_cause, union};
+
+use ccr_base::{CauseNo, List, OutOfMemory};
+use std::alloc::Global;
+
+/// The first list, followed by the members of the second that it lacks, each once.
+pub fn union(
+    alloc: Global,
+    first: &List<CauseNo>,
+    second: &List<CauseNo>,
+) -> Result<List<CauseNo>, OutOfMemory>
+    ensures { IfOk result (λ joined. joined ≡ union first.now second.now) }
+{
+    let mut joined = first.copy(alloc)?;
+    for cause in second.as_slice() {
+        add(&mut joined, *cause)?;
+    }
+    Ok(joined)
+}
+
+/// Puts the cause last where it isn't in the list.
+pub fn add(causes: &mut List<CauseNo>, cause: CauseNo) -> Result<(), OutOfMemory>
+    ensures ok { OnOk result (causes.new ≡ with_cause causes.old cause) }
+    ensures err { OnErr result (causes.new ≡ causes.old) }
+{
+    if has_cause(causes.as_slice(), cause) {
+        return Ok(());
+    }
+    match causes.push(cause) {
+        Ok(()) => Ok(()),
+        Err((refused, _)) => Err(refused),
+    }
+}
+
+/// Takes the cause out wherever it stands.
+#[tactic(auto, using(crate::proofs::Removed::steps))]
+pub fn remove(causes: &mut List<CauseNo>, cause: CauseNo)
+    ensures { causes.new ≡ without_cause causes.old cause }
+{
+    while let Some(place) = place_of(causes.as_slice(), cause) {
+        causes.remove(place);
+    }
+}
+
+fn has_cause(causes: &[CauseNo], cause: CauseNo) -> bool
+    ensures { result ≡ has_cause causes.now cause }
+{
+    causes.iter().any(|other| *other == cause)
+}
+
+/// Where the cause stands first.
+fn place_of(causes: &[CauseNo], cause: CauseNo) -> Option<usize>
+    ensures within { IfSome result (λ place. place < length causes.now) }
+    ensures found { IfSome result (λ place. slice_get causes.now place ≡ Some cause) }
+    ensures absent { IfNone result (without_cause causes.now cause ≡ causes.now) }
+{
+    for (place, other) in causes.iter().enumerate() {
+        if *other == cause {
+            return Some(place);
+        }
+    }
+    None
+}

@@ -1,0 +1,221 @@
+use super::*;
+use ccr_base::{Action, CauseNo, Expr, Handler, List, PortNo, Value};
+use std::alloc::Global;
+use std::process::Abort;
+use std::test::*;
+
+/// The exception ports of the causes 0, 1 and 2.
+const EXCEPTION_PORTS: [PortNo; 3] = [10, 11, 12];
+
+/// A segment to be played, and what it must give.
+#[derive(Drop)]
+struct Row {
+    shows: &'static str,
+    actions: &'static [Action],
+    segment: u32,
+    values: &'static [Value],
+    causes: &'static [CauseNo],
+    posts: &'static [(PortNo, Value, &'static [CauseNo])],
+    end: PlayEnd,
+    causes_then: &'static [CauseNo],
+}
+
+fn check(rt: &impl Abort, alloc: Global, row: &Row) -> Result<(), Fail> {
+    let handler = Handler {
+        actions: List::from_vec(row.actions.to_vec(alloc)?),
+    };
+    let causes = List::from_vec(row.causes.to_vec(alloc)?);
+    let play = plays(alloc, &handler, &EXCEPTION_PORTS, row.segment, row.values, &causes)
+        .ok()
+        .ok_or("memory")?;
+    let posts = play.posts.as_slice();
+    assert_eq!(rt; posts.len(), row.posts.len(), "{}", row.shows);
+    for (post, wanted) in posts.iter().zip(row.posts) {
+        assert_eq!(rt; post.port, wanted.0, "{}", row.shows);
+        assert_eq!(rt; post.value, wanted.1, "{}", row.shows);
+        assert_eq!(rt; post.causes.as_slice(), wanted.2, "{}", row.shows);
+    }
+    assert_eq!(rt; play.end, row.end, "{}", row.shows);
+    assert_eq!(rt; play.causes.as_slice(), row.causes_then, "{}", row.shows);
+    Ok(())
+}
+
+#[test]
+fn expressions(rt: HostRuntime) -> Result<(), Fail> {
+    let rows = [
+        Row {
+            shows: "a number, the arguments, their sum and their count",
+            actions: &[
+                Action::Post(1, Expr::Number(7)),
+                Action::Post(2, Expr::Arg(0)),
+                Action::Post(3, Expr::Arg(1)),
+                Action::Post(4, Expr::Sum),
+                Action::Post(5, Expr::Count),
+            ],
+            segment: 0,
+            values: &[20, 30],
+            causes: &[],
+            posts: &[(1, 7, &[]), (2, 20, &[]), (3, 30, &[]), (4, 50, &[]), (5, 2, &[])],
+            end: PlayEnd::Done,
+            causes_then: &[],
+        },
+        Row {
+            shows: "an argument past the end is 0",
+            actions: &[Action::Post(1, Expr::Arg(2)), Action::Post(1, Expr::Arg(4294967295))],
+            segment: 0,
+            values: &[20, 30],
+            causes: &[],
+            posts: &[(1, 0, &[]), (1, 0, &[])],
+            end: PlayEnd::Done,
+            causes_then: &[],
+        },
+        Row {
+            shows: "a sum wraps",
+            actions: &[Action::Post(1, Expr::Sum), Action::Fail(Expr::Sum)],
+            segment: 0,
+            values: &[18446744073709551615, 3, 18446744073709551615],
+            causes: &[],
+            posts: &[(1, 1, &[])],
+            end: PlayEnd::Failed(1),
+            causes_then: &[],
+        },
+        Row {
+            shows: "no value: a sum and a count of 0",
+            actions: &[Action::Post(1, Expr::Sum), Action::Post(2, Expr::Count)],
+            segment: 0,
+            values: &[],
+            causes: &[],
+            posts: &[(1, 0, &[]), (2, 0, &[])],
+            end: PlayEnd::Done,
+            causes_then: &[],
+        },
+    ];
+    for row in &rows {
+        check(&rt, rt.alloc(), row)?;
+    }
+    Ok(())
+}
+
+#[test]
+fn failures(rt: HostRuntime) -> Result<(), Fail> {
+    let rows = [
+        Row {
+            shows: "a failure without causes posts nothing",
+            actions: &[Action::Post(1, Expr::Number(5)), Action::Fail(Expr::Number(9))],
+            segment: 0,
+            values: &[],
+            causes: &[],
+            posts: &[(1, 5, &[])],
+            end: PlayEnd::Failed(9),
+            causes_then: &[],
+        },
+        Row {
+            shows: "a failure under one cause, and what stands behind it is not played",
+            actions: &[
+                Action::Fail(Expr::Arg(0)),
+                Action::Post(1, Expr::Number(5)),
+                Action::Add(2),
+                Action::Await(1),
+            ],
+            segment: 0,
+            values: &[4],
+            causes: &[1],
+            posts: &[(11, 4, &[])],
+            end: PlayEnd::Failed(4),
+            causes_then: &[1],
+        },
+        Row {
+            shows: "a failure under three causes, in their order",
+            actions: &[Action::Fail(Expr::Count)],
+            segment: 0,
+            values: &[4, 4],
+            causes: &[2, 0, 1],
+            posts: &[(12, 2, &[]), (10, 2, &[]), (11, 2, &[])],
+            end: PlayEnd::Failed(2),
+            causes_then: &[2, 0, 1],
+        },
+        Row {
+            shows: "causes added and removed before a failure",
+            actions: &[
+                Action::Add(1),
+                Action::Remove(2),
+                Action::Add(1),
+                Action::Fail(Expr::Number(6)),
+            ],
+            segment: 0,
+            values: &[],
+            causes: &[2, 0],
+            posts: &[(10, 6, &[]), (11, 6, &[])],
+            end: PlayEnd::Failed(6),
+            causes_then: &[0, 1],
+        },
+    ];
+    for row in &rows {
+        check(&rt, rt.alloc(), row)?;
+    }
+    Ok(())
+}
+
+#[test]
+fn causes_and_segments(rt: HostRuntime) -> Result<(), Fail> {
+    const TWICE: [Action; 5] = [
+        Action::Post(1, Expr::Number(1)),
+        Action::Await(8),
+        Action::Post(2, Expr::Sum),
+        Action::Await(9),
+        Action::Remove(0),
+    ];
+    let rows = [
+        Row {
+            shows: "a post carries the causes of its moment",
+            actions: &[
+                Action::Post(1, Expr::Number(1)),
+                Action::Add(2),
+                Action::Post(2, Expr::Number(2)),
+                Action::Remove(0),
+                Action::Post(3, Expr::Number(3)),
+                Action::Remove(1),
+            ],
+            segment: 0,
+            values: &[],
+            causes: &[0],
+            posts: &[(1, 1, &[0]), (2, 2, &[0, 2]), (3, 3, &[2])],
+            end: PlayEnd::Done,
+            causes_then: &[2],
+        },
+        Row {
+            shows: "the first segment ends at the first await",
+            actions: &TWICE,
+            segment: 0,
+            values: &[5],
+            causes: &[0],
+            posts: &[(1, 1, &[0])],
+            end: PlayEnd::Yield(0),
+            causes_then: &[0],
+        },
+        Row {
+            shows: "the second segment",
+            actions: &TWICE,
+            segment: 1,
+            values: &[5, 6],
+            causes: &[0],
+            posts: &[(2, 11, &[0])],
+            end: PlayEnd::Yield(1),
+            causes_then: &[0],
+        },
+        Row {
+            shows: "the last segment",
+            actions: &TWICE,
+            segment: 2,
+            values: &[5, 6, 7],
+            causes: &[0],
+            posts: &[],
+            end: PlayEnd::Done,
+            causes_then: &[],
+        },
+    ];
+    for row in &rows {
+        check(&rt, rt.alloc(), row)?;
+    }
+    Ok(())
+}
