@@ -5,8 +5,9 @@ use Rattle.ccr_base.specs.declared.names.TaskId.{TaskId}
 use Rattle.ccr_base.specs.declared.messages.Msg.{Msg}
 use Rattle.ccr_base.specs.declared.names.Spot.{Spot}
 use Rattle.ccr_base.specs.declared.names.Spot.TheVariants.{Branch, Site}
-use Rattle.ccr_handler.specs.declared.plays.Play.{Play}
-use Rattle.ccr_handler.specs.declared.plays.PlayEnd.TheVariants.{Done}
+use Rattle.ccr_base.specs.declared.handlers.Action.{Action}
+use Rattle.ccr_handler.specs.declared.segments.Play.{Play}
+use Rattle.ccr_handler.specs.declared.segments.PlayEnd.TheVariants.{Done}
 use Rattle.ccr_wiring.specs.declared.parts.Parts.{Parts}
 use Rattle.ccr_model.specs.declared.history.Event.{Event}
 use Rattle.ccr_model.specs.Posts.{messages_named}
@@ -27,9 +28,13 @@ messages_of history task = option_map_or (λ (f : Firing). messages_named (befor
 abbrev pub seat_of : Parts → List Event → TaskId → Option Seat
 seat_of wiring history task = option_and_then (λ spot. seat wiring (branch_of spot)) (spot_of history task)
 
+-- the actions of the branch's handler
+abbrev pub actions_at : Parts → ℕ → List Action
+actions_at wiring branch = option_map_or (λ (s : Seat). actions_of wiring s.branch.handler) (seat wiring branch) []
+
 -- the play of a segment of the branch with this load
 abbrev pub play_at : Parts → ℕ → ℕ → Load → Play
-play_at wiring branch segment load = play (exception_port wiring) load.values segment load.causes (actions_from segment (option_map_or (λ (s : Seat). actions_of wiring s.branch.handler) (seat wiring branch) []))
+play_at wiring branch segment load = play (exception_port wiring) load.values segment load.causes (actions_from segment (actions_at wiring branch))
 
 -- the load with the messages' values and causes behind it
 abbrev pub with_messages : Load → List Msg → Load

@@ -1,10 +1,13 @@
 //! Events, histories, which event is allowed after which history, and the serial order.
 #![tactic(auto)]
 
+pub mod data;
 pub mod firings;
 mod history;
 mod laws;
 pub mod posts;
+pub mod seats;
+mod sites;
 
 pub use history::{EndHow, Event, Fate, History, TaskState, Totals};
 pub use laws::{
