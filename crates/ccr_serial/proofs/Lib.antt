@@ -1,0 +1,4 @@
+pub mod Counting
+pub mod Taking
+pub mod Lines
+pub mod Ending
