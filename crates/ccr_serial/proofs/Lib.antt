@@ -6,3 +6,4 @@ pub mod Valid
 pub mod Complete
 pub mod Attempts
 pub mod Runs
+pub mod Finished
