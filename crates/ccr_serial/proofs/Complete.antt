@@ -1,5 +1,5 @@
 -- Where nothing comes first, the history is complete.
-use Rattle.std.proofs.Common.{◌≡◌, ℕ, zero, suc, ◌+◌, ◌<◌, ◌≤◌, Bool, true, false, not, ◌&&◌, ◌||◌, List, [], ◌∷◌, ◌++◌, length, Option, Some, None, refl, sym, arith, ap, ◌∙◌, subst}
+use Rattle.std.proofs.Common.{◌≡◌, ℕ, zero, suc, ◌+◌, ◌≤◌, Bool, true, false, not, ◌||◌, List, [], ◌∷◌, length, Option, Some, None, refl, arith, subst}
 use Rattle.std.specs.Prelude.{◌==◌, option_map, IfSome}
 use Rattle.std.specs.List.{slice_get}
 use Rattle.std.specs.Option.{option_or}
@@ -8,7 +8,7 @@ use Rattle.ccr_wiring.specs.declared.parts.Parts.{Parts}
 use Rattle.ccr_wiring.specs.declared.parts.PosterPart.{PosterPart}
 use Rattle.ccr_wiring.specs.Wirings.{spots}
 use Rattle.ccr_model.specs.declared.history.Event.{Event}
-use Rattle.ccr_model.specs.Posts.{posts, posts_of_poster, posts_of_tasks}
+use Rattle.ccr_model.specs.Posts.{posts_of_poster, posts_of_tasks}
 use Rattle.ccr_model.specs.Tasks.{running, count_unfinished}
 use Rattle.ccr_model.specs.Legal.{IsAllowed, IsLegal, IsQuiet, has_shed, are_whole_from, is_complete}
 use Rattle.ccr_model.specs.Order.{first, post_from, script_post, fire_from, admit_from, put_first, run_task}

@@ -1,26 +1,22 @@
 -- A legal history has at most six events for each message.
-use Rattle.std.proofs.Common.{◌≡◌, ℕ, ◌+◌, ◌*◌, ◌<◌, ◌≤◌, Bool, true, false, not, ◌&&◌, ◌||◌, List, [], ◌∷◌, ◌++◌, length, map, filter, flat_map, Option, Some, None, refl, sym, arith, ap, ◌∙◌, subst, append-nil, length-append}
-use Rattle.std.specs.Prelude.{◌==◌, if◌then◌else◌, nat_lt, find}
-use Rattle.std.specs.List.{slice_get, list_any}
-use Rattle.std.specs.Option.{option_map_or}
+use Rattle.std.proofs.Common.{◌≡◌, ℕ, ◌+◌, ◌≤◌, true, false, not, ◌&&◌, List, [], ◌∷◌, ◌++◌, length, map, Option, Some, refl, arith, append-nil}
+use Rattle.std.specs.Prelude.{◌==◌}
 use Rattle.std.proofs.lemmas.Grind.{common_steps}
-use Rattle.std.proofs.lemmas.Bool.Decides.{nat_tests}
 use Rattle.ccr_base.specs.declared.names.TaskId.{TaskId}
 use Rattle.ccr_base.specs.declared.names.MsgId.{MsgId}
 use Rattle.ccr_base.specs.declared.messages.Msg.{Msg}
 use Rattle.ccr_base.specs.declared.names.Spot.{Spot}
 use Rattle.ccr_wiring.specs.declared.parts.Parts.{Parts}
 use Rattle.ccr_wiring.specs.Wirings.{Seat, seat, branch_of}
-use Rattle.ccr_wiring.specs.Limits.{script_count}
 use Rattle.ccr_model.specs.declared.history.Event.{Event}
 use Rattle.ccr_model.specs.declared.history.Event.TheVariants.{Post, Fire, Admit, Put, Start, End}
 use Rattle.ccr_model.specs.declared.history.EndHow.{EndHow}
-use Rattle.ccr_base.specs.Names.{same_task, same_options, has_task, without}
+use Rattle.ccr_base.specs.Names.{has_task, without}
 use Rattle.ccr_model.specs.Posts.{posts}
 use Rattle.ccr_model.specs.Firings.{Firing, firings, firing_of, firing_named, spot_of, fired, let_in, admitted_by, put, put_by, started, started_by, ended, ended_by, dropped, cut}
 use Rattle.ccr_model.specs.TaskData.{seat_of}
 use Rattle.ccr_model.specs.Tasks.{is_interleave, fired_by, waiting, is_for_queue, queued, running}
-use Rattle.ccr_model.specs.Rules.{refusal, refused, is_first, is_oldest_waiting, may_enter, may_put, needs_no_admission, drop_at, is_oldest_queued, may_start, may_end}
+use Rattle.ccr_model.specs.Rules.{is_first, is_oldest_waiting, may_put, is_oldest_queued}
 use Rattle.ccr_model.specs.Legal.{IsAllowed, IsLegal}
 use Rattle.ccr_model.proofs.PostNames.{along, both, refused_not}
 use Rattle.ccr_model.proofs.Quiet.{some_of, some_then, first_is}

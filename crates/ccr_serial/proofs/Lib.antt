@@ -7,3 +7,4 @@ pub mod Complete
 pub mod Attempts
 pub mod Runs
 pub mod Finished
+pub mod Orders

@@ -1,7 +1,6 @@
--- A run in the one-thread order: what it keeps, and where it ends.
-use Rattle.std.proofs.Common.{◌≡◌, ℕ, zero, suc, ◌+◌, ◌-◌, ◌<◌, ◌≤◌, Bool, true, false, List, [], ◌∷◌, ◌++◌, length, Option, Some, None, refl, sym, arith, ap, ◌∙◌, subst, append_assoc, append-nil, length-append}
+-- What an engine keeps, and a run of it from its start to its end.
+use Rattle.std.proofs.Common.{◌≡◌, ℕ, ◌+◌, ◌<◌, ◌≤◌, true, false, List, [], ◌∷◌, ◌++◌, length, Option, Some, None, refl, sym, arith, ap, ◌∙◌, subst, append_assoc, append-nil, length-append}
 use Rattle.std.specs.Prelude.{IfSome, is_some, ◌^◌}
-use Rattle.std.proofs.lemmas.Grind.{common_steps}
 use Rattle.ccr_wiring.specs.declared.parts.Parts.{Parts}
 use Rattle.ccr_wiring.specs.Valid.{IsValid}
 use Rattle.ccr_model.specs.declared.history.Event.{Event}
@@ -10,8 +9,8 @@ use Rattle.ccr_model.specs.Legal.{IsAllowed, IsLegal, IsLegalAfter, IsQuiet, is_
 use Rattle.ccr_model.specs.Order.{first, next_attempt, with_first, IsOrderedAfter, IsFinished}
 use Rattle.ccr_model.proofs.Allowing.{first_allowed}
 use Rattle.ccr_model.proofs.Quiet.{IsQuiet-first}
-use Rattle.ccr_serial.specs.Potential.{TakesSome, most_events, potential}
-use Rattle.ccr_serial.specs.Engine.{Engine}
+use Rattle.ccr_serial.specs.Potential.{TakesSome, potential}
+use Rattle.ccr_serial.specs.Engine.{Engine, next_event, next_engine, IsSound}
 use Rattle.ccr_serial.proofs.Ending.{few_events}
 use Rattle.ccr_serial.proofs.Valid.{TakesSome-valid, HasQueues-valid, most_events-valid}
 use Rattle.ccr_serial.proofs.Complete.{is_complete-first}
@@ -41,96 +40,99 @@ IsLegal-first w c h e high low legal is = IsLegal-push w h e legal (some_if (IsA
 pub potential-push : (w : Parts) → TakesSome w → (h : List Event) (e : Event) → IsLegal w (h ++ e ∷ []) → potential w (h ++ e ∷ []) < potential w h
 potential-push w some h e legal = omega (arith, few_events w some (h ++ e ∷ []) legal, length-append h (e ∷ []))
 
--- a run in the order has come from the first history to this one
-pub record Goes (w : Parts) (c : ℕ) (start h : List Event) : Type 0 where
-  pub more : List Event
-  pub begins : h ≡ start ++ more
-  pub ordered : IsOrderedAfter w c start more
-  pub legal : IsLegal w h
-  pub short : length h ≤ 120000
-  pub attempts : next_attempt c (fired h) < 2 ^ 31 + length h
+-- a sound engine's history is short, and its closer's next attempt fits
+pub IsSound-short : (s : Engine) → IsSound s → length s.history ≤ 120000
+IsSound-short s sound = omega (arith, few_events s.wiring (TakesSome-valid s.wiring sound.valid) s.history sound.legal, most_events-valid s.wiring sound.valid)
 
-pub Goes-start : (w : Parts) (c : ℕ) (h : List Event) → IsValid w → IsLegal w h → next_attempt c (fired h) < 2 ^ 31 → Goes w c h h
-Goes-start w c h valid legal attempts = record {
-  more = [];
-  begins = sym (append-nil h);
-  ordered = tt;
-  legal = legal;
-  short = omega (arith, few_events w (TakesSome-valid w valid) h legal, most_events-valid w valid);
-  attempts = omega (arith, attempts);
-}
+pub IsSound-attempts : (s : Engine) → IsSound s → next_attempt s.closer (fired s.history) < 2 ^ 32
+IsSound-attempts s sound = omega (arith, sound.attempts, IsSound-short s sound)
 
--- the run goes on with what comes first, and fewer events are to come
-pub Goes-first : (w : Parts) (c : ℕ) (start h : List Event) (e : Event) → IsValid w → length w.posters ≤ c → c ≤ 32 → Goes w c start h → first w c h ≡ Some e → Goes w c start (h ++ e ∷ []) × (potential w (h ++ e ∷ []) < potential w h)
-Goes-first w c start h e valid high low goes is =
-    let some = TakesSome-valid w valid in
-    let legal = IsLegal-first w c h e high low goes.legal is in
-    let attempt = some_if (λ x. next_attempt c (fired (h ++ x ∷ [])) ≤ next_attempt c (fired h) + 1) (first w c h) e is (next_attempt-first w c h) in
-    let next : first w c (start ++ goes.more) ≡ Some e = subst (λ g. first w c g ≡ Some e) goes.begins is in
-    (record {
-      more = goes.more ++ e ∷ [];
-      begins = ap (λ g. g ++ e ∷ []) goes.begins ∙ append_assoc start goes.more (e ∷ []);
-      ordered = IsOrderedAfter-push w c start goes.more e goes.ordered next;
-      legal = legal;
-      short = omega (arith, few_events w some (h ++ e ∷ []) legal, most_events-valid w valid);
-      attempts = omega (arith, goes.attempts, attempt, length-append h (e ∷ []));
-    }, potential-push w some h e legal)
+pub IsSound-start : (w : Parts) (c : ℕ) → IsValid w → length w.posters ≤ c → c ≤ 32 → IsSound (record { wiring = w; closer = c; history = [] })
+IsSound-start w c valid high low = record { valid = valid; high = high; low = low; legal = tt; attempts = omega arith }
 
--- what is said of the history where nothing comes first
-pub record IsDone (w : Parts) (c : ℕ) (start h : List Event) : Type 0 where
-  pub finished : IsFinished w c start h
-  pub legal : IsLegal w h
-  pub complete : is_complete w h ≡ true
-  pub quiet : IsQuiet w h
+-- the event that comes next leaves an engine sound
+pub IsSound-event : (s : Engine) → IsSound s → (e : Event) → next_event s ≡ Some e → IsSound (record s { history = s.history ++ e ∷ [] })
+unfolding next_event
+IsSound-event s sound e is =
+    let attempt = some_if (λ x. next_attempt s.closer (fired (s.history ++ x ∷ [])) ≤ next_attempt s.closer (fired s.history) + 1) (next_event s) e is (next_attempt-first s.wiring s.closer s.history) in
+    record {
+      valid = sound.valid;
+      high = sound.high;
+      low = sound.low;
+      legal = IsLegal-first s.wiring s.closer s.history e sound.high sound.low sound.legal is;
+      attempts = omega (arith, sound.attempts, attempt, length-append s.history (e ∷ []));
+    }
 
-pub IsDone-none : (w : Parts) (c : ℕ) (start h : List Event) → IsValid w → Goes w c start h → first w c h ≡ None → IsDone w c start h
-IsDone-none w c start h valid goes is = record {
-  finished = record { more = goes.more; begins = goes.begins; ordered = goes.ordered; ended = is };
-  legal = goes.legal;
-  complete = is_complete-first w c h goes.legal is;
-  quiet = IsQuiet-first w c h (HasQueues-valid w valid) is;
-}
+pub IsSound-pushed : (s : Engine) → IsSound s → (e : Event) → next_event s ≡ Some e → (h : List Event) → h ≡ s.history ++ e ∷ [] → IsSound (record s { history = h })
+IsSound-pushed s sound e is h more = rw more (IsSound-event s sound e is)
 
--- the same of engines: a run has come from the one to the other
+-- what comes next is allowed, and where nothing does, nothing is
+pub IsAllowed-next : (s : Engine) → IsSound s → (e : Event) → next_event s ≡ Some e → IsAllowed s.wiring s.history e
+unfolding next_event
+IsAllowed-next s sound e is = some_if (IsAllowed s.wiring s.history) (first s.wiring s.closer s.history) e is (first_allowed s.wiring s.closer s.history sound.high sound.low sound.legal)
+
+pub IsQuiet-next : (s : Engine) → IsSound s → next_event s ≡ None → IsQuiet s.wiring s.history
+unfolding next_event
+IsQuiet-next s sound is = IsQuiet-first s.wiring s.closer s.history (HasQueues-valid s.wiring sound.valid) is
+
+-- a run in the order has come from the one engine to the other
 pub record GoesFrom (start now : Engine) : Type 0 where
   pub wiring : now.wiring ≡ start.wiring
   pub closer : now.closer ≡ start.closer
-  pub valid : IsValid start.wiring
-  pub high : length start.wiring.posters ≤ start.closer
-  pub low : start.closer ≤ 32
-  pub goes : Goes start.wiring start.closer start.history now.history
+  pub more : List Event
+  pub begins : now.history ≡ start.history ++ more
+  pub ordered : IsOrderedAfter start.wiring start.closer start.history more
 
-pub GoesFrom-start : (start : Engine) → IsValid start.wiring → length start.wiring.posters ≤ start.closer → start.closer ≤ 32 → IsLegal start.wiring start.history → next_attempt start.closer (fired start.history) < 2 ^ 31 → GoesFrom start start
-GoesFrom-start start valid high low legal attempts = record { wiring = refl; closer = refl; valid = valid; high = high; low = low; goes = Goes-start start.wiring start.closer start.history valid legal attempts }
+pub GoesFrom-start : (start : Engine) → GoesFrom start start
+GoesFrom-start start = record { wiring = refl; closer = refl; more = []; begins = sym (append-nil start.history); ordered = tt }
 
-abbrev next_engine : Engine → Engine
-next_engine s = record s { history = with_first s.history (first s.wiring s.closer s.history) }
+goes_on : (start s : Engine) → GoesFrom start s → (e : Event) → next_event s ≡ Some e → GoesFrom start (record s { history = s.history ++ e ∷ [] })
+unfolding next_event
+goes_on start s goes e is =
+    let is_so : first start.wiring start.closer s.history ≡ Some e = rw (← goes.wiring, ← goes.closer) is in
+    let next : first start.wiring start.closer (start.history ++ goes.more) ≡ Some e = subst (λ h. first start.wiring start.closer h ≡ Some e) goes.begins is_so in
+    record {
+      wiring = goes.wiring;
+      closer = goes.closer;
+      more = goes.more ++ e ∷ [];
+      begins = ap (λ h. h ++ e ∷ []) goes.begins ∙ append_assoc start.history goes.more (e ∷ []);
+      ordered = IsOrderedAfter-push start.wiring start.closer start.history goes.more e goes.ordered next;
+    }
 
 with_one : (P : List Event → Type 0) (h : List Event) (o : Option Event) → is_some o ≡ true → ((e : Event) → o ≡ Some e → P (h ++ e ∷ [])) → P (with_first h o)
 with_one P h None some each = absurd (cc)
 with_one P h (Some e) some each = each e refl
 
-GoesFrom-first : (start s : Engine) → GoesFrom start s → (e : Event) → first s.wiring s.closer s.history ≡ Some e → GoesFrom start (record s { history = s.history ++ e ∷ [] }) × (potential start.wiring (s.history ++ e ∷ []) < potential start.wiring s.history)
-GoesFrom-first start s kept e is =
-    let is_so : first start.wiring start.closer s.history ≡ Some e = rw (← kept.wiring, ← kept.closer) is in
-    let next = Goes-first start.wiring start.closer start.history s.history e kept.valid kept.high kept.low kept.goes is_so in
-    (record { wiring = kept.wiring; closer = kept.closer; valid = kept.valid; high = kept.high; low = kept.low; goes = next.0 }, next.1)
-
-stepped : (start s : Engine) → GoesFrom start s → is_some (first s.wiring s.closer s.history) ≡ true → GoesFrom start (next_engine s) × (potential start.wiring (next_engine s).history < potential start.wiring s.history)
-stepped start s kept some = with_one (λ h. GoesFrom start (record s { history = h }) × (potential start.wiring h < potential start.wiring s.history)) s.history (first s.wiring s.closer s.history) some (GoesFrom-first start s kept)
-
--- a step goes on, with fewer events to come
-pub GoesFrom-next : (start s next : Engine) → GoesFrom start s → is_some (first s.wiring s.closer s.history) ≡ true → next ≡ next_engine s → GoesFrom start next × (potential start.wiring next.history < potential start.wiring s.history)
-GoesFrom-next start s next kept some is = rw is (stepped start s kept some)
+-- a step goes on with the run, with fewer events to come
+pub GoesFrom-next : (start s next : Engine) → IsSound next → GoesFrom start s → is_some (next_event s) ≡ true → next ≡ next_engine s → GoesFrom start next × (potential start.wiring next.history < potential start.wiring s.history)
+GoesFrom-next start s next sound goes some is = rw is (with_one (λ h. IsSound (record s { history = h }) → GoesFrom start (record s { history = h }) × (potential start.wiring h < potential start.wiring s.history)) s.history (next_event s) some of_event (subst IsSound is sound))
+  where
+    of_event : (e : Event) → next_event s ≡ Some e → IsSound (record s { history = s.history ++ e ∷ [] }) → GoesFrom start (record s { history = s.history ++ e ∷ [] }) × (potential start.wiring (s.history ++ e ∷ []) < potential start.wiring s.history)
+    of_event e some sound = (goes_on start s goes e some, rw (← goes.wiring) (potential-push s.wiring (TakesSome-valid s.wiring sound.valid) s.history e sound.legal))
 
 none_if_not_some : (o : Option Event) → is_some o ≡ false → o ≡ None
 none_if_not_some None is = refl
 none_if_not_some (Some e) is = absurd (cc)
 
+-- what is said of the history where nothing comes next
+pub record IsDone (start : Engine) (h : List Event) : Type 0 where
+  pub finished : IsFinished start.wiring start.closer start.history h
+  pub legal : IsLegal start.wiring h
+  pub complete : is_complete start.wiring h ≡ true
+  pub quiet : IsQuiet start.wiring h
+
+done : (start s : Engine) → IsSound s → GoesFrom start s → next_event s ≡ None → IsDone start s.history
+unfolding next_event
+done start s sound goes is = record {
+  finished = record { more = goes.more; begins = goes.begins; ordered = goes.ordered; ended = rw (← goes.wiring, ← goes.closer) is };
+  legal = rw (← goes.wiring) sound.legal;
+  complete = rw (← goes.wiring) (is_complete-first s.wiring s.closer s.history sound.legal is);
+  quiet = rw (← goes.wiring) (IsQuiet-next s sound is);
+}
+
 -- where a step finds nothing, the run is done
-pub IsDone-next : (start s next : Engine) (h : List Event) → GoesFrom start s → is_some (first s.wiring s.closer s.history) ≡ false → next ≡ next_engine s → h ≡ next.history → IsDone start.wiring start.closer start.history h
-IsDone-next start s next h kept none is same =
-    let none_here : first s.wiring s.closer s.history ≡ None = none_if_not_some _ none in
-    let none_there : first start.wiring start.closer s.history ≡ None = rw (← kept.wiring, ← kept.closer) none_here in
-    let stays : with_first s.history (first s.wiring s.closer s.history) ≡ s.history = rw none_here refl in
-    rw (same, is, stays) (IsDone-none start.wiring start.closer start.history s.history kept.valid kept.goes none_there)
+pub IsDone-next : (start s next : Engine) → IsSound next → GoesFrom start s → is_some (next_event s) ≡ false → next ≡ next_engine s → IsDone start next.history
+IsDone-next start s next sound goes none is =
+    let nothing : next_event s ≡ None = none_if_not_some (next_event s) none in
+    let stays : next ≡ s = is ∙ rw nothing refl in
+    rw stays (done start s (subst IsSound stays sound) goes nothing)

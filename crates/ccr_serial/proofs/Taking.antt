@@ -1,7 +1,6 @@
 -- Each firing takes a message that no other took.
-use Rattle.std.proofs.Common.{◌≡◌, ℕ, zero, suc, ◌+◌, ◌≤◌, ◌⊎◌, inl, inr, Bool, true, false, not, ◌&&◌, ◌||◌, List, [], ◌∷◌, ◌++◌, length, take, map, filter, flat_map, Option, Some, None, refl, sym, arith, ap, ◌∙◌, subst}
+use Rattle.std.proofs.Common.{◌≡◌, ℕ, zero, suc, ◌+◌, ◌≤◌, ◌⊎◌, inl, inr, Bool, true, false, not, ◌&&◌, ◌||◌, List, [], ◌∷◌, ◌++◌, length, take, filter, Option, Some, None, refl, arith, subst}
 use Rattle.std.specs.Prelude.{◌==◌, if◌then◌else◌, nat_le}
-use Rattle.std.specs.List.{list_any}
 use Rattle.std.specs.Option.{option_map_or}
 use Rattle.std.proofs.lemmas.Grind.{common_steps}
 use Rattle.std.proofs.lemmas.Bool.Decides.{nat_tests}
@@ -21,7 +20,7 @@ use Rattle.ccr_base.specs.Choice.{fitting, is_choosable, choice}
 use Rattle.ccr_wiring.specs.Wirings.{Seat, seat, site_port}
 use Rattle.ccr_model.specs.Posts.{posts, taken, held}
 use Rattle.ccr_model.specs.Choice.{names_of, joined, choice_of_slots, are_first, are_split, is_choice_of, are_oldest, is_choice}
-use Rattle.ccr_model.proofs.PostNames.{both, same_message-self, same_message-is}
+use Rattle.ccr_model.proofs.PostNames.{both}
 use Rattle.ccr_model.proofs.Quiet.{Among, Among-left, Among-right}
 use Rattle.ccr_model.proofs.Allowing.{filter_head}
 use Rattle.ccr_serial.specs.Potential.{takes_some, TakesSome}

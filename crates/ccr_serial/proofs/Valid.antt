@@ -1,7 +1,7 @@
 -- What valid wirings have.
-use Rattle.std.proofs.Common.{◌≡◌, ℕ, zero, suc, ◌+◌, ◌*◌, ◌<◌, ◌≤◌, ◌⊎◌, inl, inr, Bool, true, false, not, ◌&&◌, ◌||◌, List, [], ◌∷◌, ◌++◌, length, map, Option, Some, None, refl, sym, arith, ap, ◌∙◌, subst}
-use Rattle.std.specs.Prelude.{◌==◌, if◌then◌else◌, nat_lt, nat_le}
-use Rattle.std.specs.List.{slice_get, list_any}
+use Rattle.std.proofs.Common.{◌≡◌, ℕ, ◌+◌, ◌≤◌, ◌⊎◌, inl, inr, Bool, true, false, not, ◌||◌, List, [], ◌∷◌, ◌++◌, length, map, Option, Some, None, refl, arith, ap}
+use Rattle.std.specs.Prelude.{if◌then◌else◌, nat_lt, nat_le}
+use Rattle.std.specs.List.{list_any}
 use Rattle.std.proofs.lemmas.Bool.Decides.{nat_tests}
 use Rattle.ccr_base.specs.declared.patterns.Slot.{Slot}
 use Rattle.ccr_base.specs.declared.patterns.Pattern.{Pattern}
@@ -11,12 +11,11 @@ use Rattle.ccr_wiring.specs.declared.parts.ArbiterPart.{ArbiterPart}
 use Rattle.ccr_wiring.specs.declared.parts.BranchPart.{BranchPart}
 use Rattle.ccr_wiring.specs.declared.parts.Kind.{Kind}
 use Rattle.ccr_wiring.specs.Codes.{code_of}
-use Rattle.ccr_wiring.specs.Groups.{has_misgrouped, has_branchless}
-use Rattle.ccr_wiring.specs.Names.{has_repeated_name, has_malformed_name}
-use Rattle.ccr_wiring.specs.References.{is_beyond, has_dangling, pattern_is_dangling, branch_is_dangling}
+use Rattle.ccr_wiring.specs.Groups.{has_misgrouped}
+use Rattle.ccr_wiring.specs.Names.{has_repeated_name}
+use Rattle.ccr_wiring.specs.References.{is_beyond, has_dangling, branch_is_dangling}
 use Rattle.ccr_wiring.specs.Repeats.{has_repeat, names_ports_once}
-use Rattle.ccr_wiring.specs.Limits.{is_outside, slot_is_outside, pattern_is_outside, has_too_many, has_outside, script_count}
-use Rattle.ccr_wiring.specs.Spots.{has_crowded_port}
+use Rattle.ccr_wiring.specs.Limits.{is_outside, slot_is_outside, pattern_is_outside, has_too_many, has_outside, script_count, branch_count}
 use Rattle.ccr_wiring.specs.Wirings.{Seat, seat, seats_of, seats_from}
 use Rattle.ccr_wiring.specs.Valid.{IsValid, HasPortsApart, HasQueues}
 use Rattle.ccr_model.proofs.Quiet.{Among, Among-at}
@@ -124,14 +123,44 @@ HasQueues-valid w valid b s is =
     let queue = (neither (is_beyond (length w.queues) s.branch.queue) _ pattern.0).0 in
     grind (arith, nat_tests, queue)
 
-few_lines : (w : Parts) → has_too_many w ≡ false → nat_lt 10000 (script_count w) ≡ false
-few_lines w few = (neither _ _ few).1
+-- how many parts of each kind a valid wiring has
+pub record HasFewParts (w : Parts) : Type 0 where
+  pub queues : length w.queues ≤ 16
+  pub ports : length w.ports ≤ 256
+  pub causes : length w.causes ≤ 32
+  pub handlers : length w.handlers ≤ 256
+  pub arbiters : length w.arbiters ≤ 256
+  pub branches : branch_count w ≤ 256
+  pub posters : length w.posters ≤ 16
+  pub lines : script_count w ≤ 10000
+  pub budget : w.budget ≤ 10000
+
+few_if : (most n : ℕ) → nat_lt most n ≡ false → n ≤ most
+few_if most n few = grind (arith, nat_tests)
+
+pub HasFewParts-valid : (w : Parts) → IsValid w → HasFewParts w
+HasFewParts-valid w valid =
+    let inside = is_inside w (no_code w valid).outside in
+    let lines = neither _ _ inside.many in
+    let posters = neither _ _ lines.0 in
+    let branches = neither _ _ posters.0 in
+    let arbiters = neither _ _ branches.0 in
+    let handlers = neither _ _ arbiters.0 in
+    let causes = neither _ _ handlers.0 in
+    let sets = neither _ _ causes.0 in
+    let ports = neither (nat_lt 16 (length w.queues)) (nat_lt 256 (length w.ports)) sets.0 in
+    record {
+      queues = few_if 16 (length w.queues) ports.0;
+      ports = few_if 256 (length w.ports) ports.1;
+      causes = few_if 32 (length w.causes) causes.1;
+      handlers = few_if 256 (length w.handlers) handlers.1;
+      arbiters = few_if 256 (length w.arbiters) arbiters.1;
+      branches = few_if 256 (branch_count w) branches.1;
+      posters = few_if 16 (length w.posters) posters.1;
+      lines = few_if 10000 (script_count w) lines.1;
+      budget = few_if 10000 w.budget inside.budget;
+    }
 
 pub most_events-valid : (w : Parts) → IsValid w → most_events w ≤ 120000
 unfolding most_events
-most_events-valid w valid =
-    let inside = is_inside w (no_code w valid).outside in
-    let lines = few_lines w inside.many in
-    let few : script_count w ≤ 10000 = grind (arith, nat_tests, lines) in
-    let small : w.budget ≤ 10000 = grind (arith, nat_tests, inside.budget) in
-    omega (arith, few, small)
+most_events-valid w valid = let few = HasFewParts-valid w valid in omega (arith, few.lines, few.budget)
