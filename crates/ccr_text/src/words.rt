@@ -17,8 +17,7 @@ fn is_mark_byte(byte: u8) -> bool
 pub fn is_clean_line(line: &[u8]) -> bool
     ensures { result ≡ is_clean line.now }
 {
-    line.iter()
-        .all(|byte| matches!(*byte, b' ' | b'\t' | b'\r') || is_mark_byte(*byte))
+    line.iter().all(|byte| matches!(*byte, b' ' | b'\t' | b'\r') || is_mark_byte(*byte))
 }
 
 /// What stands before the first byte that is no mark, and what stands behind that byte.

@@ -1,4 +1,4 @@
-use Rattle.std.proofs.Common.{map, append_assoc, arith}
+use Rattle.std.proofs.Common.{map, arith}
 use Rattle.std.proofs.lemmas.Grind.{common_steps}
 use Rattle.ccr_text.proofs.Spacing.{line_spaced}
 use Rattle.ccr_text.proofs.writing.put_words.Goals as goal
