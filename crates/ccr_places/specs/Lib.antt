@@ -1,0 +1,4 @@
+pub mod TaskSets
+pub mod Interleaves
+pub mod Queues
+pub mod Meters
