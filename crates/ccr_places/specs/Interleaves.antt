@@ -1,5 +1,6 @@
 -- What an Interleave keeps, and its steps. The tasks stand here by their names; the Interleave's object keeps them whole.
-use Rattle.std.specs.Prelude.{◌≡◌, ⊤, ℕ, ◌-◌, Bool, true, false, not, ◌==◌, ◌&&◌, ◌||◌, nat_le, List, [], ◌∷◌, ◌++◌, drop, fold, map, slice_get, is_some, Option, Some, None, if◌then◌else◌}
+use Rattle.std.specs.Prelude.{◌≡◌, ⊤, ℕ, ◌-◌, Bool, true, false, not, ◌==◌, ◌&&◌, ◌||◌, nat_le, List, [], ◌∷◌, ◌++◌, drop, fold, map, slice_get, is_some, Option, Some, None, if◌then◌else◌, refl}
+use Rattle.std.specs.Coded.{Coded, code_by, coded×, coded_ℕ, coded_list, coded_option}
 use Rattle.std.specs.Option.{option_map, option_and_then}
 use Rattle.std.specs.FinSet as set
 use Rattle.ccr_base.specs.declared.names.TaskId.{TaskId}
@@ -10,8 +11,12 @@ use Rattle.ccr_base.specs.declared.tasks.By.{By}
 use Rattle.ccr_base.specs.declared.tasks.By.TheVariants.{Fired as ByFired}
 use Rattle.ccr_base.specs.declared.policies.Group.{Group}
 use Rattle.ccr_base.specs.declared.policies.Group.TheVariants.{Once, Always, Choice, Teardown, Exclusive, Concurrent}
+use Rattle.ccr_base.specs.contracts.names.TaskId as name
+use Rattle.ccr_base.specs.contracts.names.Spot as place_of_firing
+use Rattle.ccr_base.specs.contracts.tasks.Task as whole
+use Rattle.ccr_base.specs.contracts.policies.Group as group
 use Rattle.ccr_base.specs.Names.{has_task}
-use Rattle.ccr_places.specs.TaskSets.{TaskSet}
+use Rattle.ccr_places.specs.TaskSets.{TaskSet, task_set_code}
 use Rattle.ccr_places.specs.declared.notes.Note.{Note}
 use Rattle.ccr_places.specs.declared.notes.Note.TheVariants.{Fired, Dead, Admit, Over}
 
@@ -149,3 +154,20 @@ IsGiven place _ = ⊥
 pub record InterleaveTasks : Type 0 where
   pub state : InterleaveState
   pub tasks : List Task
+
+-- a waiting task is told by its fields, and so is an Interleave
+abbrev pub waiting_code : Coded Waiting
+waiting_code =
+    code_by (TaskId × Spot) (coded× name.the_row.coded place_of_firing.the_row.coded) (λ w. (w.task, w.spot)) (λ p. record { task = p.0; spot = p.1 }) (λ _. refl)
+
+abbrev pub interleave_code : Coded InterleaveState
+interleave_code =
+    code_by (ℕ × (List Group × (List TaskId × (List Waiting × (TaskSet × (TaskSet × Option TaskId))))))
+    (coded× coded_ℕ (coded× (coded_list group.the_row.coded) (coded× (coded_list name.the_row.coded) (coded× (coded_list waiting_code) (coded× task_set_code (coded× task_set_code (coded_option name.the_row.coded)))))))
+    (λ s. (s.first, (s.groups, (s.fired, (s.waiting, (s.shared, (s.alone, s.teardown)))))))
+    (λ p. record { first = p.0; groups = p.1.0; fired = p.1.1.0; waiting = p.1.1.1.0; shared = p.1.1.1.1.0; alone = p.1.1.1.1.1.0; teardown = p.1.1.1.1.1.1 })
+    (λ _. refl)
+
+abbrev pub interleave_tasks_code : Coded InterleaveTasks
+interleave_tasks_code =
+    code_by (InterleaveState × List Task) (coded× interleave_code (coded_list whole.the_row.coded)) (λ s. (s.state, s.tasks)) (λ p. record { state = p.0; tasks = p.1 }) (λ _. refl)

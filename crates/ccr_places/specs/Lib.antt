@@ -1,4 +1,5 @@
 pub mod TaskSets
+pub mod TaskTables
 pub mod Interleaves
 pub mod Queues
 pub mod Meters

@@ -1,14 +1,18 @@
 -- What a queue keeps, and its steps. The tasks stand here by their names; the queue's object keeps them whole.
-use Rattle.std.specs.Prelude.{◌≡◌, ⊤, ℕ, Bool, true, false, not, ◌+◌, ◌||◌, nat_le, List, [], ◌∷◌, ◌++◌, length, drop, fold, count_by, slice_get, Option, Some, None, if◌then◌else◌}
+use Rattle.std.specs.Prelude.{◌≡◌, ⊤, ℕ, Bool, true, false, not, ◌+◌, ◌||◌, nat_le, List, [], ◌∷◌, ◌++◌, length, drop, fold, count_by, slice_get, Option, Some, None, if◌then◌else◌, refl}
+use Rattle.std.specs.Coded.{Coded, code_by, coded×, coded_ℕ, coded_bool, coded_list}
 use Rattle.std.specs.List.{list_any}
 use Rattle.std.specs.Option.{option_map}
 use Rattle.std.specs.FinSet as set
 use Rattle.ccr_base.specs.declared.names.TaskId.{TaskId}
 use Rattle.ccr_base.specs.declared.tasks.Task.{Task}
+use Rattle.ccr_base.specs.contracts.names.TaskId as name
+use Rattle.ccr_base.specs.contracts.tasks.Task as whole
+use Rattle.ccr_base.specs.contracts.policies.Policy as rule
 use Rattle.ccr_base.specs.declared.policies.Policy.{Policy}
 use Rattle.ccr_base.specs.declared.policies.Policy.TheVariants.{Unbounded, Discard, Throttle}
 use Rattle.ccr_base.specs.Names.{same_task}
-use Rattle.ccr_places.specs.TaskSets.{TaskSet}
+use Rattle.ccr_places.specs.TaskSets.{TaskSet, task_set_code}
 use Rattle.ccr_places.specs.declared.notes.Note.{Note}
 use Rattle.ccr_places.specs.declared.notes.Note.TheVariants.{Book, Unbook, Put, Take}
 
@@ -125,3 +129,20 @@ IsGiven queue _ = ⊥
 pub record QueueTasks : Type 0 where
   pub state : QueueState
   pub tasks : List Task
+
+-- a queued task is told by its fields, and so is a queue
+abbrev pub queued_code : Coded Queued
+queued_code =
+    code_by (TaskId × Bool) (coded× name.the_row.coded coded_bool) (λ q. (q.task, q.resumes)) (λ p. record { task = p.0; resumes = p.1 }) (λ _. refl)
+
+abbrev pub queue_code : Coded QueueState
+queue_code =
+    code_by (ℕ × (Policy × (TaskSet × (TaskSet × List Queued))))
+    (coded× coded_ℕ (coded× rule.the_row.coded (coded× task_set_code (coded× task_set_code (coded_list queued_code)))))
+    (λ q. (q.number, (q.policy, (q.fresh, (q.resuming, q.queued)))))
+    (λ p. record { number = p.0; policy = p.1.0; fresh = p.1.1.0; resuming = p.1.1.1.0; queued = p.1.1.1.1 })
+    (λ _. refl)
+
+abbrev pub queue_tasks_code : Coded QueueTasks
+queue_tasks_code =
+    code_by (QueueState × List Task) (coded× queue_code (coded_list whole.the_row.coded)) (λ q. (q.state, q.tasks)) (λ p. record { state = p.0; tasks = p.1 }) (λ _. refl)

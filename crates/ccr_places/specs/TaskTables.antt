@@ -1,0 +1,78 @@
+-- A table from names of tasks to what is kept of each, read as the sets of the tasks of which a test holds.
+use Rattle.std.specs.Prelude.{◌≡◌, ◌&&◌, ◌||◌, ℕ, Bool, true, false, not, cond, List, [], ◌∷◌, filter, is_some, Option, Some, None}
+use Rattle.std.proofs.Common.{refl, sym, ◌∙◌, ap}
+use Rattle.std.specs.List.{list_any, IsDistinct}
+use Rattle.std.specs.Map.{keys_of, lookup}
+use Rattle.std.specs.Option.{option_map_or}
+use Rattle.std.specs.Ordering.{eq_by_cmp}
+use Rattle.std.specs.FinSet as set
+use Rattle.std.proofs.lemmas.Map.Made.{is_some-lookup}
+use Rattle.std.proofs.lemmas.Map.Entries.{lookup-filter-values, option_filter}
+use Rattle.ccr_base.specs.declared.names.TaskId.{TaskId}
+use Rattle.ccr_base.specs.Names.{same_task, has_task}
+use Rattle.ccr_places.specs.TaskSets.{TaskSet, task_cmp, task_cmp_total, task_cmp-IsAntisymmetric, same_task_equiv, same_task-true, eq_by_cmp-tasks}
+
+-- the tasks of whose value the test holds
+abbrev pub tasks_where : {S : Type 0} → (S → Bool) → List (TaskId × S) → TaskSet
+tasks_where test entries = set.from_list (keys_of (filter (λ entry. test entry.1) entries))
+
+-- what is kept of the task
+abbrev pub kept_of : {S : Type 0} → List (TaskId × S) → TaskId → Option S
+kept_of entries task = lookup (same_task task) entries
+
+any-tied : (task : TaskId) (tasks : List TaskId) → list_any (eq_by_cmp task_cmp task) tasks ≡ has_task tasks task
+any-tied task [] = refl
+any-tied task (other ∷ tasks) = λ i. eq_by_cmp-tasks task other i || any-tied task tasks i
+
+is_some-filter : {S : Type 0} (test : S → Bool) (kept : Option S) → is_some (option_filter test kept) ≡ option_map_or test kept false
+is_some-filter test None = refl
+is_some-filter test (Some kept) = by (test kept)
+  where
+    by : (b : Bool) → is_some (cond b (Some kept) None) ≡ b
+    by true = refl
+    by false = refl
+
+module _ {S : Type 0} (test : S → Bool) where
+  -- a task is in the set where the test holds of what is kept of it
+  pub contains-tasks_where : (entries : List (TaskId × S)) → IsDistinct same_task (keys_of entries) → (task : TaskId)
+      → set.contains (tasks_where test entries) task ≡ option_map_or test (kept_of entries task) false
+  contains-tasks_where entries distinct task =
+      set.contains-from_list task_cmp_total (keys_of (filter (λ entry. test entry.1) entries)) task
+      ∙ any-tied task (keys_of (filter (λ entry. test entry.1) entries))
+      ∙ sym (is_some-lookup (same_task task) (filter (λ entry. test entry.1) entries))
+      ∙ ap is_some (lookup-filter-values same_task_equiv test task entries distinct)
+      ∙ is_some-filter test (kept_of entries task)
+
+  put_at : (here : Bool) (kept before : Option S) → option_map_or test kept false ≡ true
+      → option_map_or test (cond here kept before) false ≡ (here || option_map_or test before false)
+  put_at true kept before holds = holds
+  put_at false kept before holds = refl
+
+  gone_at : (here : Bool) (kept before : Option S) → option_map_or test kept false ≡ false
+      → option_map_or test (cond here kept before) false ≡ (not here && option_map_or test before false)
+  gone_at true kept before fails = fails
+  gone_at false kept before fails = refl
+
+  -- the new table keeps this of the task, and of each other what the old one keeps
+  module _ (old new : List (TaskId × S)) (task : TaskId) (kept : Option S)
+      (old_distinct : IsDistinct same_task (keys_of old)) (new_distinct : IsDistinct same_task (keys_of new))
+      (updates : (other : TaskId) → kept_of new other ≡ cond (same_task task other) kept (kept_of old other)) where
+    holds_then : (other : TaskId) → set.contains (tasks_where test new) other ≡ option_map_or test (cond (same_task task other) kept (kept_of old other)) false
+    holds_then other = contains-tasks_where new new_distinct other ∙ ap (λ k. option_map_or test k false) (updates other)
+
+    turned : (other : TaskId) → same_task task other ≡ eq_by_cmp task_cmp other task
+    turned other = same_task_equiv.symm task other ∙ sym (eq_by_cmp-tasks other task)
+
+    pub tasks_where-put : option_map_or test kept false ≡ true → tasks_where test new ≡ set.insert (tasks_where test old) task
+    tasks_where-put holds = set.same_set task_cmp_total task_cmp-IsAntisymmetric _ _ (λ other.
+        holds_then other
+        ∙ put_at (same_task task other) kept (kept_of old other) holds
+        ∙ (λ i. turned other i || sym (contains-tasks_where old old_distinct other) i)
+        ∙ sym (set.contains-insert task_cmp_total (tasks_where test old) task other))
+
+    pub tasks_where-gone : option_map_or test kept false ≡ false → tasks_where test new ≡ set.remove (tasks_where test old) task
+    tasks_where-gone fails = set.same_set task_cmp_total task_cmp-IsAntisymmetric _ _ (λ other.
+        holds_then other
+        ∙ gone_at (same_task task other) kept (kept_of old other) fails
+        ∙ (λ i. not (turned other i) && sym (contains-tasks_where old old_distinct other) i)
+        ∙ sym (set.contains-remove task_cmp_total (tasks_where test old) task other))
