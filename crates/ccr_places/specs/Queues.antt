@@ -93,13 +93,21 @@ after_book queue task resumes (Some n) = queue
 abbrev pub after_unbook : QueueState → TaskId → QueueState
 after_unbook queue task = record queue { fresh = set.remove queue.fresh task; resuming = set.remove queue.resuming task }
 
--- the booking has ended, what the put drops is gone, and the task is queued last
-abbrev pub after_put : QueueState → TaskId → QueueState
-after_put queue task = record queue {
+-- the booking has ended, and the task is queued last
+abbrev pub with_newest : QueueState → TaskId → QueueState
+with_newest queue task = record queue {
   fresh = set.remove queue.fresh task;
   resuming = set.remove queue.resuming task;
-  queued = drop (drop_count queue) queue.queued ++ (record { task = task; resumes = set.contains queue.resuming task }) ∷ [];
+  queued = queue.queued ++ (record { task = task; resumes = set.contains queue.resuming task }) ∷ [];
 }
+
+-- what the next put drops is gone
+abbrev pub without_dropped : QueueState → QueueState
+without_dropped queue = record queue { queued = drop (drop_count queue) queue.queued }
+
+-- the booking has ended, what the put drops is gone, and the task is queued last
+abbrev pub after_put : QueueState → TaskId → QueueState
+after_put queue task = with_newest (without_dropped queue) task
 
 -- the oldest task is gone
 abbrev pub after_take : QueueState → QueueState

@@ -1,6 +1,6 @@
 -- A table from names of tasks to what is kept of each, read as the sets of the tasks of which a test holds.
-use Rattle.std.specs.Prelude.{◌≡◌, ◌&&◌, ◌||◌, ℕ, Bool, true, false, not, cond, List, [], ◌∷◌, filter, is_some, Option, Some, None}
-use Rattle.std.proofs.Common.{refl, sym, ◌∙◌, ap}
+use Rattle.std.specs.Prelude.{◌≡◌, ◌+◌, ◌-◌, ◌&&◌, ◌||◌, ℕ, Bool, true, false, not, cond, List, [], ◌∷◌, filter, is_some, Option, Some, None}
+use Rattle.std.proofs.Common.{refl, sym, ◌∙◌, ap, arith}
 use Rattle.std.specs.List.{list_any, IsDistinct}
 use Rattle.std.specs.Map.{keys_of, lookup}
 use Rattle.std.specs.Option.{option_map_or}
@@ -10,7 +10,7 @@ use Rattle.std.proofs.lemmas.Map.Made.{is_some-lookup}
 use Rattle.std.proofs.lemmas.Map.Entries.{lookup-filter-values, option_filter}
 use Rattle.ccr_base.specs.declared.names.TaskId.{TaskId}
 use Rattle.ccr_base.specs.Names.{same_task, has_task}
-use Rattle.ccr_places.specs.TaskSets.{TaskSet, task_cmp, task_cmp_total, task_cmp-IsAntisymmetric, same_task_equiv, same_task-true, eq_by_cmp-tasks}
+use Rattle.ccr_places.specs.TaskSets.{TaskSet, task_cmp, task_cmp_total, task_cmp-IsAntisymmetric, len-there, remove-absent, same_task_equiv, same_task-true, eq_by_cmp-tasks}
 
 -- the tasks of whose value the test holds
 abbrev pub tasks_where : {S : Type 0} → (S → Bool) → List (TaskId × S) → TaskSet
@@ -76,3 +76,33 @@ module _ {S : Type 0} (test : S → Bool) where
         ∙ gone_at (same_task task other) kept (kept_of old other) fails
         ∙ (λ i. not (turned other i) && sym (contains-tasks_where old old_distinct other) i)
         ∙ sym (set.contains-remove task_cmp_total (tasks_where test old) task other))
+
+    -- how the number of such tasks changes
+    pub len-tasks_where : set.len (tasks_where test new) + cond (option_map_or test (kept_of old task) false) 1 0
+        ≡ set.len (tasks_where test old) + cond (option_map_or test kept false) 1 0
+    len-tasks_where = by (option_map_or test (kept_of old task) false) (option_map_or test kept false) refl refl
+      where
+        was : set.contains (tasks_where test old) task ≡ option_map_or test (kept_of old task) false
+        was = contains-tasks_where old old_distinct task
+
+        by : (before after : Bool) → option_map_or test (kept_of old task) false ≡ before → option_map_or test kept false ≡ after
+            → set.len (tasks_where test new) + cond before 1 0 ≡ set.len (tasks_where test old) + cond after 1 0
+        by before true b a =
+            let grown = ap set.len (tasks_where-put a) ∙ set.len-insert task_cmp_total (tasks_where test old) task ∙ ap (λ c. cond c (set.len (tasks_where test old)) (set.len (tasks_where test old) + 1)) (was ∙ b) in
+            put_len before grown
+          where
+            put_len : (before : Bool) → set.len (tasks_where test new) ≡ cond before (set.len (tasks_where test old)) (set.len (tasks_where test old) + 1)
+                → set.len (tasks_where test new) + cond before 1 0 ≡ set.len (tasks_where test old) + 1
+            put_len true e = omega arith
+            put_len false e = omega arith
+        by true false b a =
+            let there = len-there (tasks_where test old) task (was ∙ b) in
+            let gone = ap set.len (tasks_where-gone a) ∙ set.len-remove task_cmp_total (tasks_where test old) task ∙ ap (λ c. cond c (set.len (tasks_where test old) - 1) (set.len (tasks_where test old))) (was ∙ b) in
+            omega arith
+        by false false b a =
+            let gone = ap set.len (tasks_where-gone a) ∙ set.len-remove task_cmp_total (tasks_where test old) task ∙ ap (λ c. cond c (set.len (tasks_where test old) - 1) (set.len (tasks_where test old))) (was ∙ b) in
+            omega arith
+
+    -- the set stays, where the task isn't in it before and after
+    pub tasks_where-same : option_map_or test kept false ≡ false → option_map_or test (kept_of old task) false ≡ false → tasks_where test new ≡ tasks_where test old
+    tasks_where-same fails failed = tasks_where-gone fails ∙ remove-absent (tasks_where test old) task (contains-tasks_where old old_distinct task ∙ failed)

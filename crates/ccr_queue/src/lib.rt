@@ -6,4 +6,4 @@ mod queue;
 mod standing;
 
 pub use meter::Meter;
-pub use queue::QueueObject;
+pub use queue::{Booked, QueueObject};
