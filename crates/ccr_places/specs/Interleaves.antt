@@ -40,10 +40,14 @@ pub record InterleaveState : Type 0 where
 abbrev pub start : ℕ → List Group → InterleaveState
 start first groups = record { first = first; groups = groups; fired = []; waiting = []; shared = set.empty; alone = set.empty; teardown = None }
 
+-- the group of the spot, where it is a branch from the first on that has one
+abbrev pub group_among : ℕ → List Group → Spot → Option Group
+group_among first groups (Branch branch) = if nat_le first branch then slice_get groups (branch - first) else None
+group_among first groups (Site branch site) = None
+
 -- the group of the spot, where it is a branch of this Interleave
 abbrev pub group_at : InterleaveState → Spot → Option Group
-group_at place (Branch branch) = if nat_le place.first branch then slice_get place.groups (branch - place.first) else None
-group_at place (Site branch site) = None
+group_at place spot = group_among place.first place.groups spot
 
 abbrev pub is_teardown : Option Group → Bool
 is_teardown None = false
@@ -87,13 +91,13 @@ spared place spot = if is_teardown (group_at place spot) then [] else place.wait
 abbrev pub cut_note : InterleaveState → Spot → List TaskId
 cut_note place spot = if is_teardown (group_at place spot) then map (λ (waiting : Waiting). waiting.task) place.waiting else []
 
--- whether a waiting task may be admitted beside the kept roots: a concurrent one beside concurrent ones, another beside none
-abbrev pub lets_in : InterleaveState → Waiting → Bool
-lets_in place waiting = (set.len place.alone == 0) && (is_concurrent (group_at place waiting.spot) || (set.len place.shared == 0))
+-- whether a waiting task of the spot may be admitted beside the kept roots: a concurrent one beside concurrent ones, another beside none
+abbrev pub lets_in : InterleaveState → Spot → Bool
+lets_in place spot = (set.len place.alone == 0) && (is_concurrent (group_at place spot) || (set.len place.shared == 0))
 
 -- the oldest waiting task, where it may be admitted
 abbrev pub admissible : InterleaveState → Option Waiting
-admissible place = option_and_then (λ (waiting : Waiting). if lets_in place waiting then Some waiting else None) (slice_get place.waiting 0)
+admissible place = option_and_then (λ (waiting : Waiting). if lets_in place waiting.spot then Some waiting else None) (slice_get place.waiting 0)
 
 -- the task that is admitted next
 abbrev pub admit_note : InterleaveState → Option TaskId

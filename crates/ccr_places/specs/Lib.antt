@@ -1,3 +1,4 @@
+pub mod Commits
 pub mod TaskSets
 pub mod TaskTables
 pub mod Interleaves

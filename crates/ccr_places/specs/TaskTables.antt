@@ -1,5 +1,5 @@
 -- A table from names of tasks to what is kept of each, read as the sets of the tasks of which a test holds.
-use Rattle.std.specs.Prelude.{◌≡◌, ◌+◌, ◌-◌, ◌&&◌, ◌||◌, ℕ, Bool, true, false, not, cond, List, [], ◌∷◌, filter, is_some, Option, Some, None}
+use Rattle.std.specs.Prelude.{◌≡◌, ◌≤◌, ◌+◌, ◌-◌, ◌&&◌, ◌||◌, ℕ, Bool, true, false, not, cond, List, [], ◌∷◌, filter, length, is_some, Option, Some, None}
 use Rattle.std.proofs.Common.{refl, sym, ◌∙◌, ap, arith}
 use Rattle.std.specs.List.{list_any, IsDistinct}
 use Rattle.std.specs.Map.{keys_of, lookup}
@@ -106,3 +106,17 @@ module _ {S : Type 0} (test : S → Bool) where
     -- the set stays, where the task isn't in it before and after
     pub tasks_where-same : option_map_or test kept false ≡ false → option_map_or test (kept_of old task) false ≡ false → tasks_where test new ≡ tasks_where test old
     tasks_where-same fails failed = tasks_where-gone fails ∙ remove-absent (tasks_where test old) task (contains-tasks_where old old_distinct task ∙ failed)
+
+-- no more tasks are in the set than in the table
+pub len-tasks_where-le : {S : Type 0} (test : S → Bool) (entries : List (TaskId × S)) → set.len (tasks_where test entries) ≤ length entries
+len-tasks_where-le test [] = omega (arith, set.len-empty task_cmp)
+len-tasks_where-le test (entry ∷ entries) = by (test entry.1) refl (len-tasks_where-le test entries)
+  where
+    inserted : (there : Bool) (n m : ℕ) → n ≤ m → cond there n (n + 1) ≤ m + 1
+    inserted true n m le = omega arith
+    inserted false n m le = omega arith
+
+    by : (holds : Bool) → test entry.1 ≡ holds → set.len (tasks_where test entries) ≤ length entries → set.len (tasks_where test (entry ∷ entries)) ≤ length (entry ∷ entries)
+    by true holds le = rw (holds, set.len-insert task_cmp_total (tasks_where test entries) entry.0)
+        (let more = inserted (set.contains (tasks_where test entries) entry.0) _ _ le in omega (arith, more))
+    by false fails le = rw fails (omega (arith, le))
