@@ -1,0 +1,4 @@
+pub mod Commits
+pub mod Ports
+pub mod Arbiters
+pub mod Sites
