@@ -4,8 +4,8 @@ ghost use Rattle.std.specs.Prelude.{◌≡◌, IsTrue, IfOk, IfErr, OnOk, OnErr,
 ghost use Rattle.ccr_places.specs.Ports.{start, claimant, may_post as can_post, may_claim as can_claim, may_consume as can_consume, may_free as can_free, claim_note, after_post, after_claim, after_consume, after_free};
 ghost use Rattle.ccr_port.specs.Replies.{claim_reply, reply_note};
 
-use crate::claims::{Claimed, copy_fitting, count_fitting, take_out};
-use ccr_base::{List, Msg, OutOfMemory, PortNo, Slot, TaskId};
+use crate::claims::{Claimed, copy_choice, count_fitting, message_at, take_out};
+use ccr_base::{Msg, OutOfMemory, PortNo, Slot, TaskId};
 use ccr_places::StandingClaim;
 use std::alloc::{AllocFailed, Global};
 use std::marker::Model;
@@ -81,15 +81,13 @@ impl PortObject {
         if let Some(standing) = &self.claim {
             return Ok(Claimed::Busy(standing.task));
         }
-        let count = count_fitting(&self.items, &slot.pred);
-        if count < slot.least {
-            return Ok(Claimed::Short(count));
-        }
-        let copies = copy_fitting(self.alloc, &self.items, &slot.pred, slot.most)?;
+        let Some(copies) = copy_choice(self.alloc, &self.items, slot)? else {
+            return Ok(Claimed::Short(count_fitting(&self.items, &slot.pred)));
+        };
         self.claim = Some(StandingClaim {
             task,
             pred: slot.pred,
-            count: count.min(slot.most),
+            count: copies.as_slice().len() as u32,
         });
         Ok(Claimed::Got(copies))
     }
@@ -139,7 +137,7 @@ impl PortObject {
     pub fn item(&self, place: u32) -> Option<&Msg>
         ensures { option_copied result ≡ slice_get self.now.items place }
     {
-        self.items.get(place as usize)
+        message_at(&self.items, place)
     }
 
     /// How many messages the port holds.
