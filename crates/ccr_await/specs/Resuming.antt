@@ -1,5 +1,5 @@
 -- What a site keeps of its suspended tasks, and how the first of them goes on.
-use Rattle.std.specs.Prelude.{ℕ, List, [], ◌∷◌, ◌++◌, map, Some}
+use Rattle.std.specs.Prelude.{ℕ, List, [], ◌∷◌, ◌++◌, map, drop, length, nat_lt, Some, if◌then◌else◌}
 use Rattle.ccr_base.specs.declared.names.TaskId.{TaskId}
 use Rattle.ccr_base.specs.declared.tasks.Task.{Task}
 use Rattle.ccr_base.specs.declared.tasks.By.TheVariants.{NoneWaiting}
@@ -40,10 +40,6 @@ reply_of (first ∷ others) task = Fired (Some (resumed first task)) []
 abbrev pub commit_reply : SiteTasks → Task → Commit
 commit_reply site task = reply_of site.suspended task
 
--- the first suspended is taken out, where there is one, and the task has fired
-abbrev pub after_resuming : SiteTasks → List Task → Task → SiteTasks
-after_resuming site [] task = site
-after_resuming site (first ∷ others) task = record site { suspended = others; fired = site.fired ++ task.id ∷ [] }
-
+-- where somebody is suspended, the first is taken out and the task has fired; else it stays as it was
 abbrev pub after_commit : SiteTasks → Task → SiteTasks
-after_commit site task = after_resuming site site.suspended task
+after_commit site task = if nat_lt 0 (length site.suspended) then record site { suspended = drop 1 site.suspended; fired = site.fired ++ task.id ∷ [] } else site
