@@ -4,3 +4,6 @@ pub mod TaskTables
 pub mod Interleaves
 pub mod Queues
 pub mod Meters
+pub mod Ports
+pub mod Arbiters
+pub mod Sites
