@@ -1,20 +1,27 @@
 -- Seats are made and joined, and the table is opened and closed.
-use Rattle.std.proofs.Common.{◌≡◌, ◌≢◌, ◌⊎◌, ℕ, zero, suc, ◌+◌, ◌*◌, ◌^◌, ◌<◌, ◌≤◌, List, [], ◌∷◌, ◌++◌, map, length, get_or, set, sym, refl, ap, ◌∙◌, subst, inl, inr, ⊎_elim, arith, Option, Some, None}
-use Rattle.std.proofs.lemmas.List.{length-map}
+use Rattle.std.proofs.Common.{replicate, ◌≡◌, ◌≢◌, ◌⊎◌, ℕ, zero, suc, ◌+◌, ◌*◌, ◌^◌, ◌<◌, ◌≤◌, List, [], ◌∷◌, ◌++◌, map, length, get_or, set, sym, refl, ap, ◌∙◌, subst, inl, inr, ⊎_elim, arith, Option, Some, None}
+use Rattle.std.specs.List.{AllZip}
+use Rattle.std.proofs.lemmas.List.{length-map, length-replicate}
 use mathlib.Core.Logic.{dite}
 use mathlib.Core.Option.{some, none, some-injective, some-ne-none}
 use native.Mathlib.Decide.{ℕ_discrete, dec_le}
 use lib.ListN.{get_elem?}
 use Rattle.atomic_table.specs.Table.{State, Splits, Joins, opening, Final, Seen}
 use Rattle.atomic_table.proofs.Lists.{at_set, set_here, set_else, at_longer, at_snoc, at_map}
-use Rattle.ccr_turns.specs.declared.view.Held.{Held}
-use Rattle.ccr_turns.specs.declared.view.Cell.{Cell}
-use Rattle.ccr_turns.specs.declared.view.Mark.{Mark}
-use Rattle.ccr_turns.specs.declared.view.Log.{Log}
-use Rattle.ccr_turns.specs.declared.view.Hold.{Hold}
-use Rattle.ccr_turns.specs.declared.view.View.{View}
-use Rattle.ccr_turns.specs.Lock.{total, below, log, view, weight, fresh, opening_view, left_by, told, at_place, Place, entries, IsRight, FitsLog, IsHome, Holds, Orderly, first_logs, later_logs, cut_left, cut_right, joined, spent, Settled}
-use Rattle.ccr_turns.proofs.Rows.{total-set, total-append, total-one, below-one, there, within, none-some, Some-injective, Some-at, term_le, terms_le, at_append, one-counts, no-total, only-one}
+use Rattle.ccr_turns.specs.Locks.{IsLeft, Agrees}
+use Rattle.ccr_turns.specs.Seated.{IsLaid, HasCells, Lifted}
+use Rattle.ccr_turns.specs.Lists.{total, below, Each}
+use Rattle.ccr_turns.specs.Logs.{log, fresh, told, at_place, FitsLog}
+use Rattle.ccr_turns.specs.Views.{Sat, view, weight, opening_view, first_logs, later_logs, cut_left, cut_right, joined, spent}
+use Rattle.ccr_turns.specs.Histories.{left_by, Place, entries, IsRight}
+use Rattle.ccr_turns.specs.Rule.{IsHome, Holds, Orderly, Settled}
+use Rattle.ccr_turns.specs.declared.history.Held.{Held}
+use Rattle.ccr_turns.specs.declared.history.Cell.{Cell}
+use Rattle.ccr_turns.specs.declared.history.Mark.{Mark}
+use Rattle.ccr_turns.specs.declared.history.Log.{Log}
+use Rattle.ccr_turns.specs.declared.history.Hold.{Hold}
+use Rattle.ccr_turns.specs.declared.history.View.{View}
+use Rattle.ccr_turns.proofs.Rows.{there_by_slice, stamps_rise, zip_from, zip_at, zip_length, all_from_each, below-only-one, only, total-set, total-append, total-one, below-one, there, within, none-some, Some-injective, Some-at, term_le, terms_le, at_append, one-counts, no-total, only-one}
 
 module _ {N X : Type 0} where
   cut-total : (f : Log N X → ℕ) (ls : List (Log N X)) → total f (later_logs ls) + total f (first_logs ls) ≡ total f ls
@@ -34,6 +41,18 @@ module _ {N X : Type 0} where
   in-fresh k zero i l e = absurd (some-ne-none l (sym e))
   in-fresh k (suc n) zero l e = ap (λ (y : Log N X). y.marks) (sym (some-injective (log k []) l e))
   in-fresh k (suc n) (suc i) l e = in-fresh (suc k) n i l e
+
+module _ {O N X : Type 0} where
+  -- the first of the logs that are left has the next number
+  pub next_fresh : (k left n : ℕ) (m : Sat O N X) → left + k ≡ n → k < n → m ≡ (view (fresh k left) None, []) → (ls : List (Log N X)) × (m ≡ (view (log k [] ∷ ls) None, []))
+  next_fresh k zero n m sum few is = absurd (omega arith)
+  next_fresh k (suc left) n m sum few is = (fresh (suc k) left, is)
+
+  pub after_cut : (k left n : ℕ) (m m' : Sat O N X) → left + k ≡ n → k < n → m ≡ (view (fresh k left) None, []) → m' ≡ (cut_left m.0, []) → (some-left : ℕ) × (some-left + (k + 1) ≡ n) × (m' ≡ (view (fresh (k + 1) some-left) None, []))
+  after_cut k zero n m m' sum few is cut = absurd (omega arith)
+  after_cut k (suc left) n m m' sum few is cut =
+      let next : suc k ≡ k + 1 = omega arith in
+      (left, omega arith, cut ∙ (ap (λ (y : Sat O N X). (cut_left y.0, [])) is ∙ ap (λ j. (view (fresh j left) None, [])) next))
 
 fresh-total : (N X : Type 0) (f : ℕ → ℕ) (k n : ℕ) → total (λ (l : Log N X). f l.number) (fresh k n) + below f k ≡ below f (k + n)
 fresh-total N X f k zero = let e : k ≡ k + 0 = omega arith in let a = ap (below f) e in omega arith
@@ -111,7 +130,7 @@ module _ {O N X A R : Type 0} (value : O → X) (after : X → N → X) (may : X
       (λ (q : (j ≢ other) × (get_elem? vs j ≡ some u)). ⊎_elim (λ (r : (j ≡ id) × (b ≡ u)). absurd (idle-hold b u h r.1 refl is)) (λ (r : (j ≢ id) × (get_elem? s.views j ≡ some u)). r.1) (at_set s.views id j b u q.1))
       (at_set vs other j spent u at))
       (λ j u h at is. set_else vs other j spent (λ e. idle-hold w u h (Some-at s.views other j w u there e at) free' is)
-          ∙ (set_else s.views id j b (λ e. idle-hold v u h (Some-at s.views id j v u me e at) free is) ∙ at))
+      ∙ (set_else s.views id j b (λ e. idle-hold v u h (Some-at s.views id j v u me e at) free is) ∙ at))
       (λ j u k l at in-log. ⊎_elim
       (λ (q : (j ≡ other) × (spent ≡ u)). absurd (some-ne-none l (sym (ap (λ (y : V). get_elem? y.logs k) q.1 ∙ in-log))))
       (λ (q : (j ≢ other) × (get_elem? vs j ≡ some u)). ⊎_elim
@@ -128,9 +147,9 @@ module _ {O N X A R : Type 0} (value : O → X) (after : X → N → X) (may : X
       let whole : total (weight (λ _. 1)) s.views ≡ seats = o.numbers (λ _. 1) ∙ below-one seats in
       let alone : (j : ℕ) (u : V) → j ≢ id → get_elem? s.views j ≡ some u → length u.logs ≡ 0 = λ j u ne at. let a = terms_le (weight (λ _. 1)) s.views id j v u ne me at in let b = total-one u.logs in omega arith in
       let idle : (i : ℕ) → i < length s.homes → get_or s.words i 0 ≡ 0 = λ i inside. dite (ℕ_discrete (get_or s.words i 0) 0) (λ z. z)
-          (λ busy. let x = o.held i inside busy in let y = o.holds x.0 x.1 x.2 x.3 x.4 in dite (ℕ_discrete x.0 id)
-          (λ e. absurd (idle-hold v x.1 x.2 (Some-at s.views id x.0 v x.1 me e x.3) free x.4))
-          (λ ne. let a = alone x.0 x.1 ne x.3 in let b = y.seated in absurd (omega arith))) in
+      (λ busy. let x = o.held i inside busy in let y = o.holds x.0 x.1 x.2 x.3 x.4 in dite (ℕ_discrete x.0 id)
+      (λ e. absurd (idle-hold v x.1 x.2 (Some-at s.views id x.0 v x.1 me e x.3) free x.4))
+      (λ ne. let a = alone x.0 x.1 ne x.3 in let b = y.seated in absurd (omega arith))) in
       record {
         places = o.places;
         most = entries o.places;
@@ -174,3 +193,58 @@ module _ {O N X A R : Type 0} (value : O → X) (after : X → N → X) (may : X
             };
         numbers = λ f. let a = fresh-total N X f 0 seats in let e : 0 + seats ≡ seats = omega arith in let b = ap (below f) e in omega arith;
       }
+
+  zero_reads : (n i : ℕ) → get_or (replicate n zero) i zero ≡ zero
+  zero_reads zero i = refl
+  zero_reads (suc n) zero = refl
+  zero_reads (suc n) (suc i) = zero_reads n i
+
+  -- the table with the objects, each under a free lock
+  pub starts_free : (n : ℕ) (ws : List ℕ) (xs : List S) → ws ≡ replicate n zero → n ≡ length objects → AllZip IsLaid objects xs → Rule (opening ws xs (opening_view seats))
+  starts_free n ws xs zeros count laid =
+      let long = zip_length (IsLaid {O = O} {N = N}) objects xs laid in
+      starts ws xs (ap length zeros ∙ (length-replicate n zero ∙ (count ∙ long))) (λ i. ap (λ (l : List ℕ). get_or l i 0) zeros ∙ zero_reads n i) long
+      (λ i x at. let t = zip_at (IsLaid {O = O} {N = N}) objects xs i x laid at in let c = t.2.0 in (c, t.1 ∙ ap some t.2.1, t.2.2, t.2.3))
+
+  -- what the closed places and logs come to
+  module _ (slots : List S) (logs : List (Log N X)) (kept : List (O × List (Held N))) (t : Settled value after may objects seats slots logs) (lifted : Lifted slots kept) where
+    as_many : length objects ≡ length t.places
+    as_many = sym (length-map objects value) ∙ (sym (ap length t.begun) ∙ length-map t.places (λ (p : Place N X). p.0))
+
+    -- the place of an object, and what was lifted out there
+    left_at : (i : ℕ) (x : O) → get_elem? objects i ≡ some x → (p : Place N X) × (c : Cell O N) × (get_elem? t.places i ≡ some p) × (p ≡ (value x, c.history.items)) × (value c.object ≡ left_by after p.0 p.1) × (get_elem? kept i ≡ some (c.object, c.history.items))
+    left_at i x at =
+        let found = at-map (λ (p : Place N X). p.0) t.places i (value x) (ap (λ (l : List X). get_elem? l i) t.begun ∙ at_map value objects i x at) in
+        let p = found.0 in
+        let cell = t.cells i p found.1 in
+        let c = cell.0 in
+        let history = cell.2 in
+        let start = found.2 in
+        (p, c, found.1, (λ d. (start d, sym history d)), cell.3, lifted.1 i c cell.1)
+
+    pub left_over : AllZip (IsLeft value after may seats) objects kept
+    left_over = zip_from (IsLeft value after may seats) objects kept (as_many ∙ (t.many ∙ sym lifted.0))
+        (λ i x k at at'. let l = left_at i x at in let p = l.0 in let c = l.1 in let right = subst (IsRight after may seats t.most) l.3 (t.right i p l.2) in
+        subst (IsLeft value after may seats x) (some-injective (c.object, c.history.items) k (sym l.5 ∙ at')) record {
+          object = l.4 ∙ ap (λ (q : Place N X). left_by after q.0 q.1) l.3;
+          rising = right.rising;
+          given = right.given;
+          seated = all_from_each (λ (e : Held N). e.seat < seats) c.history.items right.known;
+        })
+
+    pub agrees : (j : ℕ) (l : Log N X) → get_elem? logs j ≡ some l → Agrees value after objects kept l
+    agrees j l at = let fits = t.fits j l at in record {
+      rising = stamps_rise 0 l.marks fits.stamped;
+      stamped = fits.stamped;
+      same = λ i x k at-x at-k. let here = left_at i x (there_by_slice objects i x at-x) in let c = here.1 in
+          let same-k : (c.object, c.history.items) ≡ k = some-injective (c.object, c.history.items) k (sym here.5 ∙ there_by_slice kept i k at-k) in
+          fits.same i here.0 here.2 ∙ (ap (λ (q : Place N X). told after i l.number q.0 0 q.1) here.3 ∙ ap (λ (q : O × List (Held N)). told after i l.number (value x) 0 q.1) same-k);
+      inside = all_from_each (λ (m : Mark N X). m.place < length objects) l.marks (subst (λ n. Each (λ (m : Mark N X). m.place < n) l.marks) (sym as_many) fits.inside);
+    }
+
+  module _ (slots : List S) (logs : List (Log N X)) (t : Settled value after may objects seats slots logs) where
+    pub has_cells : HasCells slots
+    has_cells i inside = let p = there t.places i (subst (λ n. i < n) (sym t.many) inside) in let cell = t.cells i p.0 p.1 in (cell.0, cell.1)
+
+    pub borne : (n : ℕ) → n < seats → total (λ (l : Log N X). only n l.number) logs ≡ 1
+    borne n few = t.numbers (only n) ∙ below-only-one n seats few

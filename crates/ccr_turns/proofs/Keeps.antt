@@ -9,13 +9,18 @@ use Rattle.std.proofs.lemmas.List.{map-append}
 use prog.Atomic.{either}
 use Rattle.atomic_table.specs.Table.{State, Me, step, Act, keeps, takes, gives, Valid, carried_after, stepped, Allows, rest}
 use Rattle.atomic_table.proofs.Lists.{at_set, set_here, set_else, set_again, at_map, exchanged}
-use Rattle.ccr_turns.specs.declared.view.Held.{Held}
-use Rattle.ccr_turns.specs.declared.view.Cell.{Cell}
-use Rattle.ccr_turns.specs.declared.view.Mark.{Mark}
-use Rattle.ccr_turns.specs.declared.view.Log.{Log}
-use Rattle.ccr_turns.specs.declared.view.Hold.{Hold}
-use Rattle.ccr_turns.specs.declared.view.View.{View}
-use Rattle.ccr_turns.specs.Lock.{total, below, Rises, last_of, Each, at_place, told, Given, history_stamps, log_stamps, mark, log, view, hold, weight, noted, left_by, Place, entries, IsRight, FitsLog, IsHome, Holds, Orderly, Sat, won, left, entered_play}
+use Rattle.ccr_turns.specs.Lists.{total, below, Rises, last_of, Each}
+use Rattle.ccr_turns.specs.Logs.{at_place, told, log_stamps, mark, log, noted, FitsLog}
+use Rattle.ccr_turns.specs.Histories.{Given, history_stamps, left_by, Place, entries, IsRight}
+use Rattle.ccr_turns.specs.Views.{view, hold, weight, Sat}
+use Rattle.ccr_turns.specs.Rule.{IsHome, Holds, Orderly}
+use Rattle.ccr_turns.specs.Steps.{won, left, entered}
+use Rattle.ccr_turns.specs.declared.history.Held.{Held}
+use Rattle.ccr_turns.specs.declared.history.Cell.{Cell}
+use Rattle.ccr_turns.specs.declared.history.Mark.{Mark}
+use Rattle.ccr_turns.specs.declared.history.Log.{Log}
+use Rattle.ccr_turns.specs.declared.history.Hold.{Hold}
+use Rattle.ccr_turns.specs.declared.history.View.{View}
 use Rattle.ccr_turns.proofs.Rows.{total-set, there, within, few_entries, none-some, Some-injective, Some-at, term_le, terms_le, only, only-same, below-only, rises_more, last_more, each_more, stamped_more, at_place_here, at_place_else, left_by_more, told_here, told_else, given_more, only-one, first_of, last_same}
 
 module _ {O N X A R : Type 0} (value : O → X) (after : X → N → X) (may : X → A → R → N → Type 0) (objects : List O) (seats : ℕ) where
@@ -37,80 +42,123 @@ module _ {O N X A R : Type 0} (value : O → X) (after : X → N → X) (may : X
   abbrev Goes : St → ℕ → ℕ → M → (ℕ → M → Type 0) → ℕ → Type 0
   Goes s i id m then k = (w : V) × (a : Act S) × Valid s.homes m.1 a × Rule (stepped s i k id m.1 w a) × then (get_or s.words i 0) (w, carried_after m.1 a)
 
-  unmoved : (s : St) → Rule s → (i id : ℕ) (m : M) → get_elem? s.views id ≡ some m.0 → Rule (stepped s i (get_or s.words i 0) id m.1 m.0 keeps)
-  unmoved s o i id m me = let same = set-get_or s.words i 0 in let seen = set_again s.views id m.0 me in
-      let path : s ≡ stepped s i (get_or s.words i 0) id m.1 m.0 keeps = λ k. record { words = sym same k; homes = s.homes; views = sym seen k } in subst Rule path o
+  -- a held lock stays held, and nothing else changes
+  stays : (id : ℕ) (m : M) (place b : ℕ) → b ≢ 0 → (s : St) → Rule s → place < length s.words → get_elem? s.views id ≡ some m.0 → get_or s.words place 0 ≢ 0 → Rule (stepped s place b id m.1 m.0 keeps)
+  stays id m place b some-word s o here me miss =
+      let seen = set_again s.views id m.0 me in
+      let one : get_or (set s.words place b) place 0 ≡ b = get_or-set_same s.words place b 0 here in
+      let path : record { words = set s.words place b; homes = s.homes; views = s.views } ≡ stepped s place b id m.1 m.0 keeps = λ k. record { words = set s.words place b; homes = s.homes; views = sym seen k } in
+      let quiet : (i : ℕ) → get_or (set s.words place b) i 0 ≡ 0 → get_or s.words i 0 ≡ 0 = λ i z. dite (ℕ_discrete i place)
+      (λ e. absurd (some-word (sym one ∙ (ap (λ j. get_or (set s.words place b) j 0) (sym e) ∙ z))))
+      (λ ne. sym (get_or-set_other s.words place i b 0 ne) ∙ z) in
+      let busy : (i : ℕ) → get_or (set s.words place b) i 0 ≢ 0 → get_or s.words i 0 ≢ 0 = λ i z y. dite (ℕ_discrete i place)
+      (λ e. miss (ap (λ j. get_or s.words j 0) (sym e) ∙ y))
+      (λ ne. z (get_or-set_other s.words place i b 0 ne ∙ y)) in
+      subst Rule path record {
+        places = o.places;
+        same = length-set s.words place b ∙ o.same;
+        many = o.many;
+        begun = o.begun;
+        free = λ i p at z. o.free i p at (quiet i z);
+        held = λ i inside z. o.held i inside (busy i z);
+        holds = λ j v h at is. let old = o.holds j v h at is in record { place = old.place; at = old.at; locked = λ z. old.locked (quiet h.place z); history = old.history; now = old.now; seated = old.seated };
+        one = o.one;
+        right = o.right;
+        logs = o.logs;
+        numbers = o.numbers;
+      }
 
   low_stamps : (s : St) (o : Rule s) (slots : ℕ) → length s.homes ≡ slots → entries o.places ≤ slots * 2 ^ 64
   low_stamps s o slots wide = let a = few_entries o.places (λ i p e. (o.right i p e).fits) in let b = o.many in
       subst (λ n. entries o.places ≤ n * 2 ^ 64) (b ∙ wide) a
 
-  pub wins : (slots id : ℕ) (m : M) (place : ℕ) → place < slots → m.0.hold ≡ None → 0 < length m.0.logs
-      → Allows Rule slots id m place (λ n. either (eqb n 0) 1 n) (won value (step slots place 0 1 none) m)
-  wins slots id m place inside free seated s o wide me _ = let G = Goes s place id m (won value (step slots place 0 1 none) m) in
+  -- a free lock is taken, and the place's cell goes out with the seat
+  taken : (slots id : ℕ) (m : M) (place b x y : ℕ) → b ≢ 0 → place < slots → m.0.hold ≡ None → 0 < length m.0.logs
+      → (s : St) → Rule s → length s.homes ≡ slots → get_elem? s.views id ≡ some m.0 → get_or s.words place 0 ≡ 0 → Goes s place id m (won value (step slots place x y none) m) b
+  taken slots id m place b x' y' some-word inside free seated s o wide me hit =
       let near : place < length o.places = let a = o.many in omega arith in
       let here : place < length s.words = let a = o.same in omega arith in
-      exchanged (get_or s.words place 0) 0 1 G
-      (λ hit. let t = there o.places place near in let home = o.free place t.0 t.1 hit in let c = home.cell in
-          let h : Hold N X = hold place c.history.items (value c.object) in
-          let w : V = view m.0.logs (Some h) in
-          let low = low_stamps s o slots wide in
-          let right = o.right place t.0 t.1 in
-          let one : get_or (set s.words place 1) place 0 ≡ 1 = get_or-set_same s.words place 1 0 here in
-          let theirs : (j : ℕ) (v : V) (g : Hold N X) → get_elem? s.views j ≡ some v → v.hold ≡ Some g → g.place ≡ place → ⊥ = λ j v g at is e. (o.holds j v g at is).locked (ap (λ i. get_or s.words i 0) e ∙ hit) in (
-            w,
-            takes place (Some c),
-            home.at,
-            record {
-              places = o.places;
-              same = length-set s.words place 1 ∙ (o.same ∙ sym (length-set s.homes place none));
-              many = o.many ∙ sym (length-set s.homes place none);
-              begun = o.begun;
-              free = λ i p at z. dite (ℕ_discrete i place)
-                  (λ e. absurd (let a : 1 ≡ 0 = sym one ∙ (ap (λ k. get_or (set s.words place 1) k 0) (sym e) ∙ z) in omega arith))
-                  (λ ne. let old = o.free i p at (sym (get_or-set_other s.words place i 1 0 ne) ∙ z) in
-                  record { cell = old.cell; at = set_else s.homes place i none ne ∙ old.at; history = old.history; now = old.now });
-              held = λ i inside-i busy. dite (ℕ_discrete i place)
-                  (λ e. (id, w, h, set_here s.views id w (within s.views id m.0 me), refl, sym e))
-                  (λ ne. let x = o.held i (let l = length-set s.homes place none in omega arith) (λ z. busy (get_or-set_other s.words place i 1 0 ne ∙ z)) in
-                  (x.0, x.1, x.2, set_else s.views id x.0 w (λ same. none-some m.0.hold x.2 free (ap (λ (v : V). v.hold) (Some-at s.views id x.0 m.0 x.1 me same x.3) ∙ x.4)) ∙ x.3, x.4, x.5));
-              holds = λ j v g at is. ⊎_elim
-                  (λ (q : (j ≡ id) × (w ≡ v)). let e : h ≡ g = Some-injective h g (ap (λ (u : V). u.hold) q.1 ∙ is) in
-                  subst (λ (z : V × Hold N X). Holds after o.places (set s.words place 1) z.0 z.1) (λ k. (q.1 k, e k)) record {
-                    place = t.0;
-                    at = t.1;
-                    locked = λ z. let a : 1 ≡ 0 = sym one ∙ z in omega arith;
-                    history = home.history;
-                    now = home.now;
-                    seated = seated;
-                  })
-                  (λ (q : (j ≢ id) × (get_elem? s.views j ≡ some v)). let old = o.holds j v g q.1 is in
-                  record { place = old.place; at = old.at; locked = λ z. old.locked (sym (get_or-set_other s.words place g.place 1 0 (λ e. theirs j v g q.1 is e)) ∙ z); history = old.history; now = old.now; seated = old.seated })
-                  (at_set s.views id j w v at);
-              one = λ j k v u g f at1 at2 is1 is2 e. ⊎_elim
-                  (λ (q : (j ≡ id) × (w ≡ v)). let mine : h ≡ g = Some-injective h g (ap (λ (u : V). u.hold) q.1 ∙ is1) in ⊎_elim
-                  (λ (r : (k ≡ id) × (w ≡ u)). q.0 ∙ sym r.0)
-                  (λ (r : (k ≢ id) × (get_elem? s.views k ≡ some u)). absurd (theirs k u f r.1 is2 (sym e ∙ sym (ap (λ (x : Hold N X). x.place) mine))))
-                  (at_set s.views id k w u at2))
-                  (λ (q : (j ≢ id) × (get_elem? s.views j ≡ some v)). ⊎_elim
-                  (λ (r : (k ≡ id) × (w ≡ u)). let mine : h ≡ f = Some-injective h f (ap (λ (u : V). u.hold) r.1 ∙ is2) in absurd (theirs j v g q.1 is1 (e ∙ sym (ap (λ (x : Hold N X). x.place) mine))))
-                  (λ (r : (k ≢ id) × (get_elem? s.views k ≡ some u)). o.one j k v u g f q.1 r.1 is1 is2 e)
-                  (at_set s.views id k w u at2))
-                  (at_set s.views id j w v at1);
-              right = o.right;
-              logs = λ j v k l at in-log. ⊎_elim
-                  (λ (q : (j ≡ id) × (w ≡ v)). o.logs id m.0 k l me (ap (λ (u : V). get_elem? u.logs k) q.1 ∙ in-log))
-                  (λ (q : (j ≢ id) × (get_elem? s.views j ≡ some v)). o.logs j v k l q.1 in-log)
-                  (at_set s.views id j w v at);
-              numbers = λ f. let a = total-set (weight f) s.views id m.0 w me in let b = o.numbers f in omega arith;
-            },
-            (
-              (λ _. (c, refl, subst (λ (es : List (Held N)). last_of 0 (history_stamps es) ≤ slots * 2 ^ 64) (sym home.history) (let a = right.low in omega arith),
-              λ k l at. let a = (o.logs id m.0 k l me at).low in omega arith)),
-              λ miss. absurd (miss hit),
-            ),
-          ))
-      (λ miss. (m.0, keeps, tt, unmoved s o place id m me, ((λ hit. absurd (miss hit)), λ _. refl)))
+      let t = there o.places place near in let home = o.free place t.0 t.1 hit in let c = home.cell in
+      let h : Hold N X = hold place c.history.items (value c.object) in
+      let w : V = view m.0.logs (Some h) in
+      let low = low_stamps s o slots wide in
+      let right = o.right place t.0 t.1 in
+      let one : get_or (set s.words place b) place 0 ≡ b = get_or-set_same s.words place b 0 here in
+      let theirs : (j : ℕ) (v : V) (g : Hold N X) → get_elem? s.views j ≡ some v → v.hold ≡ Some g → g.place ≡ place → ⊥ = λ j v g at is e. (o.holds j v g at is).locked (ap (λ i. get_or s.words i 0) e ∙ hit) in (
+        w,
+        takes place (Some c),
+        home.at,
+        record {
+          places = o.places;
+          same = length-set s.words place b ∙ (o.same ∙ sym (length-set s.homes place none));
+          many = o.many ∙ sym (length-set s.homes place none);
+          begun = o.begun;
+          free = λ i p at z. dite (ℕ_discrete i place)
+              (λ e. absurd (some-word (sym one ∙ (ap (λ k. get_or (set s.words place b) k 0) (sym e) ∙ z))))
+              (λ ne. let old = o.free i p at (sym (get_or-set_other s.words place i b 0 ne) ∙ z) in
+              record { cell = old.cell; at = set_else s.homes place i none ne ∙ old.at; history = old.history; now = old.now });
+          held = λ i inside-i busy. dite (ℕ_discrete i place)
+              (λ e. (id, w, h, set_here s.views id w (within s.views id m.0 me), refl, sym e))
+              (λ ne. let x = o.held i (let l = length-set s.homes place none in omega arith) (λ z. busy (get_or-set_other s.words place i b 0 ne ∙ z)) in
+              (x.0, x.1, x.2, set_else s.views id x.0 w (λ same. none-some m.0.hold x.2 free (ap (λ (v : V). v.hold) (Some-at s.views id x.0 m.0 x.1 me same x.3) ∙ x.4)) ∙ x.3, x.4, x.5));
+          holds = λ j v g at is. ⊎_elim
+              (λ (q : (j ≡ id) × (w ≡ v)). let e : h ≡ g = Some-injective h g (ap (λ (u : V). u.hold) q.1 ∙ is) in
+              subst (λ (z : V × Hold N X). Holds after o.places (set s.words place b) z.0 z.1) (λ k. (q.1 k, e k)) record {
+                place = t.0;
+                at = t.1;
+                locked = λ z. some-word (sym one ∙ z);
+                history = home.history;
+                now = home.now;
+                seated = seated;
+              })
+              (λ (q : (j ≢ id) × (get_elem? s.views j ≡ some v)). let old = o.holds j v g q.1 is in
+              record { place = old.place; at = old.at; locked = λ z. old.locked (sym (get_or-set_other s.words place g.place b 0 (λ e. theirs j v g q.1 is e)) ∙ z); history = old.history; now = old.now; seated = old.seated })
+              (at_set s.views id j w v at);
+          one = λ j k v u g f at1 at2 is1 is2 e. ⊎_elim
+              (λ (q : (j ≡ id) × (w ≡ v)). let mine : h ≡ g = Some-injective h g (ap (λ (u : V). u.hold) q.1 ∙ is1) in ⊎_elim
+              (λ (r : (k ≡ id) × (w ≡ u)). q.0 ∙ sym r.0)
+              (λ (r : (k ≢ id) × (get_elem? s.views k ≡ some u)). absurd (theirs k u f r.1 is2 (sym e ∙ sym (ap (λ (x : Hold N X). x.place) mine))))
+              (at_set s.views id k w u at2))
+              (λ (q : (j ≢ id) × (get_elem? s.views j ≡ some v)). ⊎_elim
+              (λ (r : (k ≡ id) × (w ≡ u)). let mine : h ≡ f = Some-injective h f (ap (λ (u : V). u.hold) r.1 ∙ is2) in absurd (theirs j v g q.1 is1 (e ∙ sym (ap (λ (x : Hold N X). x.place) mine))))
+              (λ (r : (k ≢ id) × (get_elem? s.views k ≡ some u)). o.one j k v u g f q.1 r.1 is1 is2 e)
+              (at_set s.views id k w u at2))
+              (at_set s.views id j w v at1);
+          right = o.right;
+          logs = λ j v k l at in-log. ⊎_elim
+              (λ (q : (j ≡ id) × (w ≡ v)). o.logs id m.0 k l me (ap (λ (u : V). get_elem? u.logs k) q.1 ∙ in-log))
+              (λ (q : (j ≢ id) × (get_elem? s.views j ≡ some v)). o.logs j v k l q.1 in-log)
+              (at_set s.views id j w v at);
+          numbers = λ f. let a = total-set (weight f) s.views id m.0 w me in let b = o.numbers f in omega arith;
+        },
+        (
+          (λ _. (
+            c,
+            refl,
+            subst (λ (es : List (Held N)). last_of 0 (history_stamps es) ≤ slots * 2 ^ 64) (sym home.history) (let a = right.low in omega arith),
+            λ k l at. let a = (o.logs id m.0 k l me at).low in omega arith,
+          )),
+          λ miss. absurd (miss hit),
+        ),
+      )
+
+  -- the free lock is taken, and a held one stays as it is
+  pub wins : (slots id : ℕ) (m : M) (place : ℕ) → place < slots → m.0.hold ≡ None → 0 < length m.0.logs
+      → Allows Rule slots id m place (λ n. either (eqb n 0) 1 n) (won value (step slots place 0 1 none) m)
+  wins slots id m place inside free seated s o wide me _ =
+      let here : place < length s.words = let a = o.same in omega arith in
+      exchanged (get_or s.words place 0) 0 1 (Goes s place id m (won value (step slots place 0 1 none) m))
+      (λ hit. taken slots id m place 1 0 1 (λ z. omega arith) inside free seated s o wide me hit)
+      (λ miss. (m.0, keeps, tt, stays id m place (get_or s.words place 0) miss s o here me miss, ((λ hit. absurd (miss hit)), λ _. refl)))
+
+  -- the free lock is taken, and a held one stays held
+  pub waits : (slots id : ℕ) (m : M) (place : ℕ) → place < slots → m.0.hold ≡ None → 0 < length m.0.logs
+      → Allows Rule slots id m place (λ _. 2) (won value (step slots place 2 0 none) m)
+  waits slots id m place inside free seated s o wide me _ =
+      let here : place < length s.words = let a = o.same in omega arith in
+      dite (ℕ_discrete (get_or s.words place 0) 0)
+      (λ hit. taken slots id m place 2 2 0 (λ z. omega arith) inside free seated s o wide me hit)
+      (λ miss. (m.0, keeps, tt, stays id m place 2 (λ z. omega arith) s o here me miss, ((λ hit. absurd (miss hit)), λ _. refl)))
 
   -- the holder's turn is over, and its place has the history that lies in its slot
   released : (s : St) (o : Rule s) (id place : ℕ) (v w : V) (h : Hold N X) (c : Cell O N) (places : List (Place N X)) (p : Place N X)
@@ -127,9 +175,9 @@ module _ {O N X A R : Type 0} (value : O → X) (after : X → N → X) (may : X
       let here : place < length s.words = let a = o.same in omega arith in
       let zero-now : get_or (set s.words place 0) place 0 ≡ 0 = get_or-set_same s.words place 0 0 here in
       let idle : (j : ℕ) (u : V) (g : Hold N X) → get_elem? (set s.views id w) j ≡ some u → u.hold ≡ Some g → (j ≢ id) × (get_elem? s.views j ≡ some u) × (g.place ≢ place) = λ j u g at' is'. ⊎_elim
-          (λ (q : (j ≡ id) × (w ≡ u)). absurd (none-some w.hold g over (ap (λ (x : V). x.hold) q.1 ∙ is')))
-          (λ (q : (j ≢ id) × (get_elem? s.views j ≡ some u)). (q.0, q.1, λ e. q.0 (o.one j id u v g h q.1 me is' mine (e ∙ sym is))))
-          (at_set s.views id j w u at') in
+      (λ (q : (j ≡ id) × (w ≡ u)). absurd (none-some w.hold g over (ap (λ (x : V). x.hold) q.1 ∙ is')))
+      (λ (q : (j ≢ id) × (get_elem? s.views j ≡ some u)). (q.0, q.1, λ e. q.0 (o.one j id u v g h q.1 me is' mine (e ∙ sym is))))
+      (at_set s.views id j w u at') in
       record {
         places = places;
         same = length-set s.words place 0 ∙ (o.same ∙ sym (length-set s.homes place (some (Some c))));
@@ -190,7 +238,7 @@ module _ {O N X A R : Type 0} (value : O → X) (after : X → N → X) (may : X
 
   pub enters : (slots id number : ℕ) (marks : List (Mark N X)) (place : ℕ) (es : List (Held N)) (x : X) (c : Cell O N) (e : Held N) → c.history.items ≡ es ++ e ∷ [] → value c.object ≡ after x e.note
       → ((ask : A) × (reply : R) × may x ask reply e.note) → e.seat ≡ number → e.stamp ≡ max (last_of 0 (history_stamps es)) (last_of 0 (log_stamps marks)) + 1 → length c.history.items < 2 ^ 64
-      → Allows Rule slots id (holding (log number marks ∷ []) place es x (Some c)) place (λ _. 0) (λ _. entered_play (step slots place 0 0 none) (holding (log number marks ∷ []) place es x (Some c)) 0)
+      → Allows Rule slots id (holding (log number marks ∷ []) place es x (Some c)) place (λ _. 0) (λ _. entered (step slots place 0 0 none) (holding (log number marks ∷ []) place es x (Some c)) 0)
   enters slots id number marks place es x c e is now given mine stamp small s o wide me _ =
       let h : Hold N X = hold place es x in
       let v : V = view (log number marks ∷ []) (Some h) in
@@ -217,7 +265,7 @@ module _ {O N X A R : Type 0} (value : O → X) (after : X → N → X) (may : X
       let after-e : value c.object ≡ left_by after p.0 (p.1 ++ e ∷ []) = now ∙ (ap (λ (y : X). after y e.note) t.now ∙ sym (left_by_more after p.0 p.1 e)) in
       let given' : (ask : A) × (reply : R) × may (left_by after p.0 p.1) ask reply e.note = subst (λ (y : X). (ask : A) × (reply : R) × may y ask reply e.note) t.now given in
       let mine-same : at_place place (marks ++ m ∷ []) ≡ told after place number p.0 0 (p.1 ++ e ∷ []) =
-          at_place_here place marks m refl ∙ (ap (λ (l : List (Mark N X)). l ++ m ∷ []) (my-log.same place p t.at) ∙ ((λ d. told after place number p.0 0 p.1 ++ mark place e.stamp e.note (t.now d) (sym last-es d) ∷ []) ∙ sym (told_here after place number p.0 0 p.1 e mine))) in (
+      at_place_here place marks m refl ∙ (ap (λ (l : List (Mark N X)). l ++ m ∷ []) (my-log.same place p t.at) ∙ ((λ d. told after place number p.0 0 p.1 ++ mark place e.stamp e.note (t.now d) (sym last-es d) ∷ []) ∙ sym (told_here after place number p.0 0 p.1 e mine))) in (
         w,
         gives,
         tt,
@@ -246,7 +294,7 @@ module _ {O N X A R : Type 0} (value : O → X) (after : X → N → X) (may : X
             })
             (λ j u k l apart them in-log. let old = o.logs j u k l them in-log in
             let other : e.seat ≢ l.number = λ z. other_number s o id j number v u apart me them has
-                (let a = term_le (λ (b : Log N X). only number b.number) u.logs k l in-log in let b = only-same number l.number (sym z ∙ mine) in omega arith) in
+            (let a = term_le (λ (b : Log N X). only number b.number) u.logs k l in-log in let b = only-same number l.number (sym z ∙ mine) in omega arith) in
             record {
               stamped = old.stamped;
               low = let a = old.low in omega arith;
@@ -270,7 +318,7 @@ module _ {O N X A R : Type 0} (value : O → X) (after : X → N → X) (may : X
   pub enters_at : (slots id : ℕ) (m old : M) (number : ℕ) (marks : List (Mark N X)) (place : ℕ) (es : List (Held N)) (x : X) (c : Cell O N) (e : Held N)
       → old ≡ holding (log number marks ∷ []) place es x None → m ≡ (old.0, (place, Some c) ∷ rest old.1) → c.history.items ≡ es ++ e ∷ [] → value c.object ≡ after x e.note
       → ((ask : A) × (reply : R) × may x ask reply e.note) → e.seat ≡ number → e.stamp ≡ max (last_of 0 (history_stamps es)) (last_of 0 (log_stamps marks)) + 1 → length c.history.items < 2 ^ 64
-      → Allows Rule slots id m place (λ _. 0) (λ _. entered_play (step slots place 0 0 none) m 0)
+      → Allows Rule slots id m place (λ _. 0) (λ _. entered (step slots place 0 0 none) m 0)
   enters_at slots id m old number marks place es x c e was is-m is now given mine stamp small =
       let path : holding (log number marks ∷ []) place es x (Some c) ≡ m = sym (is-m ∙ ap (λ (y : M). (y.0, (place, Some c) ∷ rest y.1)) was) in
-      subst (λ (y : M). Allows Rule slots id y place (λ _. 0) (λ _. entered_play (step slots place 0 0 none) y 0)) path (enters slots id number marks place es x c e is now given mine stamp small)
+      subst (λ (y : M). Allows Rule slots id y place (λ _. 0) (λ _. entered (step slots place 0 0 none) y 0)) path (enters slots id number marks place es x c e is now given mine stamp small)

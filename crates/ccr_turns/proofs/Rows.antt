@@ -1,13 +1,23 @@
 -- Lists, weights and places.
-use Rattle.std.proofs.Common.{◌≡◌, ◌≢◌, ℕ, zero, suc, ◌+◌, ◌-◌, ◌*◌, ◌^◌, ◌<◌, ◌≤◌, max, cond, eqb, eq-eqb, ne_eqb, List, [], ◌∷◌, ◌++◌, map, length, take, replicate, get_or, set, sym, refl, ap, ◌∙◌, subst, inl, inr, ◌⊎◌, ⊎_elim, arith, Option, Some, None}
+use Rattle.std.proofs.Common.{Bool, true, false, ◌≡◌, ◌≢◌, ℕ, zero, suc, ◌+◌, ◌-◌, ◌*◌, ◌^◌, ◌<◌, ◌≤◌, max, cond, eqb, eq-eqb, ne_eqb, List, [], ◌∷◌, ◌++◌, map, length, take, replicate, get_or, set, sym, refl, ap, ◌∙◌, subst, inl, inr, ◌⊎◌, ⊎_elim, arith, Option, Some, None}
 use mathlib.Core.Option.{some, some-injective, some-ne-none}
-use Rattle.std.specs.Prelude.{slice_get}
+use Rattle.std.specs.Prelude.{slice_get, All}
+use Rattle.std.specs.List.{AllZip, count_by, range_with_len}
+use Rattle.std.proofs.lemmas.List.Elements.{All-nil, All-cons}
+use Rattle.std.proofs.lemmas.List.Recursion.{is_count_by}
 use mathlib.Core.Logic.{dite}
 use native.Mathlib.Decide.{ℕ_discrete}
 use lib.ListN.{get_elem?}
-use Rattle.ccr_turns.specs.declared.view.Held.{Held}
-use Rattle.ccr_turns.specs.declared.view.Mark.{Mark}
-use Rattle.ccr_turns.specs.Lock.{history_stamps, log_stamps, Stamped, total, below, Rises, last_of, Each, mark, at_place, told, left_by, Given, Place, entries}
+use Rattle.ccr_turns.specs.Histories.{history_stamps, left_by, Given, Place, entries}
+use Rattle.ccr_turns.specs.Logs.{log_stamps, Stamped, mark, at_place, told}
+use Rattle.ccr_turns.specs.Lists.{total, below, Rises, last_of, Each}
+use Rattle.ccr_turns.specs.declared.history.Held.{Held}
+use Rattle.ccr_turns.specs.declared.history.Mark.{Mark}
+
+read : {A : Type 0} (xs : List A) (i : ℕ) (a : A) → get_elem? xs i ≡ some a → get_or xs i a ≡ a
+read [] i a at = refl
+read (x ∷ xs) zero a at = some-injective x a at
+read (x ∷ xs) (suc i) a at = read xs i a at
 
 pub total-set : {A : Type 0} (f : A → ℕ) (vs : List A) (j : ℕ) (v w : A) → get_elem? vs j ≡ some v → total f (set vs j w) + f v ≡ total f vs + f w
 total-set f [] j v w e = absurd (some-ne-none v (sym e))
@@ -189,3 +199,72 @@ take_all (x ∷ xs) (suc n) h = ap (λ (l : List _). x ∷ l) (take_all xs n (om
 
 pub take_next : {A : Type 0} (l : List A) (i j : ℕ) (a : A) → j ≡ i + 1 → get_elem? l i ≡ some a → take j l ≡ take i l ++ a ∷ []
 take_next l i j a e at = let n : j ≡ suc i = omega arith in ap (λ k. take k l) n ∙ take_more l i a at
+
+-- what holds of each element holds of one that was read
+pub all_at : {A : Type 0} (P : A → Type 0) (xs : List A) (i : ℕ) (a : A) → All P xs → get_elem? xs i ≡ some a → P a
+all_at P xs i a all at = subst P (read xs i a at) (all i a (within xs i a at))
+
+pub all_from : {A : Type 0} (P : A → Type 0) (xs : List A) → ((i : ℕ) (a : A) → get_elem? xs i ≡ some a → P a) → All P xs
+all_from P [] h = All-nil P
+all_from P (x ∷ xs) h = All-cons P x xs (h 0 x refl) (all_from P xs (λ i a at. h (suc i) a at))
+
+pub all_from_each : {A : Type 0} (P : A → Type 0) (xs : List A) → Each P xs → All P xs
+all_from_each P [] h = All-nil P
+all_from_each P (x ∷ xs) h = All-cons P x xs h.0 (all_from_each P xs h.1)
+
+-- two lists, element by element
+pub zip_from : {A B : Type 0} (R : A → B → Type 0) (xs : List A) (ys : List B) → length xs ≡ length ys → ((i : ℕ) (x : A) (y : B) → get_elem? xs i ≡ some x → get_elem? ys i ≡ some y → R x y) → AllZip R xs ys
+zip_from R [] [] long h = tt
+zip_from R [] (y ∷ ys) long h = absurd (omega arith)
+zip_from R (x ∷ xs) [] long h = absurd (omega arith)
+zip_from R (x ∷ xs) (y ∷ ys) long h = (h 0 x y refl refl, zip_from R xs ys (omega arith) (λ i a b at at'. h (suc i) a b at at'))
+
+pub zip_at : {A B : Type 0} (R : A → B → Type 0) (xs : List A) (ys : List B) (i : ℕ) (x : A) → AllZip R xs ys → get_elem? xs i ≡ some x → (y : B) × (get_elem? ys i ≡ some y) × R x y
+zip_at R [] ys i x all at = absurd (some-ne-none x (sym at))
+zip_at R (a ∷ xs) [] i x all at = absurd all
+zip_at R (a ∷ xs) (b ∷ ys) zero x all at = (b, refl, subst (λ z. R z b) (some-injective a x at) all.0)
+zip_at R (a ∷ xs) (b ∷ ys) (suc i) x all at = zip_at R xs ys i x all.1 at
+
+pub zip_length : {A B : Type 0} (R : A → B → Type 0) (xs : List A) (ys : List B) → AllZip R xs ys → length xs ≡ length ys
+zip_length R [] [] all = refl
+zip_length R [] (y ∷ ys) all = absurd all
+zip_length R (x ∷ xs) [] all = absurd all
+zip_length R (x ∷ xs) (y ∷ ys) all = ap suc (zip_length R xs ys all.1)
+
+pub zip_more : {A B : Type 0} (R : A → B → Type 0) (xs : List A) (ys : List B) (x : A) (y : B) → AllZip R xs ys → R x y → AllZip R (xs ++ x ∷ []) (ys ++ y ∷ [])
+zip_more R [] [] x y all r = (r, tt)
+zip_more R [] (b ∷ ys) x y all r = absurd all
+zip_more R (a ∷ xs) [] x y all r = absurd all
+zip_more R (a ∷ xs) (b ∷ ys) x y all r = (all.0, zip_more R xs ys x y all.1 r)
+
+-- a read by `slice_get`
+pub there_by_slice : {A : Type 0} (xs : List A) (i : ℕ) (a : A) → slice_get xs i ≡ Some a → get_elem? xs i ≡ some a
+there_by_slice [] i a at = absurd (none-some None a refl at)
+there_by_slice (x ∷ xs) zero a at = ap some (Some-injective x a at)
+there_by_slice (x ∷ xs) (suc i) a at = there_by_slice xs i a at
+
+pub below-only-one : (k n : ℕ) → k < n → below (only k) n ≡ 1
+below-only-one k zero h = absurd (omega arith)
+below-only-one k (suc n) h = dite (ℕ_discrete n k)
+    (λ e. let none-yet = (below-only k n).1 (omega arith) in let one : only k n ≡ 1 = only-same k n e in omega arith)
+    (λ ne. let zero-here : only k n ≡ 0 = ap (λ b. cond b 1 0) (ne_eqb n k ne) in let before = below-only-one k n (omega arith) in omega arith)
+
+one-or-none : (b : Bool) (t : ℕ) → cond b 1 0 + t ≡ cond b (1 + t) t
+one-or-none true t = refl
+one-or-none false t = omega arith
+
+-- how many have the number n
+pub count-map : {A B : Type 0} (g : A → B) (f : B → ℕ) (n : ℕ) (xs : List A) → total (λ b. only n (f b)) (map g xs) ≡ count_by (λ a. eqb (f (g a)) n) xs
+count-map g f n xs = is_count_by (λ (l : List _). total (λ b. only n (f b)) (map g l)) (λ a. eqb (f (g a)) n) refl (λ y ys. one-or-none (eqb (f (g y)) n) (total (λ b. only n (f b)) (map g ys))) xs
+
+range-next : (a n : ℕ) → range_with_len a (suc n) ≡ range_with_len a n ++ (a + n) ∷ []
+range-next a zero = let e : a ≡ a + 0 = omega arith in ap (λ k. k ∷ []) e
+range-next a (suc n) = let e : a + 1 + n ≡ a + suc n = omega arith in ap (λ (l : List ℕ). a ∷ l) (range-next (a + 1) n ∙ ap (λ k. range_with_len (a + 1) n ++ k ∷ []) e)
+
+pub range-more : (n : ℕ) → range_with_len 0 (n + 1) ≡ range_with_len 0 n ++ n ∷ []
+range-more n = let e : n + 1 ≡ suc n = omega arith in let z : 0 + n ≡ n = omega arith in ap (range_with_len 0) e ∙ (range-next 0 n ∙ ap (λ k. range_with_len 0 n ++ k ∷ []) z)
+
+module _ {N X : Type 0} where
+  pub stamps_rise : (a : ℕ) (ms : List (Mark N X)) → Stamped a ms → Rises a (log_stamps ms)
+  stamps_rise a [] s = tt
+  stamps_rise a (m ∷ ms) s = (let e = s.0 in omega arith, stamps_rise m.stamp ms s.1)

@@ -1,9 +1,13 @@
-// The rule of the table, and what its steps tell.
-ghost use Rattle.ccr_turns.specs.Lock.{Orderly, opening_view, won, left, entered_play, cut_left, cut_right, joined, spent};
+//! The rule of the table, and what each kind of step tells.
 
+ghost use Rattle.ccr_turns.specs.Rule.{Orderly};
+ghost use Rattle.ccr_turns.specs.Views.{opening_view, cut_left, cut_right, joined, spent};
+ghost use Rattle.ccr_turns.specs.Steps.{won, left, entered};
+
+use crate::history::{Cell, View};
 use crate::kept::Kept;
-use crate::view::{Cell, View};
 use atomic_table::{Join, Play, Split, TableRule};
+use ccr_base::List;
 use std::marker::PhantomData;
 use std::snapshot::Snapshot;
 
@@ -11,10 +15,10 @@ pub type Slot<O> = Option<Cell<O, <O as Kept>::Note>>;
 
 pub type ViewOf<O> = View<<O as Kept>::Note, <O as Kept>::Value>;
 
-/// What the table is told when it is made.
+/// What the table is told when it is made: the objects as they are then, and how many seats there are.
 #[derive(Drop)]
 pub struct Plan<O> {
-    pub objects: Snapshot<Vec<O>>,
+    pub objects: Snapshot<List<O>>,
     pub seats: u32,
 }
 
@@ -23,11 +27,12 @@ pub struct Order<O> {
 }
 
 impl<O: Kept> TableRule<Slot<O>, ViewOf<O>, Plan<O>> for Order<O> {
-    ghost holds = { λ key. Orderly O.value O.after O.may key.objects.value.items key.seats };
+    ghost holds = { λ key. Orderly O.value O.after O.may key.objects.value key.seats };
 
     ghost first = { λ key. opening_view key.seats };
 }
 
+/// Takes a free lock; a held one stays as it is.
 pub struct Win<O> {
     of: PhantomData<O>,
 }
@@ -36,6 +41,7 @@ impl<O: Kept> Play<Slot<O>, ViewOf<O>> for Win<O> {
     ghost then = { won O.value };
 }
 
+/// Ends a turn without an entry.
 pub struct Leave<O> {
     of: PhantomData<O>,
 }
@@ -44,14 +50,16 @@ impl<O: Kept> Play<Slot<O>, ViewOf<O>> for Leave<O> {
     ghost then = { left };
 }
 
+/// Ends a turn with an entry.
 pub struct Enter<O> {
     of: PhantomData<O>,
 }
 
 impl<O: Kept> Play<Slot<O>, ViewOf<O>> for Enter<O> {
-    ghost then = { entered_play };
+    ghost then = { entered };
 }
 
+/// A new seat gets the first log.
 pub struct Cut;
 
 impl<N, X> Split<View<N, X>> for Cut {
@@ -60,6 +68,7 @@ impl<N, X> Split<View<N, X>> for Cut {
     ghost right = { cut_right };
 }
 
+/// A seat takes over the logs of another.
 pub struct Both;
 
 impl<N, X> Join<View<N, X>> for Both {

@@ -1,11 +1,13 @@
-// One act on what a lock keeps, which is out of the table meanwhile.
+//! One act on what a lock keeps, which is out of the table meanwhile.
+
 ghost use Rattle.std.specs.Prelude.{◌≡◌, ◌+◌, ◌^◌, ◌<◌, max, IfOk, OnErr};
-ghost use Rattle.ccr_turns.specs.Lock.{last_of, history_stamps};
+ghost use Rattle.ccr_turns.specs.Lists.{last_of};
+ghost use Rattle.ccr_turns.specs.Histories.{history_stamps};
 ghost use Rattle.ccr_turns.specs.Seated.{Acted};
 
+use crate::history::{Cell, Held};
 use crate::kept::Kept;
-use crate::view::{Cell, Held};
-use std::alloc::AllocError;
+use ccr_base::OutOfMemory;
 
 // The stamp of the last entry, or 0.
 fn last_stamp<N>(history: &Vec<Held<N>>) -> u128
@@ -17,13 +19,13 @@ fn last_stamp<N>(history: &Vec<Held<N>>) -> u128
     }
 }
 
-// The object acts, and the history has one entry more. At `Err` nothing changed.
+// Takes room for one entry, lets the object act, and appends the entry. At `Err` nothing changed.
 pub(crate) fn play<O: Kept>(
     cell: &mut Cell<O, O::Note>,
     number: u32,
     last: u128,
     ask: O::Ask,
-) -> Result<(O::Reply, u128), AllocError>
+) -> Result<(O::Reply, u128), OutOfMemory>
     requires seat { last < 2 ^ 100 }
     requires place { last_of 0 (history_stamps cell.old.history.items) < 2 ^ 100 }
     ensures acted { IfOk result (λ r. (r.1 ≡ max (last_of 0 (history_stamps cell.old.history.items)) last + 1) × Acted O.value O.after O.may number r.1 ask r.0 cell.old cell.new) }

@@ -1,5 +1,5 @@
 use Rattle.std.proofs.Common.{◌≡◌}
-use Rattle.ccr_turns.proofs.turns.Turns.win.Given as goal
+use Rattle.ccr_turns.proofs.turns.Turns.sleep.Given as goal
 
 abbrev pub invariant-loop : goal.invariant-loop
 invariant-loop g l =
