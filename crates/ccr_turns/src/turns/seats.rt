@@ -1,4 +1,4 @@
-//! Making seats.
+//! Seats, and how they are made.
 
 ghost use Rattle.std.specs.Prelude.{◌≡◌, ◌∷◌, [], List as Listed, None};
 ghost use Rattle.ccr_turns.specs.Logs.{log};
@@ -23,5 +23,14 @@ impl<O: Kept> Turns<O> {
             last: 0,
             token,
         }
+    }
+}
+
+impl<O: Kept> Seat<O> {
+    /// The number that the seat's entries bear.
+    pub fn number(&self) -> u32
+        ensures { result ≡ number_of self.now }
+    {
+        self.number
     }
 }
