@@ -56,11 +56,7 @@ const PIECE: usize = 16_384;
 /// Reads to the end of input, where that has at most `limit` bytes. Want of memory may come at any time; the bytes read
 /// up to there are then gone from the source, as with every other end.
 #[tactic(auto, using(crate::proofs::Bytes::reading))]
-pub fn read_all<S: Source>(
-    alloc: Global,
-    source: &mut S,
-    limit: usize,
-) -> Result<List<u8>, ReadEnd>
+pub fn read_all<S: Source>(alloc: Global, source: &mut S, limit: usize) -> Result<List<u8>, ReadEnd>
     requires { limit ≤ 33554432 }
 
     ensures whole { IfOk result (λ bytes. HoldsAll bytes (S.rest source.old) (S.rest source.new)) }

@@ -1,4 +1,4 @@
-use Rattle.std.proofs.Common.{◌+◌, ◌≤◌, ℕ, length, take, arith, length-take}
+use Rattle.std.proofs.Common.{◌+◌, ℕ, take, arith, length-take}
 use Rattle.ccr_io.proofs.Bytes.{TakesAtMost-more}
 use Rattle.ccr_io.proofs.source.read_all.Goals as goal
 
