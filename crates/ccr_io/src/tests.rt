@@ -71,6 +71,9 @@ fn standard_input_is_read(rt: HostRuntime) -> Result<(), Fail> {
     let mut source = StdSource::new(rt.stdin());
     let read = read_all(rt.alloc(), &mut source, 100);
     assert_eq!(rt; read.map(|bytes| bytes.as_slice().len()), Ok(0));
+    let mut source = StdSource::new(b"tea 95\n".as_slice());
+    let read = read_all(rt.alloc(), &mut source, 100);
+    assert_eq!(rt; read.map(|bytes| bytes.as_slice().len()), Ok(7));
     Ok(())
 }
 
