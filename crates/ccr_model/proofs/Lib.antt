@@ -13,3 +13,4 @@ pub mod SeatPlaces
 pub mod Segments
 pub mod ValidHandlers
 pub mod PlayPast
+pub mod FirstNames

@@ -1,13 +1,17 @@
 //! Events, histories, which event is allowed after which history, and the serial order.
 #![tactic(auto)]
 
+pub mod choices;
 pub mod data;
 pub mod firings;
 mod history;
 mod laws;
+pub mod live;
 pub mod posts;
+mod rules;
 pub mod seats;
 mod sites;
+mod tasks;
 
 pub use history::{EndHow, Event, Fate, History, TaskState, Totals};
 pub use laws::{

@@ -1,0 +1,2 @@
+pub mod Potential
+pub mod Engine
