@@ -1,21 +1,12 @@
 -- A canonical text is cut into its lines and words again.
-use Rattle.std.proofs.Common.{◌≡◌, ℕ, ◌+◌, Bool, true, false, List, [], ◌∷◌, ◌++◌, length, refl, ap, ◌∙◌, append_assoc, append-nil, arith}
+use Rattle.std.proofs.Common.{◌≡◌, ℕ, ◌+◌, Bool, true, false, List, [], ◌∷◌, ◌++◌, refl, ap, ◌∙◌, append_assoc, append-nil, arith}
 use Rattle.std.specs.Prelude.{◌==◌, ◌&&◌, ◌||◌, not}
 use Rattle.std.specs.List.{list_all}
 use Rattle.std.proofs.lemmas.Bool.Decides.{nat_tests}
 use Rattle.std.proofs.lemmas.List.Concat.{flat_map-cons}
 use Rattle.ccr_text.specs.Words.{is_mark, is_blank, is_clean, pieces, words_of}
 use Rattle.ccr_text.specs.Lines.{cut, line_of, numbered, lines_of}
-use Rattle.ccr_text.specs.Spelling.{joined, line_text, text_of, spelled_lines}
-
--- words of a line: each has a mark, and only marks
-abbrev pub AreWords : List (List ℕ) → Type 0
-AreWords [] = Unit {0}
-AreWords (word ∷ words) = ((length word == 0) ≡ false) × (list_all is_mark word ≡ true) × AreWords words
-
-abbrev pub AreLines : List (List (List ℕ)) → Type 0
-AreLines [] = Unit {0}
-AreLines (words ∷ lines) = AreWords words × AreLines lines
+use Rattle.ccr_text.specs.Spelling.{joined, line_text, text_of, spelled_lines, AreWords, AreLines}
 
 both : (a b : Bool) → (a && b) ≡ true → (a ≡ true) × (b ≡ true)
 both true b e = (refl, e)

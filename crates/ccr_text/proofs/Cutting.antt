@@ -1,8 +1,9 @@
 -- Where the first line ends.
-use Rattle.std.proofs.Common.{◌≡◌, ◌≢◌, ℕ, zero, suc, ◌+◌, ◌<◌, List, [], ◌∷◌, get_or, take, drop, length, refl, arith}
+use Rattle.std.proofs.Common.{◌≡◌, ◌≢◌, ℕ, zero, suc, ◌+◌, ◌<◌, ◌≤◌, List, [], ◌∷◌, ◌++◌, get_or, take, drop, length, refl, sym, ap, ◌∙◌, ◌-◌, arith}
+use Rattle.std.proofs.lemmas.List.{length-take, take-append-le, take-append-drop}
 use Rattle.std.proofs.lemmas.Bool.Decides.{nat_tests}
 use Rattle.std.specs.Prelude.{true, false}
-use Rattle.ccr_text.specs.Lines.{cut}
+use Rattle.ccr_text.specs.Lines.{cut, has_feed}
 use Rattle.ccr_text.specs.Words.{is_mark, pieces}
 
 cut_at_suc : (text : List ℕ) (i : ℕ) → ((k : ℕ) → k < i → get_or text k 0 ≢ 10) → i < length text → get_or text i 0 ≡ 10 → cut text ≡ take i text ∷ cut (drop (suc i) text)
@@ -29,6 +30,31 @@ pub cut_whole : (text : List ℕ) → text ≢ [] → ((k : ℕ) → k < length 
 cut_whole [] some none = absurd (some refl)
 cut_whole (b ∷ bytes) some none = cut_none b bytes none
 
+-- no LF stands among the first bytes
+pub no_feed : (text : List ℕ) (i : ℕ) → ((k : ℕ) → k < i → get_or text k 0 ≢ 10) → i ≤ length text → has_feed (take i text) ≡ false
+no_feed text zero none within = refl
+no_feed [] (suc i) none within = refl
+no_feed (b ∷ bytes) (suc i) none within =
+    let other : b ≢ 10 = none 0 (omega arith) in
+    let rest : has_feed (take i bytes) ≡ false = no_feed bytes i (λ k h. none (suc k) (omega arith)) (omega arith) in
+    grind (arith, nat_tests, rest, other)
+
+pub no_feeds : (text : List ℕ) → ((k : ℕ) → k < length text → get_or text k 0 ≢ 10) → has_feed text ≡ false
+no_feeds [] none = refl
+no_feeds (b ∷ bytes) none =
+    let other : b ≢ 10 = none 0 (omega arith) in
+    let rest : has_feed bytes ≡ false = no_feeds bytes (λ k h. none (suc k) (omega arith)) in
+    grind (arith, nat_tests, rest, other)
+
+parts_at_suc : (text : List ℕ) (i : ℕ) → i < length text → get_or text i 0 ≡ 10 → text ≡ take i text ++ 10 ∷ drop (suc i) text
+parts_at_suc [] i below here = absurd (omega arith)
+parts_at_suc (b ∷ bytes) zero below here = rw here refl
+parts_at_suc (b ∷ bytes) (suc i) below here = ap (λ (t : List ℕ). b ∷ t) (parts_at_suc bytes i (omega arith) here)
+
+-- the text is what stands before the LF at i, the LF and what follows
+pub parts_at : (text : List ℕ) (i : ℕ) → i < length text → get_or text i 0 ≡ 10 → text ≡ take i text ++ 10 ∷ drop (i + 1) text
+parts_at text i below here = let e : i + 1 ≡ suc i = omega arith in rw e (parts_at_suc text i below here)
+
 pieces_at_suc : (line : List ℕ) (i : ℕ) → ((k : ℕ) → k < i → is_mark (get_or line k 0) ≡ true) → i < length line → is_mark (get_or line i 0) ≡ false → pieces line ≡ take i line ∷ pieces (drop (suc i) line)
 pieces_at_suc [] i marks below here = absurd (omega arith)
 pieces_at_suc (b ∷ bytes) zero marks below here = rw here refl
@@ -48,3 +74,9 @@ pieces_whole (b ∷ bytes) marks =
     let mark : is_mark b ≡ true = marks 0 (omega arith) in
     let rest : pieces bytes ≡ bytes ∷ [] = pieces_whole bytes (λ k h. marks (suc k) (omega arith)) in
     rw (mark, rest) refl
+
+-- the last element taken out, and then the first n
+pub take_removed : (xs : List ℕ) (n : ℕ) → n < length xs → take n (take (length xs - 1) xs ++ drop (suc (length xs - 1)) xs) ≡ take n xs
+take_removed xs n below =
+    let front : n ≤ length (take (length xs - 1) xs) = omega (arith, length-take (length xs - 1) xs) in
+    take-append-le n (take (length xs - 1) xs) (drop (suc (length xs - 1)) xs) front ∙ (sym (take-append-le n (take (length xs - 1) xs) (drop (length xs - 1) xs) front) ∙ ap (λ (t : List ℕ). take n t) (take-append-drop (length xs - 1) xs))

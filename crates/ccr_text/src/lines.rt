@@ -1,13 +1,15 @@
 //! The lines of a text.
 
-ghost use Rattle.std.specs.Prelude.{◌≡◌, ◌≢◌, ◌≤◌, ◌<◌, [], ◌∷◌, ◌++◌, IfOk, length};
-ghost use Rattle.ccr_text.specs.Lines.{cut, line_of, lines_of};
+ghost use Rattle.std.specs.Prelude.{◌≡◌, ◌≢◌, ◌≤◌, ◌<◌, false, [], ◌∷◌, ◌++◌, IfOk, IfSome, IfNone, length};
+ghost use Rattle.std.specs.Option.{option_map_or};
+ghost use Rattle.ccr_text.specs.Lines.{cut, has_feed, line_of, lines_of};
 
 use crate::words::{is_clean_line, words_in};
 use ccr_base::{List, Name, OutOfMemory};
 use std::alloc::Global;
 
-/// A line, its number from 1 on, and whether it has only blanks and bytes of words.
+/// A line of a text: its number, from 1 on, its words, and whether it has only blanks and bytes of words.
+/// An unclean line has words too: the runs of bytes of words in it.
 #[derive(Debug, Drop)]
 pub struct Line {
     pub number: u32,
@@ -15,21 +17,26 @@ pub struct Line {
     pub clean: bool,
 }
 
-/// The first line, and what follows its LF.
-fn cut_first(text: &[u8]) -> (&[u8], &[u8])
+/// The first line of a text that isn't empty, and what follows its LF. None where it has no LF: then it is the last
+/// line. A long text is read line by line with it, with no list of all lines.
+pub fn cut_line(text: &[u8]) -> (&[u8], Option<&[u8]>)
     requires { text.now ≢ [] }
-    ensures cut { cut text.now ≡ result.0.now ∷ cut result.1.now }
-    ensures shorter { length result.1.now < length text.now }
+    ensures feed { has_feed result.0.now ≡ false }
+    ensures whole { IfNone result.1 (result.0.now ≡ text.now) }
+    ensures parts { IfSome result.1 (λ rest. text.now ≡ result.0.now ++ 10 ∷ rest.now) }
+    ensures lines { cut text.now ≡ result.0.now ∷ option_map_or (λ rest. cut rest.now) result.1 [] }
+    ensures shorter { IfSome result.1 (λ rest. length rest.now < length text.now) }
 {
     for (place, byte) in text.iter().enumerate() {
         if *byte == b'\n' {
-            return (&text[..place], &text[place + 1..]);
+            return (&text[..place], Some(&text[place + 1..]));
         }
     }
-    (text, &[])
+    (text, None)
 }
 
-fn line_at(alloc: Global, number: u32, bytes: &[u8]) -> Result<Line, OutOfMemory>
+/// The line with these bytes, which have no LF, and this number.
+pub fn line_of(alloc: Global, number: u32, bytes: &[u8]) -> Result<Line, OutOfMemory>
     ensures { IfOk result (λ line. line ≡ line_of number bytes.now) }
 {
     Ok(Line {
@@ -39,7 +46,8 @@ fn line_at(alloc: Global, number: u32, bytes: &[u8]) -> Result<Line, OutOfMemory
     })
 }
 
-/// The lines of the text, with their words.
+/// The lines of a text, cut at each LF. What follows the last LF is a line where it isn't empty.
+/// One pass; a line takes some 40 bytes beside its words.
 pub fn split_lines(alloc: Global, text: &[u8]) -> Result<List<Line>, OutOfMemory>
     requires { length text.now ≤ 33554432 }
     ensures { IfOk result (λ lines. lines ≡ lines_of text.now) }
@@ -48,11 +56,11 @@ pub fn split_lines(alloc: Global, text: &[u8]) -> Result<List<Line>, OutOfMemory
     let mut rest = text;
     let mut number: u32 = 0;
     'lines: while !rest.is_empty() {
-        let (line, after) = cut_first(rest);
+        let (bytes, after) = cut_line(rest);
         number += 1;
-        let line = line_at(alloc, number, line)?;
+        let line = line_of(alloc, number, bytes)?;
         lines.push(line).map_err(|(refused, _)| refused)?;
-        rest = after;
+        rest = after.unwrap_or(&[]);
     }
     Ok(lines)
 }

@@ -1,23 +1,23 @@
-//! What a word may be.
+//! Words of a line, and which words are names.
 
 ghost use Rattle.std.specs.Prelude.{◌≡◌, ◌<◌, [], ◌∷◌, IfOk, IfSome, IfNone, length};
 ghost use Rattle.std.specs.List.{list_all};
-ghost use Rattle.ccr_text.specs.Words.{is_mark, is_clean, pieces, words_of, number_of, with_digit, is_name_of, may_be_in_name};
+ghost use Rattle.ccr_text.specs.Words.{is_mark, is_clean, pieces, words_of, is_name_of, may_be_in_name};
 
 use ccr_base::{List, Name, OutOfMemory};
 use std::alloc::Global;
 
-pub(crate) fn is_mark_byte(byte: u8) -> bool
+fn is_mark_byte(byte: u8) -> bool
     ensures { result ≡ is_mark byte }
 {
     (33..=126).contains(&byte)
 }
 
-pub(crate) fn is_clean_line(line: &[u8]) -> bool
+/// Whether the bytes are blanks (space, tab, CR) and bytes of words (33 to 126) alone.
+pub fn is_clean_line(line: &[u8]) -> bool
     ensures { result ≡ is_clean line.now }
 {
-    line.iter()
-        .all(|byte| matches!(*byte, b' ' | b'\t' | b'\r') || is_mark_byte(*byte))
+    line.iter().all(|byte| matches!(*byte, b' ' | b'\t' | b'\r') || is_mark_byte(*byte))
 }
 
 /// What stands before the first byte that is no mark, and what stands behind that byte.
@@ -34,8 +34,8 @@ fn cut_word(line: &[u8]) -> (&[u8], Option<&[u8]>)
     (line, None)
 }
 
-/// The words of a line.
-pub(crate) fn words_in(alloc: Global, line: &[u8]) -> Result<List<Name>, OutOfMemory>
+/// The words of a line: the longest runs of the bytes 33 to 126.
+pub fn words_in(alloc: Global, line: &[u8]) -> Result<List<Name>, OutOfMemory>
     ensures { IfOk result (λ words. words ≡ words_of line.now) }
 {
     let mut words = List::new(alloc);
@@ -51,29 +51,6 @@ pub(crate) fn words_in(alloc: Global, line: &[u8]) -> Result<List<Name>, OutOfMe
     Ok(words)
 }
 
-fn with_digit(number: u64, byte: u8) -> Option<u64>
-    ensures { result ≡ with_digit number byte }
-{
-    if !byte.is_ascii_digit() {
-        return None;
-    }
-    number.checked_mul(10)?.checked_add(u64::from(byte - b'0'))
-}
-
-/// The value of decimal digits, where it is below 2^64.
-pub fn read_number(word: &[u8]) -> Option<u64>
-    ensures { result ≡ number_of word.now }
-{
-    if word.is_empty() {
-        return None;
-    }
-    let mut number: u64 = 0;
-    for byte in word {
-        number = with_digit(number, *byte)?;
-    }
-    Some(number)
-}
-
 fn is_name_byte(byte: u8) -> bool
     ensures { result ≡ may_be_in_name byte }
 {
@@ -86,7 +63,7 @@ fn are_name_bytes(bytes: &[u8]) -> bool
     bytes.iter().all(|byte| is_name_byte(*byte))
 }
 
-/// Whether the word is a name: 1 to 16 bytes, a letter and then letters, digits, _ and -.
+/// Whether the word is a name: 1 to 16 bytes, an ASCII letter and then letters, digits, `_` and `-`.
 pub fn is_name(word: &[u8]) -> bool
     ensures { result ≡ is_name_of word.now }
 {

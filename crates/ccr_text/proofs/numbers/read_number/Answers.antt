@@ -1,8 +1,8 @@
 use Rattle.std.proofs.Common.{◌≡◌, Some, arith}
 use Rattle.std.proofs.lemmas.Grind.{common_steps}
 use Rattle.ccr_text.specs.Words.{number_of}
-use Rattle.ccr_text.proofs.Numbers.{read_word, read_after}
-use Rattle.ccr_text.proofs.words.read_number.Goals as goal
+use Rattle.ccr_text.proofs.Digits.{read_word, read_after}
+use Rattle.ccr_text.proofs.numbers.read_number.Goals as goal
 
 pub returns-in_err-number : goal.returns-in_err-number
 returns-in_err-number c =

@@ -28,11 +28,11 @@ read_after-is [] n fits = grind (arith, nat_tests)
 read_after-is (d ∷ digits) n fits = of_test (is_ascii_digit d) (nat_lt (n * 10 + (d - 48)) (2 ^ 64)) (n * 10 + (d - 48)) refl (λ h. read_after-is digits (n * 10 + (d - 48)) h)
   where
     of_test : (b t : Bool) (m : ℕ) → t ≡ nat_lt m (2 ^ 64) → (m < 2 ^ 64 → read_after (Some m) digits ≡ value_from m digits)
-      → read_after (if b && t then Some m else None) digits ≡ (if (b && list_all is_ascii_digit digits) && nat_lt (value_after m digits) (2 ^ 64) then Some (value_after m digits) else None)
+        → read_after (if b && t then Some m else None) digits ≡ (if (b && list_all is_ascii_digit digits) && nat_lt (value_after m digits) (2 ^ 64) then Some (value_after m digits) else None)
     of_test true true m is next = next (grind (arith, nat_tests))
     of_test true false m is next =
-      let above = value_after-above digits m in
-      grind (arith, nat_tests, above)
+        let above = value_after-above digits m in
+        grind (arith, nat_tests, above)
     of_test false t m is next = refl
 
 pub read_word : (word : List ℕ) → (length word == 0) ≡ false → read_after (Some 0) word ≡ number_of word

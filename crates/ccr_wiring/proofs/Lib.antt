@@ -1,0 +1,5 @@
+pub mod NameLemmas
+pub mod Lists
+pub mod Crowds
+pub mod SpotLemmas
+pub mod Validity
