@@ -25,9 +25,16 @@ fn check(rt: &impl Abort, alloc: Global, row: &Row) -> Result<(), Fail> {
         actions: List::from_vec(row.actions.to_vec(alloc)?),
     };
     let causes = List::from_vec(row.causes.to_vec(alloc)?);
-    let play = plays(alloc, &handler, &EXCEPTION_PORTS, row.segment, row.values, &causes)
-        .ok()
-        .ok_or("memory")?;
+    let play = plays(
+        alloc,
+        &handler,
+        &EXCEPTION_PORTS,
+        row.segment,
+        row.values,
+        &causes,
+    )
+    .ok()
+    .ok_or("memory")?;
     let posts = play.posts.as_slice();
     assert_eq!(rt; posts.len(), row.posts.len(), "{}", row.shows);
     for (post, wanted) in posts.iter().zip(row.posts) {
@@ -55,13 +62,22 @@ fn expressions(rt: HostRuntime) -> Result<(), Fail> {
             segment: 0,
             values: &[20, 30],
             causes: &[],
-            posts: &[(1, 7, &[]), (2, 20, &[]), (3, 30, &[]), (4, 50, &[]), (5, 2, &[])],
+            posts: &[
+                (1, 7, &[]),
+                (2, 20, &[]),
+                (3, 30, &[]),
+                (4, 50, &[]),
+                (5, 2, &[]),
+            ],
             end: PlayEnd::Done,
             causes_then: &[],
         },
         Row {
             shows: "an argument past the end is 0",
-            actions: &[Action::Post(1, Expr::Arg(2)), Action::Post(1, Expr::Arg(4294967295))],
+            actions: &[
+                Action::Post(1, Expr::Arg(2)),
+                Action::Post(1, Expr::Arg(4294967295)),
+            ],
             segment: 0,
             values: &[20, 30],
             causes: &[],
@@ -101,7 +117,10 @@ fn failures(rt: HostRuntime) -> Result<(), Fail> {
     let rows = [
         Row {
             shows: "a failure without causes posts nothing",
-            actions: &[Action::Post(1, Expr::Number(5)), Action::Fail(Expr::Number(9))],
+            actions: &[
+                Action::Post(1, Expr::Number(5)),
+                Action::Fail(Expr::Number(9)),
+            ],
             segment: 0,
             values: &[],
             causes: &[],

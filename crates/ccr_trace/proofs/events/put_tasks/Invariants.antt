@@ -1,0 +1,7 @@
+use Rattle.std.proofs.Common.{◌≡◌, ◌++◌, map, take}
+use Rattle.ccr_trace.specs.Words.{task_word}
+use Rattle.ccr_trace.specs.HistoryText.{behind}
+use Rattle.ccr_trace.proofs.events.put_tasks.Given as goal
+
+abbrev pub invariant-loop-task : goal.invariant-loop-task
+invariant-loop-task l = l.out ≡ l.fn.out ++ behind (map task_word (take l.task-index l.tasks))

@@ -1,0 +1,45 @@
+-- The text of a history: a line for each event.
+use Rattle.std.specs.Prelude.{ℕ, List, [], ◌∷◌, ◌++◌, map, flat_map, codes, decimal, Option, Some, None}
+use Rattle.ccr_base.specs.declared.names.TaskId.{TaskId}
+use Rattle.ccr_wiring.specs.declared.parts.Parts.{Parts}
+use Rattle.ccr_model.specs.declared.history.Event.{Event}
+use Rattle.ccr_model.specs.declared.history.Event.TheVariants as events
+use Rattle.ccr_model.specs.declared.history.EndHow.{EndHow}
+use Rattle.ccr_model.specs.declared.history.EndHow.TheVariants as ends
+use Rattle.ccr_text.specs.Spelling.{text_of}
+use Rattle.ccr_trace.specs.Words.{task_word, message_word, name_at, cause_names, branch_names, spot_word}
+
+-- each word behind a space
+abbrev pub behind : List (List ℕ) → List ℕ
+behind words = flat_map (λ word. 32 ∷ word) words
+
+-- the cuts stand behind the word cut, which stands only where there are some
+abbrev pub cut_words : List TaskId → List (List ℕ)
+cut_words [] = []
+cut_words (task ∷ tasks) = codes "cut" ∷ map task_word (task ∷ tasks)
+
+abbrev pub dropped_words : Option TaskId → List (List ℕ)
+dropped_words None = []
+dropped_words (Some task) = codes "drop" ∷ task_word task ∷ []
+
+abbrev pub end_words : EndHow → List (List ℕ)
+end_words ends.Done = codes "done" ∷ []
+end_words (ends.Failed value) = codes "failed" ∷ decimal value ∷ []
+end_words ends.Yield = codes "yield" ∷ []
+end_words ends.Shed = codes "shed" ∷ []
+
+-- the words of an event's line
+abbrev pub event_words : Parts → Event → List (List ℕ)
+event_words parts (events.Post message) = codes "post" ∷ message_word message.id ∷ name_at parts.ports message.port ∷ decimal message.value ∷ map (name_at (cause_names parts)) message.causes
+event_words parts (events.Fire task spot messages cuts) = codes "fire" ∷ task_word task ∷ spot_word (branch_names parts) spot ∷ (map message_word messages ++ cut_words cuts)
+event_words parts (events.Admit task) = codes "admit" ∷ task_word task ∷ []
+event_words parts (events.Put task dropped) = codes "put" ∷ task_word task ∷ dropped_words dropped
+event_words parts (events.Start task actor) = codes "start" ∷ task_word task ∷ decimal actor ∷ []
+event_words parts (events.End task how) = codes "end" ∷ task_word task ∷ end_words how
+
+-- the first line of a history, and a line for each event
+abbrev pub history_lines : Parts → List Event → List (List (List ℕ))
+history_lines parts history = (codes "history" ∷ codes "1" ∷ []) ∷ map (event_words parts) history
+
+abbrev pub history_text : Parts → List Event → List ℕ
+history_text parts history = text_of (history_lines parts history)

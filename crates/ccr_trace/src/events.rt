@@ -1,0 +1,160 @@
+//! The lines of events.
+
+ghost use Rattle.std.specs.Prelude.{◌≡◌, ◌++◌, ◌∷◌, [], OnOk, map, codes, decimal};
+ghost use Rattle.ccr_text.specs.Spelling.{line_text};
+ghost use Rattle.ccr_trace.specs.Words.{task_word, message_word, spot_word, name_at, branch_names, cause_names};
+ghost use Rattle.ccr_trace.specs.HistoryText.{behind, cut_words, dropped_words, end_words, event_words};
+
+use crate::names::{cause_name, name_at};
+use crate::words::{put_message, put_number_word, put_spot, put_task, put_word};
+use ccr_base::{CauseNo, List, Msg, MsgId, Name, OutOfMemory, Spot, TaskId};
+use ccr_model::{EndHow, Event};
+use ccr_text::put_bytes;
+use ccr_wiring::{CausePart, Parts};
+
+/// Adds the event's line.
+pub fn put_event(
+    out: &mut List<u8>,
+    parts: &Parts,
+    branches: &[Name],
+    event: &Event,
+) -> Result<(), OutOfMemory>
+    requires { branches.now ≡ branch_names parts.now }
+    ensures { OnOk result (out.new ≡ out.old ++ line_text (event_words parts.now event.now)) }
+{
+    match event {
+        Event::Post(message) => put_post(out, parts, message),
+        Event::Fire {
+            task,
+            spot,
+            messages,
+            cuts,
+        } => put_fire(out, branches, *task, *spot, messages, cuts),
+        Event::Admit(task) => put_task_line(out, b"admit", *task),
+        Event::Put { task, dropped } => put_put(out, *task, *dropped),
+        Event::Start { task, actor } => put_start(out, *task, *actor),
+        Event::End { task, how } => put_end(out, *task, *how),
+    }
+}
+
+fn put_post(out: &mut List<u8>, parts: &Parts, message: &Msg) -> Result<(), OutOfMemory>
+    ensures { OnOk result (out.new ≡ out.old ++ line_text (codes "post" ∷ message_word message.now.id ∷ name_at parts.now.ports message.now.port ∷ decimal message.now.value ∷ map (name_at (cause_names parts.now)) message.now.causes)) }
+{
+    put_bytes(out, b"post")?;
+    put_message(out, message.id)?;
+    put_word(out, name_at(parts.ports.as_slice(), message.port))?;
+    put_number_word(out, message.value)?;
+    put_causes(out, parts.causes.as_slice(), message.causes.as_slice())?;
+    put_bytes(out, b"\n")
+}
+
+fn put_causes(
+    out: &mut List<u8>,
+    parts: &[CausePart],
+    causes: &[CauseNo],
+) -> Result<(), OutOfMemory>
+    ensures { OnOk result (out.new ≡ out.old ++ behind (map (name_at (map (λ part. part.name) parts.now)) causes.now)) }
+{
+    for cause in causes {
+        put_word(out, cause_name(parts, *cause))?;
+    }
+    Ok(())
+}
+
+fn put_fire(
+    out: &mut List<u8>,
+    branches: &[Name],
+    task: TaskId,
+    spot: Spot,
+    messages: &List<MsgId>,
+    cuts: &List<TaskId>,
+) -> Result<(), OutOfMemory>
+    ensures { OnOk result (out.new ≡ out.old ++ line_text (codes "fire" ∷ task_word task ∷ spot_word branches.now spot ∷ (map message_word messages.now ++ cut_words cuts.now))) }
+{
+    put_bytes(out, b"fire")?;
+    put_task(out, task)?;
+    put_spot(out, branches, spot)?;
+    put_messages(out, messages.as_slice())?;
+    put_cuts(out, cuts.as_slice())?;
+    put_bytes(out, b"\n")
+}
+
+fn put_messages(out: &mut List<u8>, messages: &[MsgId]) -> Result<(), OutOfMemory>
+    ensures { OnOk result (out.new ≡ out.old ++ behind (map message_word messages.now)) }
+{
+    for message in messages {
+        put_message(out, *message)?;
+    }
+    Ok(())
+}
+
+fn put_cuts(out: &mut List<u8>, cuts: &[TaskId]) -> Result<(), OutOfMemory>
+    ensures { OnOk result (out.new ≡ out.old ++ behind (cut_words cuts.now)) }
+{
+    if cuts.is_empty() {
+        return Ok(());
+    }
+    put_word(out, b"cut")?;
+    put_tasks(out, cuts)
+}
+
+fn put_tasks(out: &mut List<u8>, tasks: &[TaskId]) -> Result<(), OutOfMemory>
+    ensures { OnOk result (out.new ≡ out.old ++ behind (map task_word tasks.now)) }
+{
+    for task in tasks {
+        put_task(out, *task)?;
+    }
+    Ok(())
+}
+
+/// A line of a word and a task.
+fn put_task_line(out: &mut List<u8>, word: &[u8], task: TaskId) -> Result<(), OutOfMemory>
+    ensures { OnOk result (out.new ≡ out.old ++ line_text (word.now ∷ task_word task ∷ [])) }
+{
+    put_bytes(out, word)?;
+    put_task(out, task)?;
+    put_bytes(out, b"\n")
+}
+
+fn put_put(
+    out: &mut List<u8>,
+    task: TaskId,
+    dropped: Option<TaskId>,
+) -> Result<(), OutOfMemory>
+    ensures { OnOk result (out.new ≡ out.old ++ line_text (codes "put" ∷ task_word task ∷ dropped_words dropped)) }
+{
+    let Some(dropped) = dropped else {
+        return put_task_line(out, b"put", task);
+    };
+    put_bytes(out, b"put")?;
+    put_task(out, task)?;
+    put_word(out, b"drop")?;
+    put_task(out, dropped)?;
+    put_bytes(out, b"\n")
+}
+
+fn put_start(out: &mut List<u8>, task: TaskId, actor: u32) -> Result<(), OutOfMemory>
+    ensures { OnOk result (out.new ≡ out.old ++ line_text (codes "start" ∷ task_word task ∷ decimal actor ∷ [])) }
+{
+    put_bytes(out, b"start")?;
+    put_task(out, task)?;
+    put_number_word(out, u64::from(actor))?;
+    put_bytes(out, b"\n")
+}
+
+fn put_end(out: &mut List<u8>, task: TaskId, how: EndHow) -> Result<(), OutOfMemory>
+    ensures { OnOk result (out.new ≡ out.old ++ line_text (codes "end" ∷ task_word task ∷ end_words how)) }
+{
+    put_bytes(out, b"end")?;
+    put_task(out, task)?;
+    match how {
+        EndHow::Done => put_word(out, b"done")?,
+        EndHow::Failed(value) => {
+            put_word(out, b"failed")?;
+            put_number_word(out, value)?;
+        }
+        EndHow::Yield => put_word(out, b"yield")?,
+        EndHow::Shed => put_word(out, b"shed")?,
+    }
+    put_bytes(out, b"\n")
+}
