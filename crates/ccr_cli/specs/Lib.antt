@@ -4,3 +4,4 @@ pub mod Keywords
 pub mod Drafts
 pub mod Forms
 pub mod Reading
+pub mod Answers

@@ -1,6 +1,7 @@
 //! The program's words, its input and its answer.
 #![tactic(auto)]
 
+mod answer;
 mod cursor;
 mod draft;
 mod forms;
@@ -8,4 +9,9 @@ mod keyword;
 mod names;
 mod plain;
 mod reading;
+mod status;
+mod top;
 mod unread;
+mod words;
+
+pub use top::run_ccr;
