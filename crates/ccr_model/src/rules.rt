@@ -5,16 +5,14 @@ ghost use Rattle.std.specs.List.{list_all};
 ghost use Rattle.ccr_base.specs.Names.{same_task, same_lists};
 ghost use Rattle.ccr_model.specs.Rules.{is_post, is_script_line, is_play_post, has_budget, is_new, cuts_at, is_first, is_oldest_waiting, is_concurrent_task, may_enter, needs_no_admission, may_put, drop_by, drop_at, is_oldest_queued, may_start, ends_so, is_shed, may_shed, may_end, refusal_of_post, refusal};
 
-use crate::choices::is_choice;
 use crate::data::play_of;
 use crate::firings::{cut, fired, has_task, let_in, put, spot_of};
-use crate::live::{has_room, is_live};
 use crate::posts::{posts_of_poster, posts_of_task, posts_of_tasks};
 use crate::seats::{is_concurrent, is_interleave, is_teardown, policy_of, seat};
 use crate::tasks::{
     admitted, count_unfinished, has_post_left, queued, running, running_by, seat_of, waiting,
 };
-use crate::{EndHow, Event, History};
+use crate::{EndHow, Event};
 use ccr_base::{ActorNo, CauseNo, Msg, MsgId, OutOfMemory, Policy, Sent, Spot, TaskId};
 use ccr_handler::PlayEnd;
 use ccr_wiring::Wiring;
@@ -42,7 +40,7 @@ fn is_post(message: &Msg, sent: &Sent) -> bool
 }
 
 /// Whether the message is the poster's next line.
-fn is_script_line(
+pub(crate) fn is_script_line(
     wiring: &Wiring,
     events: &[Event],
     actor: ActorNo,
@@ -64,7 +62,7 @@ fn is_script_line(
 }
 
 /// Whether the message is the next post of the running task's play.
-fn is_play_post(
+pub(crate) fn is_play_post(
     alloc: Global,
     wiring: &Wiring,
     events: &[Event],
@@ -94,7 +92,7 @@ pub fn has_budget(wiring: &Wiring, events: &[Event]) -> bool
     posts_of_tasks(events) < wiring.parts().budget as usize
 }
 
-fn is_new(alloc: Global, events: &[Event], task: TaskId) -> Result<bool, OutOfMemory>
+pub(crate) fn is_new(alloc: Global, events: &[Event], task: TaskId) -> Result<bool, OutOfMemory>
     ensures { IfOk result (λ is. is ≡ is_new events.now task) }
 {
     Ok(!has_task(&fired(alloc, events)?, task) && task.actor <= 32)
@@ -119,7 +117,7 @@ pub fn cuts_at(
     Ok(Vec::new(alloc))
 }
 
-fn are_same_tasks(tasks: &[TaskId], others: &[TaskId]) -> bool
+pub(crate) fn are_same_tasks(tasks: &[TaskId], others: &[TaskId]) -> bool
     ensures { result ≡ same_lists same_task tasks.now others.now }
 {
     match (tasks, others) {
@@ -140,7 +138,7 @@ fn is_first(tasks: &[TaskId], task: TaskId) -> bool
     }
 }
 
-fn is_oldest_waiting(
+pub(crate) fn is_oldest_waiting(
     alloc: Global,
     wiring: &Wiring,
     events: &[Event],
@@ -261,7 +259,7 @@ pub fn drop_at(
     }
 }
 
-fn is_oldest_queued(
+pub(crate) fn is_oldest_queued(
     alloc: Global,
     wiring: &Wiring,
     events: &[Event],
@@ -278,7 +276,7 @@ fn is_oldest_queued(
     }
 }
 
-fn may_start(
+pub(crate) fn may_start(
     alloc: Global,
     wiring: &Wiring,
     events: &[Event],
@@ -318,7 +316,7 @@ fn may_shed(
     Ok(budget.saturating_sub(posts_of_tasks(events)) <= others)
 }
 
-fn may_end(
+pub(crate) fn may_end(
     alloc: Global,
     wiring: &Wiring,
     events: &[Event],

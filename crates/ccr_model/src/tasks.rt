@@ -82,7 +82,7 @@ pub(crate) fn seat_of<'w>(wiring: &'w Wiring, events: &[Event], task: TaskId) ->
 }
 
 /// The tasks that branches of the Interleave fired, neither admitted nor cut, by firing.
-pub(crate) fn waiting(
+pub fn waiting(
     alloc: Global,
     wiring: &Wiring,
     events: &[Event],
@@ -107,7 +107,7 @@ fn is_for_queue(wiring: &Wiring, events: &[Event], queue: QueueNo, task: TaskId)
 }
 
 /// The tasks put into the queue, neither started nor dropped, by put.
-pub(crate) fn queued(
+pub fn queued(
     alloc: Global,
     wiring: &Wiring,
     events: &[Event],
@@ -124,7 +124,7 @@ pub(crate) fn queued(
 }
 
 /// The tasks that started and have not ended, by start.
-pub(crate) fn running(alloc: Global, events: &[Event]) -> Result<Vec<TaskId>, OutOfMemory>
+pub fn running(alloc: Global, events: &[Event]) -> Result<Vec<TaskId>, OutOfMemory>
     ensures { IfOk result (λ tasks. tasks.items ≡ running events.now) }
 {
     let mut tasks = started(alloc, events)?;

@@ -1,2 +1,3 @@
 pub mod Potential
 pub mod Engine
+pub mod Steps

@@ -6,4 +6,6 @@ mod names;
 mod words;
 mod writing;
 
+pub use names::branch_names;
+pub use words::spot_text;
 pub use writing::write_history;

@@ -3,3 +3,4 @@ pub mod Lists
 pub mod Crowds
 pub mod SpotLemmas
 pub mod Validity
+pub mod Soundness

@@ -1,5 +1,6 @@
 -- The spots of branches.
 use Rattle.std.proofs.Common.{◌≡◌, ℕ, zero, suc, ◌+◌, ◌<◌, ◌≤◌, get_or, drop, List, [], ◌∷◌, ◌++◌, length, sum, map, flat_map, refl, ap, sym, ◌∙◌, append_assoc, length-append, arith}
+use Rattle.std.proofs.lemmas.List.{length-map}
 use Rattle.std.proofs.lemmas.List.Concat.{flat_map-cons}
 use Rattle.std.proofs.lemmas.List.Sums.{sum_by-cons}
 use Rattle.ccr_base.specs.declared.names.Spot.{Spot}
@@ -67,3 +68,7 @@ length-all_branches (arbiter ∷ arbiters) =
     ∙ (length-append arbiter.branches (all_branches arbiters)
     ∙ (ap (λ n. length arbiter.branches + n) (length-all_branches arbiters)
     ∙ sym (sum_by-cons (λ (n : ℕ). n) (length arbiter.branches) (map (λ (a : ArbiterPart). length a.branches) arbiters))))
+
+-- there are as many seats as branches
+pub length-seats : (number : ℕ) (arbiters : List ArbiterPart) → length (seats_from number arbiters) ≡ length (all_branches arbiters)
+length-seats number arbiters = sym (length-map (seats_from number arbiters) (λ (s : Seat). s.branch)) ∙ ap length (all_seat_branches number arbiters)

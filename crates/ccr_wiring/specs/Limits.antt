@@ -72,9 +72,13 @@ set_is_outside set = is_outside 1 8 (length set.ports)
 abbrev pub has_branches_above : ℕ → List ArbiterPart → Bool
 has_branches_above most arbiters = nat_lt most (sum (map (λ (arbiter : ArbiterPart). length arbiter.branches) arbiters))
 
+-- the posts of all scripts together
+abbrev pub posts_in_all : List PosterPart → ℕ
+posts_in_all posters = sum (map (λ (poster : PosterPart). length poster.posts) posters)
+
 -- more than so many posts, in all scripts together
 abbrev pub has_posts_above : ℕ → List PosterPart → Bool
-has_posts_above most posters = nat_lt most (sum (map (λ (poster : PosterPart). length poster.posts) posters))
+has_posts_above most posters = nat_lt most (posts_in_all posters)
 
 -- more of a kind than a wiring may have
 abbrev pub has_too_many : Parts → Bool

@@ -3,6 +3,7 @@
 
 mod codes;
 mod groups;
+mod laws;
 mod limits;
 mod names;
 mod parts;
@@ -12,6 +13,7 @@ mod spots;
 mod unfit;
 mod wiring;
 
+pub use laws::valid_wirings_are_sound;
 pub use limits::{
     MAX_ACTIONS, MAX_ARBITERS, MAX_ARG, MAX_BRANCHES, MAX_BUDGET, MAX_CAUSES, MAX_COUNT,
     MAX_HANDLERS, MAX_POLICY, MAX_PORTS, MAX_POSTERS, MAX_QUEUES, MAX_SCRIPT_POSTS, MAX_SET_PORTS,
@@ -22,3 +24,4 @@ pub use parts::{
 };
 pub use unfit::Unfit;
 pub use wiring::Wiring;
+

@@ -1,0 +1,4 @@
+pub mod SameNames
+pub mod SpotsOf
+pub mod Filtered
+pub mod Tallies

@@ -1,0 +1,99 @@
+-- Counts over lists of numbers, as counts over what the numbers belong to.
+use Rattle.std.proofs.Common.{◌≡◌, ◌+◌, ◌<◌, ℕ, zero, suc, Bool, true, false, not, Option, Some, None, List, [], ◌∷◌, ◌++◌, length, filter, map, flat_map, cond, refl, sym, ap, ◌∙◌, arith}
+use Rattle.std.specs.Prelude.{◌==◌, option_map, option_and_then, option_to_list}
+use Rattle.std.specs.List.{slice_get}
+use Rattle.std.specs.Option.{option_map_or}
+use Rattle.std.proofs.lemmas.Grind.{common_steps}
+use Rattle.ccr_base.specs.declared.messages.Msg.{Msg}
+use Rattle.ccr_base.specs.declared.names.TaskId.{TaskId}
+use Rattle.ccr_base.specs.declared.names.Spot.{Spot}
+use Rattle.ccr_base.specs.Names.{has_message}
+use Rattle.ccr_wiring.specs.declared.parts.Parts.{Parts}
+use Rattle.ccr_wiring.specs.declared.parts.ArbiterPart.{ArbiterPart}
+use Rattle.ccr_wiring.specs.declared.parts.BranchPart.{BranchPart}
+use Rattle.ccr_wiring.specs.Wirings.{Seat, seat, seats, seats_of, seats_from, branch_of}
+use Rattle.ccr_model.specs.declared.history.Event.{Event}
+use Rattle.ccr_model.specs.Posts.{posts, posted, taken, held}
+use Rattle.ccr_model.specs.Firings.{spot_of}
+use Rattle.ccr_model.specs.TaskData.{seat_of}
+use Rattle.ccr_model.specs.Tasks.{is_for_queue}
+use Rattle.ccr_report.specs.Counting.{times, ports_of, queue_of, queues_of, queues_in, branch_queues}
+
+-- numbers that are counted belong to members that pass a test
+pub times-map : {X : Type 0} (f : X → ℕ) (k : ℕ) (xs : List X) → times k (map f xs) ≡ length (filter (λ x. f x == k) xs)
+times-map f k [] = refl
+times-map f k (x ∷ xs) = of_test (f x == k) (times-map f k xs)
+  where
+    of_test : (b : Bool) → times k (map f xs) ≡ length (filter (λ x. f x == k) xs) → length (cond b (f x ∷ filter (λ other. other == k) (map f xs)) (filter (λ other. other == k) (map f xs))) ≡ length (cond b (x ∷ filter (λ x. f x == k) xs) (filter (λ x. f x == k) xs))
+    of_test true h = ap suc h
+    of_test false h = h
+
+-- two filters, either first
+pub filter_twice : {X : Type 0} (p q : X → Bool) (xs : List X) → filter p (filter q xs) ≡ filter q (filter p xs)
+filter_twice p q [] = refl
+filter_twice p q (x ∷ xs) = of_tests (p x) (q x) refl refl (filter_twice p q xs)
+  where
+    of_tests : (a b : Bool) → p x ≡ a → q x ≡ b → filter p (filter q xs) ≡ filter q (filter p xs) → filter p (filter q (x ∷ xs)) ≡ filter q (filter p (x ∷ xs))
+    of_tests a b pa qb h = grind (arith, common_steps, pa, qb, h)
+
+pub times-posted : (history : List Event) (k : ℕ) → times k (ports_of (posts history)) ≡ length (posted history k)
+times-posted history k = times-map (λ (message : Msg). message.port) k (posts history)
+
+pub times-held : (history : List Event) (k : ℕ) → times k (ports_of (filter (λ (message : Msg). not (has_message (taken history) message.id)) (posts history))) ≡ length (held history k)
+times-held history k =
+    times-map (λ (message : Msg). message.port) k (filter (λ (message : Msg). not (has_message (taken history) message.id)) (posts history))
+        ∙ ap length (filter_twice (λ (message : Msg). message.port == k) (λ (message : Msg). not (has_message (taken history) message.id)) (posts history))
+
+-- the same, where some members have no number
+pub times-some : {X : Type 0} (f : X → Option ℕ) (test : X → Bool) (k : ℕ) → ((x : X) → test x ≡ option_map_or (λ n. n == k) (f x) false) → (xs : List X) → times k (flat_map (λ x. option_to_list (f x)) xs) ≡ length (filter test xs)
+times-some f test k says [] = refl
+times-some f test k says (x ∷ xs) = of_number (f x) (test x) (says x) (times-some f test k says xs)
+  where
+    of_number : (o : Option ℕ) (b : Bool) → b ≡ option_map_or (λ n. n == k) o false → times k (flat_map (λ x. option_to_list (f x)) xs) ≡ length (filter test xs) → times k (option_to_list o ++ flat_map (λ x. option_to_list (f x)) xs) ≡ length (cond b (x ∷ filter test xs) (filter test xs))
+    of_number None b e h = rw e h
+    of_number (Some n) b e h = rw e (of_test (n == k) h)
+      where
+        of_test : (a : Bool) → times k (flat_map (λ x. option_to_list (f x)) xs) ≡ length (filter test xs) → length (cond a (n ∷ filter (λ other. other == k) (flat_map (λ x. option_to_list (f x)) xs)) (filter (λ other. other == k) (flat_map (λ x. option_to_list (f x)) xs))) ≡ length (cond a (x ∷ filter test xs) (filter test xs))
+        of_test true h = ap suc h
+        of_test false h = h
+
+pub seats_queues : (number : ℕ) (arbiter : ArbiterPart) (branches : List BranchPart) → map (λ (part : BranchPart). part.queue) branches ≡ map (λ (s : Seat). s.branch.queue) (map (λ branch. record { arbiter = number; kind = arbiter.kind; branch = branch }) branches)
+seats_queues number arbiter [] = refl
+seats_queues number arbiter (branch ∷ branches) = ap (λ (queues : List ℕ). branch.queue ∷ queues) (seats_queues number arbiter branches)
+
+pub map-both : {X Y : Type 0} (f : X → Y) (xs ys : List X) → map f (xs ++ ys) ≡ map f xs ++ map f ys
+map-both f [] ys = refl
+map-both f (x ∷ xs) ys = ap (λ zs. f x ∷ zs) (map-both f xs ys)
+
+-- the branches' queues, by their seats
+pub branch_queues_seats : (number : ℕ) (arbiters : List ArbiterPart) → flat_map queues_in arbiters ≡ map (λ (s : Seat). s.branch.queue) (seats_from number arbiters)
+branch_queues_seats number [] = refl
+branch_queues_seats number (arbiter ∷ arbiters) =
+    ap (λ (queues : List ℕ). queues ++ flat_map queues_in arbiters) (seats_queues number arbiter arbiter.branches)
+        ∙ ap (λ (queues : List ℕ). map (λ (s : Seat). s.branch.queue) (seats_of number arbiter) ++ queues) (branch_queues_seats (number + 1) arbiters)
+        ∙ sym (map-both (λ (s : Seat). s.branch.queue) (seats_of number arbiter) (seats_from (number + 1) arbiters))
+
+pub map_or-map : {X Y : Type 0} (f : X → Y) (g : Y → Bool) (o : Option X) → option_map_or g (option_map f o) false ≡ option_map_or (λ x. g (f x)) o false
+map_or-map f g None = refl
+map_or-map f g (Some x) = refl
+
+pub slice_get-mapped : {X Y : Type 0} (f : X → Y) (xs : List X) (k : ℕ) → slice_get (map f xs) k ≡ option_map f (slice_get xs k)
+slice_get-mapped f [] k = grind (arith, common_steps)
+slice_get-mapped f (x ∷ xs) zero = refl
+slice_get-mapped f (x ∷ xs) (suc k) = grind (arith, common_steps, slice_get-mapped f xs k)
+
+-- whether a task that fired at this spot, if any, belongs to the queue
+pub for_queue : (wiring : Parts) (k : ℕ) (fired : Option Spot) → option_map_or (λ (s : Seat). s.branch.queue == k) (option_and_then (λ spot. seat wiring (branch_of spot)) fired) false ≡ option_map_or (λ n. n == k) (option_and_then (λ spot. slice_get (branch_queues wiring) (branch_of spot)) fired) false
+for_queue wiring k None = refl
+for_queue wiring k (Some spot) =
+    sym (map_or-map (λ (s : Seat). s.branch.queue) (λ n. n == k) (seat wiring (branch_of spot)))
+        ∙ ap (λ (o : Option ℕ). option_map_or (λ n. n == k) o false)
+            (sym (slice_get-mapped (λ (s : Seat). s.branch.queue) (seats wiring) (branch_of spot))
+                ∙ ap (λ (queues : List ℕ). slice_get queues (branch_of spot)) (sym (branch_queues_seats 0 wiring.arbiters)))
+
+-- the tasks of a queue, by the spots at which they fired
+pub times-queue : (wiring : Parts) (history : List Event) (k : ℕ) (fired : TaskId → Option Spot) → ((task : TaskId) → fired task ≡ spot_of history task) → (tasks : List TaskId) → times k (flat_map (λ task. option_to_list (option_and_then (λ spot. slice_get (branch_queues wiring) (branch_of spot)) (fired task))) tasks) ≡ length (filter (is_for_queue wiring history k) tasks)
+times-queue wiring history k fired known tasks =
+    times-some (λ task. option_and_then (λ spot. slice_get (branch_queues wiring) (branch_of spot)) (fired task)) (is_for_queue wiring history k) k
+        (λ task. for_queue wiring k (spot_of history task) ∙ ap (λ (o : Option Spot). option_map_or (λ n. n == k) (option_and_then (λ spot. slice_get (branch_queues wiring) (branch_of spot)) o) false) (sym (known task)))
+        tasks

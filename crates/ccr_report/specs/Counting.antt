@@ -1,0 +1,49 @@
+-- What a report counts at a port and at a queue.
+use Rattle.std.specs.Prelude.{ℕ, ◌==◌, List, [], ◌∷◌, ◌++◌, map, filter, flat_map, length, not, Option, option_map, option_to_list}
+use Rattle.ccr_base.specs.declared.names.TaskId.{TaskId}
+use Rattle.ccr_base.specs.declared.messages.Msg.{Msg}
+use Rattle.ccr_base.specs.Names.{has_message}
+use Rattle.ccr_wiring.specs.declared.parts.Parts.{Parts}
+use Rattle.ccr_wiring.specs.declared.parts.ArbiterPart.{ArbiterPart}
+use Rattle.ccr_wiring.specs.declared.parts.BranchPart.{BranchPart}
+use Rattle.ccr_wiring.specs.Wirings.{Seat}
+use Rattle.ccr_model.specs.declared.history.Event.{Event}
+use Rattle.ccr_model.specs.Posts.{posts, posted, taken}
+use Rattle.ccr_model.specs.Firings.{put, dropped}
+use Rattle.ccr_model.specs.TaskData.{seat_of}
+use Rattle.ccr_model.specs.Tasks.{is_for_queue}
+
+-- how often a number stands in a list
+abbrev pub times : ℕ → List ℕ → ℕ
+times number numbers = length (filter (λ other. other == number) numbers)
+
+-- the port's messages that firings took
+abbrev pub taken_at : List Event → ℕ → List Msg
+taken_at history port = filter (λ message. has_message (taken history) message.id) (posted history port)
+
+-- the tasks put into the queue
+abbrev pub put_at : Parts → List Event → ℕ → List TaskId
+put_at wiring history queue = filter (is_for_queue wiring history queue) (put history)
+
+-- the tasks that the queue dropped
+abbrev pub dropped_at : Parts → List Event → ℕ → List TaskId
+dropped_at wiring history queue = filter (is_for_queue wiring history queue) (dropped history)
+
+-- the ports of messages
+abbrev pub ports_of : List Msg → List ℕ
+ports_of messages = map (λ (message : Msg). message.port) messages
+
+-- the task's queue
+abbrev pub queue_of : Parts → List Event → TaskId → Option ℕ
+queue_of wiring history task = option_map (λ (s : Seat). s.branch.queue) (seat_of wiring history task)
+
+-- the queues of tasks
+abbrev pub queues_of : Parts → List Event → List TaskId → List ℕ
+queues_of wiring history tasks = flat_map (λ task. option_to_list (queue_of wiring history task)) tasks
+
+abbrev pub queues_in : ArbiterPart → List ℕ
+queues_in arbiter = map (λ (part : BranchPart). part.queue) arbiter.branches
+
+-- the queues of the branches, in their order
+abbrev pub branch_queues : Parts → List ℕ
+branch_queues wiring = flat_map queues_in wiring.arbiters

@@ -1,0 +1,45 @@
+-- The lines of a report.
+use Rattle.std.specs.Prelude.{ℕ, ◌+◌, List, [], ◌∷◌, ◌++◌, map, length, codes, decimal}
+use Rattle.ccr_base.specs.declared.names.Spot.{Spot}
+use Rattle.ccr_wiring.specs.declared.parts.Parts.{Parts}
+use Rattle.ccr_wiring.specs.declared.parts.QueuePart.{QueuePart}
+use Rattle.ccr_wiring.specs.Wirings.{spots}
+use Rattle.ccr_model.specs.declared.history.Event.{Event}
+use Rattle.ccr_model.specs.declared.history.Totals.{Totals}
+use Rattle.ccr_model.specs.Posts.{posted, held}
+use Rattle.ccr_model.specs.Firings.{fired_at}
+use Rattle.ccr_model.specs.Counts.{totals}
+use Rattle.ccr_text.specs.Spelling.{text_of}
+use Rattle.ccr_trace.specs.Words.{branch_names, spot_word}
+use Rattle.ccr_report.specs.Counting.{taken_at, put_at, dropped_at}
+
+abbrev pub port_words : List Event → ℕ → List ℕ → List (List ℕ)
+port_words history port name = codes "port" ∷ name ∷ codes "posted" ∷ decimal (length (posted history port)) ∷ codes "taken" ∷ decimal (length (taken_at history port)) ∷ codes "held" ∷ decimal (length (held history port)) ∷ []
+
+-- the lines of the ports, of which the first has this number
+abbrev pub port_lines : List Event → ℕ → List (List ℕ) → List (List (List ℕ))
+port_lines history port [] = []
+port_lines history port (name ∷ names) = port_words history port name ∷ port_lines history (port + 1) names
+
+abbrev pub spot_words : List (List ℕ) → List Event → Spot → List (List ℕ)
+spot_words branches history spot = codes "branch" ∷ spot_word branches spot ∷ codes "fired" ∷ decimal (length (fired_at history spot)) ∷ []
+
+abbrev pub queue_words : Parts → List Event → ℕ → QueuePart → List (List ℕ)
+queue_words wiring history queue part = codes "queue" ∷ part.name ∷ codes "put" ∷ decimal (length (put_at wiring history queue)) ∷ codes "dropped" ∷ decimal (length (dropped_at wiring history queue)) ∷ []
+
+-- the lines of the queues, of which the first has this number
+abbrev pub queue_lines : Parts → List Event → ℕ → List QueuePart → List (List (List ℕ))
+queue_lines wiring history queue [] = []
+queue_lines wiring history queue (part ∷ parts) = queue_words wiring history queue part ∷ queue_lines wiring history (queue + 1) parts
+
+abbrev pub total_words : Totals → List (List ℕ)
+total_words total = codes "total" ∷ codes "posted" ∷ decimal total.posted ∷ codes "taken" ∷ decimal total.taken ∷ codes "held" ∷ decimal total.held
+    ∷ codes "fired" ∷ decimal total.fired ∷ codes "done" ∷ decimal total.done ∷ codes "failed" ∷ decimal total.failed ∷ codes "shed" ∷ decimal total.shed
+    ∷ codes "yield" ∷ decimal total.yielded ∷ codes "cut" ∷ decimal total.cut ∷ codes "dropped" ∷ decimal total.dropped ∷ codes "left" ∷ decimal total.unended ∷ []
+
+-- a line for each port, spot and queue, and the totals
+abbrev pub report_lines : Parts → List Event → List (List (List ℕ))
+report_lines wiring history = (codes "report" ∷ codes "1" ∷ []) ∷ (port_lines history 0 wiring.ports ++ map (spot_words (branch_names wiring) history) (spots wiring) ++ queue_lines wiring history 0 wiring.queues ++ total_words (totals history) ∷ [])
+
+abbrev pub report_text : Parts → List Event → List ℕ
+report_text wiring history = text_of (report_lines wiring history)
