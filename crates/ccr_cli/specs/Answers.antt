@@ -7,6 +7,7 @@ use Rattle.ccr_wiring.specs.Codes.{code_of}
 use Rattle.ccr_model.specs.declared.history.Event.{Event}
 use Rattle.ccr_model.specs.Legal.{IsLegal, IsQuiet, is_complete}
 use Rattle.ccr_trace.specs.HistoryText.{history_text}
+use Rattle.ccr_report.specs.Report.{report_text}
 use Rattle.ccr_cli.specs.declared.status.Status.{Status}
 use Rattle.ccr_cli.specs.declared.status.Status.TheVariants.{Ran, Usage, Refused}
 use Rattle.ccr_cli.specs.Reads.{Words}
@@ -58,9 +59,12 @@ usage_text = codes "usage: ccr check|run|verify|load [--workers N] [--schedule] 
 abbrev pub refused_text : List ℕ
 refused_text = codes "refused" ++ 10 ∷ codes "done 2" ++ 10 ∷ []
 
--- a history's text and the last line
+abbrev pub done_line : List ℕ
+done_line = codes "done 0" ++ 10 ∷ []
+
+-- a history's text, its report and the last line
 abbrev pub run_text : Parts → List Event → List ℕ
-run_text wiring history = history_text wiring history ++ codes "done 0" ++ 10 ∷ []
+run_text wiring history = history_text wiring history ++ report_text wiring history ++ done_line
 
 -- the text is that of a legal, complete and quiet history of the wiring
 pub record IsRun (wiring : Parts) (text : List ℕ) : Type 0 where

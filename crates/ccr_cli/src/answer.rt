@@ -3,9 +3,10 @@
 ghost use Rattle.std.specs.Prelude.{◌≡◌, ◌≤◌, true, false, Some, IfOk, OnErr, IsErrOf, length};
 ghost use Rattle.ccr_io.specs.Faults.{Rose};
 ghost use Rattle.ccr_cli.specs.Reads.{Gives};
-ghost use Rattle.ccr_cli.specs.Answers.{is_run, valid, input_of, usage_text, refused_text, IsRun, IsAccepted, IsDeclined, IsExhausted, Answers, IsDue};
+ghost use Rattle.ccr_cli.specs.Answers.{is_run, valid, input_of, usage_text, refused_text, IsAccepted, IsDeclined, IsExhausted, Answers, IsDue};
 
 use crate::reading::read_parts;
+use crate::run::run_text;
 use crate::status::{Silence, Status};
 use crate::unread::Unread;
 use crate::words::is_run;
@@ -64,13 +65,6 @@ fn read_input(alloc: Global, text: &[u8]) -> Result<Wiring, Unread>
     ensures { Gives result (input_of text.now) }
 {
     checked(alloc, read_parts(alloc, text)?)
-}
-
-/// The text of a run of the wiring: its history, its report and the last line.
-fn run_text(alloc: Global, wiring: &Wiring) -> Result<List<u8>, OutOfMemory>
-    ensures { IfOk result (λ text. IsRun wiring.now text) }
-{
-    Err(OutOfMemory)
 }
 
 fn answer_input(alloc: Global, text: &[u8]) -> Result<Due, OutOfMemory>

@@ -9,9 +9,13 @@ mod keyword;
 mod names;
 mod plain;
 mod reading;
+mod run;
 mod status;
 mod top;
 mod unread;
 mod words;
 
 pub use top::run_ccr;
+
+#[cfg(test)]
+mod tests;
