@@ -6,3 +6,6 @@ mod interleave;
 mod standing;
 
 pub use interleave::InterleaveObject;
+
+#[cfg(test)]
+mod tests;

@@ -1,9 +1,8 @@
 -- Sets of task names: std's finite sets, in the order of the names, first by actor and then by attempt.
-use Rattle.std.specs.Prelude.{◌≡◌, ◌==◌, ◌≤◌, ℕ, Bool, true, false, not, ◌&&◌}
+use Rattle.std.specs.Prelude.{◌≡◌, ◌==◌, ◌≤◌, Bool, true, false, not, ◌&&◌}
 use Rattle.std.proofs.Common.{refl, sym, ◌∙◌, ap, true≢false, inl, inr, arith}
 use Rattle.std.proofs.lemmas.Bool.Decides.{eqb_tells}
 use Rattle.std.proofs.lemmas.Bool.{eqb-true}
-use Rattle.std.specs.declared.cmp.Ordering.TheVariants.{Equal}
 use Rattle.std.specs.Ordering.{nat_cmp, on, then_cmp, eq_by_cmp, is_eq}
 use Rattle.std.specs.Cmp.{IsEquivalence, IsTotalOrder, first_so, second_so, nat_cmp_total, nat_eq_equiv, on_total, then_total, on_equiv, and_equiv, unsigned_tied, tied_then}
 use Rattle.std.specs.declared.cmp.Ordering.{Ordering}

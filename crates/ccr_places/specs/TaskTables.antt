@@ -10,7 +10,7 @@ use Rattle.std.proofs.lemmas.Map.Made.{is_some-lookup}
 use Rattle.std.proofs.lemmas.Map.Entries.{lookup-filter-values, option_filter}
 use Rattle.ccr_base.specs.declared.names.TaskId.{TaskId}
 use Rattle.ccr_base.specs.Names.{same_task, has_task}
-use Rattle.ccr_places.specs.TaskSets.{TaskSet, task_cmp, task_cmp_total, task_cmp-IsAntisymmetric, len-there, remove-absent, same_task_equiv, same_task-true, eq_by_cmp-tasks}
+use Rattle.ccr_places.specs.TaskSets.{TaskSet, task_cmp, task_cmp_total, task_cmp-IsAntisymmetric, len-there, remove-absent, same_task_equiv, eq_by_cmp-tasks}
 
 -- the tasks of whose value the test holds
 abbrev pub tasks_where : {S : Type 0} → (S → Bool) → List (TaskId × S) → TaskSet

@@ -55,7 +55,6 @@ kinds_one (Some StandsQueued) = refl
 
 module _ (old new : List (TaskId × Standing)) (task : TaskId) (kept : Option Standing)
     (updates : (other : TaskId) → kept_of new other ≡ cond (same_task task other) kept (kept_of old other)) where
-
   -- the queued tasks of the table stay, where the one task stays queued or not queued
   stays : option_map_or is_queued kept false ≡ option_map_or is_queued (kept_of old task) false
       → (other : TaskId) → option_map_or is_queued (kept_of new other) false ≡ option_map_or is_queued (kept_of old other) false
@@ -71,7 +70,7 @@ module _ (old new : List (TaskId × Standing)) (task : TaskId) (kept : Option St
     pub stepped : IsDistinct same_task (map (λ (q : Queued). q.task) later)
         → ((other : TaskId) → option_map_or is_queued (kept_of new other) false ≡ list_any (λ (q : Queued). same_task other q.task) later)
         → count + (cond (option_map_or is_fresh (kept_of old task) false) 1 0 + count_by (λ (q : Queued). not q.resumes) queued)
-            ≡ fresh + (cond (option_map_or is_fresh kept false) 1 0 + count_by (λ (q : Queued). not q.resumes) later)
+        ≡ fresh + (cond (option_map_or is_fresh kept false) 1 0 + count_by (λ (q : Queued). not q.resumes) later)
         → length later + cond (option_map_or is_queued (kept_of old task) false) 1 0 ≡ length queued + cond (option_map_or is_queued kept false) 1 0
         → length new + cond (is_some (kept_of old task)) 1 0 ≡ length old + cond (is_some kept) 1 0
         → length new ≤ space
@@ -115,15 +114,17 @@ module _ (old new : List (TaskId × Standing)) (queued : List Queued) (fresh roo
 
   pub fresh_booked : ((other : TaskId) → kept_of new other ≡ cond (same_task task other) (Some Fresh) (kept_of old other))
       → (tasks_where is_fresh new ≡ set.insert (tasks_where is_fresh old) task) × (tasks_where is_resuming new ≡ tasks_where is_resuming old)
-  fresh_booked updates =
-      (tasks_where-put is_fresh old new task (Some Fresh) tied.distinct distinct updates refl,
-        tasks_where-same is_resuming old new task (Some Fresh) tied.distinct distinct updates refl (ap (λ k. option_map_or is_resuming k false) none))
+  fresh_booked updates = (
+    tasks_where-put is_fresh old new task (Some Fresh) tied.distinct distinct updates refl,
+    tasks_where-same is_resuming old new task (Some Fresh) tied.distinct distinct updates refl (ap (λ k. option_map_or is_resuming k false) none),
+  )
 
   pub resuming_booked : ((other : TaskId) → kept_of new other ≡ cond (same_task task other) (Some Resuming) (kept_of old other))
       → (tasks_where is_fresh new ≡ tasks_where is_fresh old) × (tasks_where is_resuming new ≡ set.insert (tasks_where is_resuming old) task)
-  resuming_booked updates =
-      (tasks_where-same is_fresh old new task (Some Resuming) tied.distinct distinct updates refl (ap (λ k. option_map_or is_fresh k false) none),
-        tasks_where-put is_resuming old new task (Some Resuming) tied.distinct distinct updates refl)
+  resuming_booked updates = (
+    tasks_where-same is_fresh old new task (Some Resuming) tied.distinct distinct updates refl (ap (λ k. option_map_or is_fresh k false) none),
+    tasks_where-put is_resuming old new task (Some Resuming) tied.distinct distinct updates refl,
+  )
 
 -- ---- what a booked task's standing says
 
@@ -230,13 +231,15 @@ module _ (old new : List (TaskId × Standing)) (queued : List Queued) (fresh roo
         where
           by : (here : Bool) → same_task task other ≡ here
               → option_map_or is_queued (cond here (Some StandsQueued) (kept_of old other)) false
-                ≡ (list_any (λ (q : Queued). same_task other q.task) queued || (same_task other task || false))
+              ≡ (list_any (λ (q : Queued). same_task other q.task) queued || (same_task other task || false))
           by true e = last_there (list_any (λ (q : Queued). same_task other q.task) queued) ∙ (λ i. list_any (λ (q : Queued). same_task other q.task) queued || (sym (same_task_equiv.symm other task ∙ e) i || false))
           by false e = tied.same_queued other ∙ last_apart (list_any (λ (q : Queued). same_task other q.task) queued) ∙ (λ i. list_any (λ (q : Queued). same_task other q.task) queued || (sym (same_task_equiv.symm other task ∙ e) i || false))
 
   pub sets_put : (tasks_where is_fresh new ≡ set.remove (tasks_where is_fresh old) task) × (tasks_where is_resuming new ≡ set.remove (tasks_where is_resuming old) task)
-  sets_put = (tasks_where-gone is_fresh old new task (Some StandsQueued) tied.distinct distinct updates refl,
-      tasks_where-gone is_resuming old new task (Some StandsQueued) tied.distinct distinct updates refl)
+  sets_put = (
+    tasks_where-gone is_fresh old new task (Some StandsQueued) tied.distinct distinct updates refl,
+    tasks_where-gone is_resuming old new task (Some StandsQueued) tied.distinct distinct updates refl,
+  )
 
 -- ---- a take
 
@@ -280,5 +283,7 @@ module _ (old new : List (TaskId × Standing)) (oldest : Queued) (later : List Q
           by false e = tied.same_queued other ∙ ap (λ b. b || list_any (λ (q : Queued). same_task other q.task) later) (same_task_equiv.symm other oldest.task ∙ e)
 
   pub sets_taken : (tasks_where is_fresh new ≡ tasks_where is_fresh old) × (tasks_where is_resuming new ≡ tasks_where is_resuming old)
-  sets_taken = (tasks_where-same is_fresh old new oldest.task None tied.distinct distinct updates refl (ap (λ k. option_map_or is_fresh k false) stands),
-      tasks_where-same is_resuming old new oldest.task None tied.distinct distinct updates refl (ap (λ k. option_map_or is_resuming k false) stands))
+  sets_taken = (
+    tasks_where-same is_fresh old new oldest.task None tied.distinct distinct updates refl (ap (λ k. option_map_or is_fresh k false) stands),
+    tasks_where-same is_resuming old new oldest.task None tied.distinct distinct updates refl (ap (λ k. option_map_or is_resuming k false) stands),
+  )

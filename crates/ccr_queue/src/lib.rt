@@ -7,3 +7,6 @@ mod standing;
 
 pub use meter::Meter;
 pub use queue::{Booked, QueueObject};
+
+#[cfg(test)]
+mod tests;

@@ -28,6 +28,7 @@ impl Model for Meter {
 }
 
 impl Meter {
+    /// A meter with its whole budget.
     pub fn new(budget: u32) -> Meter
         ensures { result ≡ start budget }
     {
@@ -51,6 +52,7 @@ impl Meter {
         Some(before)
     }
 
+    /// Whether fewer than 16 posters have left.
     pub fn may_leave(&self) -> bool
         ensures { result ≡ is_leave_allowed self.now }
     {

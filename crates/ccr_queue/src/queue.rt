@@ -43,14 +43,14 @@ impl Model for QueueObject {
     ghost coded = { queue_tasks_code };
 
     ghost view = { λ queue. record {
-        state = record {
-            number = queue.number;
-            policy = queue.policy;
-            fresh = tasks_where is_fresh queue.standings.entries;
-            resuming = tasks_where is_resuming queue.standings.entries;
-            queued = map named queue.queued.items;
-        };
-        tasks = map (λ queued. queued.task) queue.queued.items;
+      state = record {
+        number = queue.number;
+        policy = queue.policy;
+        fresh = tasks_where is_fresh queue.standings.entries;
+        resuming = tasks_where is_resuming queue.standings.entries;
+        queued = map named queue.queued.items;
+      };
+      tasks = map (λ queued. queued.task) queue.queued.items;
     } };
 
     ghost invariant = { λ queue. Tied queue.standings.entries (map named queue.queued.items) queue.fresh (deque_capacity queue.queued) };
@@ -70,6 +70,14 @@ impl QueueObject {
         }
     }
 
+    /// The number of the queue in the wiring.
+    pub fn number(&self) -> QueueNo
+        ensures { result ≡ self.now.state.number }
+    {
+        self.number
+    }
+
+    /// Whether the task is neither booked nor queued.
     pub fn may_book(&self, t: TaskId, _resumes: bool) -> bool
         ensures { result ≡ is_bookable self.now.state t }
     {
@@ -80,9 +88,7 @@ impl QueueObject {
     pub fn book(&mut self, t: TaskId, resumes: bool) -> Result<Booked, OutOfMemory>
         requires { IsTrue (is_bookable self.old.state t) }
         ensures answer { IfOk result (λ booked. full_of booked ≡ book_note self.old.state resumes) }
-        ensures kept {
-            IfOk result (λ booked. self.new ≡ record self.old { state = after_book self.old.state t resumes (full_of booked) })
-        }
+        ensures kept { IfOk result (λ booked. self.new ≡ record self.old { state = after_book self.old.state t resumes (full_of booked) }) }
         ensures err { OnErr result (self.new ≡ self.old) }
     {
         if !resumes {
@@ -111,13 +117,14 @@ impl QueueObject {
         }
     }
 
+    /// Whether the task is booked.
     pub fn may_unbook(&self, t: TaskId) -> bool
         ensures { result ≡ is_booked self.now.state t }
     {
         standing::is_booked(self.standings.get(&t).copied())
     }
 
-    /// Ends the booking.
+    /// Ends the booking. It takes no memory.
     pub fn unbook(&mut self, t: TaskId)
         requires { IsTrue (is_booked self.old.state t) }
         ensures { self.new ≡ record self.old { state = after_unbook self.old.state t } }
@@ -126,23 +133,22 @@ impl QueueObject {
         self.fresh -= standing::fresh_count(standing);
     }
 
+    /// Whether the task is booked.
     pub fn may_put(&self, task: &Task) -> bool
         ensures { result ≡ is_booked self.now.state task.now.id }
     {
         self.may_unbook(task.id)
     }
 
-    /// Queues the booked task last, and hands out the oldest task where the policy drops it.
+    /// Ends the booking, queues the task last, and hands out the oldest task where the policy drops it. It takes no memory.
     pub fn put(&mut self, task: Task) -> Option<Task>
         requires { IsTrue (is_booked self.old.state task.id) }
         ensures dropped { option_map (λ t. t.id) result ≡ put_note self.old.state }
         ensures whole { result ≡ (if nat_le 1 (drop_count self.old.state) then slice_get self.old.tasks 0 else None) }
-        ensures kept {
-            self.new ≡ record {
-                state = after_put self.old.state task.id;
-                tasks = drop (drop_count self.old.state) self.old.tasks ++ task ∷ [];
-            }
-        }
+        ensures kept { self.new ≡ record {
+          state = after_put self.old.state task.id;
+          tasks = drop (drop_count self.old.state) self.old.tasks ++ task ∷ [];
+        } }
     {
         let dropped = self.drop_oldest();
         self.push(task);
@@ -153,12 +159,10 @@ impl QueueObject {
     fn drop_oldest(&mut self) -> Option<Task>
         ensures dropped { option_map (λ t. t.id) result ≡ put_note self.old.state }
         ensures whole { result ≡ (if nat_le 1 (drop_count self.old.state) then slice_get self.old.tasks 0 else None) }
-        ensures kept {
-            self.new ≡ record {
-                state = without_dropped self.old.state;
-                tasks = drop (drop_count self.old.state) self.old.tasks;
-            }
-        }
+        ensures kept { self.new ≡ record {
+          state = without_dropped self.old.state;
+          tasks = drop (drop_count self.old.state) self.old.tasks;
+        } }
     {
         match self.policy {
             Policy::Discard(n) if self.queued.len() >= n as usize => self.take(),
@@ -169,12 +173,10 @@ impl QueueObject {
     /// Queues the booked task last.
     fn push(&mut self, task: Task)
         requires { IsTrue (is_booked self.old.state task.id) }
-        ensures {
-            self.new ≡ record {
-                state = with_newest self.old.state task.id;
-                tasks = self.old.tasks ++ task ∷ [];
-            }
-        }
+        ensures { self.new ≡ record {
+          state = with_newest self.old.state task.id;
+          tasks = self.old.tasks ++ task ∷ [];
+        } }
     {
         let Ok(standing) = self.standings.insert(task.id, Standing::Queued) else {
             unreachable!();
@@ -183,16 +185,14 @@ impl QueueObject {
         self.queued.push_back_reserved(QueuedTask { task, resumes });
     }
 
-    /// Takes out the oldest task.
+    /// Takes out the oldest task. It takes no memory.
     pub fn take(&mut self) -> Option<Task>
         ensures taken { option_map (λ t. t.id) result ≡ take_note self.old.state }
         ensures whole { result ≡ slice_get self.old.tasks 0 }
-        ensures kept {
-            self.new ≡ record {
-                state = after_take self.old.state;
-                tasks = drop 1 self.old.tasks;
-            }
-        }
+        ensures kept { self.new ≡ record {
+          state = after_take self.old.state;
+          tasks = drop 1 self.old.tasks;
+        } }
     {
         let QueuedTask { task, resumes } = self.queued.pop_front()?;
         self.standings.remove(&task.id);

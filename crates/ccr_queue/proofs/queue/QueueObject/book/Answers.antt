@@ -1,8 +1,6 @@
-use Rattle.std.proofs.Common.{◌≡◌, ◌+◌, Option, Some, None, refl, sym, ap, ◌∙◌, arith, length}
-use Rattle.std.proofs.lemmas.List.{length-map}
-use Rattle.ccr_places.specs.TaskTables.{kept_of, tasks_where}
+use Rattle.std.proofs.Common.{◌≡◌, ◌+◌, None, refl, ◌∙◌, arith, length}
+use Rattle.ccr_places.specs.TaskTables.{kept_of}
 use Rattle.ccr_queue.specs.declared.standing.Standing.TheVariants.{Fresh, Resuming}
-use Rattle.ccr_queue.specs.Standings.{is_fresh, is_resuming}
 use Rattle.ccr_queue.proofs.TableSteps.{absent, booked, fresh_booked, resuming_booked}
 use Rattle.ccr_queue.proofs.queue.QueueObject.book.Goals as goal
 

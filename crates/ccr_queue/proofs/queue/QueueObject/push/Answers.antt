@@ -1,9 +1,9 @@
-use Rattle.std.proofs.Common.{◌≡◌, ◌+◌, ◌++◌, ◌∷◌, [], ◌∙◌, false, sym, refl, ap, is_some, true≢false, arith, length, map}
+use Rattle.std.proofs.Common.{◌≡◌, ◌∙◌, false, sym, ap, is_some, true≢false, arith, length}
 use Rattle.std.proofs.lemmas.List.{map-append, length-map}
 use Rattle.std.specs.Option.{option_map_or}
-use Rattle.ccr_places.specs.TaskTables.{kept_of, contains-tasks_where}
+use Rattle.ccr_places.specs.TaskTables.{contains-tasks_where}
 use Rattle.ccr_queue.specs.Standings.{named, is_resuming}
-use Rattle.ccr_queue.proofs.TableSteps.{IsBooked, booked-standing, place-left, put_last, sets_put}
+use Rattle.ccr_queue.proofs.TableSteps.{booked-standing, place-left, put_last, sets_put}
 use Rattle.ccr_queue.proofs.queue.QueueObject.push.Goals as goal
 
 pub unreachable-requires : goal.unreachable-requires

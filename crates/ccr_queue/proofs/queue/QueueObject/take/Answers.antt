@@ -1,4 +1,4 @@
-use Rattle.std.proofs.Common.{◌≡◌, ◌+◌, ◌∷◌, ◌∙◌, Bool, true, false, not, cond, is_some, List, sym, refl, ap, subst, arith, length, map, deque_capacity}
+use Rattle.std.proofs.Common.{◌≡◌, ◌+◌, ◌∙◌, Bool, true, false, not, cond, is_some, List, refl, ap, subst, length, map, deque_capacity}
 use Rattle.std.specs.Int.{from_bool}
 use Rattle.ccr_queue.specs.declared.standing.QueuedTask.{QueuedTask}
 use Rattle.ccr_queue.specs.Standings.{Tied, named}

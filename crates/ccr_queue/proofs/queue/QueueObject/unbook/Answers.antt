@@ -1,5 +1,5 @@
-use Rattle.std.proofs.Common.{◌≡◌, ◌+◌, ◌∙◌, refl, arith, length}
-use Rattle.ccr_queue.proofs.TableSteps.{IsBooked, booked-standing, fresh-counted, unbooked, sets_unbooked}
+use Rattle.std.proofs.Common.{◌≡◌, ◌+◌, refl, length}
+use Rattle.ccr_queue.proofs.TableSteps.{booked-standing, fresh-counted, unbooked, sets_unbooked}
 use Rattle.ccr_queue.proofs.queue.QueueObject.unbook.Goals as goal
 
 pub overflow_sub-self : goal.overflow_sub-self
