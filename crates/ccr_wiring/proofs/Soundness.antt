@@ -18,7 +18,7 @@ use Rattle.ccr_wiring.specs.declared.parts.HandlerPart.{HandlerPart}
 use Rattle.ccr_wiring.specs.declared.parts.PosterPart.{PosterPart}
 use Rattle.ccr_wiring.specs.declared.parts.Kind.{Kind}
 use Rattle.ccr_wiring.specs.declared.parts.Parts.{Parts}
-use Rattle.ccr_wiring.specs.Wirings.{Seat, seat, seats, seats_of, seats_from, actions_of, exception_port}
+use Rattle.ccr_wiring.specs.Wirings.{Seat, seat, seats, seats_of, seats_from, actions_of, exception_port, awaited, site_port}
 use Rattle.ccr_wiring.specs.Groups.{may_have, is_receive, is_one_named, has_strange_group, is_misgrouped}
 use Rattle.ccr_wiring.specs.References.{is_beyond, has_beyond, no_port, no_cause, action_is_dangling, slots_are_dangling, pattern_is_dangling, branch_is_dangling, post_is_dangling, handler_is_dangling, cause_is_dangling, poster_is_dangling, has_dangling, has_dangling_set, has_dangling_cause, has_dangling_handler, has_dangling_arbiter, has_dangling_poster}
 use Rattle.ccr_wiring.specs.Repeats.{are_apart, slot_ports, names_ports_once, branch_repeats, post_repeats, poster_repeats, has_repeat, has_repeating_set, has_repeating_arbiter, has_repeating_poster}
@@ -139,6 +139,30 @@ actions_named parts handler place action None found none at = absurd (no_action 
 actions_named parts handler place action (Some part) found none at =
     action_named parts action (none_at (action_is_dangling parts) part.handler.actions place action (none_at (handler_is_dangling parts) parts.handlers handler part none found) (rw found at at))
 
+actions_none : (parts : Parts) (handler : ℕ) (found : Option HandlerPart) → slice_get parts.handlers handler ≡ found → has_dangling_handler parts ≡ false → list_any (action_is_dangling parts) (actions_of parts handler) ≡ false
+actions_none parts handler None found none = rw found refl
+actions_none parts handler (Some part) found none = rw found (none_at (handler_is_dangling parts) parts.handlers handler part none found)
+
+awaited_none : (parts : Parts) (actions : List Action) → list_any (action_is_dangling parts) actions ≡ false → list_any (no_port parts) (awaited actions) ≡ false
+awaited_none parts [] none = refl
+awaited_none parts (Await port ∷ actions) none =
+    let both = neither (no_port parts port) (list_any (action_is_dangling parts) actions) none in
+    ap (λ b. b || list_any (no_port parts) (awaited actions)) both.0 ∙ awaited_none parts actions both.1
+awaited_none parts (Post port expr ∷ actions) none = awaited_none parts actions (neither (no_port parts port) (list_any (action_is_dangling parts) actions) none).1
+awaited_none parts (Add cause ∷ actions) none = awaited_none parts actions (neither (no_cause parts cause) (list_any (action_is_dangling parts) actions) none).1
+awaited_none parts (Remove cause ∷ actions) none = awaited_none parts actions (neither (no_cause parts cause) (list_any (action_is_dangling parts) actions) none).1
+awaited_none parts (Fail expr ∷ actions) none = awaited_none parts actions none
+
+site_named : (parts : Parts) (branch site port : ℕ) (found : Option Seat) → seat parts branch ≡ found → has_dangling_handler parts ≡ false → site_port parts branch site ≡ Some port → port < length parts.ports
+site_named parts branch site port None found none at = absurd (no_site (rw found at at))
+  where
+    no_site : None ≡ Some port → ⊥
+    no_site e = absurd cc
+site_named parts branch site port (Some s) found none at =
+    let ports = awaited (actions_of parts s.branch.handler) in
+    let each = awaited_none parts (actions_of parts s.branch.handler) (actions_none parts s.branch.handler (slice_get parts.handlers s.branch.handler) refl none) in
+    below (length parts.ports) port (none_at (no_port parts) ports site port each (rw found at at))
+
 exception_named : (parts : Parts) (cause port : ℕ) (found : Option CausePart) → slice_get parts.causes cause ≡ found → has_dangling_cause parts ≡ false → exception_port parts cause ≡ Some port → port < length parts.ports
 exception_named parts cause port None found none at = absurd (no_port_there (rw found at at))
   where
@@ -234,6 +258,7 @@ sound parts valid =
       patterns = λ branch s at. pattern_filled s.branch.pattern (seat_none (λ kind branch. branch_is_outside branch) parts inside.arbiters branch s at);
       actions = λ handler place action at. actions_named parts handler place action (slice_get parts.handlers handler) refl numbers.handlers at;
       few_actions = λ handler. few_actions parts handler none.limits;
+      site_ports = λ branch site port at. site_named parts branch site port (seat parts branch) refl numbers.handlers at;
       exception_ports = λ cause port at. exception_named parts cause port (slice_get parts.causes cause) refl numbers.causes at;
       scripts = λ poster place part post at there. post_named parts post (none_at (post_is_dangling parts) part.posts place post (none_at (poster_is_dangling parts) parts.posters poster part numbers.posters at) there) (none_at post_repeats part.posts place post (none_at poster_repeats parts.posters poster part twice.1 at) there);
       few_spots = not_crowded (named_ports parts) none.spots;

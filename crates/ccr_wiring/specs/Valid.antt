@@ -9,7 +9,7 @@ use Rattle.ccr_base.specs.declared.patterns.Pattern.TheVariants.{Slots, Gather}
 use Rattle.ccr_base.specs.declared.patterns.Slot.{Slot}
 use Rattle.ccr_wiring.specs.declared.parts.Parts.{Parts}
 use Rattle.ccr_wiring.specs.declared.parts.PosterPart.{PosterPart}
-use Rattle.ccr_wiring.specs.Wirings.{Seat, seat, seats, actions_of, exception_port}
+use Rattle.ccr_wiring.specs.Wirings.{Seat, seat, seats, actions_of, exception_port, site_port}
 use Rattle.ccr_wiring.specs.Codes.{code_of}
 use Rattle.ccr_wiring.specs.Groups.{may_have}
 use Rattle.ccr_wiring.specs.Limits.{posts_in_all}
@@ -66,6 +66,10 @@ IsActionNamed wiring (Fail expr) = Unit {0}
 abbrev pub HasActionsNamed : Parts → Type 0
 HasActionsNamed wiring = (handler place : ℕ) (action : Action) → slice_get (actions_of wiring handler) place ≡ Some action → IsActionNamed wiring action
 
+-- the port that a site awaits is one of the wiring's
+abbrev pub HasSitePorts : Parts → Type 0
+HasSitePorts wiring = (branch site port : ℕ) → site_port wiring branch site ≡ Some port → port < length wiring.ports
+
 -- a handler has at most 16 actions
 abbrev pub HasFewActions : Parts → Type 0
 HasFewActions wiring = (handler : ℕ) → length (actions_of wiring handler) ≤ 16
@@ -111,6 +115,7 @@ pub record IsSound (wiring : Parts) : Type 0 where
   pub patterns : HasPatternsFilled wiring
   pub actions : HasActionsNamed wiring
   pub few_actions : HasFewActions wiring
+  pub site_ports : HasSitePorts wiring
   pub exception_ports : HasExceptionPorts wiring
   pub scripts : HasScriptsNamed wiring
   pub few_spots : HasFewSpots wiring

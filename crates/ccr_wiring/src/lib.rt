@@ -25,3 +25,5 @@ pub use parts::{
 pub use unfit::Unfit;
 pub use wiring::Wiring;
 
+#[cfg(test)]
+mod tests;
