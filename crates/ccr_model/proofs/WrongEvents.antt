@@ -264,3 +264,15 @@ cause_lists-totals = refl
 
 portset-totals : totals portset_history ≡ record { posted = 5; taken = 3; held = 2; fired = 1; done = 1; failed = 0; shed = 0; yielded = 0; cut = 0; dropped = 0; unended = 0 }
 portset-totals = refl
+
+choice-totals : totals choice_history ≡ record { posted = 2; taken = 1; held = 1; fired = 1; done = 1; failed = 0; shed = 0; yielded = 0; cut = 0; dropped = 0; unended = 0 }
+choice-totals = refl
+
+gather-totals : totals gather_history ≡ record { posted = 4; taken = 3; held = 1; fired = 1; done = 1; failed = 0; shed = 0; yielded = 0; cut = 0; dropped = 0; unended = 0 }
+gather-totals = refl
+
+causes_shed-totals : totals causes_shed_history ≡ record { posted = 1; taken = 1; held = 0; fired = 1; done = 0; failed = 0; shed = 1; yielded = 0; cut = 0; dropped = 0; unended = 0 }
+causes_shed-totals = refl
+
+sum_wraps-totals : totals sum_wraps_history ≡ record { posted = 3; taken = 2; held = 1; fired = 1; done = 1; failed = 0; shed = 0; yielded = 0; cut = 0; dropped = 0; unended = 0 }
+sum_wraps-totals = refl
