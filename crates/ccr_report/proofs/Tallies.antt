@@ -1,9 +1,10 @@
 -- Counts over lists of numbers, as counts over what the numbers belong to.
-use Rattle.std.proofs.Common.{◌≡◌, ◌+◌, ◌<◌, ℕ, zero, suc, Bool, true, false, not, Option, Some, None, List, [], ◌∷◌, ◌++◌, length, filter, map, flat_map, cond, refl, sym, ap, ◌∙◌, arith}
+use Rattle.std.proofs.Common.{◌≡◌, ◌+◌, ◌-◌, ◌<◌, ℕ, zero, suc, Bool, true, false, not, Option, Some, None, List, [], ◌∷◌, ◌++◌, length, filter, map, flat_map, cond, refl, sym, ap, ◌∙◌, arith}
 use Rattle.std.specs.Prelude.{◌==◌, option_map, option_and_then, option_to_list}
 use Rattle.std.specs.List.{slice_get}
 use Rattle.std.specs.Option.{option_map_or}
 use Rattle.std.proofs.lemmas.Grind.{common_steps}
+use Rattle.std.proofs.lemmas.List.Filters.{length-filter_both}
 use Rattle.ccr_base.specs.declared.messages.Msg.{Msg}
 use Rattle.ccr_base.specs.declared.names.TaskId.{TaskId}
 use Rattle.ccr_base.specs.declared.names.Spot.{Spot}
@@ -17,7 +18,7 @@ use Rattle.ccr_model.specs.Posts.{posts, posted, taken, held}
 use Rattle.ccr_model.specs.Firings.{spot_of}
 use Rattle.ccr_model.specs.TaskData.{seat_of}
 use Rattle.ccr_model.specs.Tasks.{is_for_queue}
-use Rattle.ccr_report.specs.Counting.{times, ports_of, queue_of, queues_of, queues_in, branch_queues}
+use Rattle.ccr_report.specs.Counting.{times, taken_at, ports_of, queue_of, queues_of, queues_in, branch_queues}
 
 -- numbers that are counted belong to members that pass a test
 pub times-map : {X : Type 0} (f : X → ℕ) (k : ℕ) (xs : List X) → times k (map f xs) ≡ length (filter (λ x. f x == k) xs)
@@ -97,3 +98,9 @@ times-queue wiring history k fired known tasks =
     times-some (λ task. option_and_then (λ spot. slice_get (branch_queues wiring) (branch_of spot)) (fired task)) (is_for_queue wiring history k) k
         (λ task. for_queue wiring k (spot_of history task) ∙ ap (λ (o : Option Spot). option_map_or (λ n. n == k) (option_and_then (λ spot. slice_get (branch_queues wiring) (branch_of spot)) o) false) (sym (known task)))
         tasks
+
+-- what a port held no longer was taken from it
+pub taken_left : (history : List Event) (k : ℕ) → length (taken_at history k) ≡ length (posted history k) - length (held history k)
+taken_left history k =
+    let both = length-filter_both (λ (message : Msg). has_message (taken history) message.id) (λ (message : Msg). not (has_message (taken history) message.id)) (λ message. refl) (posted history k) in
+    omega (arith, both)

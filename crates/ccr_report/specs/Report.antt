@@ -32,6 +32,10 @@ abbrev pub queue_lines : Parts → List Event → ℕ → List QueuePart → Lis
 queue_lines wiring history queue [] = []
 queue_lines wiring history queue (part ∷ parts) = queue_words wiring history queue part ∷ queue_lines wiring history (queue + 1) parts
 
+-- a word and a number, each behind a space
+abbrev pub amount_text : List ℕ → ℕ → List ℕ
+amount_text word number = 32 ∷ (word ++ 32 ∷ decimal number)
+
 abbrev pub total_words : Totals → List (List ℕ)
 total_words total = codes "total" ∷ codes "posted" ∷ decimal total.posted ∷ codes "taken" ∷ decimal total.taken ∷ codes "held" ∷ decimal total.held
     ∷ codes "fired" ∷ decimal total.fired ∷ codes "done" ∷ decimal total.done ∷ codes "failed" ∷ decimal total.failed ∷ codes "shed" ∷ decimal total.shed

@@ -2,9 +2,12 @@
 #![tactic(auto)]
 
 mod counts;
+mod lines;
 mod messages;
+mod spots;
 mod tables;
 mod tally;
 mod tasks;
 
 pub use counts::totals;
+pub use lines::{put_total, report_text};

@@ -1,0 +1,74 @@
+-- How often spots fired, after one event more.
+use Rattle.std.proofs.Common.{◌≡◌, ◌+◌, ◌≤◌, ◌<◌, ℕ, Bool, true, false, cond, Option, Some, None, List, [], ◌∷◌, ◌++◌, length, take, map, filter, get_or, refl, sym, ap, ◌∙◌, arith}
+use Rattle.std.specs.Prelude.{unwrap_or}
+use Rattle.std.specs.Map.{lookup}
+use Rattle.std.proofs.lemmas.List.{take_more, length-map}
+use Rattle.std.proofs.lemmas.Bool.Decides.{nat_tests}
+use Rattle.std.proofs.lemmas.Grind.{common_steps, flat_map-append}
+use Rattle.ccr_base.specs.declared.names.Spot.{Spot}
+use Rattle.ccr_base.specs.declared.names.Spot.TheVariants as spots
+use Rattle.ccr_base.specs.Names.{same_spot}
+use Rattle.ccr_model.specs.declared.history.Event.{Event}
+use Rattle.ccr_model.specs.declared.history.Event.TheVariants.{Post, Fire, Admit, Put, Start, End}
+use Rattle.ccr_model.specs.Firings.{Firing, firing_of, firings, fired_at}
+use Rattle.ccr_report.specs.declared.spots.SpotKey.{SpotKey}
+use Rattle.ccr_report.specs.declared.spots.SpotKey.TheVariants.{Branch, Site}
+use Rattle.ccr_report.specs.contracts.spots.SpotKeyPartialEq.TheImpl.{ghosts as keys}
+use Rattle.ccr_report.specs.SpotKeys.{key_of, same_key}
+use Rattle.ccr_report.proofs.SameNames.{lookup_same}
+
+-- the derived comparison of keys is the test of them
+pub derived_key : (a b : SpotKey) → keys.eq a b ≡ same_key a b
+derived_key (Branch b) (Branch c) = refl
+derived_key (Branch b) (Site c l) = refl
+derived_key (Site b k) (Branch c) = refl
+derived_key (Site b k) (Site c l) = refl
+
+pub same_key-true : (a b : SpotKey) → same_key a b ≡ true → a ≡ b
+same_key-true (Branch b) (Branch c) same = grind (arith, nat_tests, same)
+same_key-true (Branch b) (Site c l) same = cc
+same_key-true (Site b k) (Branch c) same = cc
+same_key-true (Site b k) (Site c l) same = grind (arith, nat_tests, same)
+
+pub same_key-spots : (s t : Spot) → same_key (key_of s) (key_of t) ≡ same_spot s t
+same_key-spots (spots.Branch b) (spots.Branch c) = refl
+same_key-spots (spots.Branch b) (spots.Site c l) = refl
+same_key-spots (spots.Site b k) (spots.Branch c) = refl
+same_key-spots (spots.Site b k) (spots.Site c l) = refl
+
+-- the count of a key, after a firing at one key
+pub key_counted : (old new : List (SpotKey × ℕ)) (k q : SpotKey) (n : ℕ) → n ≡ unwrap_or (lookup (same_key k) old) 0 → lookup (keys.eq q) new ≡ cond (keys.eq k q) (Some (n + 1)) (lookup (keys.eq q) old) → unwrap_or (lookup (same_key q) new) 0 ≡ unwrap_or (lookup (same_key q) old) 0 + cond (same_key k q) 1 0
+key_counted old new k q n is updates =
+    let found : lookup (same_key q) new ≡ cond (same_key k q) (Some (n + 1)) (lookup (same_key q) old) =
+        sym (lookup_same (keys.eq q) (same_key q) (derived_key q) new)
+            ∙ updates
+            ∙ ap (λ (b : Bool). cond b (Some (n + 1)) (lookup (keys.eq q) old)) (derived_key k q)
+            ∙ ap (λ (o : Option ℕ). cond (same_key k q) (Some (n + 1)) o) (lookup_same (keys.eq q) (same_key q) (derived_key q) old)
+    in
+    ap (λ (o : Option ℕ). unwrap_or o 0) found ∙ of_test (same_key k q) refl
+  where
+    of_test : (b : Bool) → same_key k q ≡ b → unwrap_or (cond b (Some (n + 1)) (lookup (same_key q) old)) 0 ≡ unwrap_or (lookup (same_key q) old) 0 + cond b 1 0
+    of_test true same = ap (λ (m : ℕ). m + 1) (is ∙ ap (λ (key : SpotKey). unwrap_or (lookup (same_key key) old) 0) (same_key-true k q same))
+    of_test false same = omega arith
+
+pub fired_at-append : (events more : List Event) (spot : Spot) → length (fired_at (events ++ more) spot) ≡ length (fired_at events spot) + length (fired_at more spot)
+fired_at-append events more spot = grind (arith, common_steps)
+
+pub fired_at-more : (events : List Event) (i : ℕ) (d : Event) (spot : Spot) → i < length events → length (fired_at (take (i + 1) events) spot) ≡ length (fired_at (take i events) spot) + length (fired_at (get_or events i d ∷ []) spot)
+fired_at-more events i d spot l = ap (λ (es : List Event). length (fired_at es spot)) (take_more events i d l) ∙ fired_at-append (take i events) (get_or events i d ∷ []) spot
+
+pub fired_at-one : (event : Event) (spot : Spot) → length (fired_at (event ∷ []) spot) ≤ 1
+fired_at-one (Post message) spot = omega arith
+fired_at-one (Fire task at messages cuts) spot = of_test (same_spot at spot)
+  where
+    of_test : (b : Bool) → length (map (λ (f : Firing). f.task) (cond b (record { task = task; spot = at; messages = messages; cuts = cuts } ∷ []) [])) ≤ 1
+    of_test true = omega arith
+    of_test false = omega arith
+fired_at-one (Admit task) spot = omega arith
+fired_at-one (Put task dropped) spot = omega arith
+fired_at-one (Start task actor) spot = omega arith
+fired_at-one (End task how) spot = omega arith
+
+pub fired_at-le : (events : List Event) (spot : Spot) → length (fired_at events spot) ≤ length events
+fired_at-le [] spot = omega arith
+fired_at-le (event ∷ events) spot = omega (arith, fired_at-append (event ∷ []) events spot, fired_at-one event spot, fired_at-le events spot)

@@ -1,0 +1,11 @@
+-- A text by its parts.
+use Rattle.std.proofs.Common.{◌≡◌, ℕ, List, [], ◌∷◌, ◌++◌, codes, arith}
+use Rattle.std.proofs.lemmas.Grind.{common_steps, flat_map-append}
+use Rattle.ccr_text.specs.Spelling.{line_text, text_of}
+
+pub text_parts : (first last : List (List ℕ)) (ports spots queues : List (List (List ℕ))) → (((line_text first ++ text_of ports) ++ text_of spots) ++ text_of queues) ++ line_text last ≡ text_of (first ∷ (ports ++ spots ++ queues ++ last ∷ []))
+text_parts first last ports spots queues = grind (arith, common_steps)
+
+-- the line of the totals, written group by group
+pub total_parts : (posted taken held fired done failed shed yielded cut dropped left : List ℕ) → (((codes "total" ++ ((32 ∷ (codes "posted" ++ 32 ∷ posted)) ++ ((32 ∷ (codes "taken" ++ 32 ∷ taken)) ++ ((32 ∷ (codes "held" ++ 32 ∷ held)) ++ (32 ∷ (codes "fired" ++ 32 ∷ fired)))))) ++ ((32 ∷ (codes "done" ++ 32 ∷ done)) ++ ((32 ∷ (codes "failed" ++ 32 ∷ failed)) ++ ((32 ∷ (codes "shed" ++ 32 ∷ shed)) ++ (32 ∷ (codes "yield" ++ 32 ∷ yielded)))))) ++ ((32 ∷ (codes "cut" ++ 32 ∷ cut)) ++ ((32 ∷ (codes "dropped" ++ 32 ∷ dropped)) ++ (32 ∷ (codes "left" ++ 32 ∷ left))))) ++ 10 ∷ [] ≡ line_text (codes "total" ∷ codes "posted" ∷ posted ∷ codes "taken" ∷ taken ∷ codes "held" ∷ held ∷ codes "fired" ∷ fired ∷ codes "done" ∷ done ∷ codes "failed" ∷ failed ∷ codes "shed" ∷ shed ∷ codes "yield" ∷ yielded ∷ codes "cut" ∷ cut ∷ codes "dropped" ∷ dropped ∷ codes "left" ∷ left ∷ [])
+total_parts posted taken held fired done failed shed yielded cut dropped left = grind (arith, common_steps)
