@@ -9,13 +9,14 @@ use Rattle.ccr_handler.specs.declared.segments.Play.{Play}
 use Rattle.ccr_handler.specs.declared.segments.PlayEnd.TheVariants.{Done, Failed, Yield}
 use Rattle.ccr_cause.specs.Causes.{with_cause, without_cause}
 
--- version 2: values become lists of numbers, and this the combination of them
+-- the number that the expression stands for; an argument past the end is 0, a sum wraps at 2^64
 abbrev pub value_of : Expr → List ℕ → ℕ
 value_of (Number n) values = n
 value_of (Arg k) values = slice_index values k
 value_of Sum values = sum values % 2 ^ 64
 value_of Count values = length values
 
+-- whether the action ends the segment
 abbrev pub is_await : Action → Bool
 is_await (Await port) = true
 is_await _ = false
@@ -34,6 +35,7 @@ actions_from (suc segment) actions = after_await (actions_from segment actions)
 abbrev pub exceptions : (ℕ → Option ℕ) → ℕ → List ℕ → List Sent
 exceptions port_of value causes = flat_map (λ cause. option_to_list (option_map (λ port. record { port = port; value = value; causes = [] }) (port_of cause))) causes
 
+-- the play with this post before its others
 abbrev pub with_post : Sent → Play → Play
 with_post sent play = record play { posts = sent ∷ play.posts }
 

@@ -9,3 +9,8 @@ pub mod Quiet
 pub mod Allowing
 pub mod Covered
 pub mod Alone
+pub mod SeatPlaces
+pub mod Segments
+pub mod ValidHandlers
+pub mod PlayPast
+pub mod FirstNames

@@ -215,11 +215,11 @@ gather-covered = refl
 gather-laws : keeps_laws_along gather_wiring [] gather_history ≡ true
 gather-laws = refl
 
-gather-legal-other : first_refusal gather_wiring [] 0 (Post (message (Script 0 0) 0 1 ([])) ∷ Post (message (Script 0 1) 1 2 ([])) ∷ Post (message (Script 0 2) 1 3 ([])) ∷ Post (message (Script 0 3) 0 4 ([])) ∷ Fire (task 1 0) (Branch 0) ((Script 0 0) ∷ (Script 0 1) ∷ (Script 0 2) ∷ []) ([]) ∷ Put (task 1 0) None ∷ Start (task 1 0) 1 ∷ End (task 1 0) ends.Done ∷ []) ≡ None
-gather-legal-other = refl
+gather_other_split-legal : first_refusal gather_wiring [] 0 (Post (message (Script 0 0) 0 1 ([])) ∷ Post (message (Script 0 1) 1 2 ([])) ∷ Post (message (Script 0 2) 1 3 ([])) ∷ Post (message (Script 0 3) 0 4 ([])) ∷ Fire (task 1 0) (Branch 0) ((Script 0 0) ∷ (Script 0 1) ∷ (Script 0 2) ∷ []) ([]) ∷ Put (task 1 0) None ∷ Start (task 1 0) 1 ∷ End (task 1 0) ends.Done ∷ []) ≡ None
+gather_other_split-legal = refl
 
-quiet-7-other : first gather_wiring 1 (Post (message (Script 0 0) 0 1 ([])) ∷ Post (message (Script 0 1) 1 2 ([])) ∷ Post (message (Script 0 2) 1 3 ([])) ∷ Post (message (Script 0 3) 0 4 ([])) ∷ Fire (task 1 0) (Branch 0) ((Script 0 0) ∷ (Script 0 1) ∷ (Script 0 2) ∷ []) ([]) ∷ Put (task 1 0) None ∷ Start (task 1 0) 1 ∷ End (task 1 0) ends.Done ∷ []) ≡ None
-quiet-7-other = refl
+gather_other_split-quiet : first gather_wiring 1 (Post (message (Script 0 0) 0 1 ([])) ∷ Post (message (Script 0 1) 1 2 ([])) ∷ Post (message (Script 0 2) 1 3 ([])) ∷ Post (message (Script 0 3) 0 4 ([])) ∷ Fire (task 1 0) (Branch 0) ((Script 0 0) ∷ (Script 0 1) ∷ (Script 0 2) ∷ []) ([]) ∷ Put (task 1 0) None ∷ Start (task 1 0) 1 ∷ End (task 1 0) ends.Done ∷ []) ≡ None
+gather_other_split-quiet = refl
 
 abbrev pub discard_wiring : Parts
 discard_wiring = parts 10000 (queue (Discard 2) ∷ []) ([]) (([]) ∷ []) (arbiter kinds.Receive (branch groups.Always 0 0 (Slots (slot 0 1 Any ∷ [])) ∷ []) ∷ []) ((sent 0 1 ([]) ∷ sent 0 2 ([]) ∷ sent 0 3 ([]) ∷ sent 0 4 ([]) ∷ []) ∷ [])

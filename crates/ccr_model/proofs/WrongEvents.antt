@@ -1,4 +1,4 @@
--- Wrong events, each with its place and the rule that refuses it; fates and totals of the worked runs.
+-- Wrong events, each with its place and the rule that refuses it; fates and totals of the worked runs. The names say what each shows.
 use Rattle.std.proofs.Common.{◌≡◌, ℕ, Bool, true, false, List, [], ◌∷◌, ◌++◌, map, Option, Some, None, refl}
 use Rattle.ccr_base.specs.declared.names.TaskId.{TaskId}
 use Rattle.ccr_base.specs.declared.names.MsgId.{MsgId}
@@ -40,155 +40,185 @@ use Rattle.ccr_model.specs.Legal.{first_refusal, is_complete, is_covered}
 use Rattle.ccr_model.specs.Order.{first, finished_in}
 use Rattle.ccr_model.specs.Consequences.{keeps_laws_along}
 
-refused_by_1-1 : first_refusal one_post_wiring [] 0 (Post (message (Script 0 0) 0 8 ([])) ∷ Fire (task 1 0) (Branch 0) ((Script 0 0) ∷ []) ([]) ∷ Put (task 1 0) None ∷ Start (task 1 0) 1 ∷ End (task 1 0) ends.Done ∷ []) ≡ Some (0, 1)
-refused_by_1-1 = refl
+value_not_the_posters : first_refusal one_post_wiring [] 0 (Post (message (Script 0 0) 0 8 ([])) ∷ Fire (task 1 0) (Branch 0) ((Script 0 0) ∷ []) ([]) ∷ Put (task 1 0) None ∷ Start (task 1 0) 1 ∷ End (task 1 0) ends.Done ∷ []) ≡ Some (0, 1)
+value_not_the_posters = refl
 
-refused_by_6-1 : first_refusal one_post_wiring [] 0 (Post (message (Script 0 0) 0 7 ([])) ∷ Fire (task 1 0) (Branch 0) ((Script 0 1) ∷ []) ([]) ∷ Put (task 1 0) None ∷ Start (task 1 0) 1 ∷ End (task 1 0) ends.Done ∷ []) ≡ Some (1, 6)
-refused_by_6-1 = refl
+message_not_posted : first_refusal one_post_wiring [] 0 (Post (message (Script 0 0) 0 7 ([])) ∷ Fire (task 1 0) (Branch 0) ((Script 0 1) ∷ []) ([]) ∷ Put (task 1 0) None ∷ Start (task 1 0) 1 ∷ End (task 1 0) ends.Done ∷ []) ≡ Some (1, 6)
+message_not_posted = refl
 
-refused_by_4-1 : first_refusal one_post_wiring [] 0 (Post (message (Script 0 0) 0 7 ([])) ∷ Fire (task 33 0) (Branch 0) ((Script 0 0) ∷ []) ([]) ∷ Put (task 1 0) None ∷ Start (task 1 0) 1 ∷ End (task 1 0) ends.Done ∷ []) ≡ Some (1, 4)
-refused_by_4-1 = refl
+task_of_actor_33 : first_refusal one_post_wiring [] 0 (Post (message (Script 0 0) 0 7 ([])) ∷ Fire (task 33 0) (Branch 0) ((Script 0 0) ∷ []) ([]) ∷ Put (task 1 0) None ∷ Start (task 1 0) 1 ∷ End (task 1 0) ends.Done ∷ []) ≡ Some (1, 4)
+task_of_actor_33 = refl
 
-refused_by_8-1 : first_refusal one_post_wiring [] 0 (Post (message (Script 0 0) 0 7 ([])) ∷ Fire (task 1 0) (Branch 0) ((Script 0 0) ∷ []) ((task 1 0) ∷ []) ∷ Put (task 1 0) None ∷ Start (task 1 0) 1 ∷ End (task 1 0) ends.Done ∷ []) ≡ Some (1, 8)
-refused_by_8-1 = refl
+cut_without_teardown : first_refusal one_post_wiring [] 0 (Post (message (Script 0 0) 0 7 ([])) ∷ Fire (task 1 0) (Branch 0) ((Script 0 0) ∷ []) ((task 1 0) ∷ []) ∷ Put (task 1 0) None ∷ Start (task 1 0) 1 ∷ End (task 1 0) ends.Done ∷ []) ≡ Some (1, 8)
+cut_without_teardown = refl
 
-refused_by_4-2 : first_refusal one_post_wiring [] 0 (Post (message (Script 0 0) 0 7 ([])) ∷ Fire (task 1 0) (Branch 0) ((Script 0 0) ∷ []) ([]) ∷ Fire (task 1 0) (Branch 0) ((Script 0 0) ∷ []) ([]) ∷ Put (task 1 0) None ∷ Start (task 1 0) 1 ∷ End (task 1 0) ends.Done ∷ []) ≡ Some (2, 4)
-refused_by_4-2 = refl
+fire_twice : first_refusal one_post_wiring [] 0 (Post (message (Script 0 0) 0 7 ([])) ∷ Fire (task 1 0) (Branch 0) ((Script 0 0) ∷ []) ([]) ∷ Fire (task 1 0) (Branch 0) ((Script 0 0) ∷ []) ([]) ∷ Put (task 1 0) None ∷ Start (task 1 0) 1 ∷ End (task 1 0) ends.Done ∷ []) ≡ Some (2, 4)
+fire_twice = refl
 
-refused_by_11-1 : first_refusal one_post_wiring [] 0 (Post (message (Script 0 0) 0 7 ([])) ∷ Put (task 1 0) None ∷ Start (task 1 0) 1 ∷ End (task 1 0) ends.Done ∷ []) ≡ Some (1, 11)
-refused_by_11-1 = refl
+fire_missing : first_refusal one_post_wiring [] 0 (Post (message (Script 0 0) 0 7 ([])) ∷ Put (task 1 0) None ∷ Start (task 1 0) 1 ∷ End (task 1 0) ends.Done ∷ []) ≡ Some (1, 11)
+fire_missing = refl
 
-refused_by_9-1 : first_refusal one_post_wiring [] 0 (Post (message (Script 0 0) 0 7 ([])) ∷ Fire (task 1 0) (Branch 0) ((Script 0 0) ∷ []) ([]) ∷ Admit (task 1 0) ∷ Put (task 1 0) None ∷ Start (task 1 0) 1 ∷ End (task 1 0) ends.Done ∷ []) ≡ Some (2, 9)
-refused_by_9-1 = refl
+admit_without_interleave : first_refusal one_post_wiring [] 0 (Post (message (Script 0 0) 0 7 ([])) ∷ Fire (task 1 0) (Branch 0) ((Script 0 0) ∷ []) ([]) ∷ Admit (task 1 0) ∷ Put (task 1 0) None ∷ Start (task 1 0) 1 ∷ End (task 1 0) ends.Done ∷ []) ≡ Some (2, 9)
+admit_without_interleave = refl
 
-refused_by_12-1 : first_refusal one_post_wiring [] 0 (Post (message (Script 0 0) 0 7 ([])) ∷ Fire (task 1 0) (Branch 0) ((Script 0 0) ∷ []) ([]) ∷ Put (task 1 0) (Some (task 1 0)) ∷ Start (task 1 0) 1 ∷ End (task 1 0) ends.Done ∷ []) ≡ Some (2, 12)
-refused_by_12-1 = refl
+drop_without_discard : first_refusal one_post_wiring [] 0 (Post (message (Script 0 0) 0 7 ([])) ∷ Fire (task 1 0) (Branch 0) ((Script 0 0) ∷ []) ([]) ∷ Put (task 1 0) (Some (task 1 0)) ∷ Start (task 1 0) 1 ∷ End (task 1 0) ends.Done ∷ []) ≡ Some (2, 12)
+drop_without_discard = refl
 
-refused_by_14-1 : first_refusal one_post_wiring [] 0 (Post (message (Script 0 0) 0 7 ([])) ∷ Fire (task 1 0) (Branch 0) ((Script 0 0) ∷ []) ([]) ∷ Put (task 1 0) None ∷ Start (task 1 0) 0 ∷ End (task 1 0) ends.Done ∷ []) ≡ Some (3, 14)
-refused_by_14-1 = refl
+poster_starts : first_refusal one_post_wiring [] 0 (Post (message (Script 0 0) 0 7 ([])) ∷ Fire (task 1 0) (Branch 0) ((Script 0 0) ∷ []) ([]) ∷ Put (task 1 0) None ∷ Start (task 1 0) 0 ∷ End (task 1 0) ends.Done ∷ []) ≡ Some (3, 14)
+poster_starts = refl
 
-refused_by_16-1 : first_refusal one_post_wiring [] 0 (Post (message (Script 0 0) 0 7 ([])) ∷ Fire (task 1 0) (Branch 0) ((Script 0 0) ∷ []) ([]) ∷ Put (task 1 0) None ∷ Start (task 1 0) 1 ∷ End (task 1 0) ends.Shed ∷ []) ≡ Some (4, 16)
-refused_by_16-1 = refl
+shed_without_posts : first_refusal one_post_wiring [] 0 (Post (message (Script 0 0) 0 7 ([])) ∷ Fire (task 1 0) (Branch 0) ((Script 0 0) ∷ []) ([]) ∷ Put (task 1 0) None ∷ Start (task 1 0) 1 ∷ End (task 1 0) ends.Shed ∷ []) ≡ Some (4, 16)
+shed_without_posts = refl
 
-refused_by_15-1 : first_refusal one_post_wiring [] 0 (Post (message (Script 0 0) 0 7 ([])) ∷ Fire (task 1 0) (Branch 0) ((Script 0 0) ∷ []) ([]) ∷ Put (task 1 0) None ∷ Start (task 1 0) 1 ∷ End (task 1 0) ends.Done ∷ End (task 1 0) ends.Done ∷ []) ≡ Some (5, 15)
-refused_by_15-1 = refl
+end_twice : first_refusal one_post_wiring [] 0 (Post (message (Script 0 0) 0 7 ([])) ∷ Fire (task 1 0) (Branch 0) ((Script 0 0) ∷ []) ([]) ∷ Put (task 1 0) None ∷ Start (task 1 0) 1 ∷ End (task 1 0) ends.Done ∷ End (task 1 0) ends.Done ∷ []) ≡ Some (5, 15)
+end_twice = refl
 
-refused_by_5-1 : first_refusal once_keeps_second_wiring [] 0 (Post (message (Script 0 0) 0 7 ([])) ∷ Post (message (Script 0 1) 0 8 ([])) ∷ Fire (task 1 0) (Branch 0) ((Script 0 0) ∷ []) ([]) ∷ Fire (task 1 1) (Branch 0) ((Script 0 1) ∷ []) ([]) ∷ []) ≡ Some (3, 5)
-refused_by_5-1 = refl
+once_receiver_fires_again : first_refusal once_keeps_second_wiring [] 0 (Post (message (Script 0 0) 0 7 ([])) ∷ Post (message (Script 0 1) 0 8 ([])) ∷ Fire (task 1 0) (Branch 0) ((Script 0 0) ∷ []) ([]) ∷ Fire (task 1 1) (Branch 0) ((Script 0 1) ∷ []) ([]) ∷ []) ≡ Some (3, 5)
+once_receiver_fires_again = refl
 
-refused_by_5-2 : first_refusal choice_wiring [] 0 (Post (message (Script 0 0) 0 1 ([])) ∷ Post (message (Script 0 1) 1 2 ([])) ∷ Fire (task 1 0) (Branch 0) ((Script 0 0) ∷ []) ([]) ∷ Fire (task 1 1) (Branch 1) ((Script 0 1) ∷ []) ([]) ∷ []) ≡ Some (3, 5)
-refused_by_5-2 = refl
+second_branch_of_a_choice : first_refusal choice_wiring [] 0 (Post (message (Script 0 0) 0 1 ([])) ∷ Post (message (Script 0 1) 1 2 ([])) ∷ Fire (task 1 0) (Branch 0) ((Script 0 0) ∷ []) ([]) ∷ Fire (task 1 1) (Branch 1) ((Script 0 1) ∷ []) ([]) ∷ []) ≡ Some (3, 5)
+second_branch_of_a_choice = refl
 
-refused_by_7-1 : first_refusal throttle_wiring [] 0 (Post (message (Script 0 0) 0 1 ([])) ∷ Post (message (Script 0 1) 0 2 ([])) ∷ Post (message (Script 0 2) 0 3 ([])) ∷ Fire (task 1 0) (Branch 0) ((Script 0 0) ∷ []) ([]) ∷ Fire (task 1 1) (Branch 0) ((Script 0 1) ∷ []) ([]) ∷ []) ≡ Some (4, 7)
-refused_by_7-1 = refl
+throttle_full_of_a_task_on_its_way : first_refusal throttle_wiring [] 0 (Post (message (Script 0 0) 0 1 ([])) ∷ Post (message (Script 0 1) 0 2 ([])) ∷ Post (message (Script 0 2) 0 3 ([])) ∷ Fire (task 1 0) (Branch 0) ((Script 0 0) ∷ []) ([]) ∷ Fire (task 1 1) (Branch 0) ((Script 0 1) ∷ []) ([]) ∷ []) ≡ Some (4, 7)
+throttle_full_of_a_task_on_its_way = refl
 
-refused_by_7-2 : first_refusal throttle_wiring [] 0 (Post (message (Script 0 0) 0 1 ([])) ∷ Post (message (Script 0 1) 0 2 ([])) ∷ Post (message (Script 0 2) 0 3 ([])) ∷ Fire (task 1 0) (Branch 0) ((Script 0 0) ∷ []) ([]) ∷ Put (task 1 0) None ∷ Fire (task 1 1) (Branch 0) ((Script 0 1) ∷ []) ([]) ∷ []) ≡ Some (5, 7)
-refused_by_7-2 = refl
+throttle_full_of_a_queued_task : first_refusal throttle_wiring [] 0 (Post (message (Script 0 0) 0 1 ([])) ∷ Post (message (Script 0 1) 0 2 ([])) ∷ Post (message (Script 0 2) 0 3 ([])) ∷ Fire (task 1 0) (Branch 0) ((Script 0 0) ∷ []) ([]) ∷ Put (task 1 0) None ∷ Fire (task 1 1) (Branch 0) ((Script 0 1) ∷ []) ([]) ∷ []) ≡ Some (5, 7)
+throttle_full_of_a_queued_task = refl
 
-refused_by_10-1 : first_refusal interleave_groups_wiring [] 0 (Post (message (Script 0 0) 0 1 ([])) ∷ Post (message (Script 0 1) 1 2 ([])) ∷ Post (message (Script 0 2) 2 3 ([])) ∷ Fire (task 1 0) (Branch 0) ((Script 0 0) ∷ []) ([]) ∷ Fire (task 1 1) (Branch 1) ((Script 0 1) ∷ []) ([]) ∷ Fire (task 1 2) (Branch 2) ((Script 0 2) ∷ []) ([]) ∷ Admit (task 1 0) ∷ Put (task 1 0) None ∷ Start (task 1 0) 1 ∷ Admit (task 1 1) ∷ []) ≡ Some (9, 10)
-refused_by_10-1 = refl
+exclusive_beside_concurrent : first_refusal interleave_groups_wiring [] 0 (Post (message (Script 0 0) 0 1 ([])) ∷ Post (message (Script 0 1) 1 2 ([])) ∷ Post (message (Script 0 2) 2 3 ([])) ∷ Fire (task 1 0) (Branch 0) ((Script 0 0) ∷ []) ([]) ∷ Fire (task 1 1) (Branch 1) ((Script 0 1) ∷ []) ([]) ∷ Fire (task 1 2) (Branch 2) ((Script 0 2) ∷ []) ([]) ∷ Admit (task 1 0) ∷ Put (task 1 0) None ∷ Start (task 1 0) 1 ∷ Admit (task 1 1) ∷ []) ≡ Some (9, 10)
+exclusive_beside_concurrent = refl
 
-refused_by_13-1 : first_refusal discard_wiring [] 0 (Post (message (Script 0 0) 0 1 ([])) ∷ Post (message (Script 0 1) 0 2 ([])) ∷ Post (message (Script 0 2) 0 3 ([])) ∷ Post (message (Script 0 3) 0 4 ([])) ∷ Fire (task 1 0) (Branch 0) ((Script 0 0) ∷ []) ([]) ∷ Fire (task 1 1) (Branch 0) ((Script 0 1) ∷ []) ([]) ∷ Fire (task 1 2) (Branch 0) ((Script 0 2) ∷ []) ([]) ∷ Fire (task 1 3) (Branch 0) ((Script 0 3) ∷ []) ([]) ∷ Put (task 1 0) None ∷ Put (task 1 1) None ∷ Put (task 1 2) (Some (task 1 0)) ∷ Put (task 1 3) (Some (task 1 1)) ∷ Start (task 1 3) 1 ∷ []) ≡ Some (12, 13)
-refused_by_13-1 = refl
+newest_starts_first : first_refusal discard_wiring [] 0 (Post (message (Script 0 0) 0 1 ([])) ∷ Post (message (Script 0 1) 0 2 ([])) ∷ Post (message (Script 0 2) 0 3 ([])) ∷ Post (message (Script 0 3) 0 4 ([])) ∷ Fire (task 1 0) (Branch 0) ((Script 0 0) ∷ []) ([]) ∷ Fire (task 1 1) (Branch 0) ((Script 0 1) ∷ []) ([]) ∷ Fire (task 1 2) (Branch 0) ((Script 0 2) ∷ []) ([]) ∷ Fire (task 1 3) (Branch 0) ((Script 0 3) ∷ []) ([]) ∷ Put (task 1 0) None ∷ Put (task 1 1) None ∷ Put (task 1 2) (Some (task 1 0)) ∷ Put (task 1 3) (Some (task 1 1)) ∷ Start (task 1 3) 1 ∷ []) ≡ Some (12, 13)
+newest_starts_first = refl
 
-refused_by_2-1 : first_refusal budget_shed_wiring [] 0 (Post (message (Script 0 0) 0 5 ([])) ∷ Fire (task 1 0) (Branch 0) ((Script 0 0) ∷ []) ([]) ∷ Put (task 1 0) None ∷ Start (task 1 0) 1 ∷ Post (message (Task (task 1 0) 0) 0 6 ([])) ∷ []) ≡ Some (4, 2)
-refused_by_2-1 = refl
+task_posts_another_value : first_refusal budget_shed_wiring [] 0 (Post (message (Script 0 0) 0 5 ([])) ∷ Fire (task 1 0) (Branch 0) ((Script 0 0) ∷ []) ([]) ∷ Put (task 1 0) None ∷ Start (task 1 0) 1 ∷ Post (message (Task (task 1 0) 0) 0 6 ([])) ∷ []) ≡ Some (4, 2)
+task_posts_another_value = refl
 
-refused_by_2-2 : first_refusal budget_shed_wiring [] 0 (Post (message (Script 0 0) 0 5 ([])) ∷ Fire (task 1 0) (Branch 0) ((Script 0 0) ∷ []) ([]) ∷ Put (task 1 0) None ∷ Start (task 1 0) 1 ∷ Post (message (Task (task 1 0) 1) 0 5 ([])) ∷ []) ≡ Some (4, 2)
-refused_by_2-2 = refl
+task_posts_out_of_turn : first_refusal budget_shed_wiring [] 0 (Post (message (Script 0 0) 0 5 ([])) ∷ Fire (task 1 0) (Branch 0) ((Script 0 0) ∷ []) ([]) ∷ Put (task 1 0) None ∷ Start (task 1 0) 1 ∷ Post (message (Task (task 1 0) 1) 0 5 ([])) ∷ []) ≡ Some (4, 2)
+task_posts_out_of_turn = refl
 
-refused_by_2-3 : first_refusal budget_shed_wiring [] 0 (Post (message (Script 0 0) 0 5 ([])) ∷ Fire (task 1 0) (Branch 0) ((Script 0 0) ∷ []) ([]) ∷ Put (task 1 0) None ∷ Start (task 1 0) 1 ∷ Post (message (Task (task 1 0) 0) 0 5 ([])) ∷ Fire (task 1 1) (Branch 0) ((Task (task 1 0) 0) ∷ []) ([]) ∷ Put (task 1 1) None ∷ End (task 1 0) ends.Done ∷ Start (task 1 1) 1 ∷ Post (message (Task (task 1 1) 0) 0 5 ([])) ∷ Fire (task 1 2) (Branch 0) ((Task (task 1 1) 0) ∷ []) ([]) ∷ Put (task 1 2) None ∷ End (task 1 1) ends.Done ∷ Start (task 1 2) 1 ∷ Post (message (Task (task 1 2) 0) 0 5 ([])) ∷ Fire (task 1 3) (Branch 0) ((Task (task 1 2) 0) ∷ []) ([]) ∷ Put (task 1 3) None ∷ End (task 1 2) ends.Done ∷ Post (message (Task (task 1 3) 0) 0 5 ([])) ∷ []) ≡ Some (18, 2)
-refused_by_2-3 = refl
+task_posts_before_its_start : first_refusal budget_shed_wiring [] 0 (Post (message (Script 0 0) 0 5 ([])) ∷ Fire (task 1 0) (Branch 0) ((Script 0 0) ∷ []) ([]) ∷ Put (task 1 0) None ∷ Start (task 1 0) 1 ∷ Post (message (Task (task 1 0) 0) 0 5 ([])) ∷ Fire (task 1 1) (Branch 0) ((Task (task 1 0) 0) ∷ []) ([]) ∷ Put (task 1 1) None ∷ End (task 1 0) ends.Done ∷ Start (task 1 1) 1 ∷ Post (message (Task (task 1 1) 0) 0 5 ([])) ∷ Fire (task 1 2) (Branch 0) ((Task (task 1 1) 0) ∷ []) ([]) ∷ Put (task 1 2) None ∷ End (task 1 1) ends.Done ∷ Start (task 1 2) 1 ∷ Post (message (Task (task 1 2) 0) 0 5 ([])) ∷ Fire (task 1 3) (Branch 0) ((Task (task 1 2) 0) ∷ []) ([]) ∷ Put (task 1 3) None ∷ End (task 1 2) ends.Done ∷ Post (message (Task (task 1 3) 0) 0 5 ([])) ∷ []) ≡ Some (18, 2)
+task_posts_before_its_start = refl
 
-refused_by_3-1 : first_refusal budget_shed_wiring [] 0 (Post (message (Script 0 0) 0 5 ([])) ∷ Fire (task 1 0) (Branch 0) ((Script 0 0) ∷ []) ([]) ∷ Put (task 1 0) None ∷ Start (task 1 0) 1 ∷ Post (message (Task (task 1 0) 0) 0 5 ([])) ∷ Fire (task 1 1) (Branch 0) ((Task (task 1 0) 0) ∷ []) ([]) ∷ Put (task 1 1) None ∷ End (task 1 0) ends.Done ∷ Start (task 1 1) 1 ∷ Post (message (Task (task 1 1) 0) 0 5 ([])) ∷ Fire (task 1 2) (Branch 0) ((Task (task 1 1) 0) ∷ []) ([]) ∷ Put (task 1 2) None ∷ End (task 1 1) ends.Done ∷ Start (task 1 2) 1 ∷ Post (message (Task (task 1 2) 0) 0 5 ([])) ∷ Fire (task 1 3) (Branch 0) ((Task (task 1 2) 0) ∷ []) ([]) ∷ Put (task 1 3) None ∷ End (task 1 2) ends.Done ∷ Start (task 1 3) 1 ∷ Post (message (Task (task 1 3) 0) 0 5 ([])) ∷ []) ≡ Some (19, 3)
-refused_by_3-1 = refl
+task_posts_beyond_the_budget : first_refusal budget_shed_wiring [] 0 (Post (message (Script 0 0) 0 5 ([])) ∷ Fire (task 1 0) (Branch 0) ((Script 0 0) ∷ []) ([]) ∷ Put (task 1 0) None ∷ Start (task 1 0) 1 ∷ Post (message (Task (task 1 0) 0) 0 5 ([])) ∷ Fire (task 1 1) (Branch 0) ((Task (task 1 0) 0) ∷ []) ([]) ∷ Put (task 1 1) None ∷ End (task 1 0) ends.Done ∷ Start (task 1 1) 1 ∷ Post (message (Task (task 1 1) 0) 0 5 ([])) ∷ Fire (task 1 2) (Branch 0) ((Task (task 1 1) 0) ∷ []) ([]) ∷ Put (task 1 2) None ∷ End (task 1 1) ends.Done ∷ Start (task 1 2) 1 ∷ Post (message (Task (task 1 2) 0) 0 5 ([])) ∷ Fire (task 1 3) (Branch 0) ((Task (task 1 2) 0) ∷ []) ([]) ∷ Put (task 1 3) None ∷ End (task 1 2) ends.Done ∷ Start (task 1 3) 1 ∷ Post (message (Task (task 1 3) 0) 0 5 ([])) ∷ []) ≡ Some (19, 3)
+task_posts_beyond_the_budget = refl
 
-refused_by_16-2 : first_refusal budget_shed_wiring [] 0 (Post (message (Script 0 0) 0 5 ([])) ∷ Fire (task 1 0) (Branch 0) ((Script 0 0) ∷ []) ([]) ∷ Put (task 1 0) None ∷ Start (task 1 0) 1 ∷ End (task 1 0) ends.Shed ∷ []) ≡ Some (4, 16)
-refused_by_16-2 = refl
+shed_with_budget_left : first_refusal budget_shed_wiring [] 0 (Post (message (Script 0 0) 0 5 ([])) ∷ Fire (task 1 0) (Branch 0) ((Script 0 0) ∷ []) ([]) ∷ Put (task 1 0) None ∷ Start (task 1 0) 1 ∷ End (task 1 0) ends.Shed ∷ []) ≡ Some (4, 16)
+shed_with_budget_left = refl
 
-refused_by_16-3 : first_refusal budget_shed_wiring [] 0 (Post (message (Script 0 0) 0 5 ([])) ∷ Fire (task 1 0) (Branch 0) ((Script 0 0) ∷ []) ([]) ∷ Put (task 1 0) None ∷ Start (task 1 0) 1 ∷ End (task 1 0) ends.Done ∷ []) ≡ Some (4, 16)
-refused_by_16-3 = refl
+done_with_a_post_left : first_refusal budget_shed_wiring [] 0 (Post (message (Script 0 0) 0 5 ([])) ∷ Fire (task 1 0) (Branch 0) ((Script 0 0) ∷ []) ([]) ∷ Put (task 1 0) None ∷ Start (task 1 0) 1 ∷ End (task 1 0) ends.Done ∷ []) ≡ Some (4, 16)
+done_with_a_post_left = refl
 
-refused_by_6-2 : first_refusal gather_wiring [] 0 (Post (message (Script 0 0) 0 1 ([])) ∷ Post (message (Script 0 1) 1 2 ([])) ∷ Post (message (Script 0 2) 1 3 ([])) ∷ Post (message (Script 0 3) 0 4 ([])) ∷ Fire (task 1 0) (Branch 0) ((Script 0 3) ∷ (Script 0 0) ∷ (Script 0 1) ∷ []) ([]) ∷ []) ≡ Some (4, 6)
-refused_by_6-2 = refl
+gather_of_the_newer_first : first_refusal gather_wiring [] 0 (Post (message (Script 0 0) 0 1 ([])) ∷ Post (message (Script 0 1) 1 2 ([])) ∷ Post (message (Script 0 2) 1 3 ([])) ∷ Post (message (Script 0 3) 0 4 ([])) ∷ Fire (task 1 0) (Branch 0) ((Script 0 3) ∷ (Script 0 0) ∷ (Script 0 1) ∷ []) ([]) ∷ []) ≡ Some (4, 6)
+gather_of_the_newer_first = refl
 
-refused_by_6-3 : first_refusal gather_wiring [] 0 (Post (message (Script 0 0) 0 1 ([])) ∷ Post (message (Script 0 1) 1 2 ([])) ∷ Post (message (Script 0 2) 1 3 ([])) ∷ Post (message (Script 0 3) 0 4 ([])) ∷ Fire (task 1 0) (Branch 0) ((Script 0 1) ∷ (Script 0 2) ∷ (Script 0 0) ∷ []) ([]) ∷ []) ≡ Some (4, 6)
-refused_by_6-3 = refl
+gather_of_the_second_port_first : first_refusal gather_wiring [] 0 (Post (message (Script 0 0) 0 1 ([])) ∷ Post (message (Script 0 1) 1 2 ([])) ∷ Post (message (Script 0 2) 1 3 ([])) ∷ Post (message (Script 0 3) 0 4 ([])) ∷ Fire (task 1 0) (Branch 0) ((Script 0 1) ∷ (Script 0 2) ∷ (Script 0 0) ∷ []) ([]) ∷ []) ≡ Some (4, 6)
+gather_of_the_second_port_first = refl
 
-refused_by_6-4 : first_refusal gather_wiring [] 0 (Post (message (Script 0 0) 0 1 ([])) ∷ Post (message (Script 0 1) 1 2 ([])) ∷ Post (message (Script 0 2) 1 3 ([])) ∷ Post (message (Script 0 3) 0 4 ([])) ∷ Fire (task 1 0) (Branch 0) ((Script 0 0) ∷ (Script 0 3) ∷ []) ([]) ∷ []) ≡ Some (4, 6)
-refused_by_6-4 = refl
+gather_of_too_few : first_refusal gather_wiring [] 0 (Post (message (Script 0 0) 0 1 ([])) ∷ Post (message (Script 0 1) 1 2 ([])) ∷ Post (message (Script 0 2) 1 3 ([])) ∷ Post (message (Script 0 3) 0 4 ([])) ∷ Fire (task 1 0) (Branch 0) ((Script 0 0) ∷ (Script 0 3) ∷ []) ([]) ∷ []) ≡ Some (4, 6)
+gather_of_too_few = refl
 
-refused_by_8-2 : first_refusal teardown_cuts_wiring [] 0 (Post (message (Script 0 0) 0 1 ([])) ∷ Post (message (Script 0 1) 0 2 ([])) ∷ Post (message (Script 0 2) 1 3 ([])) ∷ Fire (task 1 0) (Branch 0) ((Script 0 0) ∷ []) ([]) ∷ Fire (task 1 1) (Branch 0) ((Script 0 1) ∷ []) ([]) ∷ Fire (task 1 2) (Branch 1) ((Script 0 2) ∷ []) ((task 1 0) ∷ []) ∷ []) ≡ Some (5, 8)
-refused_by_8-2 = refl
+teardown_cuts_one_of_two : first_refusal teardown_cuts_wiring [] 0 (Post (message (Script 0 0) 0 1 ([])) ∷ Post (message (Script 0 1) 0 2 ([])) ∷ Post (message (Script 0 2) 1 3 ([])) ∷ Fire (task 1 0) (Branch 0) ((Script 0 0) ∷ []) ([]) ∷ Fire (task 1 1) (Branch 0) ((Script 0 1) ∷ []) ([]) ∷ Fire (task 1 2) (Branch 1) ((Script 0 2) ∷ []) ((task 1 0) ∷ []) ∷ []) ≡ Some (5, 8)
+teardown_cuts_one_of_two = refl
 
-refused_by_8-3 : first_refusal teardown_cuts_wiring [] 0 (Post (message (Script 0 0) 0 1 ([])) ∷ Post (message (Script 0 1) 0 2 ([])) ∷ Post (message (Script 0 2) 1 3 ([])) ∷ Fire (task 1 0) (Branch 0) ((Script 0 0) ∷ []) ([]) ∷ Fire (task 1 1) (Branch 0) ((Script 0 1) ∷ []) ([]) ∷ Fire (task 1 2) (Branch 1) ((Script 0 2) ∷ []) ([]) ∷ []) ≡ Some (5, 8)
-refused_by_8-3 = refl
+teardown_cuts_nothing : first_refusal teardown_cuts_wiring [] 0 (Post (message (Script 0 0) 0 1 ([])) ∷ Post (message (Script 0 1) 0 2 ([])) ∷ Post (message (Script 0 2) 1 3 ([])) ∷ Fire (task 1 0) (Branch 0) ((Script 0 0) ∷ []) ([]) ∷ Fire (task 1 1) (Branch 0) ((Script 0 1) ∷ []) ([]) ∷ Fire (task 1 2) (Branch 1) ((Script 0 2) ∷ []) ([]) ∷ []) ≡ Some (5, 8)
+teardown_cuts_nothing = refl
 
-refused_by_11-2 : first_refusal teardown_cuts_wiring [] 0 (Post (message (Script 0 0) 0 1 ([])) ∷ Post (message (Script 0 1) 0 2 ([])) ∷ Post (message (Script 0 2) 1 3 ([])) ∷ Fire (task 1 0) (Branch 0) ((Script 0 0) ∷ []) ([]) ∷ Fire (task 1 1) (Branch 0) ((Script 0 1) ∷ []) ([]) ∷ Fire (task 1 2) (Branch 1) ((Script 0 2) ∷ []) ((task 1 0) ∷ (task 1 1) ∷ []) ∷ Put (task 1 0) None ∷ []) ≡ Some (6, 11)
-refused_by_11-2 = refl
+cut_task_is_put : first_refusal teardown_cuts_wiring [] 0 (Post (message (Script 0 0) 0 1 ([])) ∷ Post (message (Script 0 1) 0 2 ([])) ∷ Post (message (Script 0 2) 1 3 ([])) ∷ Fire (task 1 0) (Branch 0) ((Script 0 0) ∷ []) ([]) ∷ Fire (task 1 1) (Branch 0) ((Script 0 1) ∷ []) ([]) ∷ Fire (task 1 2) (Branch 1) ((Script 0 2) ∷ []) ((task 1 0) ∷ (task 1 1) ∷ []) ∷ Put (task 1 0) None ∷ []) ≡ Some (6, 11)
+cut_task_is_put = refl
 
-refused_by_16-4 : first_refusal await_wiring [] 0 (Post (message (Script 0 0) 0 1 ([])) ∷ Post (message (Script 0 1) 2 2 ([])) ∷ Post (message (Script 0 2) 1 3 ([])) ∷ Fire (task 1 0) (Branch 0) ((Script 0 0) ∷ []) ([]) ∷ Fire (task 1 1) (Branch 1) ((Script 0 1) ∷ []) ([]) ∷ Admit (task 1 0) ∷ Put (task 1 0) None ∷ Start (task 1 0) 1 ∷ End (task 1 0) ends.Done ∷ []) ≡ Some (8, 16)
-refused_by_16-4 = refl
+done_at_an_await : first_refusal await_wiring [] 0 (Post (message (Script 0 0) 0 1 ([])) ∷ Post (message (Script 0 1) 2 2 ([])) ∷ Post (message (Script 0 2) 1 3 ([])) ∷ Fire (task 1 0) (Branch 0) ((Script 0 0) ∷ []) ([]) ∷ Fire (task 1 1) (Branch 1) ((Script 0 1) ∷ []) ([]) ∷ Admit (task 1 0) ∷ Put (task 1 0) None ∷ Start (task 1 0) 1 ∷ End (task 1 0) ends.Done ∷ []) ≡ Some (8, 16)
+done_at_an_await = refl
 
-refused_by_5-3 : first_refusal await_wiring [] 0 (Post (message (Script 0 0) 0 1 ([])) ∷ Post (message (Script 0 1) 2 2 ([])) ∷ Post (message (Script 0 2) 1 3 ([])) ∷ Fire (task 1 0) (Branch 0) ((Script 0 0) ∷ []) ([]) ∷ Fire (task 1 1) (Branch 1) ((Script 0 1) ∷ []) ([]) ∷ Admit (task 1 0) ∷ Put (task 1 0) None ∷ Start (task 1 0) 1 ∷ Fire (task 1 2) (Site 0 0) ((Script 0 2) ∷ []) ([]) ∷ []) ≡ Some (8, 5)
-refused_by_5-3 = refl
+resumed_before_its_yield : first_refusal await_wiring [] 0 (Post (message (Script 0 0) 0 1 ([])) ∷ Post (message (Script 0 1) 2 2 ([])) ∷ Post (message (Script 0 2) 1 3 ([])) ∷ Fire (task 1 0) (Branch 0) ((Script 0 0) ∷ []) ([]) ∷ Fire (task 1 1) (Branch 1) ((Script 0 1) ∷ []) ([]) ∷ Admit (task 1 0) ∷ Put (task 1 0) None ∷ Start (task 1 0) 1 ∷ Fire (task 1 2) (Site 0 0) ((Script 0 2) ∷ []) ([]) ∷ []) ≡ Some (8, 5)
+resumed_before_its_yield = refl
 
-refused_by_6-5 : first_refusal await_wiring [] 0 (Post (message (Script 0 0) 0 1 ([])) ∷ Post (message (Script 0 1) 2 2 ([])) ∷ Post (message (Script 0 2) 1 3 ([])) ∷ Fire (task 1 0) (Branch 0) ((Script 0 0) ∷ []) ([]) ∷ Fire (task 1 1) (Branch 1) ((Script 0 1) ∷ []) ([]) ∷ Admit (task 1 0) ∷ Put (task 1 0) None ∷ Start (task 1 0) 1 ∷ End (task 1 0) ends.Yield ∷ Fire (task 1 2) (Site 0 0) ((Script 0 1) ∷ []) ([]) ∷ []) ≡ Some (9, 6)
-refused_by_6-5 = refl
+resumed_by_a_message_of_another_port : first_refusal await_wiring [] 0 (Post (message (Script 0 0) 0 1 ([])) ∷ Post (message (Script 0 1) 2 2 ([])) ∷ Post (message (Script 0 2) 1 3 ([])) ∷ Fire (task 1 0) (Branch 0) ((Script 0 0) ∷ []) ([]) ∷ Fire (task 1 1) (Branch 1) ((Script 0 1) ∷ []) ([]) ∷ Admit (task 1 0) ∷ Put (task 1 0) None ∷ Start (task 1 0) 1 ∷ End (task 1 0) ends.Yield ∷ Fire (task 1 2) (Site 0 0) ((Script 0 1) ∷ []) ([]) ∷ []) ≡ Some (9, 6)
+resumed_by_a_message_of_another_port = refl
 
-refused_by_10-2 : first_refusal await_wiring [] 0 (Post (message (Script 0 0) 0 1 ([])) ∷ Post (message (Script 0 1) 2 2 ([])) ∷ Post (message (Script 0 2) 1 3 ([])) ∷ Fire (task 1 0) (Branch 0) ((Script 0 0) ∷ []) ([]) ∷ Fire (task 1 1) (Branch 1) ((Script 0 1) ∷ []) ([]) ∷ Admit (task 1 0) ∷ Put (task 1 0) None ∷ Start (task 1 0) 1 ∷ End (task 1 0) ends.Yield ∷ Admit (task 1 1) ∷ []) ≡ Some (9, 10)
-refused_by_10-2 = refl
+concurrent_beside_a_suspended_exclusive : first_refusal await_wiring [] 0 (Post (message (Script 0 0) 0 1 ([])) ∷ Post (message (Script 0 1) 2 2 ([])) ∷ Post (message (Script 0 2) 1 3 ([])) ∷ Fire (task 1 0) (Branch 0) ((Script 0 0) ∷ []) ([]) ∷ Fire (task 1 1) (Branch 1) ((Script 0 1) ∷ []) ([]) ∷ Admit (task 1 0) ∷ Put (task 1 0) None ∷ Start (task 1 0) 1 ∷ End (task 1 0) ends.Yield ∷ Admit (task 1 1) ∷ []) ≡ Some (9, 10)
+concurrent_beside_a_suspended_exclusive = refl
 
-refused_by_10-3 : first_refusal await_teardown_waits_wiring [] 0 (Post (message (Script 0 0) 0 1 ([])) ∷ Fire (task 1 0) (Branch 0) ((Script 0 0) ∷ []) ([]) ∷ Admit (task 1 0) ∷ Put (task 1 0) None ∷ Start (task 1 0) 1 ∷ Post (message (Task (task 1 0) 0) 2 1 ([])) ∷ Fire (task 1 1) (Branch 1) ((Task (task 1 0) 0) ∷ []) ([]) ∷ End (task 1 0) ends.Yield ∷ Admit (task 1 1) ∷ []) ≡ Some (8, 10)
-refused_by_10-3 = refl
+teardown_beside_a_suspended_exclusive : first_refusal await_teardown_waits_wiring [] 0 (Post (message (Script 0 0) 0 1 ([])) ∷ Fire (task 1 0) (Branch 0) ((Script 0 0) ∷ []) ([]) ∷ Admit (task 1 0) ∷ Put (task 1 0) None ∷ Start (task 1 0) 1 ∷ Post (message (Task (task 1 0) 0) 2 1 ([])) ∷ Fire (task 1 1) (Branch 1) ((Task (task 1 0) 0) ∷ []) ([]) ∷ End (task 1 0) ends.Yield ∷ Admit (task 1 1) ∷ []) ≡ Some (8, 10)
+teardown_beside_a_suspended_exclusive = refl
 
-refused_by_12-2 : first_refusal discard_wiring [] 0 (Post (message (Script 0 0) 0 1 ([])) ∷ Post (message (Script 0 1) 0 2 ([])) ∷ Post (message (Script 0 2) 0 3 ([])) ∷ Post (message (Script 0 3) 0 4 ([])) ∷ Fire (task 1 0) (Branch 0) ((Script 0 0) ∷ []) ([]) ∷ Fire (task 1 1) (Branch 0) ((Script 0 1) ∷ []) ([]) ∷ Fire (task 1 2) (Branch 0) ((Script 0 2) ∷ []) ([]) ∷ Fire (task 1 3) (Branch 0) ((Script 0 3) ∷ []) ([]) ∷ Put (task 1 0) None ∷ Put (task 1 1) None ∷ Put (task 1 2) None ∷ []) ≡ Some (10, 12)
-refused_by_12-2 = refl
+full_queue_drops_nothing : first_refusal discard_wiring [] 0 (Post (message (Script 0 0) 0 1 ([])) ∷ Post (message (Script 0 1) 0 2 ([])) ∷ Post (message (Script 0 2) 0 3 ([])) ∷ Post (message (Script 0 3) 0 4 ([])) ∷ Fire (task 1 0) (Branch 0) ((Script 0 0) ∷ []) ([]) ∷ Fire (task 1 1) (Branch 0) ((Script 0 1) ∷ []) ([]) ∷ Fire (task 1 2) (Branch 0) ((Script 0 2) ∷ []) ([]) ∷ Fire (task 1 3) (Branch 0) ((Script 0 3) ∷ []) ([]) ∷ Put (task 1 0) None ∷ Put (task 1 1) None ∷ Put (task 1 2) None ∷ []) ≡ Some (10, 12)
+full_queue_drops_nothing = refl
 
-refused_by_12-3 : first_refusal discard_wiring [] 0 (Post (message (Script 0 0) 0 1 ([])) ∷ Post (message (Script 0 1) 0 2 ([])) ∷ Post (message (Script 0 2) 0 3 ([])) ∷ Post (message (Script 0 3) 0 4 ([])) ∷ Fire (task 1 0) (Branch 0) ((Script 0 0) ∷ []) ([]) ∷ Fire (task 1 1) (Branch 0) ((Script 0 1) ∷ []) ([]) ∷ Fire (task 1 2) (Branch 0) ((Script 0 2) ∷ []) ([]) ∷ Fire (task 1 3) (Branch 0) ((Script 0 3) ∷ []) ([]) ∷ Put (task 1 0) None ∷ Put (task 1 1) None ∷ Put (task 1 2) (Some (task 1 1)) ∷ []) ≡ Some (10, 12)
-refused_by_12-3 = refl
+full_queue_drops_the_newer : first_refusal discard_wiring [] 0 (Post (message (Script 0 0) 0 1 ([])) ∷ Post (message (Script 0 1) 0 2 ([])) ∷ Post (message (Script 0 2) 0 3 ([])) ∷ Post (message (Script 0 3) 0 4 ([])) ∷ Fire (task 1 0) (Branch 0) ((Script 0 0) ∷ []) ([]) ∷ Fire (task 1 1) (Branch 0) ((Script 0 1) ∷ []) ([]) ∷ Fire (task 1 2) (Branch 0) ((Script 0 2) ∷ []) ([]) ∷ Fire (task 1 3) (Branch 0) ((Script 0 3) ∷ []) ([]) ∷ Put (task 1 0) None ∷ Put (task 1 1) None ∷ Put (task 1 2) (Some (task 1 1)) ∷ []) ≡ Some (10, 12)
+full_queue_drops_the_newer = refl
 
-refused_by_12-4 : first_refusal discard_wiring [] 0 (Post (message (Script 0 0) 0 1 ([])) ∷ Post (message (Script 0 1) 0 2 ([])) ∷ Post (message (Script 0 2) 0 3 ([])) ∷ Post (message (Script 0 3) 0 4 ([])) ∷ Fire (task 1 0) (Branch 0) ((Script 0 0) ∷ []) ([]) ∷ Fire (task 1 1) (Branch 0) ((Script 0 1) ∷ []) ([]) ∷ Fire (task 1 2) (Branch 0) ((Script 0 2) ∷ []) ([]) ∷ Fire (task 1 3) (Branch 0) ((Script 0 3) ∷ []) ([]) ∷ Put (task 1 0) None ∷ Put (task 1 1) (Some (task 1 0)) ∷ []) ≡ Some (9, 12)
-refused_by_12-4 = refl
+drop_below_the_limit : first_refusal discard_wiring [] 0 (Post (message (Script 0 0) 0 1 ([])) ∷ Post (message (Script 0 1) 0 2 ([])) ∷ Post (message (Script 0 2) 0 3 ([])) ∷ Post (message (Script 0 3) 0 4 ([])) ∷ Fire (task 1 0) (Branch 0) ((Script 0 0) ∷ []) ([]) ∷ Fire (task 1 1) (Branch 0) ((Script 0 1) ∷ []) ([]) ∷ Fire (task 1 2) (Branch 0) ((Script 0 2) ∷ []) ([]) ∷ Fire (task 1 3) (Branch 0) ((Script 0 3) ∷ []) ([]) ∷ Put (task 1 0) None ∷ Put (task 1 1) (Some (task 1 0)) ∷ []) ≡ Some (9, 12)
+drop_below_the_limit = refl
 
-refused_by_13-2 : first_refusal no_posts_wiring [] 0 (Start (task 1 0) 1 ∷ []) ≡ Some (0, 13)
-refused_by_13-2 = refl
+start_of_no_task : first_refusal no_posts_wiring [] 0 (Start (task 1 0) 1 ∷ []) ≡ Some (0, 13)
+start_of_no_task = refl
 
-refused_by_15-2 : first_refusal no_posts_wiring [] 0 (End (task 1 0) ends.Done ∷ []) ≡ Some (0, 15)
-refused_by_15-2 = refl
+end_of_no_task : first_refusal no_posts_wiring [] 0 (End (task 1 0) ends.Done ∷ []) ≡ Some (0, 15)
+end_of_no_task = refl
 
-refused_by_6-6 : first_refusal no_posts_wiring [] 0 (Fire (task 1 0) (Branch 0) ((Script 0 0) ∷ []) ([]) ∷ []) ≡ Some (0, 6)
-refused_by_6-6 = refl
+fire_of_an_empty_port : first_refusal no_posts_wiring [] 0 (Fire (task 1 0) (Branch 0) ((Script 0 0) ∷ []) ([]) ∷ []) ≡ Some (0, 6)
+fire_of_an_empty_port = refl
 
-refused_by_16-5 : first_refusal second_task_shed_wiring [] 0 (Post (message (Script 0 0) 0 1 ([])) ∷ Post (message (Script 0 1) 0 2 ([])) ∷ Fire (task 1 0) (Branch 0) ((Script 0 0) ∷ []) ([]) ∷ Fire (task 1 1) (Branch 0) ((Script 0 1) ∷ []) ([]) ∷ Put (task 1 0) None ∷ Put (task 1 1) None ∷ Start (task 1 0) 1 ∷ Start (task 1 1) 2 ∷ End (task 1 0) ends.Shed ∷ End (task 1 1) ends.Shed ∷ []) ≡ Some (9, 16)
-refused_by_16-5 = refl
+second_shed_with_budget_left : first_refusal second_task_shed_wiring [] 0 (Post (message (Script 0 0) 0 1 ([])) ∷ Post (message (Script 0 1) 0 2 ([])) ∷ Fire (task 1 0) (Branch 0) ((Script 0 0) ∷ []) ([]) ∷ Fire (task 1 1) (Branch 0) ((Script 0 1) ∷ []) ([]) ∷ Put (task 1 0) None ∷ Put (task 1 1) None ∷ Start (task 1 0) 1 ∷ Start (task 1 1) 2 ∷ End (task 1 0) ends.Shed ∷ End (task 1 1) ends.Shed ∷ []) ≡ Some (9, 16)
+second_shed_with_budget_left = refl
 
-refused_by_13-3 : first_refusal second_task_shed_wiring [] 0 (Post (message (Script 0 0) 0 1 ([])) ∷ Post (message (Script 0 1) 0 2 ([])) ∷ Fire (task 1 0) (Branch 0) ((Script 0 0) ∷ []) ([]) ∷ Fire (task 1 1) (Branch 0) ((Script 0 1) ∷ []) ([]) ∷ Put (task 1 0) None ∷ Put (task 1 1) None ∷ Start (task 1 0) 1 ∷ Start (task 1 1) 2 ∷ Start (task 1 1) 3 ∷ []) ≡ Some (8, 13)
-refused_by_13-3 = refl
+start_of_a_running_task : first_refusal second_task_shed_wiring [] 0 (Post (message (Script 0 0) 0 1 ([])) ∷ Post (message (Script 0 1) 0 2 ([])) ∷ Fire (task 1 0) (Branch 0) ((Script 0 0) ∷ []) ([]) ∷ Fire (task 1 1) (Branch 0) ((Script 0 1) ∷ []) ([]) ∷ Put (task 1 0) None ∷ Put (task 1 1) None ∷ Start (task 1 0) 1 ∷ Start (task 1 1) 2 ∷ Start (task 1 1) 3 ∷ []) ≡ Some (8, 13)
+start_of_a_running_task = refl
 
-right-0 : first_refusal second_task_shed_wiring [] 0 (Post (message (Script 0 0) 0 1 ([])) ∷ Post (message (Script 0 1) 0 2 ([])) ∷ Fire (task 1 0) (Branch 0) ((Script 0 0) ∷ []) ([]) ∷ Fire (task 1 1) (Branch 0) ((Script 0 1) ∷ []) ([]) ∷ Put (task 1 0) None ∷ Put (task 1 1) None ∷ Start (task 1 0) 1 ∷ Start (task 1 1) 2 ∷ End (task 1 0) ends.Shed ∷ Post (message (Task (task 1 1) 0) 1 1 ([])) ∷ End (task 1 1) ends.Done ∷ []) ≡ None
-right-0 = refl
+allowed_shed_while_another_may_spend_the_budget : first_refusal second_task_shed_wiring [] 0 (Post (message (Script 0 0) 0 1 ([])) ∷ Post (message (Script 0 1) 0 2 ([])) ∷ Fire (task 1 0) (Branch 0) ((Script 0 0) ∷ []) ([]) ∷ Fire (task 1 1) (Branch 0) ((Script 0 1) ∷ []) ([]) ∷ Put (task 1 0) None ∷ Put (task 1 1) None ∷ Start (task 1 0) 1 ∷ Start (task 1 1) 2 ∷ End (task 1 0) ends.Shed ∷ Post (message (Task (task 1 1) 0) 1 1 ([])) ∷ End (task 1 1) ends.Done ∷ []) ≡ None
+allowed_shed_while_another_may_spend_the_budget = refl
 
-right-1 : first_refusal second_task_shed_wiring [] 0 (Post (message (Script 0 0) 0 1 ([])) ∷ Post (message (Script 0 1) 0 2 ([])) ∷ Fire (task 1 0) (Branch 0) ((Script 0 0) ∷ []) ([]) ∷ Fire (task 1 1) (Branch 0) ((Script 0 1) ∷ []) ([]) ∷ Put (task 1 0) None ∷ Put (task 1 1) None ∷ Start (task 1 0) 1 ∷ Start (task 1 1) 2 ∷ Post (message (Task (task 1 0) 0) 1 1 ([])) ∷ End (task 1 1) ends.Shed ∷ End (task 1 0) ends.Done ∷ []) ≡ None
-right-1 = refl
+allowed_shed_once_the_budget_is_spent : first_refusal second_task_shed_wiring [] 0 (Post (message (Script 0 0) 0 1 ([])) ∷ Post (message (Script 0 1) 0 2 ([])) ∷ Fire (task 1 0) (Branch 0) ((Script 0 0) ∷ []) ([]) ∷ Fire (task 1 1) (Branch 0) ((Script 0 1) ∷ []) ([]) ∷ Put (task 1 0) None ∷ Put (task 1 1) None ∷ Start (task 1 0) 1 ∷ Start (task 1 1) 2 ∷ Post (message (Task (task 1 0) 0) 1 1 ([])) ∷ End (task 1 1) ends.Shed ∷ End (task 1 0) ends.Done ∷ []) ≡ None
+allowed_shed_once_the_budget_is_spent = refl
 
-fate-0 : fate discard_wiring discard_history (Script 0 0) ≡ Some (fates.Taken (task 1 0) states.Dropped)
-fate-0 = refl
+post_twice : first_refusal one_post_wiring [] 0 (Post (message (Script 0 0) 0 7 ([])) ∷ Post (message (Script 0 0) 0 7 ([])) ∷ []) ≡ Some (1, 1)
+post_twice = refl
 
-fate-1 : fate teardown_cuts_wiring teardown_cuts_history (Script 0 0) ≡ Some (fates.Taken (task 1 0) states.Cut)
-fate-1 = refl
+post_of_no_poster : first_refusal one_post_wiring [] 0 (Post (message (Script 1 0) 0 7 ([])) ∷ []) ≡ Some (0, 1)
+post_of_no_poster = refl
 
-fate-2 : fate once_keeps_second_wiring once_keeps_second_history (Script 0 1) ≡ Some fates.Held
-fate-2 = refl
+put_twice : first_refusal one_post_wiring [] 0 (Post (message (Script 0 0) 0 7 ([])) ∷ Fire (task 1 0) (Branch 0) ((Script 0 0) ∷ []) ([]) ∷ Put (task 1 0) None ∷ Put (task 1 0) None ∷ []) ≡ Some (3, 11)
+put_twice = refl
 
-fate-3 : fate await_teardown_waits_wiring await_teardown_waits_history (Task (task 1 0) 0) ≡ Some (fates.Taken (task 1 1) states.Waiting)
-fate-3 = refl
+put_before_its_admission : first_refusal interleave_groups_wiring [] 0 (Post (message (Script 0 0) 0 1 ([])) ∷ Post (message (Script 0 1) 1 2 ([])) ∷ Post (message (Script 0 2) 2 3 ([])) ∷ Fire (task 1 0) (Branch 0) ((Script 0 0) ∷ []) ([]) ∷ Fire (task 1 1) (Branch 1) ((Script 0 1) ∷ []) ([]) ∷ Fire (task 1 2) (Branch 2) ((Script 0 2) ∷ []) ([]) ∷ Put (task 1 0) None ∷ []) ≡ Some (6, 11)
+put_before_its_admission = refl
 
-fate-4 : fate await_wiring await_history (Script 0 0) ≡ Some (fates.Taken (task 1 0) (states.Ended ends.Yield))
-fate-4 = refl
+admit_out_of_turn : first_refusal interleave_groups_wiring [] 0 (Post (message (Script 0 0) 0 1 ([])) ∷ Post (message (Script 0 1) 1 2 ([])) ∷ Post (message (Script 0 2) 2 3 ([])) ∷ Fire (task 1 0) (Branch 0) ((Script 0 0) ∷ []) ([]) ∷ Fire (task 1 1) (Branch 1) ((Script 0 1) ∷ []) ([]) ∷ Fire (task 1 2) (Branch 2) ((Script 0 2) ∷ []) ([]) ∷ Admit (task 1 1) ∷ []) ≡ Some (6, 9)
+admit_out_of_turn = refl
 
-fate-5 : fate one_post_wiring one_post_history (Script 0 1) ≡ None
-fate-5 = refl
+admit_too_early : first_refusal interleave_groups_wiring [] 0 (Post (message (Script 0 0) 0 1 ([])) ∷ Post (message (Script 0 1) 1 2 ([])) ∷ Post (message (Script 0 2) 2 3 ([])) ∷ Fire (task 1 0) (Branch 0) ((Script 0 0) ∷ []) ([]) ∷ Fire (task 1 1) (Branch 1) ((Script 0 1) ∷ []) ([]) ∷ Fire (task 1 2) (Branch 2) ((Script 0 2) ∷ []) ([]) ∷ Admit (task 1 0) ∷ Put (task 1 0) None ∷ Start (task 1 0) 1 ∷ End (task 1 0) ends.Done ∷ Admit (task 1 1) ∷ Put (task 1 1) None ∷ Start (task 1 1) 1 ∷ Admit (task 1 2) ∷ End (task 1 1) ends.Done ∷ Put (task 1 2) None ∷ Start (task 1 2) 1 ∷ End (task 1 2) ends.Done ∷ []) ≡ Some (13, 10)
+admit_too_early = refl
+
+fire_after_the_teardown : first_refusal teardown_cuts_wiring [] 0 (Post (message (Script 0 0) 0 1 ([])) ∷ Post (message (Script 0 1) 0 2 ([])) ∷ Post (message (Script 0 2) 1 3 ([])) ∷ Fire (task 1 0) (Branch 0) ((Script 0 0) ∷ []) ([]) ∷ Fire (task 1 2) (Branch 1) ((Script 0 2) ∷ []) ((task 1 0) ∷ []) ∷ Fire (task 1 1) (Branch 0) ((Script 0 1) ∷ []) ([]) ∷ []) ≡ Some (5, 5)
+fire_after_the_teardown = refl
+
+cut_task_is_admitted : first_refusal teardown_cuts_wiring [] 0 (Post (message (Script 0 0) 0 1 ([])) ∷ Post (message (Script 0 1) 0 2 ([])) ∷ Post (message (Script 0 2) 1 3 ([])) ∷ Fire (task 1 0) (Branch 0) ((Script 0 0) ∷ []) ([]) ∷ Fire (task 1 2) (Branch 1) ((Script 0 2) ∷ []) ((task 1 0) ∷ []) ∷ Admit (task 1 0) ∷ []) ≡ Some (5, 9)
+cut_task_is_admitted = refl
+
+start_by_a_busy_actor : first_refusal second_task_shed_wiring [] 0 (Post (message (Script 0 0) 0 1 ([])) ∷ Post (message (Script 0 1) 0 2 ([])) ∷ Fire (task 1 0) (Branch 0) ((Script 0 0) ∷ []) ([]) ∷ Fire (task 1 1) (Branch 0) ((Script 0 1) ∷ []) ([]) ∷ Put (task 1 0) None ∷ Put (task 1 1) None ∷ Start (task 1 0) 1 ∷ Start (task 1 1) 1 ∷ []) ≡ Some (7, 14)
+start_by_a_busy_actor = refl
+
+start_by_actor_33 : first_refusal second_task_shed_wiring [] 0 (Post (message (Script 0 0) 0 1 ([])) ∷ Post (message (Script 0 1) 0 2 ([])) ∷ Fire (task 1 0) (Branch 0) ((Script 0 0) ∷ []) ([]) ∷ Fire (task 1 1) (Branch 0) ((Script 0 1) ∷ []) ([]) ∷ Put (task 1 0) None ∷ Put (task 1 1) None ∷ Start (task 1 0) 1 ∷ Start (task 1 1) 33 ∷ []) ≡ Some (7, 14)
+start_by_actor_33 = refl
+
+fate_with_a_dropped_task : fate discard_wiring discard_history (Script 0 0) ≡ Some (fates.Taken (task 1 0) states.Dropped)
+fate_with_a_dropped_task = refl
+
+fate_with_a_cut_task : fate teardown_cuts_wiring teardown_cuts_history (Script 0 0) ≡ Some (fates.Taken (task 1 0) states.Cut)
+fate_with_a_cut_task = refl
+
+fate_held : fate once_keeps_second_wiring once_keeps_second_history (Script 0 1) ≡ Some fates.Held
+fate_held = refl
+
+fate_with_a_waiting_task : fate await_teardown_waits_wiring await_teardown_waits_history (Task (task 1 0) 0) ≡ Some (fates.Taken (task 1 1) states.Waiting)
+fate_with_a_waiting_task = refl
+
+fate_with_a_suspended_task : fate await_wiring await_history (Script 0 0) ≡ Some (fates.Taken (task 1 0) (states.Ended ends.Yield))
+fate_with_a_suspended_task = refl
+
+fate_of_no_message : fate one_post_wiring one_post_history (Script 0 1) ≡ None
+fate_of_no_message = refl
 
 no_posts-totals : totals no_posts_history ≡ record { posted = 0; taken = 0; held = 0; fired = 0; done = 0; failed = 0; shed = 0; yielded = 0; cut = 0; dropped = 0; unended = 0 }
 no_posts-totals = refl
@@ -234,3 +264,15 @@ cause_lists-totals = refl
 
 portset-totals : totals portset_history ≡ record { posted = 5; taken = 3; held = 2; fired = 1; done = 1; failed = 0; shed = 0; yielded = 0; cut = 0; dropped = 0; unended = 0 }
 portset-totals = refl
+
+choice-totals : totals choice_history ≡ record { posted = 2; taken = 1; held = 1; fired = 1; done = 1; failed = 0; shed = 0; yielded = 0; cut = 0; dropped = 0; unended = 0 }
+choice-totals = refl
+
+gather-totals : totals gather_history ≡ record { posted = 4; taken = 3; held = 1; fired = 1; done = 1; failed = 0; shed = 0; yielded = 0; cut = 0; dropped = 0; unended = 0 }
+gather-totals = refl
+
+causes_shed-totals : totals causes_shed_history ≡ record { posted = 1; taken = 1; held = 0; fired = 1; done = 0; failed = 0; shed = 1; yielded = 0; cut = 0; dropped = 0; unended = 0 }
+causes_shed-totals = refl
+
+sum_wraps-totals : totals sum_wraps_history ≡ record { posted = 3; taken = 2; held = 1; fired = 1; done = 1; failed = 0; shed = 0; yielded = 0; cut = 0; dropped = 0; unended = 0 }
+sum_wraps-totals = refl

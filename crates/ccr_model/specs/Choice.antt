@@ -15,14 +15,16 @@ use Rattle.ccr_base.specs.Names.{same_message, same_lists}
 use Rattle.ccr_model.specs.Posts.{held}
 use Rattle.ccr_wiring.specs.Wirings.{Seat, seat, site_port}
 
+-- the names of the messages
 abbrev pub names_of : List Msg → List MsgId
 names_of messages = map (λ (m : Msg). m.id) messages
 
+-- both, one behind the other; none where one is missing
 abbrev pub joined : Option (List Msg) → Option (List Msg) → Option (List Msg)
 joined (Some front) (Some back) = Some (front ++ back)
 joined _ _ = None
 
--- slot by slot, each from its port's list
+-- slot by slot, each from what its port holds; none where a slot has too few
 abbrev pub choice_of_slots : (ℕ → List Msg) → List Slot → Option (List Msg)
 choice_of_slots held_at [] = Some []
 choice_of_slots held_at (slot ∷ slots) = joined (choice slot (held_at slot.port)) (choice_of_slots held_at slots)
@@ -39,6 +41,7 @@ are_split first second [] = true
 are_split [] second (name ∷ names) = are_first second (name ∷ names)
 are_split (m ∷ first) second (name ∷ names) = are_first second (name ∷ names) || (same_message m.id name && are_split first second names)
 
+-- whether the names are a choice of the pattern: of slots the one choice, of a gather any split that gives its total
 abbrev pub is_choice_of : (ℕ → List Msg) → Pattern → List MsgId → Bool
 is_choice_of held_at (Slots slots) names = option_map_or (λ messages. same_lists same_message (names_of messages) names) (choice_of_slots held_at slots) false
 is_choice_of held_at (Gather total first second) names = (length names == total) && are_split (held_at first) (held_at second) names
@@ -47,6 +50,7 @@ is_choice_of held_at (Gather total first second) names = (length names == total)
 abbrev pub are_oldest : List Msg → List MsgId → Bool
 are_oldest messages names = (length names == 1) && are_first messages names
 
+-- whether a firing at the spot may take the messages of these names: of a branch a choice of its pattern, of a site the one oldest message of the awaited port
 abbrev pub is_choice : Parts → List Event → Spot → List MsgId → Bool
 is_choice wiring history (Branch branch) names = option_map_or (λ (s : Seat). is_choice_of (held history) s.branch.pattern names) (seat wiring branch) false
 is_choice wiring history (Site branch site) names = option_map_or (λ port. are_oldest (held history port) names) (site_port wiring branch site) false
@@ -57,14 +61,17 @@ engine_gather total first second a b =
     if nat_lt (length a + length b) total then None else
     if nat_lt first second then Some (take total a ++ take (total - length a) b) else Some (take (total - length b) a ++ take total b)
 
+-- the choice that one thread makes of the pattern
 abbrev pub engine_choice_of : (ℕ → List Msg) → Pattern → Option (List Msg)
 engine_choice_of held_at (Slots slots) = choice_of_slots held_at slots
 engine_choice_of held_at (Gather total first second) = engine_gather total first second (held_at first) (held_at second)
 
+-- the oldest message alone
 abbrev pub oldest : List Msg → Option (List Msg)
 oldest [] = None
 oldest (m ∷ messages) = Some (m ∷ [])
 
+-- the choice that one thread makes at the spot
 abbrev pub engine_choice : Parts → List Event → Spot → Option (List Msg)
 engine_choice wiring history (Branch branch) = option_and_then (λ (s : Seat). engine_choice_of (held history) s.branch.pattern) (seat wiring branch)
 engine_choice wiring history (Site branch site) = option_and_then (λ port. oldest (held history port)) (site_port wiring branch site)

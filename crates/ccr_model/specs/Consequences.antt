@@ -26,16 +26,23 @@ abbrev pub are_distinct : List MsgId → Bool
 are_distinct [] = true
 are_distinct (name ∷ names) = not (has_message names name) && are_distinct names
 
+-- no task stands twice
 abbrev pub are_distinct_tasks : List TaskId → Bool
 are_distinct_tasks [] = true
 are_distinct_tasks (task ∷ tasks) = not (has_task tasks task) && are_distinct_tasks tasks
 
+-- no task stands in both lists
 abbrev pub have_none_common : List TaskId → List TaskId → Bool
 have_none_common tasks others = not (list_any (has_task others) tasks)
 
+-- a once receiver's branch
+abbrev pub is_once : Group → Bool
+is_once groups.Once = true
+is_once _ = false
+
 -- fires at most once: a choice, a once receiver and the teardowns of an Interleave
 abbrev pub has_one_firing : Parts → List Event → ℕ → Kind → Bool
-has_one_firing wiring history arbiter kinds.Receive = true
+has_one_firing wiring history arbiter kinds.Receive = nat_le (length (fired_by wiring (λ s. (s.arbiter == arbiter) && is_once s.branch.group) history)) 1
 has_one_firing wiring history arbiter kinds.Choice = nat_le (length (fired_by wiring (λ s. s.arbiter == arbiter) history)) 1
 has_one_firing wiring history arbiter kinds.Interleave = nat_le (length (fired_by wiring (λ s. (s.arbiter == arbiter) && is_teardown s.branch.group) history)) 1
 
@@ -47,6 +54,7 @@ is_alone wiring history arbiter = list_all (is_concurrent_task wiring history) (
 abbrev pub run_admitted : Parts → List Event → ℕ → Bool
 run_admitted wiring history arbiter = list_all (λ task. has_task (admitted wiring history arbiter) (root_of history task)) (filter (is_in_arbiter wiring history arbiter) (running history))
 
+-- whether the task is a segment of a root that a teardown branch fired
 abbrev pub is_teardown_task : Parts → List Event → TaskId → Bool
 is_teardown_task wiring history task = list_any (same_task (root_of history task)) (fired_by wiring (λ s. is_teardown s.branch.group) history)
 
@@ -55,13 +63,16 @@ abbrev pub stay_last : (TaskId → Bool) → List TaskId → Bool
 stay_last test [] = true
 stay_last test (task ∷ tasks) = (not (test task) || list_all test tasks) && stay_last test tasks
 
+-- after a teardown's firing no other branch of the Interleave fires, and once a segment of it started no task of another root starts
 abbrev pub ends_by_teardown : Parts → List Event → ℕ → Bool
 ends_by_teardown wiring history arbiter = stay_last (is_teardown_task wiring history) (fired_by wiring (λ s. s.arbiter == arbiter) history) && stay_last (is_teardown_task wiring history) (filter (is_in_arbiter wiring history arbiter) (started history))
 
+-- the arbiters, of which the first has this number, fire and admit as they should
 abbrev pub are_kept_from : Parts → List Event → ℕ → List ArbiterPart → Bool
 are_kept_from wiring history number [] = true
 are_kept_from wiring history number (arbiter ∷ arbiters) = has_one_firing wiring history number arbiter.kind && is_alone wiring history number && are_kept_from wiring history (number + 1) arbiters
 
+-- in each of the Interleaves only admitted roots run, and a teardown ends it
 abbrev pub are_interleaved_from : Parts → List Event → ℕ → List ArbiterPart → Bool
 are_interleaved_from wiring history number [] = true
 are_interleaved_from wiring history number (arbiter ∷ arbiters) = interleaved arbiter.kind && are_interleaved_from wiring history (number + 1) arbiters
@@ -74,10 +85,12 @@ are_interleaved_from wiring history number (arbiter ∷ arbiters) = interleaved 
 abbrev pub is_in_order : Parts → List Event → ℕ → Bool
 is_in_order wiring history queue = same_lists same_task (filter (is_for_queue wiring history queue) (started history) ++ queued wiring history queue) (filter (is_for_queue wiring history queue) (without (put history) (dropped history)))
 
+-- each of the queues, of which the first has this number, starts its tasks in the order of their puts
 abbrev pub are_in_order_from : Parts → List Event → ℕ → List QueuePart → Bool
 are_in_order_from wiring history number [] = true
 are_in_order_from wiring history number (queue ∷ queues) = is_in_order wiring history number && are_in_order_from wiring history (number + 1) queues
 
+-- all of these after one history
 abbrev pub keeps_laws : Parts → List Event → Bool
 keeps_laws wiring history =
     are_distinct (taken history) && are_kept_from wiring history 0 wiring.arbiters && are_interleaved_from wiring history 0 wiring.arbiters

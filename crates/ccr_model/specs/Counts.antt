@@ -10,22 +10,27 @@ use Rattle.ccr_base.specs.Names.{has_message}
 use Rattle.ccr_model.specs.Posts.{posts, taken}
 use Rattle.ccr_model.specs.Firings.{firings, cut, dropped}
 
+-- an end as done
 abbrev pub is_done : Event → Bool
 is_done (End task Done) = true
 is_done _ = false
 
+-- an end as failed
 abbrev pub is_failed : Event → Bool
 is_failed (End task (Failed value)) = true
 is_failed _ = false
 
+-- an end as shed
 abbrev pub is_shed : Event → Bool
 is_shed (End task Shed) = true
 is_shed _ = false
 
+-- an end as suspended
 abbrev pub is_yield : Event → Bool
 is_yield (End task Yield) = true
 is_yield _ = false
 
+-- how often each thing happened; unended tasks fired and have neither ended nor been cut or dropped
 abbrev pub totals : List Event → Totals
 totals history =
     let done = length (filter is_done history) in

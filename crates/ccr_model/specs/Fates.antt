@@ -17,10 +17,12 @@ use Rattle.ccr_model.specs.Posts.{message_named}
 use Rattle.ccr_model.specs.Firings.{Firing, firings, cut, put, dropped, started}
 use Rattle.ccr_model.specs.Rules.{may_put}
 
+-- how the task ended, where the event is its end
 abbrev pub end_of : TaskId → Event → List EndHow
 end_of task (End other how) = if same_task other task then how ∷ [] else []
 end_of task _ = []
 
+-- a started task runs until it ends
 abbrev pub state_of_started : List EndHow → TaskState
 state_of_started [] = states.Running
 state_of_started (how ∷ more) = states.Ended how
@@ -34,11 +36,14 @@ state_of wiring history task =
     if has_task (put history) task then states.Queued else
     if may_put wiring history task then states.Ready else states.Waiting
 
+-- the task that took the message
 abbrev pub taker : List Event → MsgId → Option TaskId
 taker history name = option_map (λ (f : Firing). f.task) (find (λ (f : Firing). has_message f.messages name) (firings history))
 
+-- held, or taken by a task that is now in this state
 abbrev pub fate_of : Parts → List Event → MsgId → Fate
 fate_of wiring history name = option_map_or (λ task. Taken task (state_of wiring history task)) (taker history name) Held
 
+-- the fate of a posted message; none where no post has the name
 abbrev pub fate : Parts → List Event → MsgId → Option Fate
 fate wiring history name = option_map (λ (m : Msg). fate_of wiring history name) (message_named history name)

@@ -10,6 +10,7 @@ use Rattle.ccr_model.specs.Posts.{posts_of_poster, posts_of_tasks}
 use Rattle.ccr_model.specs.Tasks.{count_unfinished}
 use Rattle.ccr_model.specs.Rules.{refusal}
 
+-- no rule refuses the event after the history
 abbrev pub IsAllowed : Parts → List Event → Event → Type 0
 IsAllowed wiring history event = refusal wiring history event ≡ None
 
@@ -18,6 +19,7 @@ abbrev pub IsLegalAfter : Parts → List Event → List Event → Type 0
 IsLegalAfter wiring past [] = Unit {0}
 IsLegalAfter wiring past (event ∷ events) = IsAllowed wiring past event × IsLegalAfter wiring (past ++ event ∷ []) events
 
+-- each event is allowed after those before it
 abbrev pub IsLegal : Parts → List Event → Type 0
 IsLegal wiring history = IsLegalAfter wiring [] history
 
@@ -30,19 +32,24 @@ abbrev pub first_refusal : Parts → List Event → ℕ → List Event → Optio
 first_refusal wiring past place [] = None
 first_refusal wiring past place (event ∷ events) = elim (refusal wiring past event) [ None ↦ first_refusal wiring (past ++ event ∷ []) (place + 1) events | Some rule ↦ Some (place, rule) ]
 
+-- whether the event ends a task as shed
 abbrev pub is_shed_end : Event → Bool
 is_shed_end (End task Shed) = true
 is_shed_end _ = false
 
+-- whether some task was shed
 abbrev pub has_shed : List Event → Bool
 has_shed history = list_any is_shed_end history
 
+-- each of the posters, of which the first has this number, has made as many posts as its script has
 abbrev pub are_whole_from : List Event → ℕ → List PosterPart → Bool
 are_whole_from history number [] = true
 are_whole_from history number (poster ∷ posters) = (posts_of_poster history number == length poster.posts) && are_whole_from history (number + 1) posters
 
+-- each poster has made its whole script; and where a task was shed, tasks have made exactly as many posts as the budget
 abbrev pub is_complete : Parts → List Event → Bool
 is_complete wiring history = are_whole_from history 0 wiring.posters && (not (has_shed history) || (posts_of_tasks history == wiring.budget))
 
+-- where a task was shed, the posts of tasks and the running tasks that have a post left are together at least the budget
 abbrev pub is_covered : Parts → List Event → Bool
 is_covered wiring history = not (has_shed history) || nat_le wiring.budget (posts_of_tasks history + count_unfinished wiring history)

@@ -15,19 +15,23 @@ use Rattle.ccr_model.specs.Firings.{fired_at}
 use Rattle.ccr_model.specs.Sites.{suspended}
 use Rattle.ccr_model.specs.Tasks.{fired_by, is_teardown, coming}
 
+-- no task at all
 abbrev pub is_none_of : List TaskId → Bool
 is_none_of tasks = length tasks == 0
 
+-- an always branch: at any time; once: until it fired; of a choice: until a branch of the choice fired; of an Interleave: until a teardown of it fired
 abbrev pub is_live_in : Parts → List Event → ℕ → ℕ → Group → Bool
 is_live_in wiring history branch arbiter Always = true
 is_live_in wiring history branch arbiter Once = is_none_of (fired_at history (Branch branch))
 is_live_in wiring history branch arbiter Choice = is_none_of (fired_by wiring (λ s. s.arbiter == arbiter) history)
 is_live_in wiring history branch arbiter _ = is_none_of (fired_by wiring (λ s. (s.arbiter == arbiter) && is_teardown s.branch.group) history)
 
+-- whether the spot may fire once more: a branch by its group, a site while a task is suspended there
 abbrev pub is_live : Parts → List Event → Spot → Bool
 is_live wiring history (Branch branch) = option_map_or (λ (s : Seat). is_live_in wiring history branch s.arbiter s.branch.group) (seat wiring branch) false
 is_live wiring history (Site branch site) = not (is_none_of (suspended history (Site branch site)))
 
+-- on a throttle queue: while fewer of its tasks than its number are on their way or queued
 abbrev pub has_room_in : Parts → List Event → ℕ → Policy → Bool
 has_room_in wiring history queue (Throttle n) = nat_lt (length (coming wiring history queue)) n
 has_room_in wiring history queue _ = true

@@ -8,6 +8,7 @@ use Rattle.ccr_model.specs.declared.history.Event.{Event}
 use Rattle.ccr_model.specs.declared.history.Event.TheVariants.{Post, Fire}
 use Rattle.ccr_base.specs.Names.{same_task, same_message, has_message}
 
+-- the message that the event posts
 abbrev pub post_of : Event → List Msg
 post_of (Post message) = message ∷ []
 post_of _ = []
@@ -16,28 +17,34 @@ post_of _ = []
 abbrev pub posts : List Event → List Msg
 posts history = flat_map post_of history
 
+-- the messages posted to the port, oldest first
 abbrev pub posted : List Event → ℕ → List Msg
 posted history port = filter (λ message. message.port == port) (posts history)
 
+-- the names that the event takes
 abbrev pub taken_by : Event → List MsgId
 taken_by (Fire task spot messages cuts) = messages
 taken_by _ = []
 
+-- the names of the messages that firings took, in order
 abbrev pub taken : List Event → List MsgId
 taken history = flat_map taken_by history
 
--- what the port holds, oldest first
+-- what the port holds, oldest first: posted to it and not taken
 abbrev pub held : List Event → ℕ → List Msg
 held history port = filter (λ message. not (has_message (taken history) message.id)) (posted history port)
 
+-- whether the name is of the poster's script
 abbrev pub is_script_of : ℕ → MsgId → Bool
 is_script_of poster (Script actor place) = actor == poster
 is_script_of poster (Task task place) = false
 
+-- whether the name is of a post of a task
 abbrev pub is_task_message : MsgId → Bool
 is_task_message (Script actor place) = false
 is_task_message (Task task place) = true
 
+-- whether the name is of a post of this task
 abbrev pub is_message_of : TaskId → MsgId → Bool
 is_message_of task (Script actor place) = false
 is_message_of task (Task other place) = same_task task other
@@ -54,6 +61,7 @@ posts_of_task history task = length (filter (λ (message : Msg). is_message_of t
 abbrev pub posts_of_tasks : List Event → ℕ
 posts_of_tasks history = length (filter (λ (message : Msg). is_task_message message.id) (posts history))
 
+-- the message of this name
 abbrev pub message_named : List Event → MsgId → Option Msg
 message_named history name = find (λ (message : Msg). same_message message.id name) (posts history)
 

@@ -9,9 +9,9 @@ use Rattle.ccr_base.specs.declared.messages.Msg.{Msg}
 use Rattle.ccr_base.specs.declared.messages.Sent.{Sent}
 use Rattle.ccr_base.specs.declared.names.Spot.{Spot}
 use Rattle.ccr_base.specs.declared.names.Spot.TheVariants.{Branch, Site}
-use Rattle.ccr_handler.specs.declared.plays.Play.{Play}
-use Rattle.ccr_handler.specs.declared.plays.PlayEnd.{PlayEnd}
-use Rattle.ccr_handler.specs.declared.plays.PlayEnd.TheVariants as plays
+use Rattle.ccr_handler.specs.declared.segments.Play.{Play}
+use Rattle.ccr_handler.specs.declared.segments.PlayEnd.{PlayEnd}
+use Rattle.ccr_handler.specs.declared.segments.PlayEnd.TheVariants as plays
 use Rattle.ccr_wiring.specs.declared.parts.Parts.{Parts}
 use Rattle.ccr_wiring.specs.declared.parts.PosterPart.{PosterPart}
 use Rattle.ccr_base.specs.declared.policies.Policy.{Policy}
@@ -33,19 +33,19 @@ use Rattle.ccr_model.specs.Choice.{is_choice}
 abbrev pub is_post : Msg → Sent → Bool
 is_post message sent = (message.port == sent.port) && (message.value == sent.value) && same_lists (λ c d. c == d) message.causes sent.causes
 
--- rule 1
+-- rule 1: it is the poster's next line
 abbrev pub is_script_line : Parts → List Event → ℕ → ℕ → Msg → Bool
 is_script_line wiring history actor place message = (place == posts_of_poster history actor) && option_map_or (is_post message) (option_and_then (λ (p : PosterPart). slice_get p.posts place) (slice_get wiring.posters actor)) false
 
--- rule 2
+-- rule 2: it is the next post of the running task's play
 abbrev pub is_play_post : Parts → List Event → TaskId → ℕ → Msg → Bool
 is_play_post wiring history task place message = has_task (running history) task && (place == posts_of_task history task) && option_map_or (is_post message) (slice_get (play_of wiring history task).posts place) false
 
--- rule 3
+-- rule 3: tasks have made fewer posts than the budget
 abbrev pub has_budget : Parts → List Event → Bool
 has_budget wiring history = nat_lt (posts_of_tasks history) wiring.budget
 
--- rule 4
+-- rule 4: no task of this name fired, and its actor is at most 32
 abbrev pub is_new : List Event → TaskId → Bool
 is_new history task = not (has_task (fired history) task) && nat_le task.actor 32
 
@@ -54,28 +54,32 @@ abbrev pub cuts_at : Parts → List Event → Spot → List TaskId
 cuts_at wiring history (Branch branch) = option_map_or (λ (s : Seat). if is_teardown s.branch.group then waiting wiring history s.arbiter else []) (seat wiring branch) []
 cuts_at wiring history (Site branch site) = []
 
+-- whether the task is the first of the list
 abbrev pub is_first : List TaskId → TaskId → Bool
 is_first tasks task = option_map_or (same_task task) (slice_get tasks 0) false
 
--- rule 9
+-- rule 9: it is the oldest waiting task of its Interleave
 abbrev pub is_oldest_waiting : Parts → List Event → TaskId → Bool
 is_oldest_waiting wiring history task = option_map_or (λ (s : Seat). is_first (waiting wiring history s.arbiter) task) (seat_of wiring history task) false
 
+-- whether a concurrent branch fired the task
 abbrev pub is_concurrent_task : Parts → List Event → TaskId → Bool
 is_concurrent_task wiring history task = option_map_or (λ (s : Seat). is_concurrent s.branch.group) (seat_of wiring history task) false
 
--- rule 10
+-- rule 10: a concurrent task enters beside concurrent ones alone, any other where no admitted root is left that is not over
 abbrev pub may_enter : Parts → List Event → TaskId → Bool
 may_enter wiring history task = option_map_or (λ (s : Seat). (if is_concurrent s.branch.group then list_all (is_concurrent_task wiring history) (admitted wiring history s.arbiter) else is_none_of (admitted wiring history s.arbiter))) (seat_of wiring history task) false
 
+-- whether tasks of the spot are put without an admission: those of sites, and of branches outside Interleaves
 abbrev pub needs_no_admission : Parts → Spot → Bool
 needs_no_admission wiring (Branch branch) = option_map_or (λ (s : Seat). not (is_interleave s.kind)) (seat wiring branch) false
 needs_no_admission wiring (Site branch site) = true
 
--- rule 11
+-- rule 11: it fired, was neither put nor cut, and was admitted where it needs to be
 abbrev pub may_put : Parts → List Event → TaskId → Bool
 may_put wiring history task = not (has_task (put history) task) && not (has_task (cut history) task) && option_map_or (λ spot. needs_no_admission wiring spot || has_task (let_in history) task) (spot_of history task) false
 
+-- the oldest of the queued tasks, where a discard queue holds as many as its number or more
 abbrev pub drop_by : Policy → List TaskId → Option TaskId
 drop_by (Discard n) tasks = if nat_le n (length tasks) then slice_get tasks 0 else None
 drop_by _ tasks = None
@@ -84,28 +88,31 @@ drop_by _ tasks = None
 abbrev pub drop_at : Parts → List Event → TaskId → Option TaskId
 drop_at wiring history task = option_and_then (λ (s : Seat). drop_by (policy_of wiring s.branch.queue) (queued wiring history s.branch.queue)) (seat_of wiring history task)
 
--- rule 13
+-- rule 13: it is the oldest task of its queue
 abbrev pub is_oldest_queued : Parts → List Event → TaskId → Bool
 is_oldest_queued wiring history task = option_map_or (λ (s : Seat). is_first (queued wiring history s.branch.queue) task) (seat_of wiring history task) false
 
--- rule 14
+-- rule 14: the actor is no poster, is at most 32, and runs no task that it started
 abbrev pub may_start : Parts → List Event → ℕ → Bool
 may_start wiring history actor = nat_le (length wiring.posters) actor && nat_le actor 32 && is_none_of (running_by history actor)
 
+-- whether the end is the one that the play asks for
 abbrev pub ends_so : EndHow → PlayEnd → Bool
 ends_so ends.Done plays.Done = true
 ends_so (ends.Failed v) (plays.Failed u) = v == u
 ends_so ends.Yield (plays.Yield site) = true
 ends_so _ _ = false
 
+-- whether the end is shed
 abbrev pub is_shed : EndHow → Bool
 is_shed ends.Shed = true
 is_shed _ = false
 
--- rule 16
+-- rule 16, shed: a post of its play is left, and the posts of tasks and the other running tasks that have a post left are together at least the budget
 abbrev pub may_shed : Parts → List Event → TaskId → Bool
 may_shed wiring history task = has_post_left wiring history task && nat_le wiring.budget (posts_of_tasks history + (count_unfinished wiring history - 1))
 
+-- rule 16: shed where it may be; else no post of its play is left and it ends as its play does
 abbrev pub may_end : Parts → List Event → TaskId → EndHow → Bool
 may_end wiring history task how = if is_shed how then may_shed wiring history task else not (has_post_left wiring history task) && ends_so how (play_of wiring history task).end
 
@@ -114,6 +121,7 @@ abbrev pub refused : Bool → ℕ → Option ℕ → Option ℕ
 refused true rule others = others
 refused false rule others = Some rule
 
+-- a post of a script is asked by rule 1, a post of a task by rules 2 and 3
 abbrev pub refusal_of_post : Parts → List Event → Msg → MsgId → Option ℕ
 refusal_of_post wiring history message (Script actor place) = refused (is_script_line wiring history actor place message) 1 None
 refusal_of_post wiring history message (Task task place) = refused (is_play_post wiring history task place message) 2 (refused (has_budget wiring history) 3 None)

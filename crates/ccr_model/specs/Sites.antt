@@ -42,5 +42,6 @@ abbrev pub root_at : List Event → ℕ → ℕ → TaskId → TaskId
 root_at history branch zero task = task
 root_at history branch (suc site) task = option_map_or (λ (u : TaskId). root_at history branch site u) (resumed history (Site branch site) task) task
 
+-- the task that the branch fired, of which this one is a segment: itself, or the root of the one that it goes on for
 abbrev pub root_of : List Event → TaskId → TaskId
 root_of history task = option_map_or (λ spot. root_at history (branch_of spot) (segment_of spot) task) (spot_of history task) task

@@ -5,8 +5,9 @@ use Rattle.ccr_base.specs.declared.names.TaskId.{TaskId}
 use Rattle.ccr_base.specs.declared.messages.Msg.{Msg}
 use Rattle.ccr_base.specs.declared.names.Spot.{Spot}
 use Rattle.ccr_base.specs.declared.names.Spot.TheVariants.{Branch, Site}
-use Rattle.ccr_handler.specs.declared.plays.Play.{Play}
-use Rattle.ccr_handler.specs.declared.plays.PlayEnd.TheVariants.{Done}
+use Rattle.ccr_base.specs.declared.handlers.Action.{Action}
+use Rattle.ccr_handler.specs.declared.segments.Play.{Play}
+use Rattle.ccr_handler.specs.declared.segments.PlayEnd.TheVariants.{Done}
 use Rattle.ccr_wiring.specs.declared.parts.Parts.{Parts}
 use Rattle.ccr_model.specs.declared.history.Event.{Event}
 use Rattle.ccr_model.specs.Posts.{messages_named}
@@ -21,20 +22,27 @@ pub record Load : Type 0 where
   pub values : List ℕ
   pub causes : List ℕ
 
+-- the messages that the firing of the task took, in the order in which it names them
 abbrev pub messages_of : List Event → TaskId → List Msg
 messages_of history task = option_map_or (λ (f : Firing). messages_named (before task history) f.messages) (firing_named history task) []
 
+-- the branch at which, or at whose site, the task fired
 abbrev pub seat_of : Parts → List Event → TaskId → Option Seat
 seat_of wiring history task = option_and_then (λ spot. seat wiring (branch_of spot)) (spot_of history task)
 
+-- the actions of the branch's handler
+abbrev pub actions_at : Parts → ℕ → List Action
+actions_at wiring branch = option_map_or (λ (s : Seat). actions_of wiring s.branch.handler) (seat wiring branch) []
+
 -- the play of a segment of the branch with this load
 abbrev pub play_at : Parts → ℕ → ℕ → Load → Play
-play_at wiring branch segment load = play (exception_port wiring) load.values segment load.causes (actions_from segment (option_map_or (λ (s : Seat). actions_of wiring s.branch.handler) (seat wiring branch) []))
+play_at wiring branch segment load = play (exception_port wiring) load.values segment load.causes (actions_from segment (actions_at wiring branch))
 
 -- the load with the messages' values and causes behind it
 abbrev pub with_messages : Load → List Msg → Load
 with_messages load messages = record { values = load.values ++ map (λ (m : Msg). m.value) messages; causes = union load.causes (flat_map (λ (m : Msg). m.causes) messages) }
 
+-- nothing
 abbrev pub no_load : Load
 no_load = record { values = []; causes = [] }
 
@@ -42,15 +50,19 @@ no_load = record { values = []; causes = [] }
 abbrev pub load_after : Parts → ℕ → ℕ → Load → Load
 load_after wiring branch segment load = record load { causes = (play_at wiring branch segment load).causes }
 
+-- what a task that runs this segment of the branch starts with: its messages, behind what the segment before left
 abbrev pub load_at : Parts → List Event → ℕ → ℕ → TaskId → Load
 load_at wiring history branch zero task = with_messages no_load (messages_of history task)
 load_at wiring history branch (suc site) task = with_messages (option_map_or (λ (u : TaskId). load_after wiring branch site (load_at wiring history branch site u)) (resumed history (Site branch site) task) no_load) (messages_of history task)
 
+-- the values and causes that the task starts with
 abbrev pub load_of : Parts → List Event → TaskId → Load
 load_of wiring history task = option_map_or (λ spot. load_at wiring history (branch_of spot) (segment_of spot) task) (spot_of history task) no_load
 
+-- the play of a task that never fired
 abbrev pub no_play : Play
 no_play = record { posts = []; end = Done; causes = [] }
 
+-- what the task posts, how it ends, and its causes at the end
 abbrev pub play_of : Parts → List Event → TaskId → Play
 play_of wiring history task = option_map_or (λ spot. play_at wiring (branch_of spot) (segment_of spot) (load_at wiring history (branch_of spot) (segment_of spot) task)) (spot_of history task) no_play

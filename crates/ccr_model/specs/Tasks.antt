@@ -19,14 +19,17 @@ use Rattle.ccr_model.specs.Firings.{Firing, fired_where, spot_of, cut, let_in, p
 use Rattle.ccr_model.specs.Sites.{root_of}
 use Rattle.ccr_model.specs.TaskData.{seat_of, play_of}
 
+-- an Interleave
 abbrev pub is_interleave : Kind → Bool
 is_interleave kinds.Interleave = true
 is_interleave _ = false
 
+-- a teardown branch
 abbrev pub is_teardown : Group → Bool
 is_teardown groups.Teardown = true
 is_teardown _ = false
 
+-- a concurrent branch
 abbrev pub is_concurrent : Group → Bool
 is_concurrent groups.Concurrent = true
 is_concurrent _ = false
@@ -44,6 +47,7 @@ fired_by wiring test history = fired_where (λ f. is_branch_where wiring test f.
 abbrev pub waiting : Parts → List Event → ℕ → List TaskId
 waiting wiring history interleave = without (fired_by wiring (λ s. is_interleave s.kind && (s.arbiter == interleave)) history) (let_in history ++ cut history)
 
+-- whether the task's branch is on the queue
 abbrev pub is_for_queue : Parts → List Event → ℕ → TaskId → Bool
 is_for_queue wiring history queue task = option_map_or (λ (s : Seat). s.branch.queue == queue) (seat_of wiring history task) false
 
@@ -51,9 +55,11 @@ is_for_queue wiring history queue task = option_map_or (λ (s : Seat). s.branch.
 abbrev pub queued : Parts → List Event → ℕ → List TaskId
 queued wiring history queue = filter (is_for_queue wiring history queue) (without (put history) (started history ++ dropped history))
 
+-- the tasks that started and have not ended, by their starts
 abbrev pub running : List Event → List TaskId
 running history = without (started history) (ended history)
 
+-- the task that the event starts, where this actor starts it
 abbrev pub started_as : ℕ → Event → List TaskId
 started_as actor (Start task by) = if by == actor then task ∷ [] else []
 started_as actor _ = []
@@ -66,6 +72,7 @@ running_by history actor = without (flat_map (started_as actor) history) (ended 
 abbrev pub is_over : List Event → TaskId → Bool
 is_over history root = list_any (λ task. same_task (root_of history task) root) (last_segments history)
 
+-- whether the task's branch is the arbiter's
 abbrev pub is_in_arbiter : Parts → List Event → ℕ → TaskId → Bool
 is_in_arbiter wiring history arbiter task = option_map_or (λ (s : Seat). s.arbiter == arbiter) (seat_of wiring history task) false
 
@@ -85,5 +92,6 @@ has_post_left wiring history task = nat_lt (posts_of_task history task) (length 
 abbrev pub unfinished : Parts → List Event → List TaskId
 unfinished wiring history = filter (has_post_left wiring history) (running history)
 
+-- how many running tasks have a post left
 abbrev pub count_unfinished : Parts → List Event → ℕ
 count_unfinished wiring history = length (unfinished wiring history)

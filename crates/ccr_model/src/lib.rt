@@ -1,13 +1,25 @@
 //! Events, histories, which event is allowed after which history, and the serial order.
 #![tactic(auto)]
 
+pub mod choices;
+pub mod data;
 pub mod firings;
 mod history;
 mod laws;
+pub mod live;
 pub mod posts;
+mod refusal;
+pub mod rules;
+pub mod seats;
+mod sites;
+pub mod tasks;
 
 pub use history::{EndHow, Event, Fate, History, TaskState, Totals};
 pub use laws::{
     exclusive_roots_are_alone, first_is_allowed, legal_is_covered, messages_are_taken_once,
     none_first_is_quiet, posts_have_names_of_their_own,
 };
+pub use refusal::refused_by;
+
+#[cfg(test)]
+mod tests;

@@ -1,6 +1,6 @@
 //! What stands in a history of messages: posted, taken, held.
 
-ghost use Rattle.std.specs.Prelude.{◌≡◌, IfOk};
+ghost use Rattle.std.specs.Prelude.{◌≡◌, ◌≤◌, IfOk, length};
 ghost use Rattle.ccr_base.specs.Names.{has_message};
 ghost use Rattle.std.specs.Option.{option_map};
 ghost use Rattle.ccr_model.specs.Posts.{held, taken, is_script_of, is_message_of, is_task_message, posts_of_poster, posts_of_task, posts_of_tasks, message_named};
@@ -79,7 +79,8 @@ fn is_task_message(name: MsgId) -> bool
 
 /// How many posts of its script the poster has made.
 pub fn posts_of_poster(events: &[Event], poster: ActorNo) -> usize
-    ensures { result ≡ posts_of_poster events.now poster }
+    ensures count { result ≡ posts_of_poster events.now poster }
+    ensures few { result ≤ length events.now }
 {
     let mut count = 0;
     for event in events {
@@ -94,7 +95,8 @@ pub fn posts_of_poster(events: &[Event], poster: ActorNo) -> usize
 
 /// How many posts the task has made.
 pub fn posts_of_task(events: &[Event], task: TaskId) -> usize
-    ensures { result ≡ posts_of_task events.now task }
+    ensures count { result ≡ posts_of_task events.now task }
+    ensures few { result ≤ length events.now }
 {
     let mut count = 0;
     for event in events {

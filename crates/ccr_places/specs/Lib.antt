@@ -1,0 +1,9 @@
+pub mod Commits
+pub mod TaskSets
+pub mod TaskTables
+pub mod Interleaves
+pub mod Queues
+pub mod Meters
+pub mod Ports
+pub mod Arbiters
+pub mod Sites

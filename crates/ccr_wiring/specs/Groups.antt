@@ -1,5 +1,5 @@
 -- Which groups the branches of an arbiter may have, and how many branches it has.
-use Rattle.std.specs.Prelude.{ℕ, Bool, true, false, not, ◌&&◌, ◌||◌, List, [], ◌∷◌}
+use Rattle.std.specs.Prelude.{ℕ, Bool, true, false, not, ◌==◌, ◌&&◌, ◌||◌, List, [], ◌∷◌, length}
 use Rattle.std.specs.List.{list_any}
 use Rattle.std.specs.Str.{bytes_eq}
 use Rattle.ccr_base.specs.declared.policies.Group.{Group}
@@ -26,23 +26,23 @@ is_receive _ = false
 
 -- whether this is exactly one branch, and it bears the name
 abbrev pub is_one_named : List ℕ → List BranchPart → Bool
-is_one_named name (branch ∷ []) = bytes_eq branch.name name
-is_one_named name _ = false
+is_one_named name [] = false
+is_one_named name (branch ∷ others) = (length others == 0) && bytes_eq branch.name name
+
+-- a branch of a group that the arbiter's kind doesn't have
+abbrev pub has_strange_group : ArbiterPart → Bool
+has_strange_group arbiter = list_any (λ (branch : BranchPart). not (may_have arbiter.kind branch.group)) arbiter.branches
 
 -- a branch of a group that the arbiter's kind doesn't have, or a receive without exactly one branch of its own name
 abbrev pub is_misgrouped : ArbiterPart → Bool
-is_misgrouped arbiter = list_any (λ (branch : BranchPart). not (may_have arbiter.kind branch.group)) arbiter.branches || (is_receive arbiter.kind && not (is_one_named arbiter.name arbiter.branches))
+is_misgrouped arbiter = has_strange_group arbiter || (is_receive arbiter.kind && not (is_one_named arbiter.name arbiter.branches))
 
 abbrev pub has_misgrouped : Parts → Bool
 has_misgrouped parts = list_any is_misgrouped parts.arbiters
 
-abbrev pub is_empty : {X : Type 0} → List X → Bool
-is_empty [] = true
-is_empty (x ∷ xs) = false
-
 -- a choice or an Interleave without a branch
 abbrev pub is_branchless : ArbiterPart → Bool
-is_branchless arbiter = not (is_receive arbiter.kind) && is_empty arbiter.branches
+is_branchless arbiter = not (is_receive arbiter.kind) && (length arbiter.branches == 0)
 
 abbrev pub has_branchless : Parts → Bool
 has_branchless parts = list_any is_branchless parts.arbiters

@@ -7,3 +7,4 @@ pub mod Limits
 pub mod Spots
 pub mod Codes
 pub mod Valid
+pub mod Answers

@@ -1,5 +1,5 @@
 -- The limits of a wiring.
-use Rattle.std.specs.Prelude.{ℕ, Bool, false, not, ◌==◌, ◌||◌, nat_lt, map, length, sum}
+use Rattle.std.specs.Prelude.{ℕ, Bool, false, not, ◌==◌, ◌||◌, nat_lt, List, map, length, sum}
 use Rattle.std.specs.List.{list_any}
 use Rattle.ccr_base.specs.declared.handlers.Action.{Action}
 use Rattle.ccr_base.specs.declared.handlers.Action.TheVariants.{Post, Fail}
@@ -42,25 +42,43 @@ action_is_outside _ = false
 abbrev pub slot_is_outside : Slot → Bool
 slot_is_outside slot = not (slot.least == slot.most) || is_outside 1 1000 slot.least
 
+-- 1 to 8 slots
+abbrev pub slots_are_outside : List Slot → Bool
+slots_are_outside slots = is_outside 1 8 (length slots) || list_any slot_is_outside slots
+
 -- a pattern has 1 to 8 slots, a gather a total of 1 to 1,000
 abbrev pub pattern_is_outside : Pattern → Bool
-pattern_is_outside (Slots slots) = is_outside 1 8 (length slots) || list_any slot_is_outside slots
+pattern_is_outside (Slots slots) = slots_are_outside slots
 pattern_is_outside (Gather total first second) = is_outside 1 1000 total
 
 -- a handler has at most 16 actions
 abbrev pub handler_is_outside : HandlerPart → Bool
 handler_is_outside part = nat_lt 16 (length part.handler.actions) || list_any action_is_outside part.handler.actions
 
+abbrev pub branch_is_outside : BranchPart → Bool
+branch_is_outside branch = pattern_is_outside branch.pattern
+
 abbrev pub arbiter_is_outside : ArbiterPart → Bool
-arbiter_is_outside arbiter = list_any (λ (branch : BranchPart). pattern_is_outside branch.pattern) arbiter.branches
+arbiter_is_outside arbiter = list_any branch_is_outside arbiter.branches
 
--- how many branches the arbiters have together
-abbrev pub branch_count : Parts → ℕ
-branch_count parts = sum (map (λ (arbiter : ArbiterPart). length arbiter.branches) parts.arbiters)
+abbrev pub queue_is_outside : QueuePart → Bool
+queue_is_outside part = policy_is_outside part.policy
 
--- how many posts the scripts have together
-abbrev pub script_count : Parts → ℕ
-script_count parts = sum (map (λ (poster : PosterPart). length poster.posts) parts.posters)
+-- a set has 1 to 8 ports
+abbrev pub set_is_outside : SetPart → Bool
+set_is_outside set = is_outside 1 8 (length set.ports)
+
+-- more than so many branches, in all arbiters together
+abbrev pub has_branches_above : ℕ → List ArbiterPart → Bool
+has_branches_above most arbiters = nat_lt most (sum (map (λ (arbiter : ArbiterPart). length arbiter.branches) arbiters))
+
+-- the posts of all scripts together
+abbrev pub posts_in_all : List PosterPart → ℕ
+posts_in_all posters = sum (map (λ (poster : PosterPart). length poster.posts) posters)
+
+-- more than so many posts, in all scripts together
+abbrev pub has_posts_above : ℕ → List PosterPart → Bool
+has_posts_above most posters = nat_lt most (posts_in_all posters)
 
 -- more of a kind than a wiring may have
 abbrev pub has_too_many : Parts → Bool
@@ -70,15 +88,22 @@ has_too_many parts = nat_lt 16 (length parts.queues)
     || nat_lt 32 (length parts.causes)
     || nat_lt 256 (length parts.handlers)
     || nat_lt 256 (length parts.arbiters)
-    || nat_lt 256 (branch_count parts)
     || nat_lt 16 (length parts.posters)
-    || nat_lt 10000 (script_count parts)
+    || has_branches_above 256 parts.arbiters
+    || has_posts_above 10000 parts.posters
+
+abbrev pub has_outside_queue : Parts → Bool
+has_outside_queue parts = list_any queue_is_outside parts.queues
+
+abbrev pub has_outside_set : Parts → Bool
+has_outside_set parts = list_any set_is_outside parts.sets
+
+abbrev pub has_outside_handler : Parts → Bool
+has_outside_handler parts = list_any handler_is_outside parts.handlers
+
+abbrev pub has_outside_arbiter : Parts → Bool
+has_outside_arbiter parts = list_any arbiter_is_outside parts.arbiters
 
 -- a number is outside its limits, or there is more of something than its limit
 abbrev pub has_outside : Parts → Bool
-has_outside parts = has_too_many parts
-    || nat_lt 10000 parts.budget
-    || list_any (λ (part : QueuePart). policy_is_outside part.policy) parts.queues
-    || list_any (λ (set : SetPart). is_outside 1 8 (length set.ports)) parts.sets
-    || list_any handler_is_outside parts.handlers
-    || list_any arbiter_is_outside parts.arbiters
+has_outside parts = nat_lt 10000 parts.budget || has_too_many parts || has_outside_queue parts || has_outside_set parts || has_outside_handler parts || has_outside_arbiter parts

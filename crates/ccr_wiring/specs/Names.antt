@@ -13,22 +13,34 @@ use Rattle.ccr_wiring.specs.declared.parts.SetPart.{SetPart}
 use Rattle.ccr_wiring.specs.declared.parts.Parts.{Parts}
 use Rattle.ccr_wiring.specs.Groups.{is_receive}
 
+abbrev pub branch_names : List BranchPart → List (List ℕ)
+branch_names branches = map (λ (branch : BranchPart). branch.name) branches
+
 -- an arbiter's name and those of its branches. A receive and its one branch share a name, which counts once
 abbrev pub arbiter_names : ArbiterPart → List (List ℕ)
-arbiter_names arbiter = arbiter.name ∷ (if is_receive arbiter.kind then [] else map (λ (branch : BranchPart). branch.name) arbiter.branches)
+arbiter_names arbiter = arbiter.name ∷ (if is_receive arbiter.kind then [] else branch_names arbiter.branches)
+
+abbrev pub queue_names : List QueuePart → List (List ℕ)
+queue_names parts = map (λ (part : QueuePart). part.name) parts
+
+abbrev pub set_names : List SetPart → List (List ℕ)
+set_names parts = map (λ (part : SetPart). part.name) parts
+
+abbrev pub cause_names : List CausePart → List (List ℕ)
+cause_names parts = map (λ (part : CausePart). part.name) parts
+
+abbrev pub handler_names : List HandlerPart → List (List ℕ)
+handler_names parts = map (λ (part : HandlerPart). part.name) parts
+
+abbrev pub poster_names : List PosterPart → List (List ℕ)
+poster_names parts = map (λ (part : PosterPart). part.name) parts
 
 -- every name that the parts declare
 abbrev pub declared_names : Parts → List (List ℕ)
-declared_names parts = map (λ (part : QueuePart). part.name) parts.queues
-    ++ parts.ports
-    ++ map (λ (part : SetPart). part.name) parts.sets
-    ++ map (λ (part : CausePart). part.name) parts.causes
-    ++ map (λ (part : HandlerPart). part.name) parts.handlers
-    ++ flat_map arbiter_names parts.arbiters
-    ++ map (λ (part : PosterPart). part.name) parts.posters
+declared_names parts = queue_names parts.queues ++ parts.ports ++ set_names parts.sets ++ cause_names parts.causes ++ handler_names parts.handlers ++ flat_map arbiter_names parts.arbiters ++ poster_names parts.posters
 
 abbrev pub has_name : List (List ℕ) → List ℕ → Bool
-has_name names name = list_any (bytes_eq name) names
+has_name names name = list_any (λ other. bytes_eq other name) names
 
 -- whether some name stands twice
 abbrev pub has_repeated : List (List ℕ) → Bool
@@ -39,6 +51,10 @@ has_repeated (name ∷ names) = has_name names name || has_repeated names
 abbrev pub has_repeated_name : Parts → Bool
 has_repeated_name parts = has_repeated (declared_names parts)
 
+-- whether some name isn't of the form of a name
+abbrev pub has_malformed : List (List ℕ) → Bool
+has_malformed names = list_any (λ name. not (is_name_of name)) names
+
 -- a declared name isn't of the form of a name
 abbrev pub has_malformed_name : Parts → Bool
-has_malformed_name parts = list_any (λ name. not (is_name_of name)) (declared_names parts)
+has_malformed_name parts = has_malformed (declared_names parts)

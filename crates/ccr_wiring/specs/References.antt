@@ -36,8 +36,11 @@ action_is_dangling parts (Add cause) = no_cause parts cause
 action_is_dangling parts (Remove cause) = no_cause parts cause
 action_is_dangling parts (Fail expr) = false
 
+abbrev pub slots_are_dangling : Parts → List Slot → Bool
+slots_are_dangling parts slots = list_any (λ (slot : Slot). no_port parts slot.port) slots
+
 abbrev pub pattern_is_dangling : Parts → Pattern → Bool
-pattern_is_dangling parts (Slots slots) = list_any (λ (slot : Slot). no_port parts slot.port) slots
+pattern_is_dangling parts (Slots slots) = slots_are_dangling parts slots
 pattern_is_dangling parts (Gather total first second) = no_port parts first || no_port parts second
 
 abbrev pub branch_is_dangling : Parts → BranchPart → Bool
@@ -58,10 +61,24 @@ arbiter_is_dangling parts arbiter = list_any (branch_is_dangling parts) arbiter.
 abbrev pub poster_is_dangling : Parts → PosterPart → Bool
 poster_is_dangling parts poster = list_any (post_is_dangling parts) poster.posts
 
+abbrev pub cause_is_dangling : Parts → CausePart → Bool
+cause_is_dangling parts cause = no_port parts cause.port
+
+abbrev pub has_dangling_set : Parts → Bool
+has_dangling_set parts = list_any (set_is_dangling parts) parts.sets
+
+abbrev pub has_dangling_cause : Parts → Bool
+has_dangling_cause parts = list_any (cause_is_dangling parts) parts.causes
+
+abbrev pub has_dangling_handler : Parts → Bool
+has_dangling_handler parts = list_any (handler_is_dangling parts) parts.handlers
+
+abbrev pub has_dangling_arbiter : Parts → Bool
+has_dangling_arbiter parts = list_any (arbiter_is_dangling parts) parts.arbiters
+
+abbrev pub has_dangling_poster : Parts → Bool
+has_dangling_poster parts = list_any (poster_is_dangling parts) parts.posters
+
 -- a port, queue, handler or cause is named that the parts don't have
 abbrev pub has_dangling : Parts → Bool
-has_dangling parts = list_any (set_is_dangling parts) parts.sets
-    || list_any (λ (part : CausePart). no_port parts part.port) parts.causes
-    || list_any (handler_is_dangling parts) parts.handlers
-    || list_any (arbiter_is_dangling parts) parts.arbiters
-    || list_any (poster_is_dangling parts) parts.posters
+has_dangling parts = has_dangling_set parts || has_dangling_cause parts || has_dangling_handler parts || has_dangling_arbiter parts || has_dangling_poster parts

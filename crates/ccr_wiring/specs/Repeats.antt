@@ -22,17 +22,40 @@ are_apart (port ∷ ports) = not (has_port ports port) && are_apart ports
 abbrev pub slot_ports : List Slot → List ℕ
 slot_ports slots = map (λ (s : Slot). s.port) slots
 
+-- whether no slot's port stands in a later slot
+abbrev pub are_slots_apart : List Slot → Bool
+are_slots_apart slots = are_apart (slot_ports slots)
+
 -- whether a pattern names no port twice
 abbrev pub names_ports_once : Pattern → Bool
-names_ports_once (Slots slots) = are_apart (slot_ports slots)
+names_ports_once (Slots slots) = are_slots_apart slots
 names_ports_once (Gather total first second) = not (first == second)
 
+-- a pattern names a port twice
+abbrev pub branch_repeats : BranchPart → Bool
+branch_repeats branch = not (names_ports_once branch.pattern)
+
 abbrev pub arbiter_repeats : ArbiterPart → Bool
-arbiter_repeats arbiter = list_any (λ (branch : BranchPart). not (names_ports_once branch.pattern)) arbiter.branches
+arbiter_repeats arbiter = list_any branch_repeats arbiter.branches
+
+abbrev pub set_repeats : SetPart → Bool
+set_repeats set = not (are_apart set.ports)
+
+abbrev pub post_repeats : Sent → Bool
+post_repeats post = not (are_apart post.causes)
 
 abbrev pub poster_repeats : PosterPart → Bool
-poster_repeats poster = list_any (λ (post : Sent). not (are_apart post.causes)) poster.posts
+poster_repeats poster = list_any post_repeats poster.posts
+
+abbrev pub has_repeating_set : Parts → Bool
+has_repeating_set parts = list_any set_repeats parts.sets
+
+abbrev pub has_repeating_arbiter : Parts → Bool
+has_repeating_arbiter parts = list_any arbiter_repeats parts.arbiters
+
+abbrev pub has_repeating_poster : Parts → Bool
+has_repeating_poster parts = list_any poster_repeats parts.posters
 
 -- a port stands twice in one pattern or set, or a cause twice in one post
 abbrev pub has_repeat : Parts → Bool
-has_repeat parts = list_any (λ (set : SetPart). not (are_apart set.ports)) parts.sets || list_any arbiter_repeats parts.arbiters || list_any poster_repeats parts.posters
+has_repeat parts = has_repeating_set parts || has_repeating_arbiter parts || has_repeating_poster parts

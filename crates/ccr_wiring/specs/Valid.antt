@@ -1,9 +1,20 @@
 -- Valid wirings, and what they promise.
-use Rattle.std.specs.Prelude.{◌≡◌, ◌<◌, ℕ, true, length, Some, None}
+use Rattle.std.specs.Prelude.{◌≡◌, ◌<◌, ◌≤◌, ℕ, true, List, length, Option, Some, None}
+use Rattle.std.specs.List.{slice_get}
+use Rattle.ccr_base.specs.declared.handlers.Action.{Action}
+use Rattle.ccr_base.specs.declared.handlers.Action.TheVariants.{Post, Fail, Add, Remove, Await}
+use Rattle.ccr_base.specs.declared.messages.Sent.{Sent}
+use Rattle.ccr_base.specs.declared.patterns.Pattern.{Pattern}
+use Rattle.ccr_base.specs.declared.patterns.Pattern.TheVariants.{Slots, Gather}
+use Rattle.ccr_base.specs.declared.patterns.Slot.{Slot}
 use Rattle.ccr_wiring.specs.declared.parts.Parts.{Parts}
-use Rattle.ccr_wiring.specs.Wirings.{Seat, seat}
-use Rattle.ccr_wiring.specs.Repeats.{names_ports_once}
+use Rattle.ccr_wiring.specs.declared.parts.PosterPart.{PosterPart}
+use Rattle.ccr_wiring.specs.Wirings.{Seat, seat, seats, actions_of, exception_port, site_port}
 use Rattle.ccr_wiring.specs.Codes.{code_of}
+use Rattle.ccr_wiring.specs.Groups.{may_have}
+use Rattle.ccr_wiring.specs.Limits.{posts_in_all}
+use Rattle.ccr_wiring.specs.Repeats.{are_apart, names_ports_once}
+use Rattle.ccr_wiring.specs.Spots.{pattern_ports, times, named_ports}
 pub use Rattle.ccr_wiring.specs.Repeats.{has_port, are_apart, slot_ports, names_ports_once}
 
 -- no code stands in the parts
@@ -17,3 +28,95 @@ HasPortsApart wiring = (branch : ℕ) (s : Seat) → seat wiring branch ≡ Some
 -- each branch's queue is one of the wiring's
 abbrev pub HasQueues : Parts → Type 0
 HasQueues wiring = (branch : ℕ) (s : Seat) → seat wiring branch ≡ Some s → s.branch.queue < length wiring.queues
+
+-- each branch's handler is one of the wiring's
+abbrev pub HasHandlers : Parts → Type 0
+HasHandlers wiring = (branch : ℕ) (s : Seat) → seat wiring branch ≡ Some s → s.branch.handler < length wiring.handlers
+
+-- each branch's group is one that its arbiter's kind has
+abbrev pub HasGroups : Parts → Type 0
+HasGroups wiring = (branch : ℕ) (s : Seat) → seat wiring branch ≡ Some s → may_have s.kind s.branch.group ≡ true
+
+-- each port of a pattern is one of the wiring's
+abbrev pub HasPatternPorts : Parts → Type 0
+HasPatternPorts wiring = (branch : ℕ) (s : Seat) (place port : ℕ) → seat wiring branch ≡ Some s → slice_get (pattern_ports s.branch.pattern) place ≡ Some port → port < length wiring.ports
+
+-- a slot takes 1 to 1,000 messages, no more and no fewer
+abbrev pub IsSlotFilled : Slot → Type 0
+IsSlotFilled slot = (slot.least ≡ slot.most) × (0 < slot.least) × (slot.least ≤ 1000)
+
+-- a pattern takes at least one message: it has 1 to 8 slots, or is a gather of 1 to 1,000
+abbrev pub IsPatternFilled : Pattern → Type 0
+IsPatternFilled (Slots slots) = (0 < length slots) × (length slots ≤ 8) × ((place : ℕ) (slot : Slot) → slice_get slots place ≡ Some slot → IsSlotFilled slot)
+IsPatternFilled (Gather total first second) = (0 < total) × (total ≤ 1000)
+
+-- each branch takes at least one message
+abbrev pub HasPatternsFilled : Parts → Type 0
+HasPatternsFilled wiring = (branch : ℕ) (s : Seat) → seat wiring branch ≡ Some s → IsPatternFilled s.branch.pattern
+
+-- the port or cause of an action is one of the wiring's
+abbrev pub IsActionNamed : Parts → Action → Type 0
+IsActionNamed wiring (Post port expr) = port < length wiring.ports
+IsActionNamed wiring (Await port) = port < length wiring.ports
+IsActionNamed wiring (Add cause) = cause < length wiring.causes
+IsActionNamed wiring (Remove cause) = cause < length wiring.causes
+IsActionNamed wiring (Fail expr) = Unit {0}
+
+-- each port and each cause of a handler is one of the wiring's
+abbrev pub HasActionsNamed : Parts → Type 0
+HasActionsNamed wiring = (handler place : ℕ) (action : Action) → slice_get (actions_of wiring handler) place ≡ Some action → IsActionNamed wiring action
+
+-- the port that a site awaits is one of the wiring's
+abbrev pub HasSitePorts : Parts → Type 0
+HasSitePorts wiring = (branch site port : ℕ) → site_port wiring branch site ≡ Some port → port < length wiring.ports
+
+-- a handler has at most 16 actions
+abbrev pub HasFewActions : Parts → Type 0
+HasFewActions wiring = (handler : ℕ) → length (actions_of wiring handler) ≤ 16
+
+-- each exception port is one of the wiring's
+abbrev pub HasExceptionPorts : Parts → Type 0
+HasExceptionPorts wiring = (cause port : ℕ) → exception_port wiring cause ≡ Some port → port < length wiring.ports
+
+-- a post's port and causes are the wiring's, and no cause stands twice
+pub record IsPostNamed (wiring : Parts) (post : Sent) : Type 0 where
+  pub port : post.port < length wiring.ports
+  pub causes : (place cause : ℕ) → slice_get post.causes place ≡ Some cause → cause < length wiring.causes
+  pub apart : are_apart post.causes ≡ true
+
+-- the posts of each script
+abbrev pub HasScriptsNamed : Parts → Type 0
+HasScriptsNamed wiring = (poster place : ℕ) (part : PosterPart) (post : Sent) → slice_get wiring.posters poster ≡ Some part → slice_get part.posts place ≡ Some post → IsPostNamed wiring post
+
+-- at most 16 spots name one port
+abbrev pub HasFewSpots : Parts → Type 0
+HasFewSpots wiring = (port : ℕ) → times port (named_ports wiring) ≤ 16
+
+-- how many of each kind there are at most
+pub record IsSmall (wiring : Parts) : Type 0 where
+  pub budget : wiring.budget ≤ 10000
+  pub queues : length wiring.queues ≤ 16
+  pub ports : length wiring.ports ≤ 256
+  pub sets : length wiring.sets ≤ 64
+  pub causes : length wiring.causes ≤ 32
+  pub handlers : length wiring.handlers ≤ 256
+  pub arbiters : length wiring.arbiters ≤ 256
+  pub branches : length (seats wiring) ≤ 256
+  pub posters : length wiring.posters ≤ 16
+  pub posts : posts_in_all wiring.posters ≤ 10000
+
+-- what every valid wiring promises
+pub record IsSound (wiring : Parts) : Type 0 where
+  pub apart : HasPortsApart wiring
+  pub queues : HasQueues wiring
+  pub handlers : HasHandlers wiring
+  pub groups : HasGroups wiring
+  pub pattern_ports : HasPatternPorts wiring
+  pub patterns : HasPatternsFilled wiring
+  pub actions : HasActionsNamed wiring
+  pub few_actions : HasFewActions wiring
+  pub site_ports : HasSitePorts wiring
+  pub exception_ports : HasExceptionPorts wiring
+  pub scripts : HasScriptsNamed wiring
+  pub few_spots : HasFewSpots wiring
+  pub small : IsSmall wiring

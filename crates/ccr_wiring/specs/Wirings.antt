@@ -20,6 +20,7 @@ pub record Seat : Type 0 where
   pub kind : Kind
   pub branch : BranchPart
 
+-- the arbiter's branches, each with the arbiter's number and kind
 abbrev pub seats_of : ℕ → ArbiterPart → List Seat
 seats_of number arbiter = map (λ branch. record { arbiter = number; kind = arbiter.kind; branch = branch }) arbiter.branches
 
@@ -28,21 +29,27 @@ abbrev pub seats_from : ℕ → List ArbiterPart → List Seat
 seats_from number [] = []
 seats_from number (arbiter ∷ arbiters) = seats_of number arbiter ++ seats_from (number + 1) arbiters
 
+-- all branches, in the order of their numbers
 abbrev pub seats : Parts → List Seat
 seats wiring = seats_from 0 wiring.arbiters
 
+-- the branch of this number
 abbrev pub seat : Parts → ℕ → Option Seat
 seat wiring branch = slice_get (seats wiring) branch
 
+-- the queue's policy; a number that names no queue counts as an unbounded one
 abbrev pub policy_of : Parts → ℕ → Policy
 policy_of wiring queue = option_map_or (λ (part : QueuePart). part.policy) (slice_get wiring.queues queue) Unbounded
 
+-- the handler's actions; none where the number names no handler
 abbrev pub actions_of : Parts → ℕ → List Action
 actions_of wiring handler = option_map_or (λ part. part.handler.actions) (slice_get wiring.handlers handler) []
 
+-- the port to which failures under the cause post
 abbrev pub exception_port : Parts → ℕ → Option ℕ
 exception_port wiring cause = option_map (λ part. part.port) (slice_get wiring.causes cause)
 
+-- the port that the action awaits, where it is an await
 abbrev pub await_port : Action → Option ℕ
 await_port (Await port) = Some port
 await_port _ = None
@@ -51,10 +58,12 @@ await_port _ = None
 abbrev pub awaited : List Action → List ℕ
 awaited actions = filter_map await_port actions
 
+-- the branch of which the spot is, or is a site
 abbrev pub branch_of : Spot → ℕ
 branch_of (Branch branch) = branch
 branch_of (Site branch site) = branch
 
+-- whether the spot is a branch and not a site
 abbrev pub is_branch : Spot → Bool
 is_branch (Branch branch) = true
 is_branch (Site branch site) = false
@@ -68,13 +77,16 @@ segment_of (Site branch site) = suc site
 abbrev pub next_site : Spot → Spot
 next_site spot = Site (branch_of spot) (segment_of spot)
 
+-- the port that is awaited at this site of the branch
 abbrev pub site_port : Parts → ℕ → ℕ → Option ℕ
 site_port wiring branch site = option_map_or (λ (s : Seat). slice_get (awaited (actions_of wiring s.branch.handler)) site) (seat wiring branch) None
 
+-- a site for each awaited port, of which the first has this number
 abbrev pub sites_from : ℕ → ℕ → List ℕ → List Spot
 sites_from branch site [] = []
 sites_from branch site (port ∷ ports) = Site branch site ∷ sites_from branch (site + 1) ports
 
+-- the branches, of which the first has this number, each followed by its sites
 abbrev pub spots_from : Parts → ℕ → List Seat → List Spot
 spots_from wiring branch [] = []
 spots_from wiring branch (s ∷ ss) = Branch branch ∷ sites_from branch 0 (awaited (actions_of wiring s.branch.handler)) ++ spots_from wiring (branch + 1) ss

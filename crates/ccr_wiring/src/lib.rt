@@ -1,10 +1,29 @@
 //! Wirings: their parts, what makes parts valid, and the spots at which they fire.
 #![tactic(auto)]
 
+mod codes;
+mod groups;
+mod laws;
+mod limits;
+mod names;
 mod parts;
+mod references;
+mod repeats;
+mod spots;
+mod unfit;
 mod wiring;
 
+pub use laws::valid_wirings_are_sound;
+pub use limits::{
+    MAX_ACTIONS, MAX_ARBITERS, MAX_ARG, MAX_BRANCHES, MAX_BUDGET, MAX_CAUSES, MAX_COUNT,
+    MAX_HANDLERS, MAX_POLICY, MAX_PORTS, MAX_POSTERS, MAX_QUEUES, MAX_SCRIPT_POSTS, MAX_SET_PORTS,
+    MAX_SETS, MAX_SLOTS, MAX_SPOTS,
+};
 pub use parts::{
     ArbiterPart, BranchPart, CausePart, HandlerPart, Kind, Parts, PosterPart, QueuePart, SetPart,
 };
+pub use unfit::Unfit;
 pub use wiring::Wiring;
+
+#[cfg(test)]
+mod tests;

@@ -1,11 +1,15 @@
 //! Checked wirings.
 
-ghost use Rattle.std.specs.Prelude.{◌≡◌};
+ghost use Rattle.std.specs.Prelude.{◌≡◌, OnOk, IfOk, IfErr};
+ghost use Rattle.ccr_wiring.specs.Answers.{IsCause};
 ghost use Rattle.ccr_wiring.specs.Wirings.{spots as spots_of};
 ghost use Rattle.ccr_wiring.specs.Valid.{IsValid};
 
-use crate::Parts;
+use crate::codes::code_of;
+use crate::spots::all_spots;
+use crate::{Parts, Unfit};
 use ccr_base::Spot;
+use std::alloc::Global;
 use std::marker::Model;
 
 /// A wiring in which no code of refusal stands. Contracts see its parts.
@@ -29,6 +33,22 @@ impl Model for Wiring {
 }
 
 impl Wiring {
+    /// The wiring with these parts, where no code of refusal stands in them; else the least code that does.
+    /// The codes are those of the wiring text: 3, 6, 7, 8, 10, 11, 12 and 14 can stand in parts.
+    pub fn check(alloc: Global, parts: Parts) -> Result<Self, Unfit>
+        ensures parts { IfOk result (λ wiring. wiring ≡ parts) }
+        ensures valid { OnOk result (IsValid parts) }
+        ensures cause { IfErr result (λ unfit. IsCause parts unfit) }
+    {
+        match code_of(alloc, &parts)? {
+            Some(code) => Err(Unfit::Code(code)),
+            None => {
+                let spots = all_spots(alloc, &parts)?;
+                Ok(Wiring { parts, spots })
+            }
+        }
+    }
+
     /// What the wiring says.
     pub fn parts(&self) -> &Parts
         ensures parts { result.now ≡ self.now }

@@ -2,7 +2,7 @@ use Rattle.std.proofs.Common.{◌≡◌, ◌∙◌, ap, ℕ, List, Option, Some,
 use Rattle.std.specs.Option.{option_map}
 use Rattle.std.proofs.lemmas.Grind.{common_steps}
 use Rattle.std.proofs.lemmas.Bool.Decides.{nat_tests}
-use Rattle.ccr_base.specs.Choice.{choice, chosen, messages_at}
+use Rattle.ccr_base.specs.Choice.{chosen, messages_at}
 use Rattle.ccr_base.proofs.Places.{length-places_from}
 use Rattle.ccr_base.proofs.Chosen.{messages_at-chosen}
 use Rattle.ccr_base.proofs.choices.choose.Goals as goal

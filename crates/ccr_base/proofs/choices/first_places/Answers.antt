@@ -1,4 +1,4 @@
-use Rattle.std.proofs.Common.{◌≡◌, ◌+◌, arith}
+use Rattle.std.proofs.Common.{arith}
 use Rattle.std.proofs.lemmas.Grind.{common_steps}
 use Rattle.ccr_base.proofs.Places.{take-places_from, skip-places_from}
 use Rattle.ccr_base.proofs.choices.first_places.Goals as goal

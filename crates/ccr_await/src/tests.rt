@@ -1,0 +1,88 @@
+use super::*;
+use ccr_base::{By, CauseNo, Commit, List, OutOfMemory, Spot, Task, TaskId, Value};
+use std::alloc::Global;
+use std::process::Abort;
+use std::test::*;
+
+fn id(attempt: u32) -> TaskId {
+    TaskId { actor: 3, attempt }
+}
+
+/// A task whose root is the attempt before it.
+fn task(
+    alloc: Global,
+    attempt: u32,
+    spot: Spot,
+    value: Value,
+    cause: CauseNo,
+) -> Result<Task, OutOfMemory> {
+    let mut values = Vec::new(alloc);
+    values.push(value)?;
+    let mut causes = Vec::new(alloc);
+    causes.push(cause)?;
+    Ok(Task {
+        id: id(attempt),
+        root: id(attempt / 2),
+        spot,
+        arbiter: attempt,
+        queue: 6,
+        values: List::from_vec(values),
+        causes: List::from_vec(causes),
+    })
+}
+
+fn commit(
+    rt: &impl Abort,
+    alloc: Global,
+    site: &mut SiteObject,
+    attempt: u32,
+    cause: CauseNo,
+) -> Commit {
+    let task = task(alloc, attempt, Spot::Site(5, 1), 70, cause).expect(rt, "memory");
+    assert!(rt; site.may_commit(&task));
+    site.commit(task).expect(rt, "memory")
+}
+
+/// Whether the task of this attempt goes on for that of the suspended attempt, with these values and causes.
+fn resumes(
+    reply: &Commit,
+    attempt: u32,
+    suspended: u32,
+    values: &[Value],
+    causes: &[CauseNo],
+) -> bool {
+    match reply {
+        Commit::Fired {
+            task: Some(task),
+            cuts,
+        } => {
+            task.id == id(attempt)
+                && task.root == id(suspended / 2)
+                && task.spot == Spot::Site(5, 1)
+                && task.arbiter == suspended
+                && task.values.as_slice() == values
+                && task.causes.as_slice() == causes
+                && cuts.as_slice().is_empty()
+        }
+        _ => false,
+    }
+}
+
+#[test]
+fn first_suspended_resumes(rt: HostRuntime) -> Result<(), Fail> {
+    let alloc = rt.alloc();
+    let mut site = SiteObject::new(alloc, 5, 1);
+    let reply = commit(&rt, alloc, &mut site, 40, 1);
+    assert!(rt; matches!(reply, Commit::Dead(By::NoneWaiting)));
+    let first = task(alloc, 10, Spot::Branch(5), 7, 1).expect(&rt, "memory");
+    assert!(rt; site.suspend(first).is_ok());
+    let second = task(alloc, 20, Spot::Branch(5), 8, 1).expect(&rt, "memory");
+    assert!(rt; site.suspend(second).is_ok());
+    let reply = commit(&rt, alloc, &mut site, 41, 2);
+    assert!(rt; resumes(&reply, 41, 10, &[7, 70], &[1, 2]));
+    let reply = commit(&rt, alloc, &mut site, 42, 1);
+    assert!(rt; resumes(&reply, 42, 20, &[8, 70], &[1]));
+    let reply = commit(&rt, alloc, &mut site, 43, 1);
+    assert!(rt; matches!(reply, Commit::Dead(By::NoneWaiting)));
+    Ok(())
+}

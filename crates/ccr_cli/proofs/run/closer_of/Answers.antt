@@ -1,0 +1,12 @@
+use Rattle.std.proofs.Common.{arith}
+use Rattle.ccr_cli.proofs.run.closer_of.Goals as goal
+
+pub overflow_cast-result : goal.overflow_cast-result
+overflow_cast-result c =
+    let sound = c.valid_wirings_are_sound.ensures c.args.wiring.now c.parts.ensures.valid in
+    omega (arith, sound.small.posters)
+
+pub returns-clause-low : goal.returns-clause-low
+returns-clause-low c =
+    let sound = c.valid_wirings_are_sound.ensures c.args.wiring.now c.parts.ensures.valid in
+    omega (arith, sound.small.posters)

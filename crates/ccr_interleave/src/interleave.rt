@@ -1,0 +1,235 @@
+//! The object of an Interleave.
+
+ghost use Rattle.std.specs.Prelude.{◌≡◌, [], List, map, IsTrue, IfOk, OnErr, IsSome, slice_get, Some, None, true, false};
+ghost use Rattle.std.specs.Option.{option_map};
+ghost use Rattle.indexmap.specs.IndexMap.{get, keys, Updates, IsUnique};
+ghost use Rattle.ccr_base.specs.Names.{same_task};
+ghost use Rattle.ccr_base.specs.declared.names.MsgId.{MsgId};
+ghost use Rattle.ccr_places.specs.Commits.{commit_note};
+ghost use Rattle.ccr_places.specs.Interleaves.{start, group_at as group_of, is_teardown as is_teardown_group, may_commit as can_commit, may_over as can_be_over, dead_by, lets_in as is_let_in, admit_note, after_over, after, IsGiven};
+ghost use Rattle.ccr_places.specs.declared.notes.Note.TheVariants.{Admit, Over};
+ghost use Rattle.ccr_interleave.specs.Replies.{cut_of, commit_reply, after_commit, after_wait, next_task, after_oldest, after_next};
+
+use crate::groups::{group_at, is_concurrent, is_teardown};
+use crate::standing::{self, Standing};
+use ccr_base::{BranchNo, By, Commit, Cut, Group, How, List, OutOfMemory, Spot, Task, TaskId};
+use indexmap::IndexMap;
+use std::alloc::{AllocError, Global};
+use std::collections::VecDeque;
+use std::marker::Model;
+
+/// The branches of an Interleave. Its firings wait until they are admitted, the oldest first, or until a teardown cuts them.
+#[derive(Drop)]
+pub struct InterleaveObject {
+    alloc: Global,
+    first: BranchNo,
+    groups: List<Group>,
+    /// All tasks that fired here, in that order.
+    fired: IndexMap<TaskId, Standing>,
+    /// The oldest first.
+    waiting: VecDeque<Task>,
+    /// How many admitted roots of concurrent branches aren't noted over.
+    shared: usize,
+    /// How many admitted roots of other branches aren't noted over.
+    alone: usize,
+    teardown: Option<TaskId>,
+}
+
+impl Model for InterleaveObject {
+    ghost use Rattle.std.specs.Prelude.{map};
+    ghost use Rattle.std.specs.Map.{keys_of};
+    ghost use Rattle.ccr_places.specs.Interleaves.{InterleaveTasks, interleave_tasks_code};
+    ghost use Rattle.ccr_places.specs.TaskTables.{tasks_where};
+    ghost use Rattle.ccr_interleave.specs.Replies.{named};
+    ghost use Rattle.ccr_interleave.specs.Standings.{Tied, is_shared, is_alone};
+
+    ghost Value = { InterleaveTasks };
+
+    ghost coded = { interleave_tasks_code };
+
+    ghost view = { λ place. record {
+        state = record {
+            first = place.first;
+            groups = place.groups;
+            fired = keys_of place.fired.entries;
+            waiting = map named place.waiting.items;
+            shared = tasks_where is_shared place.fired.entries;
+            alone = tasks_where is_alone place.fired.entries;
+            teardown = place.teardown;
+        };
+        tasks = place.waiting.items;
+    } };
+
+    ghost invariant = { λ place. Tied place.fired.entries (map named place.waiting.items) place.shared place.alone };
+}
+
+impl InterleaveObject {
+    /// The Interleave whose branches from the first on have these groups. None of them fired yet.
+    pub fn new(alloc: Global, first: BranchNo, groups: List<Group>) -> InterleaveObject
+        ensures { result ≡ record { state = start first groups; tasks = [] } }
+    {
+        InterleaveObject {
+            alloc,
+            first,
+            groups,
+            fired: IndexMap::new(alloc),
+            waiting: VecDeque::new(alloc),
+            shared: 0,
+            alone: 0,
+            teardown: None,
+        }
+    }
+
+    /// Whether the task is at a branch of this Interleave, and none of its name fired here.
+    pub fn may_commit(&self, task: &Task) -> bool
+        ensures { result ≡ can_commit self.now.state task.now }
+    {
+        group_at(self.first, self.groups.as_slice(), task.spot).is_some() && !self.fired.contains_key(&task.id)
+    }
+
+    /// The task fires and waits, unless a teardown fired before. A teardown cuts all tasks that wait.
+    pub fn commit(&mut self, task: Task) -> Result<Commit, OutOfMemory>
+        requires { IsTrue (can_commit self.old.state task) }
+        ensures reply { IfOk result (λ reply. reply ≡ commit_reply self.old task) }
+        ensures kept { IfOk result (λ reply. self.new ≡ after_commit self.old task) }
+        ensures given { IfOk result (λ reply. (messages : List MsgId) → IsGiven self.old.state (commit_note task messages reply)) }
+        ensures step { IfOk result (λ reply. (messages : List MsgId) → self.new.state ≡ after self.old.state (commit_note task messages reply)) }
+        ensures err { OnErr result (self.new ≡ self.old) }
+    {
+        if let Some(earlier) = self.teardown {
+            return Ok(Commit::Dead(By::Fired(earlier)));
+        }
+        if is_teardown(group_at(self.first, self.groups.as_slice(), task.spot)) {
+            self.tear_down(task)
+        } else {
+            self.wait(task)
+        }
+    }
+
+    /// The task of a branch that is no teardown waits last.
+    fn wait(&mut self, task: Task) -> Result<Commit, OutOfMemory>
+        requires new { IsTrue (can_commit self.old.state task) }
+        requires group { is_teardown_group (group_of self.old.state task.spot) ≡ false }
+        requires live { self.old.state.teardown ≡ None }
+        ensures reply { IfOk result (λ reply. reply ≡ commit_reply self.old task) }
+        ensures kept { IfOk result (λ reply. self.new ≡ after_wait self.old task) }
+        ensures err { OnErr result (self.new ≡ self.old) }
+    {
+        self.waiting.reserve(1)?;
+        self.fired.insert(task.id, Standing::Outside)?;
+        self.waiting.push_back_reserved(task);
+        Ok(Commit::Fired {
+            task: None,
+            cuts: List::new(self.alloc),
+        })
+    }
+
+    /// The task of a teardown cuts all that wait, and waits alone.
+    fn tear_down(&mut self, task: Task) -> Result<Commit, OutOfMemory>
+        requires new { IsTrue (can_commit self.old.state task) }
+        requires group { is_teardown_group (group_of self.old.state task.spot) ≡ true }
+        requires live { self.old.state.teardown ≡ None }
+        ensures reply { IfOk result (λ reply. reply ≡ commit_reply self.old task) }
+        ensures kept { IfOk result (λ reply. self.new ≡ after_wait self.old task) }
+        ensures err { OnErr result (self.new ≡ self.old) }
+    {
+        self.waiting.reserve(1)?;
+        let cuts = List::from_vec(cuts_of(self.alloc, &self.waiting)?);
+        self.fired.insert(task.id, Standing::Outside)?;
+        self.teardown = Some(task.id);
+        self.waiting.clear();
+        self.waiting.push_back_reserved(task);
+        Ok(Commit::Fired { task: None, cuts })
+    }
+
+    /// Hands out the oldest waiting task, where it may be admitted: a concurrent one where each admitted root that isn't
+    /// noted over is concurrent, another where none is left. It takes no memory: the commit made the room.
+    pub fn admit(&mut self) -> Option<Task>
+        ensures task { result ≡ next_task self.old }
+        ensures given { IsGiven self.old.state (Admit (option_map (λ task. task.id) result)) }
+        ensures kept { self.new ≡ after_next self.old }
+        ensures step { self.new.state ≡ after self.old.state (Admit (option_map (λ task. task.id) result)) }
+    {
+        let spot = self.waiting.front()?.spot;
+        if self.lets_in(spot) {
+            self.admit_oldest()
+        } else {
+            None
+        }
+    }
+
+    /// Whether a waiting task of the spot may be admitted beside the roots that are.
+    fn lets_in(&self, spot: Spot) -> bool
+        ensures { result ≡ is_let_in self.now.state spot }
+    {
+        self.alone == 0
+            && (is_concurrent(group_at(self.first, self.groups.as_slice(), spot)) || self.shared == 0)
+    }
+
+    /// The oldest waiting task is one of the admitted roots from now on.
+    fn admit_oldest(&mut self) -> Option<Task>
+        ensures task { result ≡ slice_get self.old.tasks 0 }
+        ensures name { option_map (λ task. task.id) result ≡ option_map (λ waiting. waiting.task) (slice_get self.old.state.waiting 0) }
+        ensures kept { self.new ≡ after_oldest self.old }
+    {
+        let task = self.waiting.pop_front()?;
+        let concurrent = is_concurrent(group_at(self.first, self.groups.as_slice(), task.spot));
+        let standing = standing::admitted_as(concurrent);
+        let fired = self.fired.len();
+        prove!(self.shared <= fired);
+        prove!(self.alone <= fired);
+        set_standing(&mut self.fired, task.id, standing);
+        self.shared += standing::shared_count(Some(standing));
+        self.alone += standing::alone_count(Some(standing));
+        Some(task)
+    }
+
+    /// Whether the root was admitted and isn't noted over.
+    pub fn may_over(&self, _task: TaskId, root: TaskId, _how: How) -> bool
+        ensures { result ≡ can_be_over self.now.state root }
+    {
+        standing::is_admitted(self.fired.get(&root).copied())
+    }
+
+    /// Notes that the root is over. It takes no memory.
+    pub fn over(&mut self, task: TaskId, root: TaskId, how: How)
+        requires { IsTrue (can_be_over self.old.state root) }
+        ensures kept { self.new ≡ record self.old { state = after_over self.old.state root } }
+        ensures step { self.new.state ≡ after self.old.state (Over task root how) }
+    {
+        let standing = set_standing(&mut self.fired, root, Standing::Outside);
+        self.shared -= standing::shared_count(standing);
+        self.alone -= standing::alone_count(standing);
+    }
+}
+
+/// Changes the standing of a task that fired, and tells the one before. It takes no memory.
+fn set_standing(
+    fired: &mut IndexMap<TaskId, Standing>,
+    task: TaskId,
+    standing: Standing,
+) -> Option<Standing>
+    requires { IsSome (get same_task fired.old task) }
+    ensures before { result ≡ get same_task fired.old task }
+    ensures updates { Updates same_task fired.old fired.new task (Some standing) }
+    ensures keys { keys fired.new ≡ keys fired.old }
+    ensures unique { IsUnique same_task fired.new }
+{
+    match fired.insert(task, standing) {
+        Ok(before) => before,
+        Err(_) => unreachable!(),
+    }
+}
+
+/// The cuts of all waiting tasks, in order.
+fn cuts_of(alloc: Global, waiting: &VecDeque<Task>) -> Result<Vec<Cut>, AllocError>
+    ensures { IfOk result (λ cuts. cuts.items ≡ map cut_of waiting.now.items) }
+{
+    waiting
+        .iter()
+        .map(|task| Cut {
+            task: task.id,
+            queue: task.queue,
+        })
+        .collect(alloc)
+}

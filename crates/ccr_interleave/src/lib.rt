@@ -1,0 +1,11 @@
+//! The object of an Interleave: its firings wait, are admitted by their groups, and are cut by a teardown.
+#![tactic(auto)]
+
+mod groups;
+mod interleave;
+mod standing;
+
+pub use interleave::InterleaveObject;
+
+#[cfg(test)]
+mod tests;

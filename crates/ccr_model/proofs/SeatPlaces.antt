@@ -1,0 +1,29 @@
+-- Where the branch of a number stands among the arbiters.
+use Rattle.std.proofs.Common.{◌≡◌, ℕ, zero, suc, ◌+◌, ◌-◌, ◌≤◌, List, [], ◌∷◌, ◌++◌, length, map, drop, get_or, Option, Some, None, refl, ap, ◌∙◌, arith}
+use Rattle.std.specs.List.{slice_get}
+use Rattle.std.specs.Option.{option_map}
+use Rattle.std.proofs.lemmas.Option.{slice_get-map}
+use Rattle.std.proofs.lemmas.List.{length-map}
+use Rattle.ccr_wiring.specs.declared.parts.ArbiterPart.{ArbiterPart}
+use Rattle.ccr_wiring.specs.declared.parts.BranchPart.{BranchPart}
+use Rattle.ccr_wiring.specs.Wirings.{Seat, seats_of, seats_from}
+
+pub get-front : {X : Type 0} (xs ys : List X) (k : ℕ) (x : X) → slice_get xs k ≡ Some x → slice_get (xs ++ ys) k ≡ Some x
+get-front [] ys k x is = absurd cc
+get-front (y ∷ xs) ys zero x is = is
+get-front (y ∷ xs) ys (suc k) x is = get-front xs ys k x is
+
+pub get-back : {X : Type 0} (xs ys : List X) (k : ℕ) → length xs ≤ k → slice_get (xs ++ ys) k ≡ slice_get ys (k - length xs)
+get-back [] ys k past = let e : k - 0 ≡ k = omega arith in rw e refl
+get-back (x ∷ xs) ys zero past = absurd (omega arith)
+get-back (x ∷ xs) ys (suc k) past = let e : suc k - length (x ∷ xs) ≡ k - length xs = omega arith in rw e (get-back xs ys k (omega arith))
+
+-- the branch is one of the first arbiter's
+pub seat-here : (number : ℕ) (arbiter : ArbiterPart) (others : List ArbiterPart) (k : ℕ) (branch : BranchPart) → slice_get arbiter.branches k ≡ Some branch → slice_get (seats_from number (arbiter ∷ others)) k ≡ Some (record { arbiter = number; kind = arbiter.kind; branch = branch })
+seat-here number arbiter others k branch is = get-front (seats_of number arbiter) (seats_from (number + 1) others) k _ (rw (slice_get-map _ arbiter.branches k, is) refl)
+
+-- it is one of a later arbiter's
+pub seat-later : (number : ℕ) (arbiter : ArbiterPart) (others : List ArbiterPart) (k : ℕ) → length arbiter.branches ≤ k → slice_get (seats_from number (arbiter ∷ others)) k ≡ slice_get (seats_from (number + 1) others) (k - length arbiter.branches)
+seat-later number arbiter others k past =
+    let long : length (seats_of number arbiter) ≡ length arbiter.branches = length-map arbiter.branches _ in
+    get-back (seats_of number arbiter) (seats_from (number + 1) others) k (omega arith) ∙ rw long refl

@@ -1,0 +1,60 @@
+-- The actions of a segment, and plays by other names of the exception ports.
+use Rattle.std.proofs.Common.{◌≡◌, ℕ, zero, suc, ◌+◌, ◌-◌, ◌≤◌, Bool, true, false, List, [], ◌∷◌, ◌++◌, length, map, Option, Some, None, option_to_list, refl, ap, ◌∙◌, arith}
+use Rattle.std.specs.Prelude.{if◌then◌else◌}
+use Rattle.std.specs.List.{slice_get}
+use Rattle.std.proofs.lemmas.Option.{slice_get-map}
+use Rattle.ccr_wiring.specs.declared.parts.Parts.{Parts}
+use Rattle.ccr_wiring.specs.declared.parts.CausePart.{CausePart}
+use Rattle.ccr_wiring.specs.Wirings.{exception_port}
+use Rattle.ccr_base.specs.declared.handlers.Action.{Action}
+use Rattle.ccr_base.specs.declared.handlers.Action.TheVariants.{Post, Fail, Add, Remove, Await}
+use Rattle.ccr_base.specs.declared.handlers.Expr.{Expr}
+use Rattle.ccr_handler.specs.declared.segments.Play.{Play}
+use Rattle.ccr_cause.specs.Causes.{with_cause, without_cause, union}
+use Rattle.ccr_handler.specs.Playing.{is_await, after_await, actions_from, exceptions, play, value_of, with_post}
+
+-- no actions have no later segment
+pub actions_from-none : (segment : ℕ) → actions_from segment [] ≡ []
+actions_from-none zero = refl
+actions_from-none (suc segment) = ap after_await (actions_from-none segment)
+
+after_await-shorter : (actions : List Action) → length (after_await actions) ≤ length actions - 1
+after_await-shorter [] = omega arith
+after_await-shorter (action ∷ actions) = of_test (is_await action) (after_await-shorter actions)
+  where
+    of_test : (b : Bool) → length (after_await actions) ≤ length actions - 1 → length (if b then actions else after_await actions) ≤ length (action ∷ actions) - 1
+    of_test true less = omega arith
+    of_test false less = omega arith
+
+actions_from-shorter : (segment : ℕ) (actions : List Action) → length (actions_from segment actions) ≤ length actions - segment
+actions_from-shorter zero actions = omega arith
+actions_from-shorter (suc segment) actions = omega (arith, after_await-shorter (actions_from segment actions), actions_from-shorter segment actions)
+
+none_left : (actions : List Action) → length actions ≤ 0 → actions ≡ []
+none_left [] few = refl
+none_left (action ∷ actions) few = absurd (omega arith)
+
+-- there are no more segments than actions
+pub actions_from-past : (segment : ℕ) (actions : List Action) → length actions ≤ segment → actions_from segment actions ≡ []
+actions_from-past segment actions past = none_left (actions_from segment actions) (omega (arith, actions_from-shorter segment actions))
+
+exceptions-same : (f g : ℕ → Option ℕ) → ((k : ℕ) → f k ≡ g k) → (value : ℕ) (causes : List ℕ) → exceptions f value causes ≡ exceptions g value causes
+exceptions-same f g same value [] = refl
+exceptions-same f g same value (cause ∷ causes) = rw (same cause, exceptions-same f g same value causes) refl
+
+-- a play depends on the exception ports alone
+pub play-same : (f g : ℕ → Option ℕ) → ((k : ℕ) → f k ≡ g k) → (values : List ℕ) (site : ℕ) (causes : List ℕ) (actions : List Action) → play f values site causes actions ≡ play g values site causes actions
+play-same f g same values site causes [] = refl
+play-same f g same values site causes (Post port expr ∷ actions) = ap (with_post _) (play-same f g same values site causes actions)
+play-same f g same values site causes (Fail expr ∷ actions) = rw (exceptions-same f g same (value_of expr values) causes) refl
+play-same f g same values site causes (Add cause ∷ actions) = play-same f g same values site (with_cause causes cause) actions
+play-same f g same values site causes (Remove cause ∷ actions) = play-same f g same values site (without_cause causes cause) actions
+play-same f g same values site causes (Await port ∷ actions) = refl
+
+pub union-append : (causes more others : List ℕ) → union causes (more ++ others) ≡ union (union causes more) others
+union-append causes [] others = refl
+union-append causes (cause ∷ more) others = union-append (with_cause causes cause) more others
+
+-- the ports by a list of them, or by the wiring
+pub play-ports : (wiring : Parts) (ports : List ℕ) → ports ≡ map (λ (part : CausePart). part.port) wiring.causes → (values : List ℕ) (site : ℕ) (causes : List ℕ) (actions : List Action) → play (slice_get ports) values site causes actions ≡ play (exception_port wiring) values site causes actions
+play-ports wiring ports are values site causes actions = play-same (slice_get ports) (exception_port wiring) (λ k. rw (are, slice_get-map _ wiring.causes k) refl) values site causes actions

@@ -1,0 +1,7 @@
+use Rattle.std.proofs.Common.{◌≡◌, drop}
+use Rattle.std.specs.List.{slice_get}
+use Rattle.ccr_wiring.specs.Wirings.{seat, seats_from}
+use Rattle.ccr_model.proofs.seats.seat.Given as goal
+
+abbrev pub invariant-loop-number : goal.invariant-loop-number
+invariant-loop-number l = slice_get (seats_from l.number (drop l.number l.wiring.arbiters)) l.left ≡ seat l.wiring l.branch

@@ -1,0 +1,268 @@
+//! Which messages a firing may take, and which ones the engine takes.
+
+ghost use Rattle.std.specs.Prelude.{◌≡◌, ◌++◌, IfOk, OnOk, take};
+ghost use Rattle.std.specs.Option.{option_map};
+ghost use Rattle.ccr_base.specs.Names.{same_message, same_lists};
+ghost use Rattle.ccr_base.specs.Choice.{choice, fitting};
+ghost use Rattle.ccr_model.specs.Posts.{held};
+ghost use Rattle.ccr_model.specs.Choice.{names_of, choice_of_slots, are_first, are_split, is_choice_of, are_oldest, is_choice, engine_gather, engine_choice_of, oldest, engine_choice};
+ghost use Rattle.ccr_model.specs.Views.{seen};
+
+use crate::Event;
+use crate::posts::held;
+use crate::seats::{seat, site_port};
+use ccr_base::{List, Msg, MsgId, OutOfMemory, Pattern, PortNo, Slot, Spot};
+use ccr_wiring::Wiring;
+use std::alloc::Global;
+
+/// The names of the slot's choice from what its port holds.
+fn choice_names(
+    alloc: Global,
+    held: &[&Msg],
+    slot: &Slot,
+) -> Result<Option<Vec<MsgId>>, OutOfMemory>
+    ensures { IfOk result (λ names. option_map (λ found. found.items) names ≡ option_map names_of (choice slot.now (seen held.now))) }
+{
+    let mut names = fitting_names(alloc, held, slot)?;
+    if names.len() < slot.least as usize {
+        return Ok(None);
+    }
+    names.truncate(slot.most as usize);
+    Ok(Some(names))
+}
+
+/// The names of the messages that satisfy the slot's predicate.
+fn fitting_names(alloc: Global, held: &[&Msg], slot: &Slot) -> Result<Vec<MsgId>, OutOfMemory>
+    ensures { IfOk result (λ names. names.items ≡ names_of (fitting slot.now.pred (seen held.now))) }
+{
+    let mut names = Vec::new(alloc);
+    for message in held {
+        if slot.pred.holds(message.value) {
+            names.push(message.id)?;
+        }
+    }
+    Ok(names)
+}
+
+/// The names of the choice of all slots, slot by slot.
+fn names_of_slots(
+    alloc: Global,
+    events: &[Event],
+    slots: &[Slot],
+) -> Result<Option<Vec<MsgId>>, OutOfMemory>
+    ensures { IfOk result (λ names. option_map (λ found. found.items) names ≡ option_map names_of (choice_of_slots (held events.now) slots.now)) }
+{
+    let mut names = Vec::new(alloc);
+    for slot in slots {
+        let held = held(alloc, events, slot.port)?;
+        let Some(found) = choice_names(alloc, &held, slot)? else {
+            return Ok(None);
+        };
+        names.extend_from_slice(&found)?;
+    }
+    Ok(Some(names))
+}
+
+/// Adds the names of the first messages, at most `most`.
+fn add_names(names: &mut Vec<MsgId>, messages: &[&Msg], most: usize) -> Result<(), OutOfMemory>
+    ensures ok { OnOk result (names.new.items ≡ names.old.items ++ names_of (take most (seen messages.now))) }
+{
+    let mut left = most;
+    for message in messages {
+        if left == 0 {
+            return Ok(());
+        }
+        names.push(message.id)?;
+        left -= 1;
+    }
+    Ok(())
+}
+
+/// The names of the engine's gather: as many as can be had from the lower-numbered port.
+fn names_of_gather(
+    alloc: Global,
+    events: &[Event],
+    total: u32,
+    first: PortNo,
+    second: PortNo,
+) -> Result<Option<Vec<MsgId>>, OutOfMemory>
+    ensures { IfOk result (λ names. option_map (λ found. found.items) names ≡ option_map names_of (engine_gather total first second (held events.now first) (held events.now second))) }
+{
+    let of_first = held(alloc, events, first)?;
+    let of_second = held(alloc, events, second)?;
+    let total = total as usize;
+    if of_first.len() < total && of_second.len() < total - of_first.len() {
+        return Ok(None);
+    }
+    let (from_first, from_second) = if first < second {
+        (total, total.saturating_sub(of_first.len()))
+    } else {
+        (total.saturating_sub(of_second.len()), total)
+    };
+    let mut names = Vec::new(alloc);
+    add_names(&mut names, &of_first, from_first)?;
+    add_names(&mut names, &of_second, from_second)?;
+    Ok(Some(names))
+}
+
+/// The names of the messages that the engine takes for the pattern.
+fn engine_choice_of(
+    alloc: Global,
+    events: &[Event],
+    pattern: &Pattern,
+) -> Result<Option<Vec<MsgId>>, OutOfMemory>
+    ensures { IfOk result (λ names. option_map (λ found. found.items) names ≡ option_map names_of (engine_choice_of (held events.now) pattern.now)) }
+{
+    match pattern {
+        Pattern::Slots(slots) => names_of_slots(alloc, events, slots.as_slice()),
+        Pattern::Gather {
+            total,
+            first,
+            second,
+        } => names_of_gather(alloc, events, *total, *first, *second),
+    }
+}
+
+/// The name of the oldest message of the port, alone.
+fn oldest(alloc: Global, events: &[Event], port: PortNo) -> Result<Option<Vec<MsgId>>, OutOfMemory>
+    ensures { IfOk result (λ names. option_map (λ found. found.items) names ≡ option_map names_of (oldest (held events.now port))) }
+{
+    let held = held(alloc, events, port)?;
+    let Some(message) = held.first() else {
+        return Ok(None);
+    };
+    let mut names = Vec::new(alloc);
+    names.push(message.id)?;
+    Ok(Some(names))
+}
+
+/// The names of the messages that the engine takes for a firing at the spot, where it can fire there.
+pub fn engine_choice(
+    alloc: Global,
+    wiring: &Wiring,
+    events: &[Event],
+    spot: Spot,
+) -> Result<Option<Vec<MsgId>>, OutOfMemory>
+    ensures { IfOk result (λ names. option_map (λ found. found.items) names ≡ option_map names_of (engine_choice wiring.now events.now spot)) }
+{
+    match spot {
+        Spot::Branch(branch) => match seat(wiring, branch) {
+            Some(seat) => engine_choice_of(alloc, events, &seat.branch.pattern),
+            None => Ok(None),
+        },
+        Spot::Site(branch, site) => match site_port(wiring, branch, site) {
+            Some(port) => oldest(alloc, events, port),
+            None => Ok(None),
+        },
+    }
+}
+
+/// Whether two lists of names are the same.
+fn are_same(names: &[MsgId], others: &[MsgId]) -> bool
+    ensures { result ≡ same_lists same_message names.now others.now }
+{
+    match (names, others) {
+        ([], []) => true,
+        ([name, names @ ..], [other, others @ ..]) => name == other && are_same(names, others),
+        _ => false,
+    }
+}
+
+/// Whether the names are those of the first messages.
+fn are_first(messages: &[&Msg], names: &[MsgId]) -> bool
+    ensures { result ≡ are_first (seen messages.now) names.now }
+{
+    let Some((name, names)) = names.split_first() else {
+        return true;
+    };
+    let Some((message, messages)) = messages.split_first() else {
+        return false;
+    };
+    message.id == *name && are_first(messages, names)
+}
+
+/// Whether the names are those of some first messages of one list, followed by some of the other.
+fn are_split(first: &[&Msg], second: &[&Msg], names: &[MsgId]) -> bool
+    ensures { result ≡ are_split (seen first.now) (seen second.now) names.now }
+{
+    let Some((name, later)) = names.split_first() else {
+        return true;
+    };
+    let Some((message, others)) = first.split_first() else {
+        return are_first(second, names);
+    };
+    are_first(second, names) || (message.id == *name && are_split(others, second, later))
+}
+
+/// Whether the names are those of all the slots' choice.
+fn is_choice_of_slots(
+    alloc: Global,
+    events: &[Event],
+    slots: &List<Slot>,
+    names: &[MsgId],
+) -> Result<bool, OutOfMemory>
+    ensures { IfOk result (λ is. is ≡ is_choice_of (held events.now) (Pattern.Slots slots.now) names.now) }
+{
+    match names_of_slots(alloc, events, slots.as_slice())? {
+        Some(chosen) => Ok(are_same(&chosen, names)),
+        None => Ok(false),
+    }
+}
+
+/// Whether the names are those of a choice of the pattern. Which split of a gather is free.
+fn is_choice_of(
+    alloc: Global,
+    events: &[Event],
+    pattern: &Pattern,
+    names: &[MsgId],
+) -> Result<bool, OutOfMemory>
+    ensures { IfOk result (λ is. is ≡ is_choice_of (held events.now) pattern.now names.now) }
+{
+    match pattern {
+        Pattern::Slots(slots) => is_choice_of_slots(alloc, events, slots, names),
+        Pattern::Gather {
+            total,
+            first,
+            second,
+        } => {
+            let of_first = held(alloc, events, *first)?;
+            let of_second = held(alloc, events, *second)?;
+            Ok(names.len() == *total as usize && are_split(&of_first, &of_second, names))
+        }
+    }
+}
+
+/// Whether the names are the one oldest message's of the port.
+fn are_oldest(
+    alloc: Global,
+    events: &[Event],
+    port: PortNo,
+    names: &[MsgId],
+) -> Result<bool, OutOfMemory>
+    ensures { IfOk result (λ is. is ≡ are_oldest (held events.now port) names.now) }
+{
+    let held = held(alloc, events, port)?;
+    Ok(names.len() == 1 && are_first(&held, names))
+}
+
+/// Whether a firing at the spot may take the messages of these names.
+pub fn is_choice(
+    alloc: Global,
+    wiring: &Wiring,
+    events: &[Event],
+    spot: Spot,
+    names: &[MsgId],
+) -> Result<bool, OutOfMemory>
+    ensures { IfOk result (λ is. is ≡ is_choice wiring.now events.now spot names.now) }
+{
+    match spot {
+        Spot::Branch(branch) => match seat(wiring, branch) {
+            Some(seat) => is_choice_of(alloc, events, &seat.branch.pattern, names),
+            None => Ok(false),
+        },
+        Spot::Site(branch, site) => match site_port(wiring, branch, site) {
+            Some(port) => are_oldest(alloc, events, port, names),
+            None => Ok(false),
+        },
+    }
+}

@@ -1,0 +1,206 @@
+//! The data of a task: its values and causes, and its play.
+
+ghost use Rattle.std.specs.Prelude.{◌≡◌, ◌≤◌, ◌^◌, [], IfOk, IfSome, IfNone, map};
+ghost use Rattle.std.specs.Option.{option_map_or};
+ghost use Rattle.ccr_handler.specs.Playing.{actions_from, play};
+ghost use Rattle.ccr_wiring.specs.declared.parts.CausePart.{CausePart};
+ghost use Rattle.ccr_wiring.specs.Wirings.{branch_of, exception_port, segment_of};
+ghost use Rattle.ccr_model.specs.TaskData.{actions_at, messages_of, with_messages, no_load, load_at, load_after, play_at, play_of};
+ghost use Rattle.ccr_model.specs.Views.{seen, load_seen};
+
+use crate::Event;
+use crate::firings::{before, messages_of, spot_of};
+use crate::posts::message_named;
+use crate::seats::seat;
+use crate::sites::{branch_of, resumed, spot_before};
+use ccr_base::{BranchNo, CauseNo, Handler, List, Msg, OutOfMemory, PortNo, Spot, TaskId, Value};
+use ccr_cause::union;
+use ccr_handler::{Play, PlayEnd, plays};
+use ccr_wiring::Wiring;
+use std::alloc::Global;
+
+/// What a segment starts with.
+#[derive(Drop)]
+pub(crate) struct TaskLoad {
+    pub values: List<Value>,
+    pub causes: List<CauseNo>,
+}
+
+/// The messages that the firing of the task took.
+fn taken_by<'a>(
+    alloc: Global,
+    events: &'a [Event],
+    task: TaskId,
+) -> Result<Vec<&'a Msg>, OutOfMemory>
+    ensures { IfOk result (λ messages. seen messages.items ≡ messages_of events.now task) }
+{
+    let past = before(task, events);
+    let mut messages = Vec::new(alloc);
+    for name in messages_of(events, task) {
+        if let Some(message) = message_named(past, *name) {
+            messages.push(message)?;
+        }
+    }
+    Ok(messages)
+}
+
+/// The load with the messages' values and causes behind it.
+fn with_messages(alloc: Global, load: TaskLoad, messages: &[&Msg]) -> Result<TaskLoad, OutOfMemory>
+    ensures { IfOk result (λ more. load_seen more ≡ with_messages (load_seen load) (seen messages.now)) }
+{
+    let TaskLoad { values, mut causes } = load;
+    let mut values = values.into_vec();
+    for message in messages {
+        values.push(message.value)?;
+        causes = union(alloc, &causes, &message.causes)?;
+    }
+    Ok(TaskLoad {
+        values: List::from_vec(values),
+        causes,
+    })
+}
+
+fn no_load(alloc: Global) -> TaskLoad
+    ensures { load_seen result ≡ no_load }
+{
+    TaskLoad {
+        values: List::new(alloc),
+        causes: List::new(alloc),
+    }
+}
+
+/// The exception ports of the causes, by their numbers.
+fn exception_ports(alloc: Global, wiring: &Wiring) -> Result<Vec<PortNo>, OutOfMemory>
+    ensures { IfOk result (λ ports. ports.items ≡ map (λ (part : CausePart). part.port) wiring.now.causes) }
+{
+    let mut ports = Vec::new(alloc);
+    for cause in wiring.parts().causes.as_slice() {
+        ports.push(cause.port)?;
+    }
+    Ok(ports)
+}
+
+/// The play of no actions.
+fn idle(alloc: Global, causes: &List<CauseNo>) -> Result<Play, OutOfMemory>
+    ensures { IfOk result (λ found. found ≡ record { posts = []; end = PlayEnd.Done; causes = causes.now }) }
+{
+    Ok(Play {
+        posts: List::new(alloc),
+        end: PlayEnd::Done,
+        causes: causes.copy(alloc)?,
+    })
+}
+
+/// The play of a segment of the handler with this load.
+fn play_with(
+    alloc: Global,
+    wiring: &Wiring,
+    handler: &Handler,
+    segment: u32,
+    load: &TaskLoad,
+) -> Result<Play, OutOfMemory>
+    ensures { IfOk result (λ found. found ≡ play (exception_port wiring.now) load.now.values segment load.now.causes (actions_from segment handler.now.actions)) }
+{
+    let ports = exception_ports(alloc, wiring)?;
+    let values = load.values.as_slice();
+    plays(alloc, handler, &ports, segment, values, &load.causes)
+}
+
+/// The handler of the branch.
+fn handler_of(wiring: &Wiring, branch: BranchNo) -> Option<&Handler>
+    ensures { option_map_or (λ handler. handler.now.actions) result [] ≡ actions_at wiring.now branch }
+{
+    let seat = seat(wiring, branch)?;
+    let part = wiring
+        .parts()
+        .handlers
+        .as_slice()
+        .get(seat.branch.handler as usize)?;
+    Some(&part.handler)
+}
+
+/// The play of a segment of the branch with this load.
+fn play_at(
+    alloc: Global,
+    wiring: &Wiring,
+    branch: BranchNo,
+    segment: u32,
+    load: &TaskLoad,
+) -> Result<Play, OutOfMemory>
+    ensures { IfOk result (λ found. found ≡ play_at wiring.now branch segment (load_seen load.now)) }
+{
+    match handler_of(wiring, branch) {
+        Some(handler) => play_with(alloc, wiring, handler, segment, load),
+        None => idle(alloc, &load.causes),
+    }
+}
+
+/// What a segment leaves to the next.
+fn load_after(
+    alloc: Global,
+    wiring: &Wiring,
+    branch: BranchNo,
+    segment: u32,
+    load: TaskLoad,
+) -> Result<TaskLoad, OutOfMemory>
+    ensures { IfOk result (λ left. load_seen left ≡ load_after wiring.now branch segment (load_seen load)) }
+{
+    let Play { causes, .. } = play_at(alloc, wiring, branch, segment, &load)?;
+    Ok(TaskLoad {
+        values: load.values,
+        causes,
+    })
+}
+
+/// What a task that fired at the spot starts with.
+fn load_at(
+    alloc: Global,
+    wiring: &Wiring,
+    events: &[Event],
+    spot: Spot,
+    task: TaskId,
+) -> Result<TaskLoad, OutOfMemory>
+    ensures { IfOk result (λ load. load_seen load ≡ load_at wiring.now events.now (branch_of spot) (segment_of spot) task) }
+{
+    let messages = taken_by(alloc, events, task)?;
+    let Spot::Site(branch, site) = spot else {
+        return with_messages(alloc, no_load(alloc), &messages);
+    };
+    let Some(before) = resumed(alloc, events, spot, task)? else {
+        return with_messages(alloc, no_load(alloc), &messages);
+    };
+    let load = load_at(alloc, wiring, events, spot_before(branch, site), before)?;
+    let left = load_after(alloc, wiring, branch, site, load)?;
+    with_messages(alloc, left, &messages)
+}
+
+/// The number of the segment that a task fired at the spot runs, where it fits.
+fn segment_of(spot: Spot) -> Option<u32>
+    ensures fits { IfSome result (λ segment. segment ≡ segment_of spot) }
+    ensures large { IfNone result (2 ^ 32 ≤ segment_of spot) }
+{
+    match spot {
+        Spot::Branch(_) => Some(0),
+        Spot::Site(_, site) => site.checked_add(1),
+    }
+}
+
+/// What the task posts, how it ends, and its causes at the end.
+pub fn play_of(
+    alloc: Global,
+    wiring: &Wiring,
+    events: &[Event],
+    task: TaskId,
+) -> Result<Play, OutOfMemory>
+    ensures { IfOk result (λ found. found ≡ play_of wiring.now events.now task) }
+{
+    let Some(spot) = spot_of(events, task) else {
+        return idle(alloc, &List::new(alloc));
+    };
+    let _valid = wiring.parts();
+    let load = load_at(alloc, wiring, events, spot, task)?;
+    match segment_of(spot) {
+        Some(segment) => play_at(alloc, wiring, branch_of(spot), segment, &load),
+        None => idle(alloc, &load.causes),
+    }
+}

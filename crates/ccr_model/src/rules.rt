@@ -1,0 +1,336 @@
+//! Which rule refuses an event.
+
+ghost use Rattle.std.specs.Prelude.{◌≡◌, ◌==◌, IfOk};
+ghost use Rattle.std.specs.List.{list_all};
+ghost use Rattle.ccr_base.specs.Names.{same_task, same_lists};
+ghost use Rattle.ccr_model.specs.Rules.{is_post, is_script_line, is_play_post, has_budget, is_new, cuts_at, is_first, is_oldest_waiting, is_concurrent_task, may_enter, needs_no_admission, may_put, drop_by, drop_at, is_oldest_queued, may_start, ends_so, is_shed, may_shed, may_end, refusal_of_post, refusal};
+
+use crate::data::play_of;
+use crate::firings::{cut, fired, has_task, let_in, put, spot_of};
+use crate::posts::{posts_of_poster, posts_of_task, posts_of_tasks};
+use crate::seats::{is_concurrent, is_interleave, is_teardown, policy_of, seat};
+use crate::tasks::{
+    admitted, count_unfinished, has_post_left, queued, running, running_by, seat_of, waiting,
+};
+use crate::{EndHow, Event};
+use ccr_base::{ActorNo, CauseNo, Msg, MsgId, OutOfMemory, Policy, Sent, Spot, TaskId};
+use ccr_handler::PlayEnd;
+use ccr_wiring::Wiring;
+use std::alloc::Global;
+
+fn are_same_causes(causes: &[CauseNo], others: &[CauseNo]) -> bool
+    ensures { result ≡ same_lists (λ cause other. cause == other) causes.now others.now }
+{
+    match (causes, others) {
+        ([], []) => true,
+        ([cause, causes @ ..], [other, others @ ..]) => {
+            cause == other && are_same_causes(causes, others)
+        }
+        _ => false,
+    }
+}
+
+/// Whether the message is the post, but for its name.
+fn is_post(message: &Msg, sent: &Sent) -> bool
+    ensures { result ≡ is_post message.now sent.now }
+{
+    message.port == sent.port
+        && message.value == sent.value
+        && are_same_causes(message.causes.as_slice(), sent.causes.as_slice())
+}
+
+/// Whether the message is the poster's next line.
+pub(crate) fn is_script_line(
+    wiring: &Wiring,
+    events: &[Event],
+    actor: ActorNo,
+    place: u32,
+    message: &Msg,
+) -> bool
+    ensures { result ≡ is_script_line wiring.now events.now actor place message.now }
+{
+    if place as usize != posts_of_poster(events, actor) {
+        return false;
+    }
+    let Some(poster) = wiring.parts().posters.as_slice().get(actor as usize) else {
+        return false;
+    };
+    match poster.posts.as_slice().get(place as usize) {
+        Some(sent) => is_post(message, sent),
+        None => false,
+    }
+}
+
+/// Whether the message is the next post of the running task's play.
+pub(crate) fn is_play_post(
+    alloc: Global,
+    wiring: &Wiring,
+    events: &[Event],
+    task: TaskId,
+    place: u32,
+    message: &Msg,
+) -> Result<bool, OutOfMemory>
+    ensures { IfOk result (λ is. is ≡ is_play_post wiring.now events.now task place message.now) }
+{
+    if !has_task(&running(alloc, events)?, task) {
+        return Ok(false);
+    }
+    if place as usize != posts_of_task(events, task) {
+        return Ok(false);
+    }
+    let play = play_of(alloc, wiring, events, task)?;
+    match play.posts.as_slice().get(place as usize) {
+        Some(sent) => Ok(is_post(message, sent)),
+        None => Ok(false),
+    }
+}
+
+/// Whether tasks may post once more.
+pub fn has_budget(wiring: &Wiring, events: &[Event]) -> bool
+    ensures { result ≡ has_budget wiring.now events.now }
+{
+    posts_of_tasks(events) < wiring.parts().budget as usize
+}
+
+pub(crate) fn is_new(alloc: Global, events: &[Event], task: TaskId) -> Result<bool, OutOfMemory>
+    ensures { IfOk result (λ is. is ≡ is_new events.now task) }
+{
+    Ok(!has_task(&fired(alloc, events)?, task) && task.actor <= 32)
+}
+
+/// The tasks that a firing at the spot cuts, in order of their firing.
+pub fn cuts_at(
+    alloc: Global,
+    wiring: &Wiring,
+    events: &[Event],
+    spot: Spot,
+) -> Result<Vec<TaskId>, OutOfMemory>
+    ensures { IfOk result (λ tasks. tasks.items ≡ cuts_at wiring.now events.now spot) }
+{
+    if let Spot::Branch(branch) = spot {
+        if let Some(seat) = seat(wiring, branch) {
+            if is_teardown(seat.branch.group) {
+                return waiting(alloc, wiring, events, seat.arbiter);
+            }
+        }
+    }
+    Ok(Vec::new(alloc))
+}
+
+pub(crate) fn are_same_tasks(tasks: &[TaskId], others: &[TaskId]) -> bool
+    ensures { result ≡ same_lists same_task tasks.now others.now }
+{
+    match (tasks, others) {
+        ([], []) => true,
+        ([task, tasks @ ..], [other, others @ ..]) => {
+            task == other && are_same_tasks(tasks, others)
+        }
+        _ => false,
+    }
+}
+
+fn is_first(tasks: &[TaskId], task: TaskId) -> bool
+    ensures { result ≡ is_first tasks.now task }
+{
+    match tasks.first() {
+        Some(first) => task == *first,
+        None => false,
+    }
+}
+
+pub(crate) fn is_oldest_waiting(
+    alloc: Global,
+    wiring: &Wiring,
+    events: &[Event],
+    task: TaskId,
+) -> Result<bool, OutOfMemory>
+    ensures { IfOk result (λ is. is ≡ is_oldest_waiting wiring.now events.now task) }
+{
+    match seat_of(wiring, events, task) {
+        Some(seat) => {
+            let waiting = waiting(alloc, wiring, events, seat.arbiter)?;
+            Ok(is_first(&waiting, task))
+        }
+        None => Ok(false),
+    }
+}
+
+fn is_concurrent_task(wiring: &Wiring, events: &[Event], task: TaskId) -> bool
+    ensures { result ≡ is_concurrent_task wiring.now events.now task }
+{
+    match seat_of(wiring, events, task) {
+        Some(seat) => is_concurrent(seat.branch.group),
+        None => false,
+    }
+}
+
+fn are_concurrent(wiring: &Wiring, events: &[Event], tasks: &[TaskId]) -> bool
+    ensures { result ≡ list_all (is_concurrent_task wiring.now events.now) tasks.now }
+{
+    tasks
+        .iter()
+        .all(|task| is_concurrent_task(wiring, events, *task))
+}
+
+/// Whether the waiting task may be admitted beside the admitted roots that are not over.
+pub fn may_enter(
+    alloc: Global,
+    wiring: &Wiring,
+    events: &[Event],
+    task: TaskId,
+) -> Result<bool, OutOfMemory>
+    ensures { IfOk result (λ may. may ≡ may_enter wiring.now events.now task) }
+{
+    let Some(seat) = seat_of(wiring, events, task) else {
+        return Ok(false);
+    };
+    let admitted = admitted(alloc, wiring, events, seat.arbiter)?;
+    if is_concurrent(seat.branch.group) {
+        Ok(are_concurrent(wiring, events, &admitted))
+    } else {
+        Ok(admitted.is_empty())
+    }
+}
+
+fn needs_no_admission(wiring: &Wiring, spot: Spot) -> bool
+    ensures { result ≡ needs_no_admission wiring.now spot }
+{
+    let Spot::Branch(branch) = spot else {
+        return true;
+    };
+    match seat(wiring, branch) {
+        Some(seat) => !is_interleave(seat.kind),
+        None => false,
+    }
+}
+
+/// Whether the task may be put into its queue.
+pub fn may_put(
+    alloc: Global,
+    wiring: &Wiring,
+    events: &[Event],
+    task: TaskId,
+) -> Result<bool, OutOfMemory>
+    ensures { IfOk result (λ may. may ≡ may_put wiring.now events.now task) }
+{
+    if has_task(&put(alloc, events)?, task) || has_task(&cut(alloc, events)?, task) {
+        return Ok(false);
+    }
+    match spot_of(events, task) {
+        Some(spot) => {
+            let was_admitted = has_task(&let_in(alloc, events)?, task);
+            Ok(needs_no_admission(wiring, spot) || was_admitted)
+        }
+        None => Ok(false),
+    }
+}
+
+fn drop_by(policy: Policy, queued: &[TaskId]) -> Option<TaskId>
+    ensures { result ≡ drop_by policy queued.now }
+{
+    match policy {
+        Policy::Discard(most) => {
+            if most as usize <= queued.len() {
+                queued.first().copied()
+            } else {
+                None
+            }
+        }
+        Policy::Unbounded | Policy::Throttle(_) => None,
+    }
+}
+
+/// The task that a put of this one drops.
+pub fn drop_at(
+    alloc: Global,
+    wiring: &Wiring,
+    events: &[Event],
+    task: TaskId,
+) -> Result<Option<TaskId>, OutOfMemory>
+    ensures { IfOk result (λ dropped. dropped ≡ drop_at wiring.now events.now task) }
+{
+    match seat_of(wiring, events, task) {
+        Some(seat) => {
+            let queue = seat.branch.queue;
+            let queued = queued(alloc, wiring, events, queue)?;
+            Ok(drop_by(policy_of(wiring, queue), &queued))
+        }
+        None => Ok(None),
+    }
+}
+
+pub(crate) fn is_oldest_queued(
+    alloc: Global,
+    wiring: &Wiring,
+    events: &[Event],
+    task: TaskId,
+) -> Result<bool, OutOfMemory>
+    ensures { IfOk result (λ is. is ≡ is_oldest_queued wiring.now events.now task) }
+{
+    match seat_of(wiring, events, task) {
+        Some(seat) => {
+            let queued = queued(alloc, wiring, events, seat.branch.queue)?;
+            Ok(is_first(&queued, task))
+        }
+        None => Ok(false),
+    }
+}
+
+pub(crate) fn may_start(
+    alloc: Global,
+    wiring: &Wiring,
+    events: &[Event],
+    actor: ActorNo,
+) -> Result<bool, OutOfMemory>
+    ensures { IfOk result (λ may. may ≡ may_start wiring.now events.now actor) }
+{
+    let posters = wiring.parts().posters.as_slice().len();
+    let running = running_by(alloc, events, actor)?;
+    Ok(posters <= actor as usize && actor <= 32 && running.is_empty())
+}
+
+fn ends_so(how: EndHow, end: PlayEnd) -> bool
+    ensures { result ≡ ends_so how end }
+{
+    match (how, end) {
+        (EndHow::Done, PlayEnd::Done) => true,
+        (EndHow::Failed(value), PlayEnd::Failed(failed)) => value == failed,
+        (EndHow::Yield, PlayEnd::Yield(_)) => true,
+        _ => false,
+    }
+}
+
+fn may_shed(
+    alloc: Global,
+    wiring: &Wiring,
+    events: &[Event],
+    task: TaskId,
+) -> Result<bool, OutOfMemory>
+    ensures { IfOk result (λ may. may ≡ may_shed wiring.now events.now task) }
+{
+    if !has_post_left(alloc, wiring, events, task)? {
+        return Ok(false);
+    }
+    let others = count_unfinished(alloc, wiring, events)?.saturating_sub(1);
+    let budget = wiring.parts().budget as usize;
+    Ok(budget.saturating_sub(posts_of_tasks(events)) <= others)
+}
+
+pub(crate) fn may_end(
+    alloc: Global,
+    wiring: &Wiring,
+    events: &[Event],
+    task: TaskId,
+    how: EndHow,
+) -> Result<bool, OutOfMemory>
+    ensures { IfOk result (λ may. may ≡ may_end wiring.now events.now task how) }
+{
+    if how == EndHow::Shed {
+        return may_shed(alloc, wiring, events, task);
+    }
+    if has_post_left(alloc, wiring, events, task)? {
+        return Ok(false);
+    }
+    let play = play_of(alloc, wiring, events, task)?;
+    Ok(ends_so(how, play.end))
+}

@@ -1,0 +1,177 @@
+-- What an Interleave keeps, and its steps. The tasks stand here by their names; the Interleave's object keeps them whole.
+use Rattle.std.specs.Prelude.{◌≡◌, ⊤, ℕ, ◌-◌, Bool, true, false, not, ◌==◌, ◌&&◌, ◌||◌, nat_le, List, [], ◌∷◌, ◌++◌, drop, fold, map, slice_get, is_some, Option, Some, None, if◌then◌else◌, refl}
+use Rattle.std.specs.Coded.{Coded, code_by, coded×, coded_ℕ, coded_list, coded_option}
+use Rattle.std.specs.Option.{option_map, option_and_then}
+use Rattle.std.specs.FinSet as set
+use Rattle.ccr_base.specs.declared.names.TaskId.{TaskId}
+use Rattle.ccr_base.specs.declared.names.Spot.{Spot}
+use Rattle.ccr_base.specs.declared.names.Spot.TheVariants.{Branch, Site}
+use Rattle.ccr_base.specs.declared.tasks.Task.{Task}
+use Rattle.ccr_base.specs.declared.tasks.By.{By}
+use Rattle.ccr_base.specs.declared.tasks.By.TheVariants.{Fired as ByFired}
+use Rattle.ccr_base.specs.declared.policies.Group.{Group}
+use Rattle.ccr_base.specs.declared.policies.Group.TheVariants.{Once, Always, Choice, Teardown, Exclusive, Concurrent}
+use Rattle.ccr_base.specs.contracts.names.TaskId as name
+use Rattle.ccr_base.specs.contracts.names.Spot as place_of_firing
+use Rattle.ccr_base.specs.contracts.tasks.Task as whole
+use Rattle.ccr_base.specs.contracts.policies.Group as group
+use Rattle.ccr_base.specs.Names.{has_task}
+use Rattle.ccr_places.specs.TaskSets.{TaskSet, task_set_code}
+use Rattle.ccr_places.specs.declared.notes.Note.{Note}
+use Rattle.ccr_places.specs.declared.notes.Note.TheVariants.{Fired, Dead, Admit, Over}
+
+-- a waiting task, and the branch that fired it
+pub record Waiting : Type 0 where
+  pub task : TaskId
+  pub spot : Spot
+
+-- the first branch and the groups of all; the tasks that fired there; those that wait, oldest first; the admitted roots
+-- that aren't noted over, those of concurrent branches apart from the others; the teardown task that fired
+pub record InterleaveState : Type 0 where
+  pub first : ℕ
+  pub groups : List Group
+  pub fired : List TaskId
+  pub waiting : List Waiting
+  pub shared : TaskSet
+  pub alone : TaskSet
+  pub teardown : Option TaskId
+
+-- an Interleave of which no branch fired
+abbrev pub start : ℕ → List Group → InterleaveState
+start first groups = record { first = first; groups = groups; fired = []; waiting = []; shared = set.empty; alone = set.empty; teardown = None }
+
+-- the group of the spot, where it is a branch from the first on that has one
+abbrev pub group_among : ℕ → List Group → Spot → Option Group
+group_among first groups (Branch branch) = if nat_le first branch then slice_get groups (branch - first) else None
+group_among first groups (Site branch site) = None
+
+-- the group of the spot, where it is a branch of this Interleave
+abbrev pub group_at : InterleaveState → Spot → Option Group
+group_at place spot = group_among place.first place.groups spot
+
+abbrev pub is_teardown : Option Group → Bool
+is_teardown None = false
+is_teardown (Some Once) = false
+is_teardown (Some Always) = false
+is_teardown (Some Choice) = false
+is_teardown (Some Teardown) = true
+is_teardown (Some Exclusive) = false
+is_teardown (Some Concurrent) = false
+
+abbrev pub is_concurrent : Option Group → Bool
+is_concurrent None = false
+is_concurrent (Some Once) = false
+is_concurrent (Some Always) = false
+is_concurrent (Some Choice) = false
+is_concurrent (Some Teardown) = false
+is_concurrent (Some Exclusive) = false
+is_concurrent (Some Concurrent) = true
+
+-- whether the task was admitted and isn't noted over
+abbrev pub is_admitted : InterleaveState → TaskId → Bool
+is_admitted place root = set.contains place.shared root || set.contains place.alone root
+
+-- why no branch of it can fire
+abbrev pub dead_by : InterleaveState → Option By
+dead_by place = option_map ByFired place.teardown
+
+-- a task at one of its branches, whose name is new here
+abbrev pub may_commit : InterleaveState → Task → Bool
+may_commit place task = is_some (group_at place task.spot) && not (has_task place.fired task.id)
+
+-- a root that was admitted and isn't over
+abbrev pub may_over : InterleaveState → TaskId → Bool
+may_over place root = is_admitted place root
+
+-- the waiting tasks that a firing leaves: none, where it is a teardown
+abbrev pub spared : InterleaveState → Spot → List Waiting
+spared place spot = if is_teardown (group_at place spot) then [] else place.waiting
+
+-- the waiting tasks that a firing cuts: all, where it is a teardown
+abbrev pub cut_note : InterleaveState → Spot → List TaskId
+cut_note place spot = if is_teardown (group_at place spot) then map (λ (waiting : Waiting). waiting.task) place.waiting else []
+
+-- whether a waiting task of the spot may be admitted beside the kept roots: a concurrent one beside concurrent ones, another beside none
+abbrev pub lets_in : InterleaveState → Spot → Bool
+lets_in place spot = (set.len place.alone == 0) && (is_concurrent (group_at place spot) || (set.len place.shared == 0))
+
+-- the oldest waiting task, where it may be admitted
+abbrev pub admissible : InterleaveState → Option Waiting
+admissible place = option_and_then (λ (waiting : Waiting). if lets_in place waiting.spot then Some waiting else None) (slice_get place.waiting 0)
+
+-- the task that is admitted next
+abbrev pub admit_note : InterleaveState → Option TaskId
+admit_note place = option_map (λ (waiting : Waiting). waiting.task) (admissible place)
+
+-- the task waits last, and a teardown has cut all that waited
+abbrev pub after_firing : InterleaveState → TaskId → Spot → InterleaveState
+after_firing place task spot = record place {
+  fired = place.fired ++ task ∷ [];
+  waiting = spared place spot ++ (record { task = task; spot = spot }) ∷ [];
+  teardown = if is_teardown (group_at place spot) then Some task else place.teardown;
+}
+
+-- the waiting task is one of the admitted roots
+abbrev pub with_root : InterleaveState → Waiting → InterleaveState
+with_root place waiting = record place {
+  shared = if is_concurrent (group_at place waiting.spot) then set.insert place.shared waiting.task else place.shared;
+  alone = if is_concurrent (group_at place waiting.spot) then place.alone else set.insert place.alone waiting.task;
+}
+
+-- the oldest waiting task is an admitted root
+abbrev pub after_admission : InterleaveState → InterleaveState
+after_admission place = admitted (slice_get place.waiting 0)
+  where
+    admitted : Option Waiting → InterleaveState
+    admitted None = place
+    admitted (Some waiting) = record (with_root place waiting) { waiting = drop 1 place.waiting }
+
+-- an admission, unless the answer was none
+abbrev pub after_admit : InterleaveState → Option TaskId → InterleaveState
+after_admit place None = place
+after_admit place (Some task) = after_admission place
+
+-- the root doesn't count any more
+abbrev pub after_over : InterleaveState → TaskId → InterleaveState
+after_over place root = record place { shared = set.remove place.shared root; alone = set.remove place.alone root }
+
+-- what the Interleave keeps after a note of its own
+abbrev pub after : InterleaveState → Note → InterleaveState
+after place (Fired task spot messages cuts) = after_firing place task spot
+after place (Admit task) = after_admit place task
+after place (Over task root how) = after_over place root
+after place _ = place
+
+-- what the Interleave keeps after all these notes
+abbrev pub kept : InterleaveState → List Note → InterleaveState
+kept place notes = fold after place notes
+
+-- the notes that the Interleave may give
+abbrev pub IsGiven : InterleaveState → Note → Type 0
+IsGiven place (Fired task spot messages cuts) = (dead_by place ≡ None) × (cuts ≡ cut_note place spot)
+IsGiven place (Dead task spot by) = dead_by place ≡ Some by
+IsGiven place (Admit task) = task ≡ admit_note place
+IsGiven place (Over task root how) = ⊤
+IsGiven place _ = ⊥
+
+-- what the object of an Interleave keeps: the Interleave by its notes, and its waiting tasks whole, oldest first
+pub record InterleaveTasks : Type 0 where
+  pub state : InterleaveState
+  pub tasks : List Task
+
+-- a waiting task is told by its fields, and so is an Interleave
+abbrev pub waiting_code : Coded Waiting
+waiting_code =
+    code_by (TaskId × Spot) (coded× name.the_row.coded place_of_firing.the_row.coded) (λ w. (w.task, w.spot)) (λ p. record { task = p.0; spot = p.1 }) (λ _. refl)
+
+abbrev pub interleave_code : Coded InterleaveState
+interleave_code =
+    code_by (ℕ × (List Group × (List TaskId × (List Waiting × (TaskSet × (TaskSet × Option TaskId))))))
+    (coded× coded_ℕ (coded× (coded_list group.the_row.coded) (coded× (coded_list name.the_row.coded) (coded× (coded_list waiting_code) (coded× task_set_code (coded× task_set_code (coded_option name.the_row.coded)))))))
+    (λ s. (s.first, (s.groups, (s.fired, (s.waiting, (s.shared, (s.alone, s.teardown)))))))
+    (λ p. record { first = p.0; groups = p.1.0; fired = p.1.1.0; waiting = p.1.1.1.0; shared = p.1.1.1.1.0; alone = p.1.1.1.1.1.0; teardown = p.1.1.1.1.1.1 })
+    (λ _. refl)
+
+abbrev pub interleave_tasks_code : Coded InterleaveTasks
+interleave_tasks_code =
+    code_by (InterleaveState × List Task) (coded× interleave_code (coded_list whole.the_row.coded)) (λ s. (s.state, s.tasks)) (λ p. record { state = p.0; tasks = p.1 }) (λ _. refl)

@@ -1,0 +1,11 @@
+//! A port: the messages that were posted to it and not yet taken, and at most one claim on them.
+#![tactic(auto)]
+
+mod claims;
+mod port;
+
+pub use claims::Claimed;
+pub use port::PortObject;
+
+#[cfg(test)]
+mod tests;

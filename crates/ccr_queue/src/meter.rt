@@ -1,0 +1,76 @@
+//! The meter: one for a whole run, shared by all its actors.
+
+ghost use Rattle.std.specs.Prelude.{◌≡◌, IsTrue};
+ghost use Rattle.ccr_places.specs.Meters.{start, may_leave as is_leave_allowed, draw_note, after_draw, after_leave};
+
+use std::marker::Model;
+
+/// How many posters a wiring has at most.
+const MOST_POSTERS: u32 = 16;
+
+/// The budget of posts that tasks may make, of which one is drawn for each, and how many posters have left.
+#[derive(Debug, Drop)]
+pub struct Meter {
+    budget: u32,
+    drawn: u32,
+    left: u32,
+}
+
+impl Model for Meter {
+    ghost use Rattle.std.specs.Prelude.{◌≤◌};
+    ghost use Rattle.ccr_places.specs.Meters.{MeterState};
+
+    ghost Value = { MeterState };
+
+    ghost view = { λ meter. record { budget = meter.budget; drawn = meter.drawn; left = meter.left } };
+
+    ghost invariant = { λ meter. (meter.drawn ≤ meter.budget) × (meter.left ≤ 16) };
+}
+
+impl Meter {
+    /// A meter with its whole budget.
+    pub fn new(budget: u32) -> Meter
+        ensures { result ≡ start budget }
+    {
+        Meter {
+            budget,
+            drawn: 0,
+            left: 0,
+        }
+    }
+
+    /// Draws one post: how many were drawn before, or none where the budget is spent.
+    pub fn draw(&mut self) -> Option<u32>
+        ensures drawn { result ≡ draw_note self.old }
+        ensures kept { self.new ≡ after_draw self.old result }
+    {
+        if self.drawn == self.budget {
+            return None;
+        }
+        let before = self.drawn;
+        self.drawn += 1;
+        Some(before)
+    }
+
+    /// Whether fewer than 16 posters have left.
+    pub fn may_leave(&self) -> bool
+        ensures { result ≡ is_leave_allowed self.now }
+    {
+        self.left < MOST_POSTERS
+    }
+
+    /// Counts one more poster that is through with its script.
+    pub fn leave(&mut self)
+        requires { IsTrue (is_leave_allowed self.old) }
+        ensures { self.new ≡ after_leave self.old }
+    {
+        self.left += 1;
+    }
+
+    /// How many posters have left.
+    pub fn left(&self) -> u32
+        ensures { result ≡ self.now.left }
+    {
+        self.left
+    }
+}

@@ -1,0 +1,202 @@
+//! The queue.
+
+ghost use Rattle.std.specs.Prelude.{◌≡◌, ◌+◌, ◌-◌, ◌∷◌, [], ◌++◌, drop, length, slice_get, IsTrue, IfOk, OnErr, Option, Some, None, if◌then◌else◌, nat_le};
+ghost use Rattle.std.specs.Option.{option_map};
+ghost use Rattle.ccr_places.specs.Queues.{start, may_book as is_bookable, is_booked, fullness as fullness_at, fresh_count, drop_count, book_note, put_note, take_note, after_book, after_unbook, with_newest, without_dropped, after_put, after_take};
+ghost use Rattle.ccr_queue.specs.Answers.{full_of};
+
+use crate::standing::{self, QueuedTask, Standing};
+use ccr_base::{OutOfMemory, Policy, QueueNo, Task, TaskId};
+use std::alloc::Global;
+use std::collections::{HashMap, VecDeque};
+use std::marker::Model;
+
+/// The answer to a booking: a throttle that is full tells its number.
+#[derive(Clone, Copy, Debug, PartialEq, Eq)]
+pub enum Booked {
+    Yes,
+    Full(u32),
+}
+
+/// A queue of tasks. A task is booked before it fires, so that its put finds room, and is queued by its put.
+#[derive(Drop)]
+pub struct QueueObject {
+    number: QueueNo,
+    policy: Policy,
+    /// The booked and the queued tasks.
+    standings: HashMap<TaskId, Standing>,
+    /// The oldest first, with room for all tasks of the table.
+    queued: VecDeque<QueuedTask>,
+    /// How many of the booked and queued tasks don't resume a suspended one.
+    fresh: usize,
+}
+
+impl Model for QueueObject {
+    ghost use Rattle.std.specs.Prelude.{map};
+    ghost use Rattle.std.specs.VecDeque.{deque_capacity};
+    ghost use Rattle.ccr_places.specs.Queues.{QueueTasks, queue_tasks_code};
+    ghost use Rattle.ccr_places.specs.TaskTables.{tasks_where};
+    ghost use Rattle.ccr_queue.specs.Standings.{Tied, is_fresh, is_resuming, named};
+
+    ghost Value = { QueueTasks };
+
+    ghost coded = { queue_tasks_code };
+
+    ghost view = { λ queue. record {
+      state = record {
+        number = queue.number;
+        policy = queue.policy;
+        fresh = tasks_where is_fresh queue.standings.entries;
+        resuming = tasks_where is_resuming queue.standings.entries;
+        queued = map named queue.queued.items;
+      };
+      tasks = map (λ queued. queued.task) queue.queued.items;
+    } };
+
+    ghost invariant = { λ queue. Tied queue.standings.entries (map named queue.queued.items) queue.fresh (deque_capacity queue.queued) };
+}
+
+impl QueueObject {
+    /// An empty queue.
+    pub fn new(alloc: Global, number: QueueNo, policy: Policy) -> QueueObject
+        ensures { result ≡ record { state = start number policy; tasks = [] } }
+    {
+        QueueObject {
+            number,
+            policy,
+            standings: HashMap::new(alloc),
+            queued: VecDeque::new(alloc),
+            fresh: 0,
+        }
+    }
+
+    /// The number of the queue in the wiring.
+    pub fn number(&self) -> QueueNo
+        ensures { result ≡ self.now.state.number }
+    {
+        self.number
+    }
+
+    /// Whether the task is neither booked nor queued.
+    pub fn may_book(&self, t: TaskId, _resumes: bool) -> bool
+        ensures { result ≡ is_bookable self.now.state t }
+    {
+        !self.standings.contains_key(&t)
+    }
+
+    /// Books the task, which takes the memory for its put. A task that resumes a suspended one needs no room.
+    pub fn book(&mut self, t: TaskId, resumes: bool) -> Result<Booked, OutOfMemory>
+        requires { IsTrue (is_bookable self.old.state t) }
+        ensures answer { IfOk result (λ booked. full_of booked ≡ book_note self.old.state resumes) }
+        ensures kept { IfOk result (λ booked. self.new ≡ record self.old { state = after_book self.old.state t resumes (full_of booked) }) }
+        ensures err { OnErr result (self.new ≡ self.old) }
+    {
+        if !resumes {
+            if let Some(n) = self.fullness() {
+                return Ok(Booked::Full(n));
+            }
+        }
+        self.queued
+            .reserve(self.standings.len() - self.queued.len() + 1)?;
+        if resumes {
+            self.standings.insert(t, Standing::Resuming)?;
+        } else {
+            self.standings.insert(t, Standing::Fresh)?;
+            self.fresh += 1;
+        }
+        Ok(Booked::Yes)
+    }
+
+    /// The number of a throttle that has no room for one more task.
+    fn fullness(&self) -> Option<u32>
+        ensures { result ≡ fullness_at self.now.state.policy (fresh_count self.now.state) }
+    {
+        match self.policy {
+            Policy::Throttle(n) if self.fresh >= n as usize => Some(n),
+            _ => None,
+        }
+    }
+
+    /// Whether the task is booked.
+    pub fn may_unbook(&self, t: TaskId) -> bool
+        ensures { result ≡ is_booked self.now.state t }
+    {
+        standing::is_booked(self.standings.get(&t).copied())
+    }
+
+    /// Ends the booking. It takes no memory.
+    pub fn unbook(&mut self, t: TaskId)
+        requires { IsTrue (is_booked self.old.state t) }
+        ensures { self.new ≡ record self.old { state = after_unbook self.old.state t } }
+    {
+        let standing = self.standings.remove(&t);
+        self.fresh -= standing::fresh_count(standing);
+    }
+
+    /// Whether the task is booked.
+    pub fn may_put(&self, task: &Task) -> bool
+        ensures { result ≡ is_booked self.now.state task.now.id }
+    {
+        self.may_unbook(task.id)
+    }
+
+    /// Ends the booking, queues the task last, and hands out the oldest task where the policy drops it. It takes no memory.
+    pub fn put(&mut self, task: Task) -> Option<Task>
+        requires { IsTrue (is_booked self.old.state task.id) }
+        ensures dropped { option_map (λ t. t.id) result ≡ put_note self.old.state }
+        ensures whole { result ≡ (if nat_le 1 (drop_count self.old.state) then slice_get self.old.tasks 0 else None) }
+        ensures kept { self.new ≡ record {
+          state = after_put self.old.state task.id;
+          tasks = drop (drop_count self.old.state) self.old.tasks ++ task ∷ [];
+        } }
+    {
+        let dropped = self.drop_oldest();
+        self.push(task);
+        dropped
+    }
+
+    /// Takes out the oldest task where a discard queue is full.
+    fn drop_oldest(&mut self) -> Option<Task>
+        ensures dropped { option_map (λ t. t.id) result ≡ put_note self.old.state }
+        ensures whole { result ≡ (if nat_le 1 (drop_count self.old.state) then slice_get self.old.tasks 0 else None) }
+        ensures kept { self.new ≡ record {
+          state = without_dropped self.old.state;
+          tasks = drop (drop_count self.old.state) self.old.tasks;
+        } }
+    {
+        match self.policy {
+            Policy::Discard(n) if self.queued.len() >= n as usize => self.take(),
+            _ => None,
+        }
+    }
+
+    /// Queues the booked task last.
+    fn push(&mut self, task: Task)
+        requires { IsTrue (is_booked self.old.state task.id) }
+        ensures { self.new ≡ record {
+          state = with_newest self.old.state task.id;
+          tasks = self.old.tasks ++ task ∷ [];
+        } }
+    {
+        let Ok(standing) = self.standings.insert(task.id, Standing::Queued) else {
+            unreachable!();
+        };
+        let resumes = standing::is_resuming(standing);
+        self.queued.push_back_reserved(QueuedTask { task, resumes });
+    }
+
+    /// Takes out the oldest task. It takes no memory.
+    pub fn take(&mut self) -> Option<Task>
+        ensures taken { option_map (λ t. t.id) result ≡ take_note self.old.state }
+        ensures whole { result ≡ slice_get self.old.tasks 0 }
+        ensures kept { self.new ≡ record {
+          state = after_take self.old.state;
+          tasks = drop 1 self.old.tasks;
+        } }
+    {
+        let QueuedTask { task, resumes } = self.queued.pop_front()?;
+        self.standings.remove(&task.id);
+        self.fresh -= usize::from(!resumes);
+        Some(task)
+    }
+}

@@ -1,0 +1,85 @@
+-- Where nothing comes first, the history is complete.
+use Rattle.std.proofs.Common.{◌≡◌, ℕ, zero, suc, ◌+◌, ◌≤◌, Bool, true, false, not, ◌||◌, List, [], ◌∷◌, length, Option, Some, None, refl, arith, subst}
+use Rattle.std.specs.Prelude.{◌==◌, option_map, IfSome}
+use Rattle.std.specs.List.{slice_get}
+use Rattle.std.specs.Option.{option_or}
+use Rattle.std.proofs.lemmas.Bool.Decides.{nat_tests}
+use Rattle.ccr_wiring.specs.declared.parts.Parts.{Parts}
+use Rattle.ccr_wiring.specs.declared.parts.PosterPart.{PosterPart}
+use Rattle.ccr_wiring.specs.Wirings.{spots}
+use Rattle.ccr_model.specs.declared.history.Event.{Event}
+use Rattle.ccr_model.specs.Posts.{posts_of_poster, posts_of_tasks}
+use Rattle.ccr_model.specs.Tasks.{running, count_unfinished}
+use Rattle.ccr_model.specs.Legal.{IsAllowed, IsLegal, IsQuiet, has_shed, are_whole_from, is_complete}
+use Rattle.ccr_model.specs.Order.{first, post_from, script_post, fire_from, admit_from, put_first, run_task}
+use Rattle.ccr_model.proofs.Allowing.{first_allowed}
+use Rattle.ccr_model.proofs.Covered.{IsCovered-legal}
+use Rattle.ccr_serial.proofs.Lines.{ArePosted-legal}
+
+none_or : {X : Type 0} (a b : Option X) → option_or a b ≡ None → (a ≡ None) × (b ≡ None)
+none_or None b is = (refl, is)
+none_or (Some x) b is = absurd (cc)
+
+none_map : {X Y : Type 0} (f : X → Y) (o : Option X) → option_map f o ≡ None → o ≡ None
+none_map f None is = refl
+none_map f (Some x) is = absurd (cc)
+
+no_head : {X : Type 0} (xs : List X) → slice_get xs 0 ≡ None → xs ≡ []
+no_head [] is = refl
+no_head (x ∷ xs) is = absurd (cc)
+
+none-above : {X : Type 0} (xs : List X) (n : ℕ) → slice_get xs n ≡ None → length xs ≤ n
+none-above [] n is = omega arith
+none-above (y ∷ xs) zero is = absurd (cc)
+none-above (y ∷ xs) (suc n) is = omega (arith, none-above xs n is)
+
+-- no script has a line left, and no task runs
+record NoneLeft (w : Parts) (h : List Event) : Type 0 where
+  lines : post_from h 0 w.posters ≡ None
+  tasks : running h ≡ []
+
+none_left : (w : Parts) (c : ℕ) (h : List Event) → first w c h ≡ None → NoneLeft w h
+none_left w c h is =
+    let a = none_or (post_from h 0 w.posters) _ is in
+    let b = none_or (fire_from w c h (spots w)) _ a.1 in
+    let d = none_or (admit_from w h 0 w.arbiters) _ b.1 in
+    let e = none_or (put_first w h) _ d.1 in
+    let f = none_or (option_map (run_task w h) (slice_get (running h) 0)) _ e.1 in
+    record { lines = a.0; tasks = no_head (running h) (none_map (run_task w h) (slice_get (running h) 0) f.0) }
+
+whole_from : (h : List Event) (n : ℕ) (ps : List PosterPart) → ((k i : ℕ) (p : PosterPart) → n + k ≡ i → slice_get ps k ≡ Some p → posts_of_poster h i ≤ length p.posts) → post_from h n ps ≡ None → are_whole_from h n ps ≡ true
+whole_from h n [] few none = refl
+whole_from h n (p ∷ ps) few none =
+    let parts = none_or (option_map (script_post n (posts_of_poster h n)) (slice_get p.posts (posts_of_poster h n))) (post_from h (n + 1) ps) none in
+    let above = none-above p.posts (posts_of_poster h n) (none_map (script_post n (posts_of_poster h n)) (slice_get p.posts (posts_of_poster h n)) parts.0) in
+    let below = few 0 n p (omega arith) refl in
+    let here : (posts_of_poster h n == length p.posts) ≡ true = grind (arith, nat_tests, above, below) in
+    let later = whole_from h (n + 1) ps (λ k i q e at. few (suc k) i q (omega arith) at) parts.1 in
+    rw (here, later) refl
+
+spent : (w : Parts) (h : List Event) → IsLegal w h → running h ≡ [] → (b : Bool) → has_shed h ≡ b → not b || (posts_of_tasks h == w.budget) ≡ true
+spent w h legal idle false shed = refl
+spent w h legal idle true shed =
+    let much = IsCovered-legal w h legal shed in
+    let none : count_unfinished w h ≡ 0 = rw idle refl in
+    let few = (ArePosted-legal w h legal).budget in
+    grind (arith, nat_tests, much, none, few)
+
+-- the end of a legal run is complete
+pub is_complete-first : (w : Parts) (c : ℕ) (h : List Event) → IsLegal w h → first w c h ≡ None → is_complete w h ≡ true
+is_complete-first w c h legal is =
+    let left = none_left w c h is in
+    let known = ArePosted-legal w h legal in
+    let whole = whole_from h 0 w.posters (λ k i p e at. (let same : k ≡ i = omega arith in subst (λ j. posts_of_poster h j ≤ length p.posts) same (known.whole k p at))) left.lines in
+    rw (whole, spent w h legal left.tasks (has_shed h) refl) refl
+
+none_if_quiet : (w : Parts) (h : List Event) (o : Option Event) → IfSome o (IsAllowed w h) → IsQuiet w h → o ≡ None
+none_if_quiet w h None allowed quiet = refl
+none_if_quiet w h (Some e) allowed quiet = absurd (quiet e allowed)
+
+-- where nothing is allowed, nothing comes first
+pub none_first-quiet : (w : Parts) (c : ℕ) (h : List Event) → length w.posters ≤ c → c ≤ 32 → IsLegal w h → IsQuiet w h → first w c h ≡ None
+none_first-quiet w c h high low legal quiet = none_if_quiet w h (first w c h) (first_allowed w c h high low legal) quiet
+
+pub is_complete-quiet : (w : Parts) (h : List Event) → length w.posters ≤ 32 → IsLegal w h → IsQuiet w h → is_complete w h ≡ true
+is_complete-quiet w h few legal quiet = is_complete-first w 32 h legal (none_first-quiet w 32 h few (omega arith) legal quiet)

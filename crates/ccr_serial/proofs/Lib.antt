@@ -1,0 +1,10 @@
+pub mod Counting
+pub mod Taking
+pub mod Lines
+pub mod Ending
+pub mod Valid
+pub mod Complete
+pub mod Attempts
+pub mod Runs
+pub mod Finished
+pub mod Orders

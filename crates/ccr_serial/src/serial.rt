@@ -1,0 +1,140 @@
+//! The engine.
+
+ghost use Rattle.std.specs.Prelude.{◌≡◌, ◌<◌, ◌≤◌, ◌^◌, ◌+◌, [], ◌++◌, ◌∷◌, length, IfOk, IfErr, IfSome, IfNone, OnErr, OnOk, is_some, true};
+ghost use Rattle.ccr_model.specs.Firings.{fired};
+ghost use Rattle.ccr_model.specs.Legal.{IsAllowed, IsLegal, IsQuiet, is_complete};
+ghost use Rattle.ccr_model.specs.Order.{next_attempt, IsFinished};
+ghost use Rattle.ccr_serial.specs.Engine.{next_event, next_engine};
+ghost use Rattle.ccr_serial.specs.Steps.{event_of};
+
+use crate::order::first;
+use ccr_base::{ActorNo, OutOfMemory};
+use ccr_model::{Event, History};
+use ccr_wiring::Wiring;
+use std::alloc::Global;
+use std::marker::Model;
+
+/// What a step did.
+#[derive(Debug, Drop)]
+pub enum Stepped {
+    Did(Event),
+    Quiet,
+}
+
+/// An engine over a wiring, with its history so far.
+#[derive(Drop)]
+pub struct Serial<'w> {
+    wiring: &'w Wiring,
+    closer: ActorNo,
+    history: History,
+    alloc: Global,
+}
+
+impl<'w> Model for Serial<'w> {
+    ghost use Rattle.ccr_serial.specs.Engine.{Engine, IsSound};
+
+    ghost Value = { Engine };
+
+    ghost view = { λ s. record { wiring = s.wiring.now; closer = s.closer; history = s.history } };
+
+    ghost invariant = { λ s. IsSound (record { wiring = s.wiring.now; closer = s.closer; history = s.history }) };
+}
+
+/// Adds the event at the end.
+fn append(history: &mut History, event: Event) -> Result<(), OutOfMemory>
+    ensures ok { OnOk result (history.new ≡ history.old ++ event ∷ []) }
+    ensures err { OnErr result (history.new ≡ history.old) }
+{
+    history.push(event).map_err(|(refused, _)| refused)
+}
+
+impl<'w> Serial<'w> {
+    /// An engine with the empty history.
+    pub fn start(alloc: Global, wiring: &'w Wiring, closer: ActorNo) -> Result<Self, OutOfMemory>
+        requires no_poster { length wiring.now.posters ≤ closer }
+        requires low { closer ≤ 32 }
+        ensures { IfOk result (λ engine. engine ≡ record { wiring = wiring.now; closer = closer; history = [] }) }
+    {
+        wiring.parts();
+        Ok(Serial {
+            wiring,
+            closer,
+            history: History::new(alloc),
+            alloc,
+        })
+    }
+
+    /// An engine that goes on from a legal history.
+    pub fn resume(
+        alloc: Global,
+        wiring: &'w Wiring,
+        closer: ActorNo,
+        history: History,
+    ) -> Result<Self, (OutOfMemory, History)>
+        requires no_poster { length wiring.now.posters ≤ closer }
+        requires low { closer ≤ 32 }
+        requires legal { IsLegal wiring.now history }
+        requires attempts { next_attempt closer (fired history) ≤ 2 ^ 31 }
+        ensures ok { IfOk result (λ engine. engine ≡ record { wiring = wiring.now; closer = closer; history = history }) }
+        ensures returned { IfErr result (λ refused. refused.1 ≡ history) }
+    {
+        wiring.parts();
+        Ok(Serial {
+            wiring,
+            closer,
+            history,
+            alloc,
+        })
+    }
+
+    /// What happened so far.
+    pub fn history(&self) -> &History
+        ensures history { result.now ≡ self.now.history }
+        ensures legal { IsLegal self.now.wiring self.now.history }
+    {
+        &self.history
+    }
+
+    /// Appends the event that comes next, or answers that there is none.
+    pub fn step(&mut self) -> Result<Stepped, OutOfMemory>
+        ensures event { IfOk result (λ did. event_of did ≡ next_event self.old) }
+        ensures history { OnOk result (self.new ≡ next_engine self.old) }
+        ensures allowed { IfOk result (λ did. IfSome (event_of did) (IsAllowed self.old.wiring self.old.history)) }
+        ensures quiet { IfOk result (λ did. IfNone (event_of did) (IsQuiet self.old.wiring self.old.history)) }
+        ensures err { OnErr result (self.new ≡ self.old) }
+    {
+        let next = first(self.alloc, self.wiring, self.closer, self.history.events())?;
+        let Some(event) = next else {
+            return Ok(Stepped::Quiet);
+        };
+        let kept = event.copy(self.alloc)?;
+        append(&mut self.history, kept)?;
+        Ok(Stepped::Did(event))
+    }
+
+    /// Steps until no event is allowed.
+    pub fn finish(mut self) -> Result<History, OutOfMemory>
+        ensures finished { IfOk result (IsFinished self.entry.wiring self.entry.closer self.entry.history) }
+        ensures legal { IfOk result (IsLegal self.entry.wiring) }
+        ensures complete { IfOk result (λ history. is_complete self.entry.wiring history ≡ true) }
+        ensures quiet { IfOk result (IsQuiet self.entry.wiring) }
+    {
+        'steps: while self.advance()? {}
+        let Serial { history, .. } = self;
+        Ok(history)
+    }
+
+    /// Appends the event that comes next, and answers whether there was one.
+    fn advance(&mut self) -> Result<bool, OutOfMemory>
+        ensures more { IfOk result (λ more. more ≡ is_some (next_event self.old)) }
+        ensures history { OnOk result (self.new ≡ next_engine self.old) }
+        ensures err { OnErr result (self.new ≡ self.old) }
+    {
+        let next = first(self.alloc, self.wiring, self.closer, self.history.events())?;
+        let Some(event) = next else {
+            return Ok(false);
+        };
+        append(&mut self.history, event)?;
+        Ok(true)
+    }
+}

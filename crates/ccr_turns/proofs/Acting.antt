@@ -1,0 +1,85 @@
+-- What the steps of one act come to.
+use Rattle.std.proofs.Common.{subst, length, false, eqb, eq-eqb, ne_eqb, ◌≢◌, ◌≡◌, ℕ, ◌+◌, ◌*◌, ◌^◌, ◌<◌, ◌≤◌, List, [], ◌∷◌, ◌++◌, Option, Some, None, map, sym, refl, ap, ◌∙◌, arith}
+use Rattle.std.proofs.lemmas.List.{map-append}
+use Rattle.ccr_turns.specs.Steps.{won}
+use Rattle.ccr_turns.specs.Views.{Sat, view, hold}
+use Rattle.ccr_turns.specs.Logs.{numbers_of, log, mark, noted, log_stamps, marks_of}
+use Rattle.ccr_turns.specs.Lists.{last_of}
+use Rattle.ccr_turns.specs.Histories.{history_stamps}
+use Rattle.ccr_turns.specs.Seated.{IsAtRest, Ready, Won, HasTurn, Entered}
+use Rattle.std.proofs.lemmas.List.{nil_from_length}
+use Rattle.std.specs.Option.{is_some}
+use Rattle.std.specs.Bool.{MatchBool}
+use mathlib.Core.Logic.{dite}
+use native.Mathlib.Decide.{ℕ_discrete}
+use mathlib.Core.Option.{none}
+use Rattle.atomic_table.specs.Table.{step}
+use Rattle.ccr_turns.specs.declared.history.Hold.{Hold}
+use Rattle.ccr_turns.specs.declared.history.Held.{Held}
+use Rattle.ccr_turns.specs.declared.history.Cell.{Cell}
+use Rattle.ccr_turns.specs.declared.history.Mark.{Mark}
+use Rattle.ccr_turns.specs.declared.history.Log.{Log}
+use Rattle.ccr_turns.specs.declared.history.View.{View}
+use Rattle.ccr_turns.proofs.Rows.{last_more}
+
+module _ {N X : Type 0} where
+  pub last_mark : (marks : List (Mark N X)) (m : Mark N X) → last_of 0 (log_stamps (marks ++ m ∷ [])) ≡ m.stamp
+  last_mark marks m = ap (last_of 0) (map-append (λ (d : Mark N X). d.stamp) marks (m ∷ [])) ∙ last_more 0 (log_stamps marks) m.stamp
+
+module _ {O N X : Type 0} where
+  pub turn_of : (number : ℕ) (marks : List (Mark N X)) (place : ℕ) (before : List (Held N)) (now : X) (m₀ m : Sat O N X) → m₀ ≡ (view (log number marks ∷ []) None, [])
+      → HasTurn place m before now → m.0.logs ≡ m₀.0.logs → m ≡ (view (log number marks ∷ []) (Some (hold place before now)), (place, None) ∷ [])
+  turn_of number marks place before now m₀ m is turn logs =
+      let a : m.0.logs ≡ log number marks ∷ [] = logs ∙ ap (λ (y : Sat O N X). y.0.logs) is in
+      turn ∙ (λ d. (view (a d) (Some (hold place before now)), (place, None) ∷ []))
+
+  pub after_entry : (number : ℕ) (marks : List (Mark N X)) (place : ℕ) (before : List (Held N)) (now : X) (e : Held N) (m n : Sat O N X) (c : Cell O N)
+      → m ≡ (view (log number marks ∷ []) (Some (hold place before now)), (place, None) ∷ []) → c.history.items ≡ before ++ e ∷ [] → Entered place m c n
+      → n ≡ (view (log number (marks ++ mark place e.stamp e.note now (last_of 0 (history_stamps before)) ∷ []) ∷ []) None, [])
+  after_entry number marks place before now e m n c is more told =
+      let first = told.1 e (hold place before now) (ap (λ (y : Sat O N X). y.0.hold) is) more ∙ ap (λ (y : Sat O N X). view (noted y.0.logs (mark place e.stamp e.note now (last_of 0 (history_stamps before)))) None) is in
+      let second = told.0 in λ d. (first d, second d)
+
+  -- a seat that took a lock
+  pub won_lock : (value : O → X) (slots place x y : ℕ) (m n : Sat O N X) (r : ℕ) → m.1 ≡ [] → r ≡ 0 → won value (step slots place x y none) m r n → Won value slots place m n
+  won_lock value slots place x y m n r empty hit told =
+      let t = told.0 hit in
+      (t.0, t.1 ∙ ap (λ (l : List (ℕ × Option (Cell O N))). (view m.0.logs (Some (hold place t.0.history.items (value t.0.object))), (place, Some t.0) ∷ l)) empty, t.2, t.3)
+
+  -- an exchange tells whether the lock was free
+  pub tried : (value : O → X) (slots place x y : ℕ) (m n : Sat O N X) (r : ℕ) → m.1 ≡ [] → won value (step slots place x y none) m r n → MatchBool (eqb r 0) (Won value slots place m n) (n ≡ m)
+  tried value slots place x y m n r empty told = dite (ℕ_discrete r 0)
+      (λ hit. subst (λ b. MatchBool b (Won value slots place m n) (n ≡ m)) (sym (eq-eqb r 0 hit)) (won_lock value slots place x y m n r empty hit told))
+      (λ miss. subst (λ b. MatchBool b (Won value slots place m n) (n ≡ m)) (sym (ne_eqb r 0 miss)) (told.1 miss))
+
+  pub ready_again : (m n : Sat O N X) → n ≡ m → Ready m → Ready n
+  ready_again m n same ready = subst Ready (sym same) ready
+
+module _ {N X : Type 0} where
+  no_hold : (h : Option (Hold N X)) → is_some h ≡ false → h ≡ None
+  no_hold None e = refl
+  no_hold (Some h) e = absurd (cc)
+
+  pub one_log : (number : ℕ) (ls : List (Log N X)) → numbers_of ls ≡ number ∷ [] → ls ≡ log number (marks_of ls) ∷ []
+  one_log number [] e = absurd (let a = ap length e in omega arith)
+  one_log number (l ∷ []) e = let is : l.number ≡ number = cc in λ d. log (is d) l.marks ∷ []
+  one_log number (l ∷ k ∷ ls) e = absurd (let a = ap length e in omega arith)
+
+module _ {O N X : Type 0} where
+  -- a seat at rest has one log and nothing else
+  pub at_rest : (number last : ℕ) (m : Sat O N X) → IsAtRest number last m → m ≡ (view (log number (marks_of m.0.logs) ∷ []) None, [])
+  at_rest number last m resting =
+      let logs = one_log number m.0.logs resting.2 in
+      let free = no_hold m.0.hold resting.0 in
+      let empty = nil_from_length m.1 resting.1 in
+      λ d. (view (logs d) (free d), empty d)
+
+  -- and a seat with that is at rest
+  pub rests : (number last : ℕ) (marks : List (Mark N X)) (m : Sat O N X) → m ≡ (view (log number marks ∷ []) None, []) → last_of 0 (log_stamps marks) ≡ last → IsAtRest number last m
+  rests number last marks m is e =
+      (ap (λ (y : Sat O N X). is_some y.0.hold) is, ap (λ (y : Sat O N X). length y.1) is, ap (λ (y : Sat O N X). numbers_of y.0.logs) is, ap (λ (y : Sat O N X). last_of 0 (log_stamps (marks_of y.0.logs))) is ∙ e)
+
+  pub ready : (number last : ℕ) (m : Sat O N X) → IsAtRest number last m → Ready m
+  ready number last m resting =
+      let is = at_rest number last m resting in
+      (ap (λ (y : Sat O N X). y.0.hold) is, ap (λ (y : Sat O N X). y.1) is, subst (λ (ls : List (Log N X)). 0 < length ls) (sym (ap (λ (y : Sat O N X). y.0.logs) is)) (omega arith))

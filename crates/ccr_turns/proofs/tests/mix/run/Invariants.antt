@@ -1,0 +1,6 @@
+use Rattle.std.proofs.Common.{◌≡◌}
+use Rattle.ccr_turns.specs.Locks.{IsSeatOf}
+use Rattle.ccr_turns.proofs.tests.mix.run.Given as goal
+
+abbrev pub invariant-loop-step : goal.invariant-loop-step
+invariant-loop-step g l = IsSeatOf l.turns l.seat

@@ -1,0 +1,6 @@
+use Rattle.std.proofs.Common.{◌≡◌}
+use Rattle.ccr_turns.specs.Locks.{IsSeatOf}
+use Rattle.ccr_turns.proofs.tests.raise.Given as goal
+
+abbrev pub invariant-loop : goal.invariant-loop
+invariant-loop g l = IsSeatOf l.turns l.seat

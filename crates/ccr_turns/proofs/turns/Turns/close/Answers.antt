@@ -1,0 +1,37 @@
+use Rattle.std.proofs.Common.{◌≡◌, ℕ, ◌<◌, List, ◌∷◌, [], ◌++◌, ◌∙◌, map, length, sym, ap, subst, refl}
+use Rattle.std.specs.List.{AllZip}
+use Rattle.std.specs.Slots.{slots_items}
+use Rattle.atomic_table.proofs.Lists.{at_map}
+use Rattle.ccr_turns.specs.Lists.{total}
+use Rattle.ccr_turns.specs.Seated.{Lifted}
+use Rattle.ccr_turns.specs.Locks.{number_of, full_log, IsLeft, Agrees}
+use Rattle.ccr_turns.proofs.Rows.{all_from, count-map, only}
+use Rattle.ccr_turns.proofs.Ends.{has_cells, left_over, agrees, borne}
+use Rattle.ccr_turns.proofs.turns.Turns.close.Goals as goal
+
+pub lift-requires-clause-cells : goal.lift-requires-clause-cells
+lift-requires-clause-cells g c =
+    let key = c.args.self.table.shared.key in
+    has_cells g.O.Kept.value g.O.Kept.after g.O.Kept.may key.objects.value key.seats _ _ c.settle-closed.ensures.settled
+
+pub returns-clause-objects : goal.returns-clause-objects
+returns-clause-objects g c =
+    let key = c.args.self.table.shared.key in
+    let lifted = subst (Lifted (slots_items c.settle-closed.result.slots)) (sym c.from_vec.ensures) c.lift.ensures in
+    left_over g.O.Kept.value g.O.Kept.after g.O.Kept.may key.objects.value key.seats _ _ _ c.settle-closed.ensures.settled lifted
+
+pub returns-clause-logs : goal.returns-clause-logs
+returns-clause-logs g c =
+    let key = c.args.self.table.shared.key in
+    let seats = c.into_vec.ensures in
+    let lifted = subst (Lifted (slots_items c.settle-closed.result.slots)) (sym c.from_vec.ensures) c.lift.ensures in
+    all_from (λ seat. Agrees g.O.Kept.value g.O.Kept.after key.objects.value c.from_vec.result (full_log seat)) c.args.seats
+    (λ k seat at. agrees g.O.Kept.value g.O.Kept.after g.O.Kept.may key.objects.value key.seats _ _ _ c.settle-closed.ensures.settled lifted k (full_log seat)
+    (at_map full_log c.into_vec.result.items k seat (ap (λ (l : List _). lib.ListN.get_elem? l k) seats ∙ at)))
+
+pub returns-clause-numbers : goal.returns-clause-numbers
+returns-clause-numbers g c =
+    let key = c.args.self.table.shared.key in
+    λ number few. sym (count-map full_log (λ l. l.number) number c.args.seats)
+    ∙ (ap (λ (seats : List _). total (λ l. only number l.number) (map full_log seats)) (sym c.into_vec.ensures)
+    ∙ borne g.O.Kept.value g.O.Kept.after g.O.Kept.may key.objects.value key.seats _ _ c.settle-closed.ensures.settled number few)

@@ -1,0 +1,65 @@
+-- What a caller sees of the locks and their seats.
+use Rattle.std.specs.Prelude.{◌≡◌, ℕ, ◌+◌, ◌<◌, max, All, List, [], ◌∷◌, ◌++◌, length, Some}
+use Rattle.std.specs.List.{slice_get}
+use Rattle.ccr_turns.specs.Lists.{Rises, last_of}
+use Rattle.ccr_turns.specs.Histories.{history_stamps, left_by, Given}
+use Rattle.ccr_turns.specs.Logs.{mark, log, log_stamps, Stamped, at_place, marks_of, told}
+use Rattle.ccr_turns.specs.declared.history.Held.{Held}
+use Rattle.ccr_turns.specs.declared.history.Mark.{Mark}
+use Rattle.ccr_turns.specs.declared.history.Log.{Log}
+use Rattle.ccr_turns.specs.declared.kept.Kept.{Ghosts}
+use Rattle.ccr_turns.specs.declared.turns.Turns.{Turns}
+use Rattle.ccr_turns.specs.declared.turns.Seat.{Seat}
+
+module _ {O A R N X : Type 0} where
+  -- the objects as they were when the locks were made, in the order of their places
+  abbrev pub starts : Turns O A R N X → List O
+  starts turns = turns.table.shared.key.objects.value
+
+  -- how many seats there are
+  abbrev pub seat_count : Turns O A R N X → ℕ
+  seat_count turns = turns.table.shared.key.seats
+
+  -- how many places there are
+  abbrev pub place_count : Turns O A R N X → ℕ
+  place_count turns = turns.table.shared.table_id.slots
+
+module _ {O A R N X : Type 0} {kept : Ghosts O A R N X} where
+  -- the seat was made with these locks
+  abbrev pub IsSeatOf : Turns O A R N X → Seat O A R N X kept → Type 0
+  IsSeatOf turns seat = seat.token.table_id ≡ turns.table.shared.table_id
+
+  -- the seat's number
+  abbrev pub number_of : Seat O A R N X kept → ℕ
+  number_of seat = seat.number
+
+  -- the entries that the seat has made, in their order
+  abbrev pub log_of : Seat O A R N X kept → List (Mark N X)
+  log_of seat = marks_of seat.token.me.0.logs
+
+  -- these entries, with the number
+  abbrev pub full_log : Seat O A R N X kept → Log N X
+  full_log seat = log (number_of seat) (log_of seat)
+
+-- The log has one entry more: at this place, with a stamp that is one more than the greater of the last there and the last in the log.
+-- The object there had a value that may give this reply and that note to the ask. `Agrees` says which value and which last stamp these are.
+abbrev pub Acts : {N X A R : Type 0} → (X → A → R → N → Type 0) → ℕ → A → R → List (Mark N X) → List (Mark N X) → Type 0
+Acts {N} {X} may place ask reply old new =
+    (stamp : ℕ) × (note : N) × (before : X) × (earlier : ℕ) × (new ≡ old ++ mark place stamp note before earlier ∷ []) × (stamp ≡ max earlier (last_of 0 (log_stamps old)) + 1) × may before ask reply note
+
+-- an object and the history of its place, at the close, after this start
+pub record IsLeft {O N X A R : Type 0} (value : O → X) (after : X → N → X) (may : X → A → R → N → Type 0) (seats : ℕ) (start : O) (left : O × List (Held N)) : Type 0 where
+  -- the object is the one that its notes leave from the start
+  pub object : value left.0 ≡ left_by after (value start) left.1
+  pub rising : Rises 0 (history_stamps left.1)
+  pub given : Given after may (value start) left.1
+  -- each entry is a seat's
+  pub seated : All (λ (entry : Held N). entry.seat < seats) left.1
+
+-- a seat's log, and the objects with their histories at the close
+pub record Agrees {O N X : Type 0} (value : O → X) (after : X → N → X) (starts : List O) (kept : List (O × List (Held N))) (l : Log N X) : Type 0 where
+  pub rising : Rises 0 (log_stamps l.marks)
+  pub stamped : Stamped 0 l.marks
+  -- at each place the log has the seat's entries of that history, and no others
+  pub same : (place : ℕ) (start : O) (left : O × List (Held N)) → slice_get starts place ≡ Some start → slice_get kept place ≡ Some left → at_place place l.marks ≡ told after place l.number (value start) 0 left.1
+  pub inside : All (λ (m : Mark N X). m.place < length starts) l.marks

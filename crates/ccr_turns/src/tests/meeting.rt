@@ -1,0 +1,83 @@
+//! Two places whose objects meet: one act returns only once the other has begun.
+
+ghost use Rattle.std.specs.Prelude.{◌≡◌};
+ghost use Rattle.ccr_turns.specs.Locks.{place_count, IsSeatOf};
+
+use crate::{Kept, Seat, Turns};
+use ccr_base::{List, OutOfMemory};
+use std::alloc::Global;
+use std::sync::atomic::{AtomicU64, Ordering};
+use std::sync::{Arc, Wait};
+use std::test::*;
+use std::thread;
+
+// How often the first object looks at the flag.
+const LOOKS: u32 = 20_000_000;
+
+#[derive(Drop)]
+enum Meeting {
+    Waits(Arc<AtomicU64, Global>),
+    Begins(Arc<AtomicU64, Global>),
+}
+
+impl Kept for Meeting {
+    type Ask = ();
+
+    type Reply = bool;
+
+    type Note = ();
+
+    type Value = ();
+
+    ghost value = { λ _. tt };
+
+    ghost may = { λ _ _ _ _. Unit {0} };
+
+    ghost after = { λ value _. value };
+
+    // Whether the act at the second place was seen to begin.
+    fn act(&mut self, _ask: ()) -> Result<(bool, ()), OutOfMemory> {
+        match self {
+            Meeting::Begins(begun) => {
+                begun.store(1, Ordering::SeqCst);
+                Ok((true, ()))
+            }
+            Meeting::Waits(begun) => Ok((sees(begun), ())),
+        }
+    }
+}
+
+fn sees(begun: &AtomicU64) -> bool {
+    for _ in 0..LOOKS {
+        if begun.load(Ordering::SeqCst) == 1 {
+            return true;
+        }
+    }
+    false
+}
+
+fn meet<R: Wait>(rt: &R, turns: &Turns<Meeting>, mut seat: Seat<Meeting>) -> bool
+    requires seat { IsSeatOf turns.now seat }
+    requires places { place_count turns.now ≡ 2 }
+{
+    let place = if seat.number() == 0 { 0 } else { 1 };
+    matches!(turns.act(rt, &mut seat, place, ()), Ok(true))
+}
+
+#[test]
+fn two_places_at_once(rt: HostRuntime) -> Result<(), Fail> {
+    let flag = Arc::new(rt.alloc(), AtomicU64::new(0))?;
+    let mut places = Vec::new(rt.alloc());
+    places.push(Meeting::Waits(Arc::try_clone(&flag)?))?;
+    places.push(Meeting::Begins(flag))?;
+    let (turns, seats) = Turns::make(rt.alloc(), List::from_vec(places), 2)?;
+    let met = thread::map_vec(
+        &rt,
+        seats.into_vec(),
+        &|seat: Seat<Meeting>| -> bool
+            requires { IsSeatOf turns seat × (place_count turns ≡ 2) }
+        { meet(&rt, &turns, seat) },
+    )?;
+    assert_eq!(rt; met.as_slice(), [true, true].as_slice());
+    Ok(())
+}

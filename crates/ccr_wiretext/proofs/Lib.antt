@@ -1,0 +1,11 @@
+pub mod NamesLemmas
+pub mod Slots
+pub mod Rooms
+pub mod Written
+pub mod Steps
+pub mod Placed
+pub mod Slashed
+pub mod Patterned
+pub mod Formed
+pub mod Blocked
+pub mod Texts

@@ -1,0 +1,132 @@
+-- A port that is referred to: what is read is in the grammar, and what is in the grammar is read.
+use Rattle.std.proofs.Common.{◌≡◌, ℕ, suc, ◌+◌, ◌<◌, Bool, true, false, cond, List, [], ◌∷◌, ◌++◌, length, take, drop, Option, Some, None, Result, Ok, Err, ◌⊎◌, inl, inr, refl, sym, ap, subst, ◌∙◌, arith, length-append, add-one}
+use Rattle.std.specs.Prelude.{nat_lt, ◌==◌, ◌||◌, not}
+use Rattle.std.specs.Option.{option_and_then}
+use Rattle.std.specs.List.{list_any, position_or_len, prefix_len}
+use Rattle.std.proofs.lemmas.Bool.Decides.{nat_tests}
+use Rattle.ccr_wiring.specs.Repeats.{has_port}
+use Rattle.ccr_wiretext.specs.Names.{Naming, named, as_port, as_set}
+use Rattle.ccr_wiretext.specs.Drafts.{Declared, members_of}
+use Rattle.ccr_wiretext.specs.Places.{Words, ◌>>=◌, or_code, word, slash_place, member, set_port, port_at, port_of, port}
+use Rattle.ccr_wiretext.specs.Grammar.{IsPlain, IsMember, IsPort}
+use Rattle.ccr_wiretext.proofs.Steps.{bind_ok, ok_is, or_code_ok, chosen, then_some}
+
+abbrev is_slash : ℕ → Bool
+is_slash b = b == 47
+
+abbrev before : List ℕ → ℕ
+before bytes = position_or_len is_slash bytes
+
+-- the first slash cuts the bytes
+record IsCut (bytes : List ℕ) : Type 0 where
+  set : List ℕ
+  name : List ℕ
+  spelled : bytes ≡ set ++ 47 ∷ name
+  plain : list_any is_slash set ≡ false
+  place : before bytes ≡ length set
+
+cut_at : (bytes : List ℕ) → ((list_any is_slash bytes ≡ false) × (before bytes ≡ length bytes)) ⊎ IsCut bytes
+cut_at [] = inl (refl, refl)
+cut_at (b ∷ bytes) = by (is_slash b) refl (cut_at bytes)
+  where
+    by : (t : Bool) → is_slash b ≡ t → ((list_any is_slash bytes ≡ false) × (before bytes ≡ length bytes)) ⊎ IsCut bytes
+      → ((list_any is_slash (b ∷ bytes) ≡ false) × (before (b ∷ bytes) ≡ length (b ∷ bytes))) ⊎ IsCut (b ∷ bytes)
+    by true e rest = let is : b ≡ 47 = grind (arith, nat_tests, e) in
+      inr (record { set = []; name = bytes; spelled = ap (λ (v : ℕ). v ∷ bytes) is; plain = refl; place = rw e refl })
+    by false e (inl (plain, place)) = inl (rw (e, plain) refl, rw (e, place) (omega arith))
+    by false e (inr cut) = inr (record { set = b ∷ cut.set; name = cut.name; spelled = ap (λ (v : List ℕ). b ∷ v) cut.spelled; plain = rw (e, cut.plain) refl; place = rw (e, cut.place) (omega arith) })
+
+shorter : (set name : List ℕ) → length set < length (set ++ 47 ∷ name)
+shorter set name = omega (arith, length-append {A = ℕ} set (47 ∷ name))
+
+cut_place : (word : List ℕ) (cut : IsCut word) → slash_place word ≡ Some (length cut.set)
+unfolding slash_place
+cut_place word cut =
+    let less : before word < length word = subst (λ w. before word < length w) (sym cut.spelled) (subst (λ n. n < length (cut.set ++ 47 ∷ cut.name)) (sym cut.place) (shorter cut.set cut.name)) in
+    let test : nat_lt (before word) (length word) ≡ true = grind (arith, nat_tests, less) in
+    rw test (ap Some cut.place)
+
+before_slash : (set name : List ℕ) → list_any is_slash set ≡ false → before (set ++ 47 ∷ name) ≡ length set
+before_slash [] name plain = refl
+before_slash (b ∷ set) name plain = by (is_slash b) refl plain (before_slash set name)
+  where
+    by : (t : Bool) → is_slash b ≡ t → (t || list_any is_slash set) ≡ false → (list_any is_slash set ≡ false → before (set ++ 47 ∷ name) ≡ length set) → before (b ∷ set ++ 47 ∷ name) ≡ length (b ∷ set)
+    by true e f next = absurd cc
+    by false e f next = rw (e, next f) (omega arith)
+
+slash_at : (set name : List ℕ) → IsPlain set → slash_place (set ++ 47 ∷ name) ≡ Some (length set)
+slash_at set name plain = cut_place (set ++ 47 ∷ name) (record { set = set; name = name; spelled = refl; plain = plain; place = before_slash set name plain })
+
+plain_none : (word : List ℕ) → IsPlain word → slash_place word ≡ None
+unfolding slash_place
+plain_none word plain = elim (cut_at word) [
+  | inl parts ↦ let test : nat_lt (before word) (length word) ≡ false = grind (arith, nat_tests, parts.1) in rw test refl
+  | inr cut ↦ absurd (slashed cut.set cut.name cut.plain (ap (list_any is_slash) (sym cut.spelled) ∙ plain))
+]
+  where
+    slashed : (set name : List ℕ) → list_any is_slash set ≡ false → list_any is_slash (set ++ 47 ∷ name) ≡ false → ⊥
+    slashed [] name e f = absurd cc
+    slashed (b ∷ set) name e f = by (is_slash b) e f (slashed set name)
+      where
+        by : (t : Bool) → (t || list_any is_slash set) ≡ false → (t || list_any is_slash (set ++ 47 ∷ name)) ≡ false → (list_any is_slash set ≡ false → list_any is_slash (set ++ 47 ∷ name) ≡ false → ⊥) → ⊥
+        by true e f next = absurd cc
+        by false e f next = next e f
+
+place_cut : (word : List ℕ) (place : ℕ) → slash_place word ≡ Some place → (cut : IsCut word) × (place ≡ length cut.set)
+place_cut word place e = elim (cut_at word) [
+  | inl parts ↦ absurd (let h : None ≡ Some place = sym (plain_none word parts.0) ∙ e in cc)
+  | inr cut ↦ (cut, (let h : Some (length cut.set) ≡ Some place = sym (cut_place word cut) ∙ e in cc))
+]
+
+take_front : (set rest : List ℕ) → take (length set) (set ++ rest) ≡ set
+take_front [] rest = refl
+take_front (b ∷ set) rest = ap (λ (v : List ℕ). b ∷ v) (take_front set rest)
+
+drop_behind : (set name : List ℕ) → drop (suc (length set)) (set ++ 47 ∷ name) ≡ name
+drop_behind [] name = refl
+drop_behind (b ∷ set) name = drop_behind set name
+
+drop_front : (set name : List ℕ) → drop (length set + 1) (set ++ 47 ∷ name) ≡ name
+drop_front set name = rw (add-one (length set)) (drop_behind set name)
+
+port_is : (draft : Declared) (word : List ℕ) (n : ℕ) → port_of draft word ≡ Some n → IsPort draft word n
+port_is draft word n e = by (slash_place word) refl e
+  where
+    by : (o : Option ℕ) → slash_place word ≡ o → port_at draft word o ≡ Some n → IsPort draft word n
+    by None at h = inl (unslashed, h)
+      where
+        unslashed : IsPlain word
+        unslashed = elim (cut_at word) [ inl parts ↦ parts.0 | inr cut ↦ absurd (let found : slash_place word ≡ Some (length cut.set) = cut_place word cut in let h2 : None ≡ Some (length cut.set) = sym at ∙ found in cc) ]
+    by (Some place) at h =
+      let cut = place_cut word place at in
+      let set = then_some (set_port draft (drop (place + 1) word)) (option_and_then as_set (named draft.names (take place word))) n h in
+      let other = then_some (member draft set.0) (option_and_then as_port (named draft.names (drop (place + 1) word))) n set.2 in
+      let front : take place word ≡ cut.0.set = ap (λ k. take k word) cut.1 ∙ ap (take (length cut.0.set)) cut.0.spelled ∙ take_front cut.0.set (47 ∷ cut.0.name) in
+      let behind : drop (place + 1) word ≡ cut.0.name = ap (λ k. drop (k + 1) word) cut.1 ∙ ap (drop (length cut.0.set + 1)) cut.0.spelled ∙ drop_front cut.0.set cut.0.name in
+      elim (chosen (has_port (members_of draft set.0) other.0) (Some other.0) None (Some n) other.2) [
+        | inl is ↦
+          let same : other.0 ≡ n = (let s : Some other.0 ≡ Some n = is.1 in cc) in
+          inr (record {
+            set = cut.0.set; name = cut.0.name; spelled = cut.0.spelled; plain = cut.0.plain; number = set.0;
+            in_set = subst (λ w. option_and_then as_set (named draft.names w) ≡ Some set.0) front set.1;
+            in_names = subst (λ w. option_and_then as_port (named draft.names w) ≡ Some n) behind (other.1 ∙ ap Some same);
+            member = subst (λ p. has_port (members_of draft set.0) p ≡ true) same is.0 })
+        | inr is ↦ absurd (let s : None ≡ Some n = is.1 in cc)
+      ]
+
+port_means : (draft : Declared) (word : List ℕ) (n : ℕ) → IsPort draft word n → port_of draft word ≡ Some n
+port_means draft word n (inl (plain, refers)) = rw (plain_none word plain) refers
+port_means draft word n (inr said) =
+    rw (said.spelled, slash_at said.set said.name said.plain, take_front said.set (47 ∷ said.name), drop_front said.set said.name, said.in_set, said.in_names, said.member) refl
+
+-- PORT
+pub port_said : (draft : Declared) (words : Words) (x : ℕ × Words) → port draft words ≡ Ok x → (name : List ℕ) × (words ≡ name ∷ x.1) × IsPort draft name x.0
+unfolding port
+port_said draft [] x e = absurd cc
+port_said draft (name ∷ words) x e =
+    let a = bind_ok (or_code (port_of draft name) 7) (λ number. Ok (number, words)) x e in
+    subst (λ (y : ℕ × Words). (n : List ℕ) × (name ∷ words ≡ n ∷ y.1) × IsPort draft n y.0) (ok_is (a.0, words) x a.2) (name, refl, port_is draft name a.0 (or_code_ok _ 7 a.0 a.1))
+
+pub port_read : (draft : Declared) (name : List ℕ) (n : ℕ) (rest : Words) → IsPort draft name n → port draft (name ∷ rest) ≡ Ok (n, rest)
+unfolding port
+port_read draft name n rest said = rw (port_means draft name n said) refl

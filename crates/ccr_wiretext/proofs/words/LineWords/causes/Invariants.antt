@@ -1,0 +1,7 @@
+use Rattle.std.proofs.Common.{◌≡◌, ◌++◌, ◌∷◌, map, take}
+use Rattle.std.specs.Prelude.{flat_map}
+use Rattle.ccr_wiretext.specs.Spelling.{cause_name}
+use Rattle.ccr_wiretext.proofs.words.LineWords.causes.Given as goal
+
+abbrev pub invariant-loop-cause : goal.invariant-loop-cause
+invariant-loop-cause l = l.self ≡ l.fn.self ++ map (cause_name l.parts) (take l.cause-index l.causes)

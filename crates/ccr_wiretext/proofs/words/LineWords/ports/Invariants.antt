@@ -1,0 +1,7 @@
+use Rattle.std.proofs.Common.{◌≡◌, ◌++◌, ◌∷◌, map, take}
+use Rattle.std.specs.Prelude.{flat_map}
+use Rattle.ccr_wiretext.specs.Spelling.{port_name}
+use Rattle.ccr_wiretext.proofs.words.LineWords.ports.Given as goal
+
+abbrev pub invariant-loop-port : goal.invariant-loop-port
+invariant-loop-port l = l.self ≡ l.fn.self ++ map (port_name l.parts) (take l.port-index l.ports)

@@ -1,0 +1,130 @@
+-- The grammar of the places and lines, apart from reading: which words say what. No codes, and no order of looking.
+use Rattle.std.specs.Prelude.{◌≡◌, ℕ, ◌+◌, ◌<◌, ◌≤◌, true, false, ◌==◌, List, [], ◌∷◌, ◌++◌, length, Option, Some, None, ◌⊎◌, codes}
+use Rattle.std.specs.Option.{option_and_then}
+use Rattle.std.specs.List.{list_any}
+use Rattle.ccr_base.specs.declared.policies.Policy.{Policy}
+use Rattle.ccr_base.specs.declared.policies.Policy.TheVariants as policies
+use Rattle.ccr_base.specs.declared.policies.Group.{Group}
+use Rattle.ccr_base.specs.declared.policies.Group.TheVariants as groups
+use Rattle.ccr_base.specs.declared.handlers.Expr.{Expr}
+use Rattle.ccr_base.specs.declared.handlers.Expr.TheVariants as exprs
+use Rattle.ccr_base.specs.declared.patterns.Pred.{Pred}
+use Rattle.ccr_base.specs.declared.patterns.Pred.TheVariants as preds
+use Rattle.ccr_base.specs.declared.patterns.Slot.{Slot}
+use Rattle.ccr_base.specs.declared.patterns.Pattern.{Pattern}
+use Rattle.ccr_base.specs.declared.patterns.Pattern.TheVariants as patterns
+use Rattle.ccr_text.specs.Words.{number_of, is_name_of}
+use Rattle.ccr_wiring.specs.Repeats.{has_port}
+use Rattle.ccr_wiretext.specs.declared.named.Named.{Named}
+use Rattle.ccr_wiretext.specs.Names.{Naming, named, as_port, as_set, as_cause}
+use Rattle.ccr_wiretext.specs.Drafts.{Declared, members_of}
+use Rattle.ccr_wiretext.specs.Places.{Words}
+
+-- a name that may be declared here
+pub record IsNew (names : Naming) (name : List ℕ) : Type 0 where
+  pub formed : is_name_of name ≡ true
+  pub new : named names name ≡ None
+
+-- the name of something of a kind, with its number
+abbrev pub Refers : (Named → Option ℕ) → Naming → List ℕ → ℕ → Type 0
+Refers as_kind names name number = option_and_then as_kind (named names name) ≡ Some number
+
+-- no slash stands in the word
+abbrev pub IsPlain : List ℕ → Type 0
+IsPlain word = list_any (λ b. b == 47) word ≡ false
+
+-- SET/PORT, where the port is a member of the set
+pub record IsMember (draft : Declared) (word : List ℕ) (port : ℕ) : Type 0 where
+  pub set : List ℕ
+  pub name : List ℕ
+  pub spelled : word ≡ set ++ 47 ∷ name
+  pub plain : IsPlain set
+  pub number : ℕ
+  pub in_set : Refers as_set draft.names set number
+  pub in_names : Refers as_port draft.names name port
+  pub member : has_port (members_of draft number) port ≡ true
+
+-- PORT or SET/PORT
+abbrev pub IsPort : Declared → List ℕ → ℕ → Type 0
+IsPort draft word port = (IsPlain word × Refers as_port draft.names word port) ⊎ IsMember draft word port
+
+-- digits of a number
+abbrev pub IsNumber : List ℕ → ℕ → Type 0
+IsNumber digits n = number_of digits ≡ Some n
+
+-- digits of a number between two bounds
+pub record IsWithin (low high : ℕ) (digits : List ℕ) (n : ℕ) : Type 0 where
+  pub value : IsNumber digits n
+  pub above : low ≤ n
+  pub below : n ≤ high
+
+abbrev pub IsPolicy : Words → Policy → Type 0
+IsPolicy words policies.Unbounded = words ≡ codes "unbounded" ∷ []
+IsPolicy words (policies.Discard n) = (digits : List ℕ) × (words ≡ codes "discard" ∷ digits ∷ []) × IsWithin 1 1000 digits n
+IsPolicy words (policies.Throttle n) = (digits : List ℕ) × (words ≡ codes "throttle" ∷ digits ∷ []) × IsWithin 1 1000 digits n
+
+-- the word that gives the group of a receive
+abbrev pub IsGroup : List ℕ → Group → Type 0
+IsGroup word groups.Once = word ≡ codes "once"
+IsGroup word groups.Always = word ≡ codes "always"
+IsGroup word _ = ⊥
+
+abbrev pub IsExpr : Words → Expr → Type 0
+IsExpr words (exprs.Number n) = (digits : List ℕ) × (words ≡ digits ∷ []) × IsNumber digits n
+IsExpr words (exprs.Arg k) = (digits : List ℕ) × (words ≡ codes "arg" ∷ digits ∷ []) × IsWithin 0 65535 digits k
+IsExpr words exprs.Sum = words ≡ codes "sum" ∷ []
+IsExpr words exprs.Count = words ≡ codes "count" ∷ []
+
+abbrev pub IsPred : Words → Pred → Type 0
+IsPred words preds.Any = words ≡ codes "any" ∷ []
+IsPred words (preds.Eq n) = (digits : List ℕ) × (words ≡ codes "eq" ∷ digits ∷ []) × IsNumber digits n
+IsPred words (preds.Lt n) = (digits : List ℕ) × (words ≡ codes "lt" ∷ digits ∷ []) × IsNumber digits n
+IsPred words (preds.Ge n) = (digits : List ℕ) × (words ≡ codes "ge" ∷ digits ∷ []) × IsNumber digits n
+
+-- PORT N PREDICATE
+pub record IsSlot (draft : Declared) (words : Words) (slot : Slot) : Type 0 where
+  pub port : List ℕ
+  pub count : List ℕ
+  pub test : Words
+  pub spelled : words ≡ port ∷ count ∷ test
+  pub refers : IsPort draft port slot.port
+  pub counted : IsWithin 1 1000 count slot.least
+  pub exact : slot.most ≡ slot.least
+  pub tests : IsPred test slot.pred
+
+-- slots one behind the other; found are those before, whose ports don't come again
+abbrev pub IsSlots : Declared → List Slot → List Slot → Words → Type 0
+IsSlots draft found [] words = words ≡ []
+IsSlots draft found (slot ∷ slots) words =
+    (front : Words) × (rest : Words) × (words ≡ front ++ rest) × IsSlot draft front slot
+    × (list_any (λ other. other.port == slot.port) found ≡ false) × IsSlots draft (found ++ slot ∷ []) slots rest
+
+-- N PORT PORT
+pub record IsGather (draft : Declared) (words : Words) (total first second : ℕ) : Type 0 where
+  pub count : List ℕ
+  pub one : List ℕ
+  pub other : List ℕ
+  pub spelled : words ≡ count ∷ one ∷ other ∷ []
+  pub counted : IsWithin 1 1000 count total
+  pub refers : IsPort draft one first
+  pub other_refers : IsPort draft other second
+  pub apart : (first == second) ≡ false
+
+-- take and 1 to 8 slots, or gather and two ports
+abbrev pub IsPattern : Declared → Words → Pattern → Type 0
+IsPattern draft words (patterns.Slots slots) = (rest : Words) × (words ≡ codes "take" ∷ rest) × IsSlots draft [] slots rest × (1 ≤ length slots) × (length slots ≤ 8)
+IsPattern draft words (patterns.Gather total first second) = (rest : Words) × (words ≡ codes "gather" ∷ rest) × IsGather draft rest total first second
+
+-- ports of which each is none of those found before it
+abbrev pub ArePorts : Declared → List ℕ → List ℕ → Words → Type 0
+ArePorts draft found [] words = words ≡ []
+ArePorts draft found (port ∷ ports) words =
+    (word : List ℕ) × (rest : Words) × (words ≡ word ∷ rest) × IsPort draft word port
+    × (has_port found port ≡ false) × ArePorts draft (found ++ port ∷ []) ports rest
+
+-- causes of which each is none of those found before it
+abbrev pub AreCauses : Naming → List ℕ → List ℕ → Words → Type 0
+AreCauses names found [] words = words ≡ []
+AreCauses names found (cause ∷ causes) words =
+    (word : List ℕ) × (rest : Words) × (words ≡ word ∷ rest) × Refers as_cause names word cause
+    × (has_port found cause ≡ false) × AreCauses names (found ++ cause ∷ []) causes rest

@@ -1,0 +1,12 @@
+pub mod Keywords
+pub mod Names
+pub mod Drafts
+pub mod Places
+pub mod Patterns
+pub mod Forms
+pub mod Blocks
+pub mod Reading
+pub mod Answers
+pub mod Spelling
+pub mod Grammar
+pub mod Lines

@@ -1,0 +1,35 @@
+-- What the declared names stand for, in the order of their declaration.
+use Rattle.std.specs.Prelude.{ℕ, List, [], ◌∷◌, Option, Some, None, if◌then◌else◌}
+use Rattle.std.specs.Str.{bytes_eq}
+use Rattle.ccr_wiretext.specs.declared.named.Named.{Named}
+use Rattle.ccr_wiretext.specs.declared.named.Named.TheVariants as kinds
+
+-- names, each with what it stands for
+abbrev pub Naming : Type 0
+Naming = List (List ℕ × Named)
+
+-- what a name stands for
+abbrev pub named : Naming → List ℕ → Option Named
+named [] word = None
+named (entry ∷ names) word = if bytes_eq word entry.0 then Some entry.1 else named names word
+
+-- the number of a port. The others are likewise
+abbrev pub as_port : Named → Option ℕ
+as_port (kinds.Port n) = Some n
+as_port _ = None
+
+abbrev pub as_queue : Named → Option ℕ
+as_queue (kinds.Queue n) = Some n
+as_queue _ = None
+
+abbrev pub as_set : Named → Option ℕ
+as_set (kinds.Set n) = Some n
+as_set _ = None
+
+abbrev pub as_cause : Named → Option ℕ
+as_cause (kinds.Cause n) = Some n
+as_cause _ = None
+
+abbrev pub as_handler : Named → Option ℕ
+as_handler (kinds.Handler n) = Some n
+as_handler _ = None

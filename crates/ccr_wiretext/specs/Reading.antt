@@ -1,0 +1,67 @@
+-- Reading line by line: the first line that offends, and its code.
+use Rattle.std.specs.Prelude.{ℕ, Bool, false, List, [], ◌∷◌, Option, Some, None, Result, Ok, Err, ◌==◌, ◌&&◌, if◌then◌else◌, codes, max}
+use Rattle.std.specs.Str.{bytes_eq}
+use Rattle.ccr_text.specs.declared.lines.Line.{Line}
+use Rattle.ccr_text.specs.Lines.{lines_of}
+use Rattle.ccr_wiring.specs.declared.parts.Parts.{Parts}
+use Rattle.ccr_wiretext.specs.declared.draft.Block.{Block}
+use Rattle.ccr_wiretext.specs.declared.draft.Block.TheVariants as blocks
+use Rattle.ccr_wiretext.specs.Keywords.{keyword}
+use Rattle.ccr_wiretext.specs.Drafts.{Declared, nothing}
+use Rattle.ccr_wiretext.specs.Places.{Words, ◌>>=◌, unless}
+use Rattle.ccr_wiretext.specs.Blocks.{line_in}
+
+-- a comment begins with #
+abbrev pub is_comment : List ℕ → Bool
+is_comment [] = false
+is_comment (b ∷ bytes) = b == 35
+
+-- ccr 1
+abbrev pub is_head : Words → Bool
+is_head (first ∷ second ∷ []) = bytes_eq first (codes "ccr") && bytes_eq second (codes "1")
+is_head _ = false
+
+-- what is declared so far: None before `ccr 1`
+abbrev pub So : Type 0
+So = Option Declared
+
+-- after a line whose first word is no comment
+unfoldable pub after_words : So → List ℕ → Words → Result So ℕ
+after_words None first words = unless (is_head (first ∷ words)) 2 >>= λ done. Ok (Some nothing)
+after_words (Some draft) first words = line_in draft.block draft (keyword first) words >>= λ new. Ok (Some new)
+
+-- a line without words or with a comment is skipped
+unfoldable pub after_all : So → Words → Result So ℕ
+after_all so [] = Ok so
+after_all so (first ∷ words) = if is_comment first then Ok so else after_words so first words
+
+-- a line that isn't clean is code 1
+unfoldable pub after_line : So → Line → Result So ℕ
+after_line so line = if line.clean then after_all so line.words else Err 1
+
+-- the text may not end inside a block
+abbrev pub closed : Block → Parts → Result Parts ℕ
+closed blocks.Outside parts = Ok parts
+closed _ parts = Err 9
+
+-- at the end of the text
+unfoldable pub at_end : So → Result Parts ℕ
+at_end None = Err 2
+at_end (Some draft) = closed draft.block draft.parts
+
+-- a code with the number of its line
+abbrev pub at_line : {A : Type 0} → ℕ → Result A ℕ → Result A (ℕ × ℕ)
+at_line number (Ok x) = Ok x
+at_line number (Err code) = Err (number, code)
+
+-- the lines that are left, where last is the number of the line before
+unfoldable pub reading_after : So → ℕ → List Line → Result Parts (ℕ × ℕ)
+reading_after so last [] = at_line (max last 1) (at_end so)
+reading_after so last (line ∷ lines) = elim (after_line so line) [ Ok new ↦ reading_after new line.number lines | Err code ↦ Err (line.number, code) ]
+
+abbrev pub reading : List Line → Result Parts (ℕ × ℕ)
+reading lines = reading_after None 0 lines
+
+-- the parts that a text stands for, or its first offending line and the code
+abbrev pub reading_text : List ℕ → Result Parts (ℕ × ℕ)
+reading_text text = reading (lines_of text)

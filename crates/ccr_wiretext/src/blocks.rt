@@ -1,0 +1,181 @@
+//! Which first words may stand in which block, and what a line declares.
+
+ghost use Rattle.std.specs.Prelude.{◌≡◌};
+ghost use Rattle.ccr_wiretext.specs.Answers.{GivesState};
+ghost use Rattle.ccr_wiretext.specs.Blocks.{outside_line, handler_line, group_of, arbiter_line, poster_line, line_in};
+
+use crate::cursor::Cursor;
+use crate::draft::{Block, Draft};
+use crate::forms::{arbiter_end_form, fail_form};
+use crate::keyword::Keyword;
+use crate::stop::Stop;
+use ccr_base::{Action, Group};
+use ccr_wiring::{ArbiterPart, HandlerPart, Kind, PosterPart};
+use std::mem;
+
+/// The group of a branch that begins with the word, by the kind of its arbiter.
+fn group_of(kind: Kind, first: Keyword) -> Option<Group>
+    ensures { result ≡ group_of kind first }
+{
+    match (kind, first) {
+        (Kind::Choice, Keyword::Branch) => Some(Group::Choice),
+        (Kind::Interleave, Keyword::Teardown) => Some(Group::Teardown),
+        (Kind::Interleave, Keyword::Exclusive) => Some(Group::Exclusive),
+        (Kind::Interleave, Keyword::Concurrent) => Some(Group::Concurrent),
+        _ => None,
+    }
+}
+
+impl Draft {
+    #[tactic(auto, unfolding(crate::specs::Blocks::outside_line))]
+    fn outside_line(&mut self, first: Keyword, words: Cursor<'_>) -> Result<(), Stop>
+        ensures { GivesState self.new result (outside_line self.old first words.entry) }
+    {
+        match first {
+            Keyword::Budget => {
+                let budget = self.budget_form(words)?;
+                self.set_budget(budget);
+            }
+            Keyword::Queue => {
+                let part = self.queue_form(words)?;
+                self.add_queue(part)?;
+            }
+            Keyword::Port => {
+                let count = self.parts.ports.as_slice().len();
+                let name = self.name_form(256, count, words)?;
+                self.add_port(name)?;
+            }
+            Keyword::Portset => {
+                let part = self.set_form(words)?;
+                self.add_set(part)?;
+            }
+            Keyword::Cause => {
+                let part = self.cause_form(words)?;
+                self.add_cause(part)?;
+            }
+            Keyword::Handler => {
+                let count = self.parts.handlers.as_slice().len();
+                let name = self.name_form(256, count, words)?;
+                self.begin_handler(name)?;
+            }
+            Keyword::Receive => {
+                let branch = self.receive_form(words)?;
+                self.add_receive(branch)?;
+            }
+            Keyword::Choice => {
+                let count = self.parts.arbiters.as_slice().len();
+                let name = self.name_form(256, count, words)?;
+                self.begin_arbiter(Kind::Choice, name)?;
+            }
+            Keyword::Interleave => {
+                let count = self.parts.arbiters.as_slice().len();
+                let name = self.name_form(256, count, words)?;
+                self.begin_arbiter(Kind::Interleave, name)?;
+            }
+            Keyword::Poster => {
+                let count = self.parts.posters.as_slice().len();
+                let name = self.name_form(16, count, words)?;
+                self.begin_poster(name)?;
+            }
+            _ => return Err(Stop::Code(3)),
+        }
+        Ok(())
+    }
+
+    #[tactic(auto, unfolding(crate::specs::Blocks::handler_line, crate::specs::Forms::end_form))]
+    fn handler_line(
+        &mut self,
+        part: HandlerPart,
+        first: Keyword,
+        words: Cursor<'_>,
+    ) -> Result<(), Stop>
+        ensures { GivesState self.new result (handler_line self.old part first words.entry) }
+    {
+        match first {
+            Keyword::Post => {
+                let action = self.post_form(&part, words)?;
+                self.add_action(part, action)?;
+            }
+            Keyword::Fail => {
+                let action = fail_form(&part, words)?;
+                self.add_action(part, action)?;
+            }
+            Keyword::Add => {
+                let cause = self.caused_form(&part, words)?;
+                self.add_action(part, Action::Add(cause))?;
+            }
+            Keyword::Remove => {
+                let cause = self.caused_form(&part, words)?;
+                self.add_action(part, Action::Remove(cause))?;
+            }
+            Keyword::Await => {
+                let action = self.await_form(&part, words)?;
+                self.add_action(part, action)?;
+            }
+            Keyword::End => {
+                words.no_more()?;
+                self.end_handler(part)?;
+            }
+            _ => return Err(Stop::Code(3)),
+        }
+        Ok(())
+    }
+
+    #[tactic(auto, unfolding(crate::specs::Blocks::arbiter_line))]
+    fn arbiter_line(
+        &mut self,
+        part: ArbiterPart,
+        first: Keyword,
+        words: Cursor<'_>,
+    ) -> Result<(), Stop>
+        ensures { GivesState self.new result (arbiter_line self.old part first words.entry) }
+    {
+        if let Keyword::End = first {
+            arbiter_end_form(&part, words)?;
+            self.end_arbiter(part)?;
+            return Ok(());
+        }
+        let Some(group) = group_of(part.kind, first) else {
+            return Err(Stop::Code(3));
+        };
+        let branch = self.branch_form(&part, group, words)?;
+        self.add_branch(part, branch)?;
+        Ok(())
+    }
+
+    #[tactic(auto, unfolding(crate::specs::Blocks::poster_line, crate::specs::Forms::end_form))]
+    fn poster_line(
+        &mut self,
+        part: PosterPart,
+        first: Keyword,
+        words: Cursor<'_>,
+    ) -> Result<(), Stop>
+        ensures { GivesState self.new result (poster_line self.old part first words.entry) }
+    {
+        match first {
+            Keyword::Post => {
+                let post = self.script_form(&part, words)?;
+                self.add_post(part, post)?;
+            }
+            Keyword::End => {
+                words.no_more()?;
+                self.end_poster(part)?;
+            }
+            _ => return Err(Stop::Code(3)),
+        }
+        Ok(())
+    }
+
+    /// Takes in a line with these words.
+    #[tactic(auto, unfolding(crate::specs::Blocks::line_in))]
+    pub fn line(&mut self, first: Keyword, words: Cursor<'_>) -> Result<(), Stop>
+        ensures { GivesState self.new result (line_in self.old.block self.old first words.entry) }
+    {
+        match mem::replace(&mut self.block, Block::Outside) {
+            Block::Outside => self.outside_line(first, words),
+            Block::Handler(part) => self.handler_line(part, first, words),
+            Block::Arbiter(part) => self.arbiter_line(part, first, words),
+            Block::Poster(part) => self.poster_line(part, first, words),
+        }
+    }
+}

@@ -1,0 +1,195 @@
+//! The words of a line, read from left to right: the places of one word or two.
+
+ghost use Rattle.std.specs.Prelude.{◌≡◌, ◌==◌, List, length, ℕ};
+ghost use Rattle.ccr_wiretext.specs.Names.{as_queue, as_cause, as_handler};
+ghost use Rattle.ccr_wiretext.specs.Places.{word, no_more, new_name, reference, port, number, number_within, policy, group, expr};
+ghost use Rattle.ccr_wiretext.specs.Answers.{Gives, Leaves, LeavesBy};
+
+use crate::draft::Draft;
+use crate::keyword::is_text;
+use crate::named::{Named, Names};
+use crate::stop::Stop;
+use ccr_base::{CauseNo, Expr, Group, HandlerNo, Name, Policy, PortNo, QueueNo};
+use ccr_text::{is_name, read_number};
+use std::marker::Model;
+
+/// The words that are left. Each method takes the words of one place, or tells the code of what stands there.
+#[derive(Drop)]
+pub struct Cursor<'a> {
+    rest: &'a [Name],
+}
+
+impl<'a> Model for Cursor<'a> {
+    ghost use Rattle.std.specs.Prelude.{List as Listed, ℕ};
+
+    ghost Value = { Listed (Listed ℕ) };
+
+    ghost view = { λ cursor. cursor.rest.now };
+}
+
+impl<'a> Cursor<'a> {
+    pub fn new(words: &'a [Name]) -> Self
+        ensures { result ≡ words.now }
+    {
+        Cursor { rest: words }
+    }
+
+    pub fn is_empty(&self) -> bool
+        ensures { result ≡ (length self.now == 0) }
+    {
+        self.rest.is_empty()
+    }
+
+    pub fn word(&mut self) -> Result<&'a [u8], Stop>
+        ensures { LeavesBy (λ word. word.now) self.new result (word self.old) }
+    {
+        let Some((first, rest)) = self.rest.split_first() else {
+            return Err(Stop::Code(4));
+        };
+        self.rest = rest;
+        Ok(first.as_slice())
+    }
+
+    pub fn no_more(&self) -> Result<(), Stop>
+        ensures { Gives result (no_more self.now) }
+    {
+        if !self.rest.is_empty() {
+            return Err(Stop::Code(4));
+        }
+        Ok(())
+    }
+
+    /// A name that is declared here.
+    #[tactic(auto, unfolding(crate::specs::Places::new_name))]
+    pub fn new_name(&mut self, names: &Names) -> Result<&'a [u8], Stop>
+        ensures { LeavesBy (λ name. name.now) self.new result (new_name names.now self.old) }
+    {
+        let name = self.word()?;
+        if !is_name(name) {
+            return Err(Stop::Code(14));
+        }
+        if names.get(name).is_some() {
+            return Err(Stop::Code(6));
+        }
+        Ok(name)
+    }
+
+    /// PORT or SET/PORT.
+    #[tactic(auto, unfolding(crate::specs::Places::port))]
+    pub fn port(&mut self, draft: &Draft) -> Result<PortNo, Stop>
+        ensures { Leaves self.new result (port draft.now self.old) }
+    {
+        let name = self.word()?;
+        match draft.port(name) {
+            Some(number) => Ok(number),
+            None => Err(Stop::Code(7)),
+        }
+    }
+
+    #[tactic(auto, unfolding(crate::specs::Places::reference))]
+    pub fn queue(&mut self, names: &Names) -> Result<QueueNo, Stop>
+        ensures { Leaves self.new result (reference as_queue names.now self.old) }
+    {
+        let name = self.word()?;
+        match names.get(name) {
+            Some(Named::Queue(number)) => Ok(number),
+            _ => Err(Stop::Code(7)),
+        }
+    }
+
+    #[tactic(auto, unfolding(crate::specs::Places::reference))]
+    pub fn cause(&mut self, names: &Names) -> Result<CauseNo, Stop>
+        ensures { Leaves self.new result (reference as_cause names.now self.old) }
+    {
+        let name = self.word()?;
+        match names.get(name) {
+            Some(Named::Cause(number)) => Ok(number),
+            _ => Err(Stop::Code(7)),
+        }
+    }
+
+    #[tactic(auto, unfolding(crate::specs::Places::reference))]
+    pub fn handler(&mut self, names: &Names) -> Result<HandlerNo, Stop>
+        ensures { Leaves self.new result (reference as_handler names.now self.old) }
+    {
+        let name = self.word()?;
+        match names.get(name) {
+            Some(Named::Handler(number)) => Ok(number),
+            _ => Err(Stop::Code(7)),
+        }
+    }
+
+    #[tactic(auto, unfolding(crate::specs::Places::number))]
+    pub fn number(&mut self) -> Result<u64, Stop>
+        ensures { Leaves self.new result (number self.old) }
+    {
+        let digits = self.word()?;
+        match read_number(digits) {
+            Some(value) => Ok(value),
+            None => Err(Stop::Code(5)),
+        }
+    }
+
+    #[tactic(auto, unfolding(crate::specs::Places::number_within))]
+    pub fn number_within(&mut self, low: u32, high: u32) -> Result<u32, Stop>
+        ensures { Leaves self.new result (number_within low high self.old) }
+    {
+        let value = self.number()?;
+        if value < u64::from(low) || u64::from(high) < value {
+            return Err(Stop::Code(10));
+        }
+        Ok(value as u32)
+    }
+
+    /// unbounded, discard N or throttle N.
+    #[tactic(auto, unfolding(crate::specs::Places::policy))]
+    pub fn policy(&mut self) -> Result<Policy, Stop>
+        ensures { Leaves self.new result (policy self.old) }
+    {
+        let name = self.word()?;
+        if is_text(name, "unbounded") {
+            Ok(Policy::Unbounded)
+        } else if is_text(name, "discard") {
+            Ok(Policy::Discard(self.number_within(1, 1000)?))
+        } else if is_text(name, "throttle") {
+            Ok(Policy::Throttle(self.number_within(1, 1000)?))
+        } else {
+            Err(Stop::Code(3))
+        }
+    }
+
+    /// once or always.
+    #[tactic(auto, unfolding(crate::specs::Places::group))]
+    pub fn group(&mut self) -> Result<Group, Stop>
+        ensures { Leaves self.new result (group self.old) }
+    {
+        let name = self.word()?;
+        if is_text(name, "once") {
+            Ok(Group::Once)
+        } else if is_text(name, "always") {
+            Ok(Group::Always)
+        } else {
+            Err(Stop::Code(3))
+        }
+    }
+
+    /// N, arg N, sum or count.
+    #[tactic(auto, unfolding(crate::specs::Places::expr))]
+    pub fn expr(&mut self) -> Result<Expr, Stop>
+        ensures { Leaves self.new result (expr self.old) }
+    {
+        let name = self.word()?;
+        if is_text(name, "sum") {
+            Ok(Expr::Sum)
+        } else if is_text(name, "count") {
+            Ok(Expr::Count)
+        } else if is_text(name, "arg") {
+            Ok(Expr::Arg(self.number_within(0, 65535)?))
+        } else {
+            match read_number(name) {
+                Some(value) => Ok(Expr::Number(value)),
+                None => Err(Stop::Code(5)),
+            }
+        }
+    }
+}

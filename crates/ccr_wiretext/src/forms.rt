@@ -1,0 +1,321 @@
+//! The forms of a line: what stands behind its first word.
+
+ghost use Rattle.std.specs.Prelude.{◌≡◌, ◌<◌, ◌+◌, ◌++◌, None, IfOk, OnOk, length, nat_lt, sum, map};
+ghost use Rattle.std.specs.List.{list_any};
+ghost use Rattle.ccr_wiring.specs.Spots.{times};
+ghost use Rattle.ccr_wiretext.specs.Names.{named};
+ghost use Rattle.ccr_wiretext.specs.Answers.{Gives, GivesBy};
+ghost use Rattle.ccr_wiretext.specs.Forms.{budget_form, queue_form, name_form, set_form, cause_form, crowds, branch_tail, receive_room, receive_form, branch_form, post_form, fail_form, caused_form, await_form, script_form, arbiter_end_form};
+
+use crate::cursor::Cursor;
+use crate::draft::{Draft, copy_of};
+use crate::stop::Stop;
+use ccr_base::{Action, CauseNo, Group, OutOfMemory, PortNo, Sent};
+use ccr_wiring::{ArbiterPart, BranchPart, CausePart, HandlerPart, PosterPart, QueuePart, SetPart};
+
+/// Whether there is room for a branch behind those of the arbiters and those of an open block.
+fn has_branch_room(arbiters: &[ArbiterPart], begun: usize) -> bool
+    ensures { result ≡ nat_lt (sum (map (λ arbiter. length arbiter.branches) arbiters.now) + begun) 256 }
+{
+    let mut left: usize = 256;
+    for arbiter in arbiters {
+        let count = arbiter.branches.as_slice().len();
+        if count >= left {
+            return false;
+        }
+        left -= count;
+    }
+    begun < left
+}
+
+/// Whether there is room for a branch behind those of the arbiters.
+fn has_receive_room(arbiters: &[ArbiterPart]) -> bool
+    ensures { result ≡ nat_lt (sum (map (λ arbiter. length arbiter.branches) arbiters.now)) 256 }
+{
+    has_branch_room(arbiters, 0)
+}
+
+/// Whether there is room for a post behind those of the posters and those of an open block.
+fn has_post_room(posters: &[PosterPart], begun: usize) -> bool
+    ensures { result ≡ nat_lt (sum (map (λ poster. length poster.posts) posters.now) + begun) 10000 }
+{
+    let mut left: usize = 10_000;
+    for poster in posters {
+        let count = poster.posts.as_slice().len();
+        if count >= left {
+            return false;
+        }
+        left -= count;
+    }
+    begun < left
+}
+
+fn times(port: PortNo, ports: &[PortNo]) -> usize
+    ensures { result ≡ times port ports.now }
+{
+    ports.iter().filter(|other| **other == port).count()
+}
+
+/// Whether a port stands more than 16 times in the two lists together.
+fn is_crowded(port: PortNo, before: &[PortNo], new: &[PortNo]) -> bool
+    ensures { result ≡ nat_lt 16 (times port (before.now ++ new.now)) }
+{
+    let count = times(port, before);
+    count > 16 || times(port, new) > 16 - count
+}
+
+/// Whether one of the new ports stands more than 16 times in the two lists together.
+fn is_one_crowded(before: &[PortNo], new: &[PortNo]) -> bool
+    ensures { result ≡ list_any (λ port. nat_lt 16 (times port (before.now ++ new.now))) new.now }
+{
+    new.iter().any(|port| is_crowded(*port, before, new))
+}
+
+impl Draft {
+    /// budget N.
+    #[tactic(auto, unfolding(crate::specs::Forms::budget_form))]
+    pub fn budget_form(&self, mut words: Cursor<'_>) -> Result<u32, Stop>
+        ensures { Gives result (budget_form self.now words.entry) }
+    {
+        if self.budgeted {
+            return Err(Stop::Code(13));
+        }
+        let budget = words.number_within(0, 10_000)?;
+        words.no_more()?;
+        Ok(budget)
+    }
+
+    /// queue NAME POLICY.
+    #[tactic(auto, unfolding(crate::specs::Forms::queue_form, crate::specs::Places::new_name))]
+    pub fn queue_form(&self, mut words: Cursor<'_>) -> Result<QueuePart, Stop>
+        ensures form { Gives result (queue_form self.now words.entry) }
+        ensures new { IfOk result (λ part. named self.now.names part.name ≡ None) }
+        ensures room { OnOk result (length self.now.parts.queues < 16) }
+    {
+        if self.parts.queues.as_slice().len() >= 16 {
+            return Err(Stop::Code(10));
+        }
+        let name = words.new_name(&self.names)?;
+        let policy = words.policy()?;
+        words.no_more()?;
+        let name = copy_of(self.alloc, name)?;
+        Ok(QueuePart { name, policy })
+    }
+
+    /// A line that is a name alone, where `count` such names stand and at most `limit` may.
+    #[tactic(auto, unfolding(crate::specs::Forms::name_form, crate::specs::Places::new_name))]
+    pub fn name_form<'a>(
+        &self,
+        limit: usize,
+        count: usize,
+        mut words: Cursor<'a>,
+    ) -> Result<&'a [u8], Stop>
+        ensures form { GivesBy (λ name. name.now) result (name_form limit count self.now words.entry) }
+        ensures new { IfOk result (λ name. named self.now.names name.now ≡ None) }
+        ensures room { OnOk result (count < limit) }
+    {
+        if count >= limit {
+            return Err(Stop::Code(10));
+        }
+        let name = words.new_name(&self.names)?;
+        words.no_more()?;
+        Ok(name)
+    }
+
+    /// portset NAME PORT ..
+    #[tactic(auto, unfolding(crate::specs::Forms::set_form, crate::specs::Places::new_name))]
+    pub fn set_form(&self, mut words: Cursor<'_>) -> Result<SetPart, Stop>
+        ensures form { Gives result (set_form self.now words.entry) }
+        ensures new { IfOk result (λ part. named self.now.names part.name ≡ None) }
+        ensures room { OnOk result (length self.now.parts.sets < 64) }
+    {
+        if self.parts.sets.as_slice().len() >= 64 {
+            return Err(Stop::Code(10));
+        }
+        let name = words.new_name(&self.names)?;
+        let ports = words.members(self.alloc, self)?;
+        let name = copy_of(self.alloc, name)?;
+        Ok(SetPart { name, ports })
+    }
+
+    /// cause NAME PORT.
+    #[tactic(auto, unfolding(crate::specs::Forms::cause_form, crate::specs::Places::new_name))]
+    pub fn cause_form(&self, mut words: Cursor<'_>) -> Result<CausePart, Stop>
+        ensures form { Gives result (cause_form self.now words.entry) }
+        ensures new { IfOk result (λ part. named self.now.names part.name ≡ None) }
+        ensures room { OnOk result (length self.now.parts.causes < 32) }
+    {
+        if self.parts.causes.as_slice().len() >= 32 {
+            return Err(Stop::Code(10));
+        }
+        let name = words.new_name(&self.names)?;
+        let port = words.port(self)?;
+        words.no_more()?;
+        let name = copy_of(self.alloc, name)?;
+        Ok(CausePart { name, port })
+    }
+
+    /// Whether with this branch more than 16 spots name a port.
+    #[tactic(auto, unfolding(crate::specs::Forms::crowds))]
+    fn crowds(&self, branch: &BranchPart) -> Result<bool, OutOfMemory>
+        ensures { IfOk result (λ one. one ≡ crowds self.now branch.now) }
+    {
+        let spotted = self.spotted_by(branch)?;
+        Ok(is_one_crowded(self.spotted.as_slice(), &spotted))
+    }
+
+    /// QUEUE HANDLER PATTERN, behind the name and group of a branch.
+    #[tactic(auto, unfolding(crate::specs::Forms::branch_tail))]
+    fn branch_tail(
+        &self,
+        name: &[u8],
+        group: Group,
+        mut words: Cursor<'_>,
+    ) -> Result<BranchPart, Stop>
+        ensures form { Gives result (branch_tail self.now name.now group words.entry) }
+        ensures name { IfOk result (λ branch. branch.name ≡ name.now) }
+    {
+        let queue = words.queue(&self.names)?;
+        let handler = words.handler(&self.names)?;
+        let pattern = words.pattern(self.alloc, self)?;
+        let branch = BranchPart {
+            name: copy_of(self.alloc, name)?,
+            group,
+            queue,
+            handler,
+            pattern,
+        };
+        if self.crowds(&branch)? {
+            return Err(Stop::Code(12));
+        }
+        Ok(branch)
+    }
+
+    /// A receive counts as an arbiter and as a branch.
+    #[tactic(auto, unfolding(crate::specs::Forms::receive_room))]
+    fn receive_room(&self) -> Result<(), Stop>
+        ensures { Gives result (receive_room self.now) }
+    {
+        if self.parts.arbiters.as_slice().len() >= 256 {
+            return Err(Stop::Code(10));
+        }
+        if !has_receive_room(self.parts.arbiters.as_slice()) {
+            return Err(Stop::Code(10));
+        }
+        Ok(())
+    }
+
+    /// receive NAME GROUP QUEUE HANDLER PATTERN.
+    #[tactic(auto, unfolding(crate::specs::Forms::receive_form, crate::specs::Places::new_name))]
+    pub fn receive_form(&self, mut words: Cursor<'_>) -> Result<BranchPart, Stop>
+        ensures form { Gives result (receive_form self.now words.entry) }
+        ensures new { IfOk result (λ branch. named self.now.names branch.name ≡ None) }
+    {
+        self.receive_room()?;
+        let name = words.new_name(&self.names)?;
+        let group = words.group()?;
+        self.branch_tail(name, group, words)
+    }
+
+    /// NAME QUEUE HANDLER PATTERN, behind the word that gives the group.
+    #[tactic(auto, unfolding(crate::specs::Forms::branch_form, crate::specs::Places::new_name))]
+    pub fn branch_form(
+        &self,
+        part: &ArbiterPart,
+        group: Group,
+        mut words: Cursor<'_>,
+    ) -> Result<BranchPart, Stop>
+        ensures form { Gives result (branch_form self.now part.now group words.entry) }
+        ensures new { IfOk result (λ branch. named self.now.names branch.name ≡ None) }
+    {
+        let begun = part.branches.as_slice().len();
+        if !has_branch_room(self.parts.arbiters.as_slice(), begun) {
+            return Err(Stop::Code(10));
+        }
+        let name = words.new_name(&self.names)?;
+        self.branch_tail(name, group, words)
+    }
+
+    /// post PORT EXPR, in a handler.
+    #[tactic(auto, unfolding(crate::specs::Forms::post_form))]
+    pub fn post_form(&self, part: &HandlerPart, mut words: Cursor<'_>) -> Result<Action, Stop>
+        ensures { Gives result (post_form self.now part.now words.entry) }
+    {
+        if part.handler.actions.as_slice().len() >= 16 {
+            return Err(Stop::Code(10));
+        }
+        let port = words.port(self)?;
+        let value = words.expr()?;
+        words.no_more()?;
+        Ok(Action::Post(port, value))
+    }
+
+    /// add CAUSE and remove CAUSE.
+    #[tactic(auto, unfolding(crate::specs::Forms::caused_form))]
+    pub fn caused_form(&self, part: &HandlerPart, mut words: Cursor<'_>) -> Result<CauseNo, Stop>
+        ensures { Gives result (caused_form self.now part.now words.entry) }
+    {
+        if part.handler.actions.as_slice().len() >= 16 {
+            return Err(Stop::Code(10));
+        }
+        let cause = words.cause(&self.names)?;
+        words.no_more()?;
+        Ok(cause)
+    }
+
+    /// await PORT.
+    #[tactic(auto, unfolding(crate::specs::Forms::await_form))]
+    pub fn await_form(&self, part: &HandlerPart, mut words: Cursor<'_>) -> Result<Action, Stop>
+        ensures { Gives result (await_form self.now part.now words.entry) }
+    {
+        if part.handler.actions.as_slice().len() >= 16 {
+            return Err(Stop::Code(10));
+        }
+        let port = words.port(self)?;
+        words.no_more()?;
+        Ok(Action::Await(port))
+    }
+
+    /// post PORT N CAUSE .., in a poster.
+    #[tactic(auto, unfolding(crate::specs::Forms::script_form))]
+    pub fn script_form(&self, part: &PosterPart, mut words: Cursor<'_>) -> Result<Sent, Stop>
+        ensures { Gives result (script_form self.now part.now words.entry) }
+    {
+        let begun = part.posts.as_slice().len();
+        if !has_post_room(self.parts.posters.as_slice(), begun) {
+            return Err(Stop::Code(10));
+        }
+        let port = words.port(self)?;
+        let value = words.number()?;
+        let causes = words.causes(self.alloc, &self.names)?;
+        Ok(Sent {
+            port,
+            value,
+            causes,
+        })
+    }
+}
+
+/// fail EXPR.
+#[tactic(auto, unfolding(crate::specs::Forms::fail_form))]
+pub fn fail_form(part: &HandlerPart, mut words: Cursor<'_>) -> Result<Action, Stop>
+    ensures { Gives result (fail_form part.now words.entry) }
+{
+    if part.handler.actions.as_slice().len() >= 16 {
+        return Err(Stop::Code(10));
+    }
+    let value = words.expr()?;
+    words.no_more()?;
+    Ok(Action::Fail(value))
+}
+
+/// end of a choice or Interleave.
+#[tactic(auto, unfolding(crate::specs::Forms::arbiter_end_form))]
+pub fn arbiter_end_form(part: &ArbiterPart, words: Cursor<'_>) -> Result<(), Stop>
+    ensures { Gives result (arbiter_end_form part.now words.entry) }
+{
+    if part.branches.as_slice().is_empty() {
+        return Err(Stop::Code(11));
+    }
+    words.no_more()
+}

@@ -1,0 +1,150 @@
+//! A text, line by line.
+
+ghost use Rattle.std.specs.Prelude.{◌≡◌, ◌≤◌, length, None};
+ghost use Rattle.ccr_wiretext.specs.Answers.{Gives, GivesState, IsReading, refused};
+ghost use Rattle.ccr_wiretext.specs.Reading.{is_comment, is_head, after_all, after_line, at_end, reading, reading_text};
+
+use crate::cursor::Cursor;
+use crate::draft::{Block, Draft};
+use crate::keyword::{is_text, keyword_of};
+use crate::refused::ReadRefused;
+use crate::stop::Stop;
+use ccr_base::Name;
+use ccr_text::{Line, split_lines};
+use ccr_wiring::Parts;
+use std::alloc::Global;
+use std::marker::Model;
+
+/// What is declared so far: nothing before the line `ccr 1`.
+#[derive(Drop)]
+struct Reader {
+    alloc: Global,
+    draft: Option<Draft>,
+}
+
+impl Model for Reader {
+    ghost use Rattle.ccr_wiretext.specs.Reading.{So};
+
+    ghost Value = { So };
+
+    ghost view = { λ reader. reader.draft };
+}
+
+fn is_comment_word(word: &[u8]) -> bool
+    ensures { result ≡ is_comment word.now }
+{
+    match word.first() {
+        Some(byte) => *byte == b'#',
+        None => false,
+    }
+}
+
+fn is_head_line(words: &[Name]) -> bool
+    ensures { result ≡ is_head words.now }
+{
+    words.len() == 2
+        && is_text(words[0].as_slice(), "ccr")
+        && is_text(words[1].as_slice(), "1")
+}
+
+impl Reader {
+    fn new(alloc: Global) -> Self
+        ensures { result ≡ None }
+    {
+        Reader { alloc, draft: None }
+    }
+
+    #[tactic(auto, unfolding(crate::specs::Reading::after_all, crate::specs::Reading::after_words))]
+    fn words(&mut self, words: &[Name]) -> Result<(), Stop>
+        ensures { GivesState self.new result (after_all self.old words.now) }
+    {
+        let Some((first, others)) = words.split_first() else {
+            return Ok(());
+        };
+        if is_comment_word(first.as_slice()) {
+            return Ok(());
+        }
+        match &mut self.draft {
+            Some(draft) => draft.line(keyword_of(first.as_slice()), Cursor::new(others)),
+            None => {
+                if !is_head_line(words) {
+                    return Err(Stop::Code(2));
+                }
+                self.draft = Some(Draft::new(self.alloc));
+                Ok(())
+            }
+        }
+    }
+
+    /// Takes in the next line.
+    #[tactic(auto, unfolding(crate::specs::Reading::after_line))]
+    fn line(&mut self, line: &Line) -> Result<(), Stop>
+        ensures { GivesState self.new result (after_line self.old line.now) }
+    {
+        if !line.clean {
+            return Err(Stop::Code(1));
+        }
+        self.words(line.words.as_slice())
+    }
+
+    /// The parts, at the end of the text.
+    #[tactic(auto, unfolding(crate::specs::Reading::at_end))]
+    fn end(self) -> Result<Parts, Stop>
+        ensures { Gives result (at_end self) }
+    {
+        let Reader { alloc: _, draft } = self;
+        let Some(draft) = draft else {
+            return Err(Stop::Code(2));
+        };
+        let Draft {
+            alloc: _,
+            parts,
+            budgeted: _,
+            names: _,
+            spotted: _,
+            block,
+        } = draft;
+        match block {
+            Block::Outside => Ok(parts),
+            _ => Err(Stop::Code(9)),
+        }
+    }
+}
+
+fn refused(line: u32, stop: Stop) -> ReadRefused
+    ensures { result ≡ refused line stop }
+{
+    match stop {
+        Stop::Memory => ReadRefused::Memory,
+        Stop::Code(code) => ReadRefused::At { line, code },
+    }
+}
+
+#[tactic(auto, unfolding(crate::specs::Reading::reading_after))]
+fn read_lines(alloc: Global, lines: &[Line]) -> Result<Parts, ReadRefused>
+    ensures { IsReading result (reading lines.now) }
+{
+    let mut reader = Reader::new(alloc);
+    let mut last: u32 = 0;
+    for line in lines {
+        if let Err(stop) = reader.line(line) {
+            return Err(refused(line.number, stop));
+        }
+        last = line.number;
+    }
+    match reader.end() {
+        Ok(parts) => Ok(parts),
+        Err(stop) => Err(refused(last.max(1), stop)),
+    }
+}
+
+/// The parts that a text says, or its first offending line and the code. Near linear in the text's length.
+pub fn read_parts(alloc: Global, text: &[u8]) -> Result<Parts, ReadRefused>
+    requires { length text.now ≤ 1048576 }
+    ensures { IsReading result (reading_text text.now) }
+{
+    let Ok(lines) = split_lines(alloc, text) else {
+        return Err(ReadRefused::Memory);
+    };
+    read_lines(alloc, lines.as_slice())
+}

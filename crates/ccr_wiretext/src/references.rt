@@ -1,0 +1,133 @@
+//! The ports that words mean, and the ports that a branch's spots name.
+
+ghost use Rattle.std.specs.Prelude.{◌≡◌, ◌<◌, ◌==◌, ◌++◌, IfOk, IfSome, OnOk, length};
+ghost use Rattle.ccr_wiring.specs.Wirings.{actions_of, awaited};
+ghost use Rattle.ccr_wiring.specs.Spots.{pattern_ports, branch_named};
+ghost use Rattle.ccr_wiring.specs.Repeats.{has_port};
+ghost use Rattle.ccr_wiretext.specs.Drafts.{members_of};
+ghost use Rattle.ccr_wiretext.specs.Places.{slash_place, set_port, port_of};
+ghost use Rattle.std.specs.Option.{option_and_then};
+ghost use Rattle.ccr_wiretext.specs.Names.{named, as_port, as_set};
+
+use crate::draft::Draft;
+use crate::named::Named;
+use ccr_base::{Action, HandlerNo, OutOfMemory, Pattern, PortNo};
+use ccr_wiring::BranchPart;
+
+/// Whether the port is among the ports.
+pub fn has_port(ports: &[PortNo], port: PortNo) -> bool
+    ensures { result ≡ has_port ports.now port }
+{
+    ports.iter().any(|other| *other == port)
+}
+
+/// The place of the first slash.
+#[tactic(auto, unfolding(crate::specs::Places::slash_place))]
+fn slash_place(name: &[u8]) -> Option<usize>
+    ensures place { result ≡ slash_place name.now }
+    ensures within { IfSome result (λ place. place < length name.now) }
+{
+    name.iter().position(|byte| *byte == b'/')
+}
+
+impl Draft {
+    fn plain_port(&self, name: &[u8]) -> Option<PortNo>
+        ensures { result ≡ option_and_then as_port (named self.now.names name.now) }
+    {
+        match self.names.get(name) {
+            Some(Named::Port(number)) => Some(number),
+            _ => None,
+        }
+    }
+
+    fn port_set(&self, name: &[u8]) -> Option<u32>
+        ensures { result ≡ option_and_then as_set (named self.now.names name.now) }
+    {
+        match self.names.get(name) {
+            Some(Named::Set(number)) => Some(number),
+            _ => None,
+        }
+    }
+
+    fn members(&self, set: u32) -> &[PortNo]
+        ensures { result.now ≡ members_of self.now set }
+    {
+        match self.parts.sets.as_slice().get(set as usize) {
+            Some(part) => part.ports.as_slice(),
+            None => &[],
+        }
+    }
+
+    /// The port of that name, where it is a member of the set.
+    fn set_port(&self, set: u32, name: &[u8]) -> Option<PortNo>
+        ensures { result ≡ set_port self.now name.now set }
+    {
+        let port = self.plain_port(name)?;
+        if !has_port(self.members(set), port) {
+            return None;
+        }
+        Some(port)
+    }
+
+    /// The port that PORT or SET/PORT means.
+    pub fn port(&self, name: &[u8]) -> Option<PortNo>
+        ensures { result ≡ port_of self.now name.now }
+    {
+        let Some(place) = slash_place(name) else {
+            return self.plain_port(name);
+        };
+        let set = self.port_set(&name[..place])?;
+        self.set_port(set, &name[place + 1..])
+    }
+
+    fn actions(&self, handler: HandlerNo) -> &[Action]
+        ensures { result.now ≡ actions_of self.now.parts handler }
+    {
+        match self.parts.handlers.as_slice().get(handler as usize) {
+            Some(part) => part.handler.actions.as_slice(),
+            None => &[],
+        }
+    }
+
+    /// The ports that a branch and its sites name, once for each.
+    pub fn spotted_by(&self, branch: &BranchPart) -> Result<Vec<PortNo>, OutOfMemory>
+        ensures { IfOk result (λ ports. ports.items ≡ branch_named self.now.parts branch.now) }
+    {
+        let mut ports = Vec::new(self.alloc);
+        push_pattern_ports(&mut ports, &branch.pattern)?;
+        push_awaited(&mut ports, self.actions(branch.handler))?;
+        Ok(ports)
+    }
+}
+
+fn push_pattern_ports(ports: &mut Vec<PortNo>, pattern: &Pattern) -> Result<(), OutOfMemory>
+    ensures { OnOk result (ports.new.items ≡ ports.old.items ++ pattern_ports pattern.now) }
+{
+    match pattern {
+        Pattern::Slots(slots) => {
+            for slot in slots.as_slice() {
+                ports.push(slot.port)?;
+            }
+        }
+        Pattern::Gather {
+            total: _,
+            first,
+            second,
+        } => {
+            ports.push(*first)?;
+            ports.push(*second)?;
+        }
+    }
+    Ok(())
+}
+
+fn push_awaited(ports: &mut Vec<PortNo>, actions: &[Action]) -> Result<(), OutOfMemory>
+    ensures { OnOk result (ports.new.items ≡ ports.old.items ++ awaited actions.now) }
+{
+    for action in actions {
+        if let Action::Await(port) = *action {
+            ports.push(port)?;
+        }
+    }
+    Ok(())
+}

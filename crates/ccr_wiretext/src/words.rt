@@ -1,0 +1,292 @@
+//! The words of the canonical lines.
+
+ghost use Rattle.std.specs.Prelude.{◌≡◌, [], ◌∷◌, ◌++◌, OnOk, IfOk, map, flat_map, decimal};
+ghost use Rattle.ccr_wiretext.specs.Spelling.{port_name, queue_name, cause_name, handler_name, budget_words, policy_words, queue_words, port_words, set_words, cause_words, expr_words, action_words, end_words, pred_words, slot_words, pattern_words, group_words, branch_words, post_words};
+
+use crate::draft::copy_of;
+use ccr_base::{
+    Action, CauseNo, Expr, Group, HandlerNo, List, Name, OutOfMemory, Pattern, Policy, PortNo,
+    Pred, QueueNo, Sent, Slot,
+};
+use ccr_wiring::{BranchPart, CausePart, Parts, QueuePart, SetPart};
+use std::alloc::Global;
+use std::marker::Model;
+
+/// The name of the port. The others are likewise.
+fn port_name(parts: &Parts, port: PortNo) -> &[u8]
+    ensures { result.now ≡ port_name parts.now port }
+{
+    match parts.ports.as_slice().get(port as usize) {
+        Some(name) => name.as_slice(),
+        None => &[],
+    }
+}
+
+fn queue_name(parts: &Parts, queue: QueueNo) -> &[u8]
+    ensures { result.now ≡ queue_name parts.now queue }
+{
+    match parts.queues.as_slice().get(queue as usize) {
+        Some(part) => part.name.as_slice(),
+        None => &[],
+    }
+}
+
+fn cause_name(parts: &Parts, cause: CauseNo) -> &[u8]
+    ensures { result.now ≡ cause_name parts.now cause }
+{
+    match parts.causes.as_slice().get(cause as usize) {
+        Some(part) => part.name.as_slice(),
+        None => &[],
+    }
+}
+
+fn handler_name(parts: &Parts, handler: HandlerNo) -> &[u8]
+    ensures { result.now ≡ handler_name parts.now handler }
+{
+    match parts.handlers.as_slice().get(handler as usize) {
+        Some(part) => part.name.as_slice(),
+        None => &[],
+    }
+}
+
+/// The words of a line that is written, from the first on.
+#[derive(Drop)]
+pub struct LineWords {
+    alloc: Global,
+    words: Vec<Name>,
+}
+
+impl Model for LineWords {
+    ghost use Rattle.std.specs.Prelude.{List as Listed, ℕ};
+
+    ghost Value = { Listed (Listed ℕ) };
+
+    ghost view = { λ line. line.words.items };
+}
+
+impl LineWords {
+    pub fn new(alloc: Global) -> Self
+        ensures { result ≡ [] }
+    {
+        LineWords {
+            alloc,
+            words: Vec::new(alloc),
+        }
+    }
+
+    pub fn as_slice(&self) -> &[Name]
+        ensures { result.now ≡ self.now }
+    {
+        &self.words
+    }
+
+    fn word(&mut self, word: &[u8]) -> Result<(), OutOfMemory>
+        ensures { OnOk result (self.new ≡ self.old ++ word.now ∷ []) }
+    {
+        let word = copy_of(self.alloc, word)?;
+        self.words.push(word)?;
+        Ok(())
+    }
+
+    fn text(&mut self, word: &str) -> Result<(), OutOfMemory>
+        ensures { OnOk result (self.new ≡ self.old ++ word.now ∷ []) }
+    {
+        self.word(word.as_bytes())
+    }
+
+    fn number(&mut self, number: u64) -> Result<(), OutOfMemory>
+        ensures { OnOk result (self.new ≡ self.old ++ decimal number ∷ []) }
+    {
+        let digits = number.to_string(self.alloc)?;
+        self.word(digits.as_bytes())
+    }
+
+    fn keyed(&mut self, word: &str, number: u64) -> Result<(), OutOfMemory>
+        ensures { OnOk result (self.new ≡ self.old ++ word.now ∷ decimal number ∷ []) }
+    {
+        self.text(word)?;
+        self.number(number)
+    }
+
+    fn policy(&mut self, policy: Policy) -> Result<(), OutOfMemory>
+        ensures { OnOk result (self.new ≡ self.old ++ policy_words policy) }
+    {
+        match policy {
+            Policy::Unbounded => self.text("unbounded"),
+            Policy::Discard(limit) => self.keyed("discard", u64::from(limit)),
+            Policy::Throttle(limit) => self.keyed("throttle", u64::from(limit)),
+        }
+    }
+
+    fn expr(&mut self, expr: Expr) -> Result<(), OutOfMemory>
+        ensures { OnOk result (self.new ≡ self.old ++ expr_words expr) }
+    {
+        match expr {
+            Expr::Number(value) => self.number(value),
+            Expr::Arg(place) => self.keyed("arg", u64::from(place)),
+            Expr::Sum => self.text("sum"),
+            Expr::Count => self.text("count"),
+        }
+    }
+
+    fn pred(&mut self, pred: Pred) -> Result<(), OutOfMemory>
+        ensures { OnOk result (self.new ≡ self.old ++ pred_words pred) }
+    {
+        match pred {
+            Pred::Any => self.text("any"),
+            Pred::Eq(value) => self.keyed("eq", value),
+            Pred::Lt(value) => self.keyed("lt", value),
+            Pred::Ge(value) => self.keyed("ge", value),
+        }
+    }
+
+    fn ports(&mut self, parts: &Parts, ports: &[PortNo]) -> Result<(), OutOfMemory>
+        ensures { OnOk result (self.new ≡ self.old ++ map (port_name parts.now) ports.now) }
+    {
+        for port in ports {
+            self.word(port_name(parts, *port))?;
+        }
+        Ok(())
+    }
+
+    fn causes(&mut self, parts: &Parts, causes: &[CauseNo]) -> Result<(), OutOfMemory>
+        ensures { OnOk result (self.new ≡ self.old ++ map (cause_name parts.now) causes.now) }
+    {
+        for cause in causes {
+            self.word(cause_name(parts, *cause))?;
+        }
+        Ok(())
+    }
+
+    fn slot(&mut self, parts: &Parts, slot: Slot) -> Result<(), OutOfMemory>
+        ensures { OnOk result (self.new ≡ self.old ++ slot_words parts.now slot) }
+    {
+        self.word(port_name(parts, slot.port))?;
+        self.number(u64::from(slot.least))?;
+        self.pred(slot.pred)
+    }
+
+    fn slots(&mut self, parts: &Parts, slots: &[Slot]) -> Result<(), OutOfMemory>
+        ensures { OnOk result (self.new ≡ self.old ++ flat_map (slot_words parts.now) slots.now) }
+    {
+        for slot in slots {
+            self.slot(parts, *slot)?;
+        }
+        Ok(())
+    }
+
+    fn pattern(&mut self, parts: &Parts, pattern: &Pattern) -> Result<(), OutOfMemory>
+        ensures { OnOk result (self.new ≡ self.old ++ pattern_words parts.now pattern.now) }
+    {
+        match pattern {
+            Pattern::Slots(slots) => {
+                self.text("take")?;
+                self.slots(parts, slots.as_slice())
+            }
+            Pattern::Gather {
+                total,
+                first,
+                second,
+            } => {
+                self.keyed("gather", u64::from(*total))?;
+                self.word(port_name(parts, *first))?;
+                self.word(port_name(parts, *second))
+            }
+        }
+    }
+
+    fn group(&mut self, name: &[u8], group: Group) -> Result<(), OutOfMemory>
+        ensures { OnOk result (self.new ≡ self.old ++ group_words name.now group) }
+    {
+        match group {
+            Group::Once => {
+                self.named("receive", name)?;
+                self.text("once")
+            }
+            Group::Always => {
+                self.named("receive", name)?;
+                self.text("always")
+            }
+            Group::Choice => self.named("branch", name),
+            Group::Teardown => self.named("teardown", name),
+            Group::Exclusive => self.named("exclusive", name),
+            Group::Concurrent => self.named("concurrent", name),
+        }
+    }
+
+    /// The word `first` and a name.
+    pub fn named(&mut self, first: &str, name: &[u8]) -> Result<(), OutOfMemory>
+        ensures { OnOk result (self.new ≡ self.old ++ first.now ∷ name.now ∷ []) }
+    {
+        self.text(first)?;
+        self.word(name)
+    }
+
+    pub fn budget(&mut self, budget: u32) -> Result<(), OutOfMemory>
+        ensures { OnOk result (self.new ≡ self.old ++ budget_words budget) }
+    {
+        self.keyed("budget", u64::from(budget))
+    }
+
+    pub fn queue(&mut self, part: &QueuePart) -> Result<(), OutOfMemory>
+        ensures { OnOk result (self.new ≡ self.old ++ queue_words part.now) }
+    {
+        self.named("queue", part.name.as_slice())?;
+        self.policy(part.policy)
+    }
+
+    pub fn set(&mut self, parts: &Parts, part: &SetPart) -> Result<(), OutOfMemory>
+        ensures { OnOk result (self.new ≡ self.old ++ set_words parts.now part.now) }
+    {
+        self.named("portset", part.name.as_slice())?;
+        self.ports(parts, part.ports.as_slice())
+    }
+
+    pub fn cause(&mut self, parts: &Parts, part: &CausePart) -> Result<(), OutOfMemory>
+        ensures { OnOk result (self.new ≡ self.old ++ cause_words parts.now part.now) }
+    {
+        self.named("cause", part.name.as_slice())?;
+        self.word(port_name(parts, part.port))
+    }
+
+    pub fn action(&mut self, parts: &Parts, action: Action) -> Result<(), OutOfMemory>
+        ensures { OnOk result (self.new ≡ self.old ++ action_words parts.now action) }
+    {
+        match action {
+            Action::Post(port, value) => {
+                self.named("post", port_name(parts, port))?;
+                self.expr(value)
+            }
+            Action::Fail(value) => {
+                self.text("fail")?;
+                self.expr(value)
+            }
+            Action::Add(cause) => self.named("add", cause_name(parts, cause)),
+            Action::Remove(cause) => self.named("remove", cause_name(parts, cause)),
+            Action::Await(port) => self.named("await", port_name(parts, port)),
+        }
+    }
+
+    pub fn branch(&mut self, parts: &Parts, branch: &BranchPart) -> Result<(), OutOfMemory>
+        ensures { OnOk result (self.new ≡ self.old ++ branch_words parts.now branch.now) }
+    {
+        self.group(branch.name.as_slice(), branch.group)?;
+        self.word(queue_name(parts, branch.queue))?;
+        self.word(handler_name(parts, branch.handler))?;
+        self.pattern(parts, &branch.pattern)
+    }
+
+    pub fn post(&mut self, parts: &Parts, post: &Sent) -> Result<(), OutOfMemory>
+        ensures { OnOk result (self.new ≡ self.old ++ post_words parts.now post.now) }
+    {
+        self.named("post", port_name(parts, post.port))?;
+        self.number(post.value)?;
+        self.causes(parts, post.causes.as_slice())
+    }
+
+    pub fn end(&mut self) -> Result<(), OutOfMemory>
+        ensures { OnOk result (self.new ≡ self.old ++ end_words) }
+    {
+        self.text("end")
+    }
+}

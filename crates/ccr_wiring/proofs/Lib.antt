@@ -1,0 +1,6 @@
+pub mod NameLemmas
+pub mod Lists
+pub mod Crowds
+pub mod SpotLemmas
+pub mod Validity
+pub mod Soundness

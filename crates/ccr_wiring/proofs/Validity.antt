@@ -1,0 +1,95 @@
+-- What follows where a condition doesn't stand.
+use Rattle.std.proofs.Common.{◌≡◌, ℕ, ◌+◌, ◌<◌, ◌≤◌, ◌^◌, Bool, true, false, List, [], ◌∷◌, length, sum, map, Option, Some, None, refl, ap, sym, ◌∙◌, arith}
+use Rattle.std.specs.Prelude.{◌||◌, nat_lt, if◌then◌else◌}
+use Rattle.std.specs.List.{list_any, slice_get}
+use Rattle.std.proofs.lemmas.Bool.Decides.{nat_tests}
+use Rattle.ccr_base.specs.declared.handlers.Action.{Action}
+use Rattle.ccr_wiring.specs.declared.parts.ArbiterPart.{ArbiterPart}
+use Rattle.ccr_wiring.specs.declared.parts.HandlerPart.{HandlerPart}
+use Rattle.ccr_wiring.specs.declared.parts.Parts.{Parts}
+use Rattle.ccr_wiring.specs.Wirings.{actions_of}
+use Rattle.ccr_wiring.specs.Limits.{has_outside, has_too_many, has_outside_queue, has_outside_set, has_outside_handler, has_outside_arbiter, handler_is_outside, action_is_outside, has_branches_above, has_posts_above}
+use Rattle.ccr_wiring.specs.Spots.{all_branches, has_crowded_port}
+use Rattle.ccr_wiring.specs.Groups.{has_misgrouped, has_branchless}
+use Rattle.ccr_wiring.specs.Names.{has_repeated_name, has_malformed_name}
+use Rattle.ccr_wiring.specs.References.{has_dangling}
+use Rattle.ccr_wiring.specs.Repeats.{has_repeat}
+use Rattle.ccr_wiring.specs.Codes.{code_of}
+use Rattle.ccr_wiring.proofs.Lists.{neither, none_at}
+use Rattle.ccr_wiring.proofs.SpotLemmas.{length-all_branches}
+
+pub record Within (parts : Parts) : Type 0 where
+  pub budget : nat_lt 10000 parts.budget ≡ false
+  pub many : has_too_many parts ≡ false
+  pub queues : has_outside_queue parts ≡ false
+  pub sets : has_outside_set parts ≡ false
+  pub handlers : has_outside_handler parts ≡ false
+  pub arbiters : has_outside_arbiter parts ≡ false
+
+-- each of the limits is kept
+pub within : (parts : Parts) → has_outside parts ≡ false → Within parts
+within parts none =
+    let a = nat_lt 10000 parts.budget in
+    let b = has_too_many parts in
+    let c = has_outside_queue parts in
+    let d = has_outside_set parts in
+    let e = has_outside_handler parts in
+    let five = neither (a || b || c || d || e) (has_outside_arbiter parts) none in
+    let four = neither (a || b || c || d) e five.0 in
+    let three = neither (a || b || c) d four.0 in
+    let two = neither (a || b) c three.0 in
+    let one = neither a b two.0 in
+    record { budget = one.0; many = one.1; queues = two.1; sets = three.1; handlers = four.1; arbiters = five.1 }
+
+-- there are at most 256 branches
+pub few_branches : (parts : Parts) → has_outside parts ≡ false → length (all_branches parts.arbiters) ≤ 256
+few_branches parts none =
+    let a = nat_lt 16 (length parts.queues) || nat_lt 256 (length parts.ports) || nat_lt 64 (length parts.sets) || nat_lt 32 (length parts.causes) || nat_lt 256 (length parts.handlers) || nat_lt 256 (length parts.arbiters) || nat_lt 16 (length parts.posters) in
+    let both = neither (a || has_branches_above 256 parts.arbiters) (has_posts_above 10000 parts.posters) (within parts none).many in
+    let few : nat_lt 256 (sum (map (λ (arbiter : ArbiterPart). length arbiter.branches) parts.arbiters)) ≡ false = (neither a (has_branches_above 256 parts.arbiters) both.0).1 in
+    let count = length-all_branches parts.arbiters in
+    grind (arith, nat_tests, few, count)
+
+few_of : (part : HandlerPart) → handler_is_outside part ≡ false → length part.handler.actions ≤ 16
+few_of part none =
+    let few : nat_lt 16 (length part.handler.actions) ≡ false = (neither (nat_lt 16 (length part.handler.actions)) (list_any action_is_outside part.handler.actions) none).0 in
+    grind (arith, nat_tests, few)
+
+actions_at : (parts : Parts) (handler : ℕ) (found : Option HandlerPart) → slice_get parts.handlers handler ≡ found → has_outside_handler parts ≡ false → length (actions_of parts handler) ≤ 16
+actions_at parts handler None at none = rw at (omega arith)
+actions_at parts handler (Some part) at none = rw at (few_of part (none_at handler_is_outside parts.handlers handler part none at))
+
+-- each handler has at most 16 actions
+pub few_actions : (parts : Parts) (handler : ℕ) → has_outside parts ≡ false → length (actions_of parts handler) ≤ 16
+few_actions parts handler none = actions_at parts handler (slice_get parts.handlers handler) refl (within parts none).handlers
+
+pub record NoCodes (parts : Parts) : Type 0 where
+  pub groups : has_misgrouped parts ≡ false
+  pub names : has_repeated_name parts ≡ false
+  pub references : has_dangling parts ≡ false
+  pub repeats : has_repeat parts ≡ false
+  pub limits : has_outside parts ≡ false
+  pub branches : has_branchless parts ≡ false
+  pub spots : has_crowded_port parts ≡ false
+  pub forms : has_malformed_name parts ≡ false
+
+abbrev first_code : Bool → Bool → Bool → Bool → Bool → Bool → Bool → Bool → Option ℕ
+first_code a b c d e f g h = if a then Some 3 else if b then Some 6 else if c then Some 7 else if d then Some 8 else if e then Some 10 else if f then Some 11 else if g then Some 12 else if h then Some 14 else None
+
+none_of : (a b c d e f g h : Bool) → first_code a b c d e f g h ≡ None → (a ≡ false) × (b ≡ false) × (c ≡ false) × (d ≡ false) × (e ≡ false) × (f ≡ false) × (g ≡ false) × (h ≡ false)
+none_of true b c d e f g h is = absurd cc
+none_of false true c d e f g h is = absurd cc
+none_of false false true d e f g h is = absurd cc
+none_of false false false true e f g h is = absurd cc
+none_of false false false false true f g h is = absurd cc
+none_of false false false false false true g h is = absurd cc
+none_of false false false false false false true h is = absurd cc
+none_of false false false false false false false true is = absurd cc
+none_of false false false false false false false false is = (refl, refl, refl, refl, refl, refl, refl, refl)
+
+-- where no code stands, no condition does
+pub no_codes : (parts : Parts) → code_of parts ≡ None → NoCodes parts
+unfolding code_of
+no_codes parts valid =
+    let none = none_of (has_misgrouped parts) (has_repeated_name parts) (has_dangling parts) (has_repeat parts) (has_outside parts) (has_branchless parts) (has_crowded_port parts) (has_malformed_name parts) valid in
+    record { groups = none.0; names = none.1; references = none.2; repeats = none.3; limits = none.4; branches = none.5; spots = none.6; forms = none.7 }

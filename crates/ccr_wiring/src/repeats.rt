@@ -1,0 +1,125 @@
+//! Ports that stand twice in a pattern or a set, causes that stand twice in a post.
+
+ghost use Rattle.std.specs.Prelude.{◌≡◌};
+ghost use Rattle.ccr_wiring.specs.Repeats.{has_port, are_apart, are_slots_apart, slot_ports, names_ports_once, branch_repeats, arbiter_repeats, set_repeats, post_repeats, poster_repeats, has_repeating_set, has_repeating_arbiter, has_repeating_poster, has_repeat};
+
+use crate::{ArbiterPart, BranchPart, Parts, PosterPart, SetPart};
+use ccr_base::{Pattern, PortNo, Sent, Slot};
+
+fn has_number(numbers: &[u32], number: u32) -> bool
+    ensures { result ≡ has_port numbers.now number }
+{
+    numbers.contains(&number)
+}
+
+fn are_apart(numbers: &[u32]) -> bool
+    ensures { result ≡ are_apart numbers.now }
+{
+    for (place, number) in numbers.iter().enumerate() {
+        if has_number(&numbers[place + 1..], *number) {
+            return false;
+        }
+    }
+    true
+}
+
+fn has_slot_at(slots: &[Slot], port: PortNo) -> bool
+    ensures { result ≡ has_port (slot_ports slots.now) port }
+{
+    for slot in slots {
+        if slot.port == port {
+            return true;
+        }
+    }
+    false
+}
+
+fn are_slots_apart(slots: &[Slot]) -> bool
+    ensures { result ≡ are_slots_apart slots.now }
+{
+    for (place, slot) in slots.iter().enumerate() {
+        if has_slot_at(&slots[place + 1..], slot.port) {
+            return false;
+        }
+    }
+    true
+}
+
+fn names_ports_once(pattern: &Pattern) -> bool
+    ensures { result ≡ names_ports_once pattern.now }
+{
+    match pattern {
+        Pattern::Slots(slots) => are_slots_apart(slots.as_slice()),
+        Pattern::Gather { first, second, .. } => *first != *second,
+    }
+}
+
+fn branch_repeats(branch: &BranchPart) -> bool
+    ensures { result ≡ branch_repeats branch.now }
+{
+    !names_ports_once(&branch.pattern)
+}
+
+fn arbiter_repeats(arbiter: &ArbiterPart) -> bool
+    ensures { result ≡ arbiter_repeats arbiter.now }
+{
+    arbiter
+        .branches
+        .as_slice()
+        .iter()
+        .any(|branch| branch_repeats(branch))
+}
+
+fn set_repeats(set: &SetPart) -> bool
+    ensures { result ≡ set_repeats set.now }
+{
+    !are_apart(set.ports.as_slice())
+}
+
+fn post_repeats(post: &Sent) -> bool
+    ensures { result ≡ post_repeats post.now }
+{
+    !are_apart(post.causes.as_slice())
+}
+
+fn poster_repeats(poster: &PosterPart) -> bool
+    ensures { result ≡ poster_repeats poster.now }
+{
+    poster
+        .posts
+        .as_slice()
+        .iter()
+        .any(|post| post_repeats(post))
+}
+
+fn has_repeating_set(parts: &Parts) -> bool
+    ensures { result ≡ has_repeating_set parts.now }
+{
+    parts.sets.as_slice().iter().any(|set| set_repeats(set))
+}
+
+fn has_repeating_arbiter(parts: &Parts) -> bool
+    ensures { result ≡ has_repeating_arbiter parts.now }
+{
+    parts
+        .arbiters
+        .as_slice()
+        .iter()
+        .any(|arbiter| arbiter_repeats(arbiter))
+}
+
+fn has_repeating_poster(parts: &Parts) -> bool
+    ensures { result ≡ has_repeating_poster parts.now }
+{
+    parts
+        .posters
+        .as_slice()
+        .iter()
+        .any(|poster| poster_repeats(poster))
+}
+
+pub(crate) fn has_repeat(parts: &Parts) -> bool
+    ensures { result ≡ has_repeat parts.now }
+{
+    has_repeating_set(parts) || has_repeating_arbiter(parts) || has_repeating_poster(parts)
+}
