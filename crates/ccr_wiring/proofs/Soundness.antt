@@ -1,6 +1,6 @@
 -- What a valid wiring promises.
-use Rattle.std.proofs.Common.{◌≡◌, ℕ, ◌+◌, ◌<◌, ◌≤◌, Bool, true, false, cond, List, [], ◌∷◌, ◌++◌, length, sum, map, Option, Some, None, refl, ap, sym, ◌∙◌, arith}
-use Rattle.std.specs.Prelude.{◌||◌, ◌==◌, not, nat_lt, nat_le, option_map}
+use Rattle.std.proofs.Common.{◌≡◌, ℕ, ◌+◌, ◌<◌, ◌≤◌, Bool, true, false, cond, List, [], ◌∷◌, length, map, Option, Some, None, refl, ap, sym, ◌∙◌, arith}
+use Rattle.std.specs.Prelude.{◌||◌, ◌==◌, not, nat_lt}
 use Rattle.std.specs.List.{list_any, slice_get}
 use Rattle.std.proofs.lemmas.Bool.Decides.{nat_tests}
 use Rattle.std.proofs.lemmas.List.Folds.{list_any-append}
@@ -15,19 +15,18 @@ use Rattle.ccr_wiring.specs.declared.parts.ArbiterPart.{ArbiterPart}
 use Rattle.ccr_wiring.specs.declared.parts.BranchPart.{BranchPart}
 use Rattle.ccr_wiring.specs.declared.parts.CausePart.{CausePart}
 use Rattle.ccr_wiring.specs.declared.parts.HandlerPart.{HandlerPart}
-use Rattle.ccr_wiring.specs.declared.parts.PosterPart.{PosterPart}
 use Rattle.ccr_wiring.specs.declared.parts.Kind.{Kind}
 use Rattle.ccr_wiring.specs.declared.parts.Parts.{Parts}
 use Rattle.ccr_wiring.specs.Wirings.{Seat, seat, seats, seats_of, seats_from, actions_of, exception_port, awaited, site_port}
-use Rattle.ccr_wiring.specs.Groups.{may_have, is_receive, is_one_named, has_strange_group, is_misgrouped}
+use Rattle.ccr_wiring.specs.Groups.{may_have, has_strange_group}
 use Rattle.ccr_wiring.specs.References.{is_beyond, has_beyond, no_port, no_cause, action_is_dangling, slots_are_dangling, pattern_is_dangling, branch_is_dangling, post_is_dangling, handler_is_dangling, cause_is_dangling, poster_is_dangling, has_dangling, has_dangling_set, has_dangling_cause, has_dangling_handler, has_dangling_arbiter, has_dangling_poster}
-use Rattle.ccr_wiring.specs.Repeats.{are_apart, slot_ports, names_ports_once, branch_repeats, post_repeats, poster_repeats, has_repeat, has_repeating_set, has_repeating_arbiter, has_repeating_poster}
-use Rattle.ccr_wiring.specs.Limits.{is_outside, slot_is_outside, slots_are_outside, pattern_is_outside, branch_is_outside, has_branches_above, has_posts_above, has_outside}
-use Rattle.ccr_wiring.specs.Spots.{pattern_ports, times, named_ports, has_crowded, all_branches}
+use Rattle.ccr_wiring.specs.Repeats.{are_apart, slot_ports, names_ports_once, branch_repeats, post_repeats, poster_repeats, has_repeating_set, has_repeating_arbiter, has_repeating_poster}
+use Rattle.ccr_wiring.specs.Limits.{is_outside, slot_is_outside, pattern_is_outside, branch_is_outside, has_branches_above, has_posts_above, has_outside}
+use Rattle.ccr_wiring.specs.Spots.{pattern_ports, times, named_ports, has_crowded}
 use Rattle.ccr_wiring.specs.Valid.{IsValid, IsSound, IsSmall, IsSlotFilled, IsPatternFilled, IsActionNamed, IsPostNamed}
-use Rattle.ccr_wiring.proofs.Lists.{neither, none_at, any_none}
+use Rattle.ccr_wiring.proofs.Lists.{neither, none_at}
 use Rattle.ccr_wiring.proofs.SpotLemmas.{length-seats}
-use Rattle.ccr_wiring.proofs.Validity.{NoCodes, no_codes, within, few_branches, few_actions}
+use Rattle.ccr_wiring.proofs.Validity.{no_codes, within, few_branches, few_actions}
 
 not_not : (b : Bool) → not b ≡ false → b ≡ true
 not_not true e = refl

@@ -1,5 +1,5 @@
 -- The spots of branches.
-use Rattle.std.proofs.Common.{◌≡◌, ℕ, zero, suc, ◌+◌, ◌<◌, ◌≤◌, get_or, drop, List, [], ◌∷◌, ◌++◌, length, sum, map, flat_map, refl, ap, sym, ◌∙◌, append_assoc, length-append, arith}
+use Rattle.std.proofs.Common.{◌≡◌, ℕ, zero, suc, ◌+◌, ◌<◌, get_or, drop, List, [], ◌∷◌, ◌++◌, length, sum, map, refl, ap, sym, ◌∙◌, append_assoc, length-append, arith}
 use Rattle.std.proofs.lemmas.List.{length-map}
 use Rattle.std.proofs.lemmas.List.Concat.{flat_map-cons}
 use Rattle.std.proofs.lemmas.List.Sums.{sum_by-cons}
@@ -9,7 +9,7 @@ use Rattle.ccr_wiring.specs.declared.parts.ArbiterPart.{ArbiterPart}
 use Rattle.ccr_wiring.specs.declared.parts.BranchPart.{BranchPart}
 use Rattle.ccr_wiring.specs.declared.parts.Kind.{Kind}
 use Rattle.ccr_wiring.specs.declared.parts.Parts.{Parts}
-use Rattle.ccr_wiring.specs.Wirings.{Seat, seats, seats_of, seats_from, spots, spots_from, sites_from, awaited, actions_of}
+use Rattle.ccr_wiring.specs.Wirings.{Seat, seats, seats_from, spots, spots_from, sites_from, awaited, actions_of}
 use Rattle.ccr_wiring.specs.Spots.{branch_spots, all_branches}
 
 abbrev seat_branches : List Seat → List BranchPart

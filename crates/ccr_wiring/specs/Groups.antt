@@ -20,6 +20,7 @@ may_have kinds.Interleave groups.Exclusive = true
 may_have kinds.Interleave groups.Concurrent = true
 may_have _ _ = false
 
+-- whether the kind is that of a receive
 abbrev pub is_receive : Kind → Bool
 is_receive kinds.Receive = true
 is_receive _ = false
@@ -37,6 +38,7 @@ has_strange_group arbiter = list_any (λ (branch : BranchPart). not (may_have ar
 abbrev pub is_misgrouped : ArbiterPart → Bool
 is_misgrouped arbiter = has_strange_group arbiter || (is_receive arbiter.kind && not (is_one_named arbiter.name arbiter.branches))
 
+-- some arbiter is misgrouped
 abbrev pub has_misgrouped : Parts → Bool
 has_misgrouped parts = list_any is_misgrouped parts.arbiters
 
@@ -44,5 +46,6 @@ has_misgrouped parts = list_any is_misgrouped parts.arbiters
 abbrev pub is_branchless : ArbiterPart → Bool
 is_branchless arbiter = not (is_receive arbiter.kind) && (length arbiter.branches == 0)
 
+-- some choice or Interleave has no branch
 abbrev pub has_branchless : Parts → Bool
 has_branchless parts = list_any is_branchless parts.arbiters

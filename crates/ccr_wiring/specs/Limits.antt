@@ -33,6 +33,7 @@ abbrev pub expr_is_outside : Expr → Bool
 expr_is_outside (Arg k) = is_outside 0 65535 k
 expr_is_outside _ = false
 
+-- the action's expression is outside its limits
 abbrev pub action_is_outside : Action → Bool
 action_is_outside (Post port expr) = expr_is_outside expr
 action_is_outside (Fail expr) = expr_is_outside expr
@@ -55,12 +56,15 @@ pattern_is_outside (Gather total first second) = is_outside 1 1000 total
 abbrev pub handler_is_outside : HandlerPart → Bool
 handler_is_outside part = nat_lt 16 (length part.handler.actions) || list_any action_is_outside part.handler.actions
 
+-- the branch's pattern is outside its limits
 abbrev pub branch_is_outside : BranchPart → Bool
 branch_is_outside branch = pattern_is_outside branch.pattern
 
+-- some branch of the arbiter is outside its limits
 abbrev pub arbiter_is_outside : ArbiterPart → Bool
 arbiter_is_outside arbiter = list_any branch_is_outside arbiter.branches
 
+-- the queue's policy is outside its limits
 abbrev pub queue_is_outside : QueuePart → Bool
 queue_is_outside part = policy_is_outside part.policy
 
@@ -92,15 +96,19 @@ has_too_many parts = nat_lt 16 (length parts.queues)
     || has_branches_above 256 parts.arbiters
     || has_posts_above 10000 parts.posters
 
+-- some queue is outside its limits
 abbrev pub has_outside_queue : Parts → Bool
 has_outside_queue parts = list_any queue_is_outside parts.queues
 
+-- some set is outside its limits
 abbrev pub has_outside_set : Parts → Bool
 has_outside_set parts = list_any set_is_outside parts.sets
 
+-- some handler is outside its limits
 abbrev pub has_outside_handler : Parts → Bool
 has_outside_handler parts = list_any handler_is_outside parts.handlers
 
+-- some arbiter is outside its limits
 abbrev pub has_outside_arbiter : Parts → Bool
 has_outside_arbiter parts = list_any arbiter_is_outside parts.arbiters
 

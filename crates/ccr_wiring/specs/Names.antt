@@ -13,6 +13,7 @@ use Rattle.ccr_wiring.specs.declared.parts.SetPart.{SetPart}
 use Rattle.ccr_wiring.specs.declared.parts.Parts.{Parts}
 use Rattle.ccr_wiring.specs.Groups.{is_receive}
 
+-- the names of branches
 abbrev pub branch_names : List BranchPart → List (List ℕ)
 branch_names branches = map (λ (branch : BranchPart). branch.name) branches
 
@@ -20,18 +21,23 @@ branch_names branches = map (λ (branch : BranchPart). branch.name) branches
 abbrev pub arbiter_names : ArbiterPart → List (List ℕ)
 arbiter_names arbiter = arbiter.name ∷ (if is_receive arbiter.kind then [] else branch_names arbiter.branches)
 
+-- the names of queues
 abbrev pub queue_names : List QueuePart → List (List ℕ)
 queue_names parts = map (λ (part : QueuePart). part.name) parts
 
+-- the names of port sets
 abbrev pub set_names : List SetPart → List (List ℕ)
 set_names parts = map (λ (part : SetPart). part.name) parts
 
+-- the names of causes
 abbrev pub cause_names : List CausePart → List (List ℕ)
 cause_names parts = map (λ (part : CausePart). part.name) parts
 
+-- the names of handlers
 abbrev pub handler_names : List HandlerPart → List (List ℕ)
 handler_names parts = map (λ (part : HandlerPart). part.name) parts
 
+-- the names of posters
 abbrev pub poster_names : List PosterPart → List (List ℕ)
 poster_names parts = map (λ (part : PosterPart). part.name) parts
 
@@ -39,6 +45,7 @@ poster_names parts = map (λ (part : PosterPart). part.name) parts
 abbrev pub declared_names : Parts → List (List ℕ)
 declared_names parts = queue_names parts.queues ++ parts.ports ++ set_names parts.sets ++ cause_names parts.causes ++ handler_names parts.handlers ++ flat_map arbiter_names parts.arbiters ++ poster_names parts.posters
 
+-- whether the name is among the names
 abbrev pub has_name : List (List ℕ) → List ℕ → Bool
 has_name names name = list_any (λ other. bytes_eq other name) names
 

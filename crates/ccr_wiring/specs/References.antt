@@ -23,12 +23,15 @@ is_beyond count number = nat_le count number
 abbrev pub has_beyond : ℕ → List ℕ → Bool
 has_beyond count numbers = list_any (is_beyond count) numbers
 
+-- the number is no port's
 abbrev pub no_port : Parts → ℕ → Bool
 no_port parts port = is_beyond (length parts.ports) port
 
+-- the number is no cause's
 abbrev pub no_cause : Parts → ℕ → Bool
 no_cause parts cause = is_beyond (length parts.causes) cause
 
+-- the action names a port or a cause that isn't there
 abbrev pub action_is_dangling : Parts → Action → Bool
 action_is_dangling parts (Post port expr) = no_port parts port
 action_is_dangling parts (Await port) = no_port parts port
@@ -36,46 +39,60 @@ action_is_dangling parts (Add cause) = no_cause parts cause
 action_is_dangling parts (Remove cause) = no_cause parts cause
 action_is_dangling parts (Fail expr) = false
 
+-- some slot's port isn't there
 abbrev pub slots_are_dangling : Parts → List Slot → Bool
 slots_are_dangling parts slots = list_any (λ (slot : Slot). no_port parts slot.port) slots
 
+-- some port of the pattern isn't there
 abbrev pub pattern_is_dangling : Parts → Pattern → Bool
 pattern_is_dangling parts (Slots slots) = slots_are_dangling parts slots
 pattern_is_dangling parts (Gather total first second) = no_port parts first || no_port parts second
 
+-- the branch's queue, handler or a port isn't there
 abbrev pub branch_is_dangling : Parts → BranchPart → Bool
 branch_is_dangling parts branch = is_beyond (length parts.queues) branch.queue || is_beyond (length parts.handlers) branch.handler || pattern_is_dangling parts branch.pattern
 
+-- the post's port or one of its causes isn't there
 abbrev pub post_is_dangling : Parts → Sent → Bool
 post_is_dangling parts post = no_port parts post.port || has_beyond (length parts.causes) post.causes
 
+-- a member of the set isn't there
 abbrev pub set_is_dangling : Parts → SetPart → Bool
 set_is_dangling parts set = has_beyond (length parts.ports) set.ports
 
+-- some action of the handler is dangling
 abbrev pub handler_is_dangling : Parts → HandlerPart → Bool
 handler_is_dangling parts part = list_any (action_is_dangling parts) part.handler.actions
 
+-- some branch of the arbiter is dangling
 abbrev pub arbiter_is_dangling : Parts → ArbiterPart → Bool
 arbiter_is_dangling parts arbiter = list_any (branch_is_dangling parts) arbiter.branches
 
+-- some post of the script is dangling
 abbrev pub poster_is_dangling : Parts → PosterPart → Bool
 poster_is_dangling parts poster = list_any (post_is_dangling parts) poster.posts
 
+-- the exception port isn't there
 abbrev pub cause_is_dangling : Parts → CausePart → Bool
 cause_is_dangling parts cause = no_port parts cause.port
 
+-- some port set is dangling
 abbrev pub has_dangling_set : Parts → Bool
 has_dangling_set parts = list_any (set_is_dangling parts) parts.sets
 
+-- some cause is dangling
 abbrev pub has_dangling_cause : Parts → Bool
 has_dangling_cause parts = list_any (cause_is_dangling parts) parts.causes
 
+-- some handler is dangling
 abbrev pub has_dangling_handler : Parts → Bool
 has_dangling_handler parts = list_any (handler_is_dangling parts) parts.handlers
 
+-- some arbiter is dangling
 abbrev pub has_dangling_arbiter : Parts → Bool
 has_dangling_arbiter parts = list_any (arbiter_is_dangling parts) parts.arbiters
 
+-- some poster is dangling
 abbrev pub has_dangling_poster : Parts → Bool
 has_dangling_poster parts = list_any (poster_is_dangling parts) parts.posters
 

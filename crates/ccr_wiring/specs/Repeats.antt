@@ -11,6 +11,7 @@ use Rattle.ccr_wiring.specs.declared.parts.PosterPart.{PosterPart}
 use Rattle.ccr_wiring.specs.declared.parts.SetPart.{SetPart}
 use Rattle.ccr_wiring.specs.declared.parts.Parts.{Parts}
 
+-- whether the port is among the ports
 abbrev pub has_port : List ℕ → ℕ → Bool
 has_port ports port = list_any (λ other. other == port) ports
 
@@ -19,6 +20,7 @@ abbrev pub are_apart : List ℕ → Bool
 are_apart [] = true
 are_apart (port ∷ ports) = not (has_port ports port) && are_apart ports
 
+-- the ports of slots
 abbrev pub slot_ports : List Slot → List ℕ
 slot_ports slots = map (λ (s : Slot). s.port) slots
 
@@ -35,24 +37,31 @@ names_ports_once (Gather total first second) = not (first == second)
 abbrev pub branch_repeats : BranchPart → Bool
 branch_repeats branch = not (names_ports_once branch.pattern)
 
+-- some branch of the arbiter names a port twice
 abbrev pub arbiter_repeats : ArbiterPart → Bool
 arbiter_repeats arbiter = list_any branch_repeats arbiter.branches
 
+-- a port stands twice in the set
 abbrev pub set_repeats : SetPart → Bool
 set_repeats set = not (are_apart set.ports)
 
+-- a cause stands twice in the post
 abbrev pub post_repeats : Sent → Bool
 post_repeats post = not (are_apart post.causes)
 
+-- some post of the script has a cause twice
 abbrev pub poster_repeats : PosterPart → Bool
 poster_repeats poster = list_any post_repeats poster.posts
 
+-- some set has a port twice
 abbrev pub has_repeating_set : Parts → Bool
 has_repeating_set parts = list_any set_repeats parts.sets
 
+-- some pattern names a port twice
 abbrev pub has_repeating_arbiter : Parts → Bool
 has_repeating_arbiter parts = list_any arbiter_repeats parts.arbiters
 
+-- some post has a cause twice
 abbrev pub has_repeating_poster : Parts → Bool
 has_repeating_poster parts = list_any poster_repeats parts.posters
 

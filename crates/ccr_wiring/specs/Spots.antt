@@ -11,6 +11,7 @@ use Rattle.ccr_wiring.specs.declared.parts.Parts.{Parts}
 use Rattle.ccr_wiring.specs.Wirings.{awaited, actions_of, sites_from}
 use Rattle.ccr_wiring.specs.Repeats.{slot_ports}
 
+-- the ports of a pattern, in its order
 abbrev pub pattern_ports : Pattern → List ℕ
 pattern_ports (Slots slots) = slot_ports slots
 pattern_ports (Gather total first second) = first ∷ second ∷ []
@@ -19,9 +20,11 @@ pattern_ports (Gather total first second) = first ∷ second ∷ []
 abbrev pub branch_named : Parts → BranchPart → List ℕ
 branch_named parts branch = pattern_ports branch.pattern ++ awaited (actions_of parts branch.handler)
 
+-- the ports that branches and their sites name
 abbrev pub branches_named : Parts → List BranchPart → List ℕ
 branches_named parts branches = flat_map (branch_named parts) branches
 
+-- the ports that the branches of arbiters and their sites name
 abbrev pub arbiters_named : Parts → List ArbiterPart → List ℕ
 arbiters_named parts arbiters = flat_map (λ (arbiter : ArbiterPart). branches_named parts arbiter.branches) arbiters
 
