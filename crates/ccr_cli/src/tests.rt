@@ -116,7 +116,7 @@ fn refuses_inputs(rt: HostRuntime) -> Result<(), Fail> {
         assert_eq!(rt; written.as_slice(), REFUSED.as_bytes(), "{input:?}");
     }
     let long = Vec::from_elem(rt.alloc(), b'\n', 1_048_577)?;
-    let (status, _) = answer(&rt, &RUN, &long, NEVER, NEVER)?;
+    let (status, _written) = answer(&rt, &RUN, &long, NEVER, NEVER)?;
     assert_eq!(rt; status, 2);
     Ok(())
 }
@@ -124,7 +124,7 @@ fn refuses_inputs(rt: HostRuntime) -> Result<(), Fail> {
 #[test]
 fn accepts_leading_zeros_of_numbers(rt: HostRuntime) -> Result<(), Fail> {
     let input = "ccr 1\nport a\nposter p\npost a 007\nend\n";
-    let (status, _) = answer(&rt, &RUN, input.as_bytes(), NEVER, NEVER)?;
+    let (status, _written) = answer(&rt, &RUN, input.as_bytes(), NEVER, NEVER)?;
     assert_eq!(rt; status, 0);
     Ok(())
 }

@@ -1,8 +1,7 @@
 -- The note of a firing is one that the Interleave may give.
-use Rattle.std.proofs.Common.{◌≡◌, Bool, true, false, List, [], ◌∷◌, map, Option, Some, None, refl, sym, ap, ◌∙◌, if◌then◌else◌}
+use Rattle.std.proofs.Common.{◌≡◌, Bool, true, false, List, [], ◌∷◌, map, None, refl, sym, ap, ◌∙◌, if◌then◌else◌}
 use Rattle.ccr_base.specs.declared.names.MsgId.{MsgId}
 use Rattle.ccr_base.specs.declared.tasks.Task.{Task}
-use Rattle.ccr_base.specs.declared.tasks.Cut.{Cut}
 use Rattle.ccr_base.specs.declared.tasks.Commit.{Commit}
 use Rattle.ccr_places.specs.Commits.{cut_tasks, commit_note}
 use Rattle.ccr_places.specs.Interleaves.{InterleaveTasks, Waiting, group_at, is_teardown, IsGiven}

@@ -92,9 +92,10 @@ module _ (old new : List (TaskId × Standing)) (waiting : List Waiting) (shared 
   list_any-names (w ∷ ws) = ap (λ b. same_task task w.task || b) (list_any-names ws)
 
   pub sets_fired : (tasks_where is_shared new ≡ tasks_where is_shared old) × (tasks_where is_alone new ≡ tasks_where is_alone old)
-  sets_fired =
-      (tasks_where-same is_shared old new task (Some Outside) tied.distinct distinct updates refl (ap (λ k. option_map_or is_shared k false) none),
-        tasks_where-same is_alone old new task (Some Outside) tied.distinct distinct updates refl (ap (λ k. option_map_or is_alone k false) none))
+  sets_fired = (
+    tasks_where-same is_shared old new task (Some Outside) tied.distinct distinct updates refl (ap (λ k. option_map_or is_shared k false) none),
+    tasks_where-same is_alone old new task (Some Outside) tied.distinct distinct updates refl (ap (λ k. option_map_or is_alone k false) none),
+  )
 
   pub fired : (spot : Spot) → Tied new (waiting ++ (record { task = task; spot = spot }) ∷ []) shared alone
   fired spot =
@@ -160,13 +161,15 @@ module _ (old new : List (TaskId × Standing)) (oldest : Waiting) (later : List 
     -- the sets of the admitted roots, by whether the oldest task is of a concurrent branch
     pub sets_admitted : (concurrent : Bool) → ((other : TaskId) → kept_of new other ≡ cond (same_task oldest.task other) (Some (admitted_as concurrent)) (kept_of old other))
         → (tasks_where is_shared new ≡ cond concurrent (set.insert (tasks_where is_shared old) oldest.task) (tasks_where is_shared old))
-          × (tasks_where is_alone new ≡ cond concurrent (tasks_where is_alone old) (set.insert (tasks_where is_alone old) oldest.task))
-    sets_admitted true updates =
-        (tasks_where-put is_shared old new oldest.task (Some Shared) tied.distinct distinct updates refl,
-          tasks_where-same is_alone old new oldest.task (Some Shared) tied.distinct distinct updates refl (ap (λ k. option_map_or is_alone k false) stands))
-    sets_admitted false updates =
-        (tasks_where-same is_shared old new oldest.task (Some Alone) tied.distinct distinct updates refl (ap (λ k. option_map_or is_shared k false) stands),
-          tasks_where-put is_alone old new oldest.task (Some Alone) tied.distinct distinct updates refl)
+        × (tasks_where is_alone new ≡ cond concurrent (tasks_where is_alone old) (set.insert (tasks_where is_alone old) oldest.task))
+    sets_admitted true updates = (
+      tasks_where-put is_shared old new oldest.task (Some Shared) tied.distinct distinct updates refl,
+      tasks_where-same is_alone old new oldest.task (Some Shared) tied.distinct distinct updates refl (ap (λ k. option_map_or is_alone k false) stands),
+    )
+    sets_admitted false updates = (
+      tasks_where-same is_shared old new oldest.task (Some Alone) tied.distinct distinct updates refl (ap (λ k. option_map_or is_shared k false) stands),
+      tasks_where-put is_alone old new oldest.task (Some Alone) tied.distinct distinct updates refl,
+    )
 
 -- ---- the end of a root
 

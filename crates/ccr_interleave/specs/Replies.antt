@@ -1,12 +1,12 @@
 -- What the object of an Interleave answers, and what it keeps then.
-use Rattle.std.specs.Prelude.{ℕ, List, [], ◌∷◌, ◌++◌, drop, map, slice_get, is_some, Option, Some, None, if◌then◌else◌}
+use Rattle.std.specs.Prelude.{List, [], ◌∷◌, ◌++◌, drop, map, slice_get, is_some, Option, Some, None, if◌then◌else◌}
 use Rattle.ccr_base.specs.declared.names.Spot.{Spot}
 use Rattle.ccr_base.specs.declared.tasks.Task.{Task}
 use Rattle.ccr_base.specs.declared.tasks.Cut.{Cut}
 use Rattle.ccr_base.specs.declared.tasks.By.{By}
 use Rattle.ccr_base.specs.declared.tasks.Commit.{Commit}
 use Rattle.ccr_base.specs.declared.tasks.Commit.TheVariants.{Fired, Dead}
-use Rattle.ccr_places.specs.Interleaves.{InterleaveTasks, Waiting, group_at, is_teardown, dead_by, admit_note, after_firing, after_admit, after_admission}
+use Rattle.ccr_places.specs.Interleaves.{InterleaveTasks, Waiting, group_at, is_teardown, dead_by, admit_note, after_firing, after_admission}
 
 -- a task by its name and its spot
 abbrev pub named : Task → Waiting

@@ -48,16 +48,16 @@ impl Model for InterleaveObject {
     ghost coded = { interleave_tasks_code };
 
     ghost view = { λ place. record {
-        state = record {
-            first = place.first;
-            groups = place.groups;
-            fired = keys_of place.fired.entries;
-            waiting = map named place.waiting.items;
-            shared = tasks_where is_shared place.fired.entries;
-            alone = tasks_where is_alone place.fired.entries;
-            teardown = place.teardown;
-        };
-        tasks = place.waiting.items;
+      state = record {
+        first = place.first;
+        groups = place.groups;
+        fired = keys_of place.fired.entries;
+        waiting = map named place.waiting.items;
+        shared = tasks_where is_shared place.fired.entries;
+        alone = tasks_where is_alone place.fired.entries;
+        teardown = place.teardown;
+      };
+      tasks = place.waiting.items;
     } };
 
     ghost invariant = { λ place. Tied place.fired.entries (map named place.waiting.items) place.shared place.alone };
@@ -84,7 +84,8 @@ impl InterleaveObject {
     pub fn may_commit(&self, task: &Task) -> bool
         ensures { result ≡ can_commit self.now.state task.now }
     {
-        group_at(self.first, self.groups.as_slice(), task.spot).is_some() && !self.fired.contains_key(&task.id)
+        group_at(self.first, self.groups.as_slice(), task.spot).is_some()
+            && !self.fired.contains_key(&task.id)
     }
 
     /// The task fires and waits, unless a teardown fired before. A teardown cuts all tasks that wait.
@@ -163,7 +164,8 @@ impl InterleaveObject {
         ensures { result ≡ is_let_in self.now.state spot }
     {
         self.alone == 0
-            && (is_concurrent(group_at(self.first, self.groups.as_slice(), spot)) || self.shared == 0)
+            && (is_concurrent(group_at(self.first, self.groups.as_slice(), spot))
+                || self.shared == 0)
     }
 
     /// The oldest waiting task is one of the admitted roots from now on.

@@ -30,11 +30,18 @@ fn place(alloc: Global) -> Result<InterleaveObject, Fail> {
 }
 
 /// How many tasks the firing cuts, and none where it is dead.
-fn commit(rt: &impl Abort, place: &mut InterleaveObject, task: Task) -> Result<Option<usize>, Fail> {
+fn commit(
+    rt: &impl Abort,
+    place: &mut InterleaveObject,
+    task: Task,
+) -> Result<Option<usize>, Fail> {
     assert!(rt; place.may_commit(&task));
     match place.commit(task)? {
         Commit::Fired { task: None, cuts } => Ok(Some(cuts.as_slice().len())),
-        Commit::Fired { task: Some(_), cuts: _ } => Err("the task was handed back")?,
+        Commit::Fired {
+            task: Some(_),
+            cuts: _,
+        } => Err("the task was handed back")?,
         Commit::Dead(By::Fired(_) | By::NoneWaiting) => Ok(None),
     }
 }
@@ -55,7 +62,10 @@ fn groups_and_teardown(rt: HostRuntime) -> Result<(), Fail> {
     let mut place = place(rt.alloc())?;
     // a concurrent task, an exclusive one, two concurrent ones and an exclusive one
     for (attempt, branch) in [(0, 5), (1, 4), (2, 5), (3, 5), (4, 4)] {
-        assert_eq!(rt; commit(&rt, &mut place, task(rt.alloc(), attempt, branch))?, Some(0));
+        assert_eq!(rt;
+            commit(&rt, &mut place, task(rt.alloc(), attempt, branch))?,
+            Some(0)
+        );
     }
     assert!(rt; !place.may_commit(&task(rt.alloc(), 4, 5)));
     assert!(rt; !place.may_commit(&task(rt.alloc(), 5, 7)));

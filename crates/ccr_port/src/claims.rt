@@ -1,6 +1,6 @@
 //! What a claim answers, and how its messages are found, copied and taken out.
 
-ghost use Rattle.std.specs.Prelude.{◌≡◌, ◌^◌, ◌<◌, ◌≤◌, length, slice_get, option_copied, IfOk, IfSome};
+ghost use Rattle.std.specs.Prelude.{◌≡◌, ◌^◌, ◌<◌, ◌≤◌, length, slice_get, option_copied, IfOk};
 ghost use Rattle.ccr_base.specs.Choice.{choice, fitting, messages_at};
 ghost use Rattle.ccr_places.specs.Ports.{without_first};
 
@@ -38,8 +38,7 @@ pub fn copy_choice(
 ) -> Result<Option<List<Msg>>, OutOfMemory>
     requires ordered { slot.now.least ≤ slot.now.most }
     requires fits { length items.now < 2 ^ 32 }
-    ensures choice { IfOk result (λ found. found ≡ choice slot.now items.now) }
-    ensures few { IfOk result (λ found. IfSome found (λ copies. length copies ≤ length items.now)) }
+    ensures { IfOk result (λ found. found ≡ choice slot.now items.now) }
 {
     match choose(alloc, items, slot)? {
         Some(places) => Ok(Some(copy_at(alloc, items, places.as_slice())?)),

@@ -81,13 +81,14 @@ impl PortObject {
         if let Some(standing) = &self.claim {
             return Ok(Claimed::Busy(standing.task));
         }
+        let count = count_fitting(&self.items, &slot.pred);
         let Some(copies) = copy_choice(self.alloc, &self.items, slot)? else {
-            return Ok(Claimed::Short(count_fitting(&self.items, &slot.pred)));
+            return Ok(Claimed::Short(count));
         };
         self.claim = Some(StandingClaim {
             task,
             pred: slot.pred,
-            count: copies.as_slice().len() as u32,
+            count: count.min(slot.most),
         });
         Ok(Claimed::Got(copies))
     }

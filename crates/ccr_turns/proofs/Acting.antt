@@ -1,5 +1,5 @@
 -- What the steps of one act come to.
-use Rattle.std.proofs.Common.{subst, length, false, eqb, eq-eqb, ne_eqb, ◌≢◌, ◌≡◌, ℕ, ◌+◌, ◌*◌, ◌^◌, ◌<◌, ◌≤◌, List, [], ◌∷◌, ◌++◌, Option, Some, None, map, sym, refl, ap, ◌∙◌, arith}
+use Rattle.std.proofs.Common.{subst, length, false, eqb, eq-eqb, ne_eqb, ◌≡◌, ℕ, ◌<◌, List, [], ◌∷◌, ◌++◌, Option, Some, None, sym, refl, ap, ◌∙◌, arith}
 use Rattle.std.proofs.lemmas.List.{map-append}
 use Rattle.ccr_turns.specs.Steps.{won}
 use Rattle.ccr_turns.specs.Views.{Sat, view, hold}
@@ -19,7 +19,6 @@ use Rattle.ccr_turns.specs.declared.history.Held.{Held}
 use Rattle.ccr_turns.specs.declared.history.Cell.{Cell}
 use Rattle.ccr_turns.specs.declared.history.Mark.{Mark}
 use Rattle.ccr_turns.specs.declared.history.Log.{Log}
-use Rattle.ccr_turns.specs.declared.history.View.{View}
 use Rattle.ccr_turns.proofs.Rows.{last_more}
 
 module _ {N X : Type 0} where

@@ -1,27 +1,27 @@
 -- Seats are made and joined, and the table is opened and closed.
-use Rattle.std.proofs.Common.{replicate, ◌≡◌, ◌≢◌, ◌⊎◌, ℕ, zero, suc, ◌+◌, ◌*◌, ◌^◌, ◌<◌, ◌≤◌, List, [], ◌∷◌, ◌++◌, map, length, get_or, set, sym, refl, ap, ◌∙◌, subst, inl, inr, ⊎_elim, arith, Option, Some, None}
+use Rattle.std.proofs.Common.{replicate, ◌≡◌, ◌≢◌, ℕ, zero, suc, ◌+◌, ◌<◌, List, [], ◌∷◌, ◌++◌, map, length, get_or, set, sym, refl, ap, ◌∙◌, subst, ⊎_elim, arith, Option, Some, None}
 use Rattle.std.specs.List.{AllZip}
 use Rattle.std.proofs.lemmas.List.{length-map, length-replicate}
 use mathlib.Core.Logic.{dite}
-use mathlib.Core.Option.{some, none, some-injective, some-ne-none}
-use native.Mathlib.Decide.{ℕ_discrete, dec_le}
+use mathlib.Core.Option.{some, some-injective, some-ne-none}
+use native.Mathlib.Decide.{ℕ_discrete}
 use lib.ListN.{get_elem?}
 use Rattle.atomic_table.specs.Table.{State, Splits, Joins, opening, Final, Seen}
-use Rattle.atomic_table.proofs.Lists.{at_set, set_here, set_else, at_longer, at_snoc, at_map}
+use Rattle.atomic_table.proofs.Lists.{at_set, set_else, at_longer, at_snoc, at_map}
 use Rattle.ccr_turns.specs.Locks.{IsLeft, Agrees}
 use Rattle.ccr_turns.specs.Seated.{IsLaid, HasCells, Lifted}
 use Rattle.ccr_turns.specs.Lists.{total, below, Each}
-use Rattle.ccr_turns.specs.Logs.{log, fresh, told, at_place, FitsLog}
+use Rattle.ccr_turns.specs.Logs.{log, fresh, told, FitsLog}
 use Rattle.ccr_turns.specs.Views.{Sat, view, weight, opening_view, first_logs, later_logs, cut_left, cut_right, joined, spent}
 use Rattle.ccr_turns.specs.Histories.{left_by, Place, entries, IsRight}
-use Rattle.ccr_turns.specs.Rule.{IsHome, Holds, Orderly, Settled}
+use Rattle.ccr_turns.specs.Rule.{Orderly, Settled}
 use Rattle.ccr_turns.specs.declared.history.Held.{Held}
 use Rattle.ccr_turns.specs.declared.history.Cell.{Cell}
 use Rattle.ccr_turns.specs.declared.history.Mark.{Mark}
 use Rattle.ccr_turns.specs.declared.history.Log.{Log}
 use Rattle.ccr_turns.specs.declared.history.Hold.{Hold}
 use Rattle.ccr_turns.specs.declared.history.View.{View}
-use Rattle.ccr_turns.proofs.Rows.{there_by_slice, stamps_rise, zip_from, zip_at, zip_length, all_from_each, below-only-one, only, total-set, total-append, total-one, below-one, there, within, none-some, Some-injective, Some-at, term_le, terms_le, at_append, one-counts, no-total, only-one}
+use Rattle.ccr_turns.proofs.Rows.{there_by_slice, stamps_rise, zip_from, zip_at, zip_length, all_from_each, below-only-one, only, total-set, total-append, total-one, below-one, there, within, none-some, Some-at, terms_le, at_append, one-counts, no-total, only-one}
 
 module _ {N X : Type 0} where
   cut-total : (f : Log N X → ℕ) (ls : List (Log N X)) → total f (later_logs ls) + total f (first_logs ls) ≡ total f ls

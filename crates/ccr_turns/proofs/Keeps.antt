@@ -1,19 +1,19 @@
 -- Each step keeps the rule.
-use Rattle.std.proofs.Common.{◌≡◌, ◌≢◌, ℕ, zero, suc, ◌+◌, ◌*◌, ◌^◌, ◌<◌, ◌≤◌, max, eqb, List, [], ◌∷◌, ◌++◌, map, length, length-append, get_or, set, sym, refl, ap, ◌∙◌, subst, inl, inr, ⊎_elim, arith, length-set, get_or-set_other, get_or-set_same, Option, Some, None}
+use Rattle.std.proofs.Common.{◌≡◌, ◌≢◌, ℕ, ◌+◌, ◌*◌, ◌^◌, ◌<◌, ◌≤◌, max, eqb, List, [], ◌∷◌, ◌++◌, map, length, length-append, get_or, set, sym, refl, ap, ◌∙◌, subst, ⊎_elim, arith, length-set, get_or-set_other, get_or-set_same, Option, Some, None}
 use mathlib.Core.Logic.{dite}
 use mathlib.Core.Option.{some, none}
 use native.Mathlib.Decide.{ℕ_discrete, dec_le}
 use lib.ListN.{get_elem?}
-use lib.Seq.{set-get_or, map-set}
+use lib.Seq.{map-set}
 use Rattle.std.proofs.lemmas.List.{map-append}
 use prog.Atomic.{either}
-use Rattle.atomic_table.specs.Table.{State, Me, step, Act, keeps, takes, gives, Valid, carried_after, stepped, Allows, rest}
+use Rattle.atomic_table.specs.Table.{State, step, Act, keeps, takes, gives, Valid, carried_after, stepped, Allows, rest}
 use Rattle.atomic_table.proofs.Lists.{at_set, set_here, set_else, set_again, at_map, exchanged}
-use Rattle.ccr_turns.specs.Lists.{total, below, Rises, last_of, Each}
-use Rattle.ccr_turns.specs.Logs.{at_place, told, log_stamps, mark, log, noted, FitsLog}
-use Rattle.ccr_turns.specs.Histories.{Given, history_stamps, left_by, Place, entries, IsRight}
+use Rattle.ccr_turns.specs.Lists.{Rises, last_of, Each}
+use Rattle.ccr_turns.specs.Logs.{at_place, told, log_stamps, mark, log, FitsLog}
+use Rattle.ccr_turns.specs.Histories.{history_stamps, left_by, Place, entries, IsRight}
 use Rattle.ccr_turns.specs.Views.{view, hold, weight, Sat}
-use Rattle.ccr_turns.specs.Rule.{IsHome, Holds, Orderly}
+use Rattle.ccr_turns.specs.Rule.{Holds, Orderly}
 use Rattle.ccr_turns.specs.Steps.{won, left, entered}
 use Rattle.ccr_turns.specs.declared.history.Held.{Held}
 use Rattle.ccr_turns.specs.declared.history.Cell.{Cell}

@@ -1,5 +1,5 @@
 -- The history of a place.
-use Rattle.std.specs.Prelude.{◌≡◌, ℕ, ◌^◌, ◌<◌, ◌≤◌, List, [], ◌∷◌, map, length}
+use Rattle.std.specs.Prelude.{ℕ, ◌^◌, ◌<◌, ◌≤◌, List, [], ◌∷◌, map, length}
 use Rattle.ccr_turns.specs.Lists.{total, Rises, last_of, Each}
 use Rattle.ccr_turns.specs.declared.history.Held.{Held}
 

@@ -1,5 +1,5 @@
 -- What a seat is between its steps.
-use Rattle.std.specs.Prelude.{◌≡◌, ℕ, ◌+◌, max, ◌++◌, ◌*◌, ◌^◌, ◌<◌, ◌≤◌, Bool, false, length, List, [], ◌∷◌, Option, Some, None}
+use Rattle.std.specs.Prelude.{◌≡◌, ℕ, ◌+◌, max, ◌++◌, ◌*◌, ◌^◌, ◌<◌, ◌≤◌, false, length, List, [], ◌∷◌, Option, Some, None}
 use Rattle.std.specs.Option.{is_some}
 use lib.ListN.{get_elem?}
 use mathlib.Core.Option.{some}

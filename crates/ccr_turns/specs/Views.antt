@@ -1,5 +1,5 @@
 -- What a seat at the table knows, and how seats are made and joined.
-use Rattle.std.specs.Prelude.{ℕ, List, [], ◌∷◌, ◌++◌, Option, Some, None}
+use Rattle.std.specs.Prelude.{ℕ, List, [], ◌∷◌, ◌++◌, Option, None}
 use Rattle.atomic_table.specs.Table.{Me}
 use Rattle.ccr_turns.specs.Lists.{total}
 use Rattle.ccr_turns.specs.Logs.{fresh}

@@ -1,4 +1,4 @@
-use Rattle.std.proofs.Common.{◌≡◌, ◌∷◌, ◌∙◌, List, ap, refl, subst, map, arith}
+use Rattle.std.proofs.Common.{◌∙◌, List, ap, refl, subst, map, arith}
 use Rattle.ccr_base.specs.declared.tasks.Task.{Task}
 use Rattle.ccr_places.specs.Interleaves.{group_among, is_concurrent}
 use Rattle.ccr_interleave.specs.Replies.{named}

@@ -1,4 +1,4 @@
-use Rattle.std.proofs.Common.{◌≡◌, true, not, is_some, sym, ap, ◌∙◌, refl}
+use Rattle.std.proofs.Common.{◌≡◌, true, not, is_some, sym, ap, ◌∙◌}
 use Rattle.std.proofs.lemmas.Map.Made.{is_some-lookup}
 use Rattle.ccr_base.specs.Names.{same_task}
 use Rattle.ccr_places.specs.Interleaves.{group_among}

@@ -1,4 +1,4 @@
-use Rattle.std.proofs.Common.{◌≡◌, ◌∙◌, sym, ap, refl}
+use Rattle.std.proofs.Common.{refl}
 use Rattle.ccr_interleave.proofs.TableSteps.{admitted-there, shared-counted, alone-counted, over, sets_over}
 use Rattle.ccr_interleave.proofs.interleave.InterleaveObject.over.Goals as goal
 

@@ -1,4 +1,4 @@
-use Rattle.std.proofs.Common.{◌≡◌, ◌∙◌, ap, refl}
+use Rattle.std.proofs.Common.{◌∙◌, ap, refl}
 use Rattle.std.specs.Map.{keys_of}
 use Rattle.ccr_interleave.proofs.TableSteps.{cleared, absent, keys-new, fired, sets_fired}
 use Rattle.ccr_interleave.proofs.interleave.InterleaveObject.tear_down.Goals as goal

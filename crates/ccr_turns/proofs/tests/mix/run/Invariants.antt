@@ -1,4 +1,3 @@
-use Rattle.std.proofs.Common.{◌≡◌}
 use Rattle.ccr_turns.specs.Locks.{IsSeatOf}
 use Rattle.ccr_turns.proofs.tests.mix.run.Given as goal
 

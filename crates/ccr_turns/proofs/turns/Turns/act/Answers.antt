@@ -1,7 +1,6 @@
-use Rattle.std.proofs.Common.{◌≡◌, ℕ, ◌+◌, ◌*◌, ◌^◌, ◌<◌, ◌≤◌, max, List, [], ◌∷◌, ◌++◌, ◌∙◌, sym, refl, ap, subst, arith}
-use mathlib.Core.Option.{some}
+use Rattle.std.proofs.Common.{◌+◌, max, [], ◌∷◌, ◌++◌, ◌∙◌, sym, ap, arith}
 use lib.ListN.{get_elem?}
-use Rattle.ccr_turns.specs.Logs.{log, mark, log_stamps, marks_of}
+use Rattle.ccr_turns.specs.Logs.{log, mark, marks_of}
 use Rattle.ccr_turns.specs.Lists.{last_of}
 use Rattle.ccr_turns.specs.Histories.{history_stamps}
 use Rattle.ccr_turns.specs.Locks.{log_of}

@@ -1,10 +1,9 @@
-use Rattle.std.proofs.Common.{◌≡◌, ℕ, ◌<◌, List, ◌∷◌, [], ◌++◌, ◌∙◌, map, length, sym, ap, subst, refl}
-use Rattle.std.specs.List.{AllZip}
+use Rattle.std.proofs.Common.{List, ◌∙◌, map, sym, ap, subst}
 use Rattle.std.specs.Slots.{slots_items}
 use Rattle.atomic_table.proofs.Lists.{at_map}
 use Rattle.ccr_turns.specs.Lists.{total}
 use Rattle.ccr_turns.specs.Seated.{Lifted}
-use Rattle.ccr_turns.specs.Locks.{number_of, full_log, IsLeft, Agrees}
+use Rattle.ccr_turns.specs.Locks.{full_log, Agrees}
 use Rattle.ccr_turns.proofs.Rows.{all_from, count-map, only}
 use Rattle.ccr_turns.proofs.Ends.{has_cells, left_over, agrees, borne}
 use Rattle.ccr_turns.proofs.turns.Turns.close.Goals as goal

@@ -1,10 +1,9 @@
-use Rattle.std.proofs.Common.{◌≡◌, ◌<◌, ◌^◌, ◌∷◌, ◌∙◌, None, length, ap, sym, subst, Some, arith}
+use Rattle.std.proofs.Common.{◌∷◌, ◌∙◌, None, ap, sym, Some, arith}
 use Rattle.atomic_table.specs.Table.{rest}
 use Rattle.ccr_turns.specs.Views.{view}
 use Rattle.ccr_turns.specs.Logs.{noted, mark}
 use Rattle.ccr_turns.specs.Lists.{last_of}
 use Rattle.ccr_turns.specs.Histories.{history_stamps}
-use Rattle.ccr_turns.specs.declared.history.View.{View}
 use Rattle.ccr_turns.proofs.Keeps.{enters_at}
 use Rattle.ccr_turns.proofs.turns.Turns.enter.Goals as goal
 

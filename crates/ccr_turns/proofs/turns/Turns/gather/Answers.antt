@@ -1,7 +1,7 @@
-use Rattle.std.proofs.Common.{rules, ◌≡◌, List, [], ◌∷◌, ◌++◌, ◌∙◌, refl, sym, ap, subst, map, None, Some, length, append_assoc}
+use Rattle.std.proofs.Common.{rules, ◌≡◌, List, [], ◌∷◌, ◌++◌, ◌∙◌, refl, sym, ap, map, Some, append_assoc}
 use Rattle.std.proofs.lemmas.List.Elements.{All-pop}
 use Rattle.ccr_turns.specs.Locks.{IsSeatOf, full_log}
-use Rattle.ccr_turns.proofs.Acting.{at_rest, one_log}
+use Rattle.ccr_turns.proofs.Acting.{at_rest}
 use Rattle.ccr_turns.proofs.Rows.{none_left}
 use Rattle.ccr_turns.proofs.turns.Turns.gather.Goals as goal
 

@@ -1,5 +1,4 @@
-use Rattle.std.proofs.Common.{◌≡◌, ◌<◌, ◌∷◌, ◌∙◌, ap, sym, subst, Some}
-use Rattle.atomic_table.specs.Table.{rest}
+use Rattle.std.proofs.Common.{◌∙◌}
 use Rattle.ccr_turns.proofs.Keeps.{leaves_at}
 use Rattle.ccr_turns.proofs.turns.Turns.leave.Goals as goal
 

@@ -1,4 +1,4 @@
-use Rattle.std.proofs.Common.{◌≡◌, ◌<◌, ◌∙◌, sym, subst}
+use Rattle.std.proofs.Common.{◌∙◌, subst}
 use Rattle.ccr_turns.specs.Seated.{Won}
 use Rattle.ccr_turns.proofs.Acting.{ready_again}
 use Rattle.ccr_turns.proofs.turns.Turns.look.Goals as goal

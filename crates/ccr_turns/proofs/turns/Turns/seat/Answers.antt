@@ -1,4 +1,4 @@
-use Rattle.std.proofs.Common.{◌≡◌, ◌<◌, ◌∙◌, ap, sym, subst, refl}
+use Rattle.std.proofs.Common.{◌<◌, ap, sym, subst}
 use Rattle.ccr_turns.proofs.Ends.{splits}
 use Rattle.ccr_turns.proofs.turns.Turns.seat.Goals as goal
 

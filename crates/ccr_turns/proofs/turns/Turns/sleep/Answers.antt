@@ -1,4 +1,4 @@
-use Rattle.std.proofs.Common.{◌≡◌, ◌<◌, ◌∙◌, sym, subst, ap}
+use Rattle.std.proofs.Common.{◌<◌, ◌∙◌, sym, subst}
 use Rattle.ccr_turns.specs.Seated.{Won}
 use Rattle.ccr_turns.proofs.Keeps.{waits}
 use Rattle.ccr_turns.proofs.Acting.{ready_again, won_lock}

@@ -1,4 +1,4 @@
-use Rattle.std.proofs.Common.{◌≡◌, ◌<◌, sym, subst}
+use Rattle.std.proofs.Common.{◌<◌, sym, subst}
 use Rattle.ccr_turns.proofs.Ends.{joins}
 use Rattle.ccr_turns.proofs.turns.Turns.take_over.Goals as goal
 

@@ -1,4 +1,4 @@
-use Rattle.std.proofs.Common.{rules, ◌≡◌, ◌<◌, sym, subst}
+use Rattle.std.proofs.Common.{◌<◌, sym, subst}
 use Rattle.ccr_turns.proofs.Keeps.{wins}
 use Rattle.ccr_turns.proofs.Acting.{tried}
 use Rattle.ccr_turns.proofs.turns.Turns.try_lock.Goals as goal

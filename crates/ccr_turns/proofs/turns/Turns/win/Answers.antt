@@ -1,4 +1,4 @@
-use Rattle.std.proofs.Common.{◌≡◌, ◌<◌, ◌∷◌, ◌∙◌, ap, sym, Some}
+use Rattle.std.proofs.Common.{◌∷◌, ◌∙◌, ap, sym, Some}
 use Rattle.atomic_table.specs.Table.{rest}
 use Rattle.ccr_turns.proofs.turns.Turns.win.Goals as goal
 

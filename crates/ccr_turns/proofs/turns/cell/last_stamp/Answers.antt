@@ -1,4 +1,4 @@
-use Rattle.std.proofs.Common.{◌≡◌, ◌-◌, ◌∙◌, sym, length, subst, Some, List}
+use Rattle.std.proofs.Common.{◌≡◌, ◌-◌, sym, length, subst, Some, List}
 use Rattle.std.specs.Prelude.{slice_get}
 use Rattle.ccr_turns.proofs.Rows.{last_entry}
 use Rattle.ccr_turns.proofs.turns.cell.last_stamp.Goals as goal

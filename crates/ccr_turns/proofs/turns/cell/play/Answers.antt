@@ -1,4 +1,4 @@
-use Rattle.std.proofs.Common.{◌≡◌, ◌+◌, ◌++◌, ◌∷◌, [], ◌∙◌, ap, refl, arith}
+use Rattle.std.proofs.Common.{◌+◌, ◌++◌, ◌∷◌, [], ◌∙◌, ap, refl, arith}
 use Rattle.ccr_turns.proofs.turns.cell.play.Goals as goal
 
 pub returns-clause-acted : goal.returns-clause-acted

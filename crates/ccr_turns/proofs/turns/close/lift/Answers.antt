@@ -1,5 +1,5 @@
-use Rattle.std.proofs.Common.{rules, ◌≡◌, ℕ, ◌+◌, ◌<◌, ◌≤◌, length, ◌++◌, [], ◌∷◌, List, false, true, ◌∙◌, sym, ap, subst, refl, arith, set, get_or, get_or-set_other, get_or-set_same, Some, None}
-use Rattle.std.specs.Slots.{slots_items, slots_filled, slots_len, slots_counts}
+use Rattle.std.proofs.Common.{◌≡◌, ℕ, ◌+◌, ◌<◌, ◌≤◌, length, List, false, ◌∙◌, sym, ap, subst, arith, set, get_or, get_or-set_other, get_or-set_same, Some}
+use Rattle.std.specs.Slots.{slots_items, slots_filled, slots_counts}
 use mathlib.Core.Logic.{dite}
 use mathlib.Core.Option.{some, some-injective}
 use native.Mathlib.Decide.{ℕ_discrete}

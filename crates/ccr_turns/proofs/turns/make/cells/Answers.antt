@@ -1,4 +1,4 @@
-use Rattle.std.proofs.Common.{◌≡◌, ◌+◌, ◌≤◌, ◌++◌, ◌∷◌, [], ◌∙◌, List, length, length-append, append_assoc, ap, sym, subst, refl}
+use Rattle.std.proofs.Common.{◌+◌, ◌≤◌, ◌++◌, ◌∷◌, [], ◌∙◌, List, length, length-append, append_assoc, ap, sym, subst, refl}
 use Rattle.std.proofs.Common.{Some}
 use Rattle.std.specs.List.{AllZip}
 use Rattle.ccr_turns.specs.Seated.{IsLaid}

@@ -1,4 +1,4 @@
-use Rattle.std.proofs.Common.{◌≡◌, ◌+◌, ◌++◌, ◌≤◌, length, vec_len, vec_capacity}
+use Rattle.std.proofs.Common.{◌≡◌, ◌++◌, ◌≤◌, length, vec_len, vec_capacity}
 use Rattle.std.specs.List.{AllZip}
 use Rattle.ccr_turns.specs.Seated.{IsLaid}
 use Rattle.ccr_turns.proofs.turns.make.cells.Given as goal
