@@ -53,9 +53,9 @@ list_any_same p q same (x ∷ xs) = ap (λ (b : Bool). b || list_any p xs) (same
 pub message_inserted : (old new : List MsgId) (key name : MsgId) → list_any (names.eq name) new ≡ cond (names.eq key name) true (list_any (names.eq name) old) → list_any (same_message name) new ≡ cond (same_message key name) true (list_any (same_message name) old)
 message_inserted old new key name updates =
     sym (list_any_same (names.eq name) (same_message name) (derived_message name) new)
-        ∙ updates
-        ∙ ap (λ (b : Bool). cond b true (list_any (names.eq name) old)) (derived_message key name)
-        ∙ ap (λ (b : Bool). cond (same_message key name) true b) (list_any_same (names.eq name) (same_message name) (derived_message name) old)
+    ∙ updates
+    ∙ ap (λ (b : Bool). cond b true (list_any (names.eq name) old)) (derived_message key name)
+    ∙ ap (λ (b : Bool). cond (same_message key name) true b) (list_any_same (names.eq name) (same_message name) (derived_message name) old)
 
 -- the derived comparison of tasks is the test of their names
 pub derived_task : (s t : TaskId) → tasks.eq s t ≡ same_task s t

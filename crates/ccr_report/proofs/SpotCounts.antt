@@ -40,10 +40,10 @@ same_key-spots (spots.Site b k) (spots.Site c l) = refl
 pub key_counted : (old new : List (SpotKey × ℕ)) (k q : SpotKey) (n : ℕ) → n ≡ unwrap_or (lookup (same_key k) old) 0 → lookup (keys.eq q) new ≡ cond (keys.eq k q) (Some (n + 1)) (lookup (keys.eq q) old) → unwrap_or (lookup (same_key q) new) 0 ≡ unwrap_or (lookup (same_key q) old) 0 + cond (same_key k q) 1 0
 key_counted old new k q n is updates =
     let found : lookup (same_key q) new ≡ cond (same_key k q) (Some (n + 1)) (lookup (same_key q) old) =
-        sym (lookup_same (keys.eq q) (same_key q) (derived_key q) new)
-            ∙ updates
-            ∙ ap (λ (b : Bool). cond b (Some (n + 1)) (lookup (keys.eq q) old)) (derived_key k q)
-            ∙ ap (λ (o : Option ℕ). cond (same_key k q) (Some (n + 1)) o) (lookup_same (keys.eq q) (same_key q) (derived_key q) old)
+    sym (lookup_same (keys.eq q) (same_key q) (derived_key q) new)
+    ∙ updates
+    ∙ ap (λ (b : Bool). cond b (Some (n + 1)) (lookup (keys.eq q) old)) (derived_key k q)
+    ∙ ap (λ (o : Option ℕ). cond (same_key k q) (Some (n + 1)) o) (lookup_same (keys.eq q) (same_key q) (derived_key q) old)
     in
     ap (λ (o : Option ℕ). unwrap_or o 0) found ∙ of_test (same_key k q) refl
   where

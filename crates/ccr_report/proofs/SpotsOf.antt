@@ -18,8 +18,8 @@ option_map-or f (Some x) p = refl
 pub spot_of-append : (events more : List Event) (task : TaskId) → spot_of (events ++ more) task ≡ option_or (spot_of events task) (spot_of more task)
 spot_of-append events more task =
     ap (λ (fs : List Firing). option_map (λ (f : Firing). f.spot) (find (λ (f : Firing). same_task f.task task) fs)) (flat_map-append firing_of events more)
-        ∙ ap (λ (o : Option Firing). option_map (λ (f : Firing). f.spot) o) (find-append (λ (f : Firing). same_task f.task task) (firings events) (firings more))
-        ∙ option_map-or (λ (f : Firing). f.spot) (find (λ (f : Firing). same_task f.task task) (firings events)) (find (λ (f : Firing). same_task f.task task) (firings more))
+    ∙ ap (λ (o : Option Firing). option_map (λ (f : Firing). f.spot) o) (find-append (λ (f : Firing). same_task f.task task) (firings events) (firings more))
+    ∙ option_map-or (λ (f : Firing). f.spot) (find (λ (f : Firing). same_task f.task task) (firings events)) (find (λ (f : Firing). same_task f.task task) (firings more))
 
 pub spot_of-more : (events : List Event) (i : ℕ) (d : Event) (task : TaskId) → i < length events → spot_of (take (i + 1) events) task ≡ option_or (spot_of (take i events) task) (spot_of (get_or events i d ∷ []) task)
 spot_of-more events i d task l = ap (λ (es : List Event). spot_of es task) (take_more events i d l) ∙ spot_of-append (take i events) (get_or events i d ∷ []) task

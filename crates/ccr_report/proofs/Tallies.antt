@@ -43,7 +43,7 @@ times-posted history k = times-map (λ (message : Msg). message.port) k (posts h
 pub times-held : (history : List Event) (k : ℕ) → times k (ports_of (filter (λ (message : Msg). not (has_message (taken history) message.id)) (posts history))) ≡ length (held history k)
 times-held history k =
     times-map (λ (message : Msg). message.port) k (filter (λ (message : Msg). not (has_message (taken history) message.id)) (posts history))
-        ∙ ap length (filter_twice (λ (message : Msg). message.port == k) (λ (message : Msg). not (has_message (taken history) message.id)) (posts history))
+    ∙ ap length (filter_twice (λ (message : Msg). message.port == k) (λ (message : Msg). not (has_message (taken history) message.id)) (posts history))
 
 -- the same, where some members have no number
 pub times-some : {X : Type 0} (f : X → Option ℕ) (test : X → Bool) (k : ℕ) → ((x : X) → test x ≡ option_map_or (λ n. n == k) (f x) false) → (xs : List X) → times k (flat_map (λ x. option_to_list (f x)) xs) ≡ length (filter test xs)
@@ -71,8 +71,8 @@ pub branch_queues_seats : (number : ℕ) (arbiters : List ArbiterPart) → flat_
 branch_queues_seats number [] = refl
 branch_queues_seats number (arbiter ∷ arbiters) =
     ap (λ (queues : List ℕ). queues ++ flat_map queues_in arbiters) (seats_queues number arbiter arbiter.branches)
-        ∙ ap (λ (queues : List ℕ). map (λ (s : Seat). s.branch.queue) (seats_of number arbiter) ++ queues) (branch_queues_seats (number + 1) arbiters)
-        ∙ sym (map-both (λ (s : Seat). s.branch.queue) (seats_of number arbiter) (seats_from (number + 1) arbiters))
+    ∙ ap (λ (queues : List ℕ). map (λ (s : Seat). s.branch.queue) (seats_of number arbiter) ++ queues) (branch_queues_seats (number + 1) arbiters)
+    ∙ sym (map-both (λ (s : Seat). s.branch.queue) (seats_of number arbiter) (seats_from (number + 1) arbiters))
 
 pub map_or-map : {X Y : Type 0} (f : X → Y) (g : Y → Bool) (o : Option X) → option_map_or g (option_map f o) false ≡ option_map_or (λ x. g (f x)) o false
 map_or-map f g None = refl
@@ -88,16 +88,16 @@ pub for_queue : (wiring : Parts) (k : ℕ) (fired : Option Spot) → option_map_
 for_queue wiring k None = refl
 for_queue wiring k (Some spot) =
     sym (map_or-map (λ (s : Seat). s.branch.queue) (λ n. n == k) (seat wiring (branch_of spot)))
-        ∙ ap (λ (o : Option ℕ). option_map_or (λ n. n == k) o false)
-            (sym (slice_get-mapped (λ (s : Seat). s.branch.queue) (seats wiring) (branch_of spot))
-                ∙ ap (λ (queues : List ℕ). slice_get queues (branch_of spot)) (sym (branch_queues_seats 0 wiring.arbiters)))
+    ∙ ap (λ (o : Option ℕ). option_map_or (λ n. n == k) o false)
+    (sym (slice_get-mapped (λ (s : Seat). s.branch.queue) (seats wiring) (branch_of spot))
+    ∙ ap (λ (queues : List ℕ). slice_get queues (branch_of spot)) (sym (branch_queues_seats 0 wiring.arbiters)))
 
 -- the tasks of a queue, by the spots at which they fired
 pub times-queue : (wiring : Parts) (history : List Event) (k : ℕ) (fired : TaskId → Option Spot) → ((task : TaskId) → fired task ≡ spot_of history task) → (tasks : List TaskId) → times k (flat_map (λ task. option_to_list (option_and_then (λ spot. slice_get (branch_queues wiring) (branch_of spot)) (fired task))) tasks) ≡ length (filter (is_for_queue wiring history k) tasks)
 times-queue wiring history k fired known tasks =
     times-some (λ task. option_and_then (λ spot. slice_get (branch_queues wiring) (branch_of spot)) (fired task)) (is_for_queue wiring history k) k
-        (λ task. for_queue wiring k (spot_of history task) ∙ ap (λ (o : Option Spot). option_map_or (λ n. n == k) (option_and_then (λ spot. slice_get (branch_queues wiring) (branch_of spot)) o) false) (sym (known task)))
-        tasks
+    (λ task. for_queue wiring k (spot_of history task) ∙ ap (λ (o : Option Spot). option_map_or (λ n. n == k) (option_and_then (λ spot. slice_get (branch_queues wiring) (branch_of spot)) o) false) (sym (known task)))
+    tasks
 
 -- what a port held no longer was taken from it
 pub taken_left : (history : List Event) (k : ℕ) → length (taken_at history k) ≡ length (posted history k) - length (held history k)

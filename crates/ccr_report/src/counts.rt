@@ -12,11 +12,7 @@ use ccr_wiring::Wiring;
 use std::alloc::Global;
 
 /// How often each thing happened in the history (docs/FORMATS.md, "The report").
-pub fn totals(
-    alloc: Global,
-    _wiring: &Wiring,
-    history: &History,
-) -> Result<Totals, OutOfMemory>
+pub fn totals(alloc: Global, _wiring: &Wiring, history: &History) -> Result<Totals, OutOfMemory>
     ensures { IfOk result (λ found. found ≡ totals history.now) }
 {
     totals_of(alloc, history.events())
@@ -82,7 +78,11 @@ fn done_count(events: &[Event]) -> u64
 {
     let mut count: u64 = 0;
     for event in events {
-        if let Event::End { how: EndHow::Done, .. } = event {
+        if let Event::End {
+            how: EndHow::Done,
+            ..
+        } = event
+        {
             count += 1;
         }
     }
@@ -94,7 +94,11 @@ fn failed_count(events: &[Event]) -> u64
 {
     let mut count: u64 = 0;
     for event in events {
-        if let Event::End { how: EndHow::Failed(_), .. } = event {
+        if let Event::End {
+            how: EndHow::Failed(_),
+            ..
+        } = event
+        {
             count += 1;
         }
     }
@@ -106,7 +110,11 @@ fn shed_count(events: &[Event]) -> u64
 {
     let mut count: u64 = 0;
     for event in events {
-        if let Event::End { how: EndHow::Shed, .. } = event {
+        if let Event::End {
+            how: EndHow::Shed,
+            ..
+        } = event
+        {
             count += 1;
         }
     }
@@ -118,7 +126,11 @@ fn yield_count(events: &[Event]) -> u64
 {
     let mut count: u64 = 0;
     for event in events {
-        if let Event::End { how: EndHow::Yield, .. } = event {
+        if let Event::End {
+            how: EndHow::Yield,
+            ..
+        } = event
+        {
             count += 1;
         }
     }

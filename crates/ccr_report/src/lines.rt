@@ -67,7 +67,14 @@ fn put_ports(
     for (port, name) in ports.iter().enumerate() {
         let posted = counts.posted[port];
         let held = counts.held[port];
-        put_port(alloc, out, name.as_slice(), posted, posted.saturating_sub(held), held)?;
+        put_port(
+            alloc,
+            out,
+            name.as_slice(),
+            posted,
+            posted.saturating_sub(held),
+            held,
+        )?;
     }
     Ok(())
 }
@@ -113,7 +120,10 @@ fn put_spots(
     for spot in spots {
         let word = spot_text(alloc, branches.as_slice(), *spot)?;
         let fired = count_at(&counts, *spot).to_string(alloc)?;
-        put_line(out, &[b"branch", word.as_slice(), b"fired", fired.as_bytes()])?;
+        put_line(
+            out,
+            &[b"branch", word.as_slice(), b"fired", fired.as_bytes()],
+        )?;
     }
     Ok(())
 }
@@ -129,7 +139,13 @@ fn put_queues(
     let counts = queue_counts(alloc, events, parts)?;
     let queues = parts.queues.as_slice();
     for (queue, part) in queues.iter().enumerate() {
-        put_queue(alloc, out, part.name.as_slice(), counts.put[queue], counts.dropped[queue])?;
+        put_queue(
+            alloc,
+            out,
+            part.name.as_slice(),
+            counts.put[queue],
+            counts.dropped[queue],
+        )?;
     }
     Ok(())
 }

@@ -29,10 +29,7 @@ fn key_of(spot: Spot) -> SpotKey
 }
 
 /// How often each spot fired.
-pub fn firings_at(
-    alloc: Global,
-    events: &[Event],
-) -> Result<HashMap<SpotKey, u64>, OutOfMemory>
+pub fn firings_at(alloc: Global, events: &[Event]) -> Result<HashMap<SpotKey, u64>, OutOfMemory>
     ensures { IfOk result (λ counts. (spot : Place) → unwrap_or (get same_key counts (key_of spot)) 0 ≡ length (fired_at events.now spot)) }
 {
     let mut counts = HashMap::new(alloc);

@@ -31,11 +31,7 @@ pub struct QueueCounts {
     pub dropped: Vec<u64>,
 }
 
-pub fn port_counts(
-    alloc: Global,
-    events: &[Event],
-    ports: usize,
-) -> Result<PortCounts, OutOfMemory>
+pub fn port_counts(alloc: Global, events: &[Event], ports: usize) -> Result<PortCounts, OutOfMemory>
     ensures posted_len { IfOk result (λ counts. length counts.posted.items ≡ ports) }
     ensures held_len { IfOk result (λ counts. length counts.held.items ≡ ports) }
     ensures posted { IfOk result (λ counts. (k : ℕ) → k < ports → slice_index counts.posted.items k ≡ length (posted events.now k)) }

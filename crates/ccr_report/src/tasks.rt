@@ -60,10 +60,7 @@ pub fn dropped(alloc: Global, events: &[Event]) -> Result<Vec<TaskId>, OutOfMemo
 }
 
 /// Where each task fired.
-pub fn spots_of_tasks(
-    alloc: Global,
-    events: &[Event],
-) -> Result<HashMap<TaskId, Spot>, OutOfMemory>
+pub fn spots_of_tasks(alloc: Global, events: &[Event]) -> Result<HashMap<TaskId, Spot>, OutOfMemory>
     ensures { IfOk result (λ spots. (task : Named) → get same_task spots task ≡ spot_of events.now task) }
 {
     let mut spots = HashMap::new(alloc);
@@ -83,11 +80,7 @@ fn note_firing(spots: &mut HashMap<TaskId, Spot>, event: &Event) -> Result<(), O
 }
 
 /// Notes where the task fired, where that isn't known yet.
-fn note_spot(
-    spots: &mut HashMap<TaskId, Spot>,
-    task: TaskId,
-    spot: Spot,
-) -> Result<(), OutOfMemory>
+fn note_spot(spots: &mut HashMap<TaskId, Spot>, task: TaskId, spot: Spot) -> Result<(), OutOfMemory>
     ensures { OnOk result ((other : Named) → get same_task spots.new other ≡ option_or (get same_task spots.old other) (if same_task task other then Some spot else None)) }
 {
     if !spots.contains_key(&task) {
@@ -125,11 +118,7 @@ fn branch_of(spot: Spot) -> BranchNo
 }
 
 /// The task's queue.
-fn queue_of(
-    spots: &HashMap<TaskId, Spot>,
-    queues: &[QueueNo],
-    task: TaskId,
-) -> Option<QueueNo>
+fn queue_of(spots: &HashMap<TaskId, Spot>, queues: &[QueueNo], task: TaskId) -> Option<QueueNo>
     ensures { result ≡ option_and_then (λ spot. slice_get queues.now (branch_of spot)) (get same_task spots.now task) }
 {
     let spot = spots.get(&task)?;

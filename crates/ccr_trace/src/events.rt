@@ -116,11 +116,7 @@ fn put_task_line(out: &mut List<u8>, word: &[u8], task: TaskId) -> Result<(), Ou
     put_bytes(out, b"\n")
 }
 
-fn put_put(
-    out: &mut List<u8>,
-    task: TaskId,
-    dropped: Option<TaskId>,
-) -> Result<(), OutOfMemory>
+fn put_put(out: &mut List<u8>, task: TaskId, dropped: Option<TaskId>) -> Result<(), OutOfMemory>
     ensures { OnOk result (out.new ≡ out.old ++ line_text (codes "put" ∷ task_word task ∷ dropped_words dropped)) }
 {
     let Some(dropped) = dropped else {

@@ -9,3 +9,6 @@ mod writing;
 pub use names::branch_names;
 pub use words::spot_text;
 pub use writing::write_history;
+
+#[cfg(test)]
+mod tests;

@@ -50,11 +50,7 @@ pub fn put_message(out: &mut List<u8>, message: MsgId) -> Result<(), OutOfMemory
 }
 
 /// The word for the spot: its branch's name, or NAME@K for the branch's site K. `branches` are the names of all branches.
-pub fn spot_text(
-    alloc: Global,
-    branches: &[Name],
-    spot: Spot,
-) -> Result<List<u8>, OutOfMemory>
+pub fn spot_text(alloc: Global, branches: &[Name], spot: Spot) -> Result<List<u8>, OutOfMemory>
     ensures { IfOk result (λ word. word ≡ spot_word branches.now spot) }
 {
     let mut word = List::new(alloc);

@@ -10,8 +10,8 @@ use Rattle.ccr_report.proofs.counts.totals_of.Goals as goal
 pub returns-clause-held : goal.returns-clause-held
 returns-clause-held c =
     let held : length c.in_ok-held.held.items ≡ length (filter (λ (message : Msg). not (has_message (taken c.args.events.now) message.id)) (posts c.args.events.now)) =
-        ap length c.in_ok-held.ensures
-            ∙ length-map _ _
-            ∙ ap (λ (names : List MsgId). length (filter (λ (message : Msg). not (has_message names message.id)) (posts c.args.events.now))) (c.deref.ensures.value ∙ c.in_ok-taken.ensures)
+    ap length c.in_ok-held.ensures
+    ∙ length-map _ _
+    ∙ ap (λ (names : List MsgId). length (filter (λ (message : Msg). not (has_message names message.id)) (posts c.args.events.now))) (c.deref.ensures.value ∙ c.in_ok-taken.ensures)
     in
     grind (arith, common_steps, held, c.len-3.ensures)

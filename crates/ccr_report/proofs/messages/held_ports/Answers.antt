@@ -8,4 +8,4 @@ use Rattle.ccr_report.proofs.messages.held_ports.Goals as goal
 pub returns : goal.returns
 returns c =
     c.in_ok-ports.ensures
-        ∙ ap ports_of (filter_agree _ _ (λ (message : Msg). ap (λ (b : Bool). not b) (c.in_ok-taken.ensures message.id)) (posts c.args.events.now))
+    ∙ ap ports_of (filter_agree _ _ (λ (message : Msg). ap (λ (b : Bool). not b) (c.in_ok-taken.ensures message.id)) (posts c.args.events.now))

@@ -11,6 +11,6 @@ count_event-requires c = λ spot. grind (arith, common_steps, c.loop-event.invar
 pub loop-event-preserved : goal.loop-event-preserved
 loop-event-preserved c = λ spot.
     c.in_ok-count_event.ensures spot
-        ∙ ap (λ (n : ℕ). n + length (fired_at (c.event-item.result ∷ []) spot)) (c.loop-event.invariant spot)
-        ∙ ap (λ (event : Event). length (fired_at (take c.loop-event.event-index c.args.events.now) spot) + length (fired_at (event ∷ []) spot)) c.event-item.is
-        ∙ sym (fired_at-more c.args.events.now c.loop-event.event-index c.event-item.result spot c.loop-event-test.true)
+    ∙ ap (λ (n : ℕ). n + length (fired_at (c.event-item.result ∷ []) spot)) (c.loop-event.invariant spot)
+    ∙ ap (λ (event : Event). length (fired_at (take c.loop-event.event-index c.args.events.now) spot) + length (fired_at (event ∷ []) spot)) c.event-item.is
+    ∙ sym (fired_at-more c.args.events.now c.loop-event.event-index c.event-item.result spot c.loop-event-test.true)

@@ -6,5 +6,5 @@ use Rattle.ccr_trace.proofs.events.put_post.Goals as goal
 pub returns : goal.returns
 returns c =
     IfOk-equal _ _ _ _ c.put_bytes-2.ensures.ok
-        (rw (c.in_ok-put_causes.ensures, c.in_ok-put_number_word.ensures, c.in_ok-put_word.ensures, c.in_ok-put_message.ensures, c.in_ok-put_bytes.ensures.ok, c.name_at.ensures, c.as_slice.ensures, c.as_slice-2.ensures, c.as_slice-3.ensures)
-            (post_line _ _ _ _ _))
+    (rw (c.in_ok-put_causes.ensures, c.in_ok-put_number_word.ensures, c.in_ok-put_word.ensures, c.in_ok-put_message.ensures, c.in_ok-put_bytes.ensures.ok, c.name_at.ensures, c.as_slice.ensures, c.as_slice-2.ensures, c.as_slice-3.ensures)
+    (post_line _ _ _ _ _))
