@@ -12,7 +12,7 @@ use Rattle.ccr_base.specs.declared.names.MsgId.TheVariants.{Script, Task}
 use Rattle.ccr_base.specs.declared.messages.Msg.{Msg}
 use Rattle.ccr_wiring.specs.declared.parts.Parts.{Parts}
 use Rattle.ccr_wiring.specs.declared.parts.PosterPart.{PosterPart}
-use Rattle.ccr_wiring.specs.Limits.{script_count}
+use Rattle.ccr_wiring.specs.Limits.{posts_in_all}
 use Rattle.ccr_model.specs.declared.history.Event.{Event}
 use Rattle.ccr_model.specs.declared.history.Event.TheVariants.{Post, Fire, Admit, Put, Start, End}
 use Rattle.ccr_model.specs.Posts.{posts, post_of, is_script_of, is_task_message, posts_of_poster}
@@ -69,7 +69,7 @@ lines_left_first n (p ∷ ps) = rw (sum_by-cons (λ x. x) (length p.posts) (map 
 
 -- what is known of the posts
 pub record ArePosted (w : Parts) (ms : List Msg) : Type 0 where
-  pub lines : script_messages ms + lines_left ms 0 w.posters ≤ script_count w
+  pub lines : script_messages ms + lines_left ms 0 w.posters ≤ posts_in_all w.posters
   pub budget : task_messages ms ≤ w.budget
   pub whole : (n : ℕ) (p : PosterPart) → slice_get w.posters n ≡ Some p → lines_of ms n ≤ length p.posts
 
@@ -147,5 +147,5 @@ ArePosted_kept w h (End t how) known allowed = rw (posts-push, append-nil) known
 pub ArePosted-legal : (w : Parts) (h : List Event) → IsLegal w h → ArePosted w (posts h)
 ArePosted-legal w h legal = along w (λ g. ArePosted w (posts g)) (ArePosted_kept w) (record { lines = rw (lines_left_first 0 w.posters) (omega arith); budget = omega arith; whole = λ n p at. omega arith }) h legal
 
-pub few_posts : (w : Parts) (h : List Event) → IsLegal w h → length (posts h) ≤ script_count w + w.budget
+pub few_posts : (w : Parts) (h : List Event) → IsLegal w h → length (posts h) ≤ posts_in_all w.posters + w.budget
 few_posts w h legal = let known = ArePosted-legal w h legal in omega (arith, known.lines, known.budget, both_kinds (posts h))

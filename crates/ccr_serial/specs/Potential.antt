@@ -6,7 +6,7 @@ use Rattle.ccr_base.specs.declared.patterns.Pattern.{Pattern}
 use Rattle.ccr_base.specs.declared.patterns.Pattern.TheVariants.{Slots, Gather}
 use Rattle.ccr_wiring.specs.declared.parts.Parts.{Parts}
 use Rattle.ccr_wiring.specs.Wirings.{Seat, seat}
-use Rattle.ccr_wiring.specs.Limits.{script_count}
+use Rattle.ccr_wiring.specs.Limits.{posts_in_all}
 use Rattle.ccr_model.specs.declared.history.Event.{Event}
 
 -- whether a choice by the pattern has at least one message
@@ -20,7 +20,7 @@ TakesSome wiring = (branch : ℕ) (s : Seat) → seat wiring branch ≡ Some s �
 
 -- each message that may be posted makes at most six events: its post, and the firing that takes it with the admission, the put, the start and the end of that task
 unfoldable pub most_events : Parts → ℕ
-most_events wiring = 6 * (script_count wiring + wiring.budget)
+most_events wiring = 6 * (posts_in_all wiring.posters + wiring.budget)
 
 -- no more events than these come
 abbrev pub potential : Parts → List Event → ℕ
