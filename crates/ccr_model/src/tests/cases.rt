@@ -18,22 +18,22 @@ const C: PortNo = 2;
 
 const D: PortNo = 3;
 
-const T0: TaskId = TaskId {
+const TASK_0: TaskId = TaskId {
     actor: 1,
     attempt: 0,
 };
 
-const T1: TaskId = TaskId {
+const TASK_1: TaskId = TaskId {
     actor: 1,
     attempt: 1,
 };
 
-const T2: TaskId = TaskId {
+const TASK_2: TaskId = TaskId {
     actor: 1,
     attempt: 2,
 };
 
-const T3: TaskId = TaskId {
+const TASK_3: TaskId = TaskId {
     actor: 1,
     attempt: 3,
 };
@@ -43,24 +43,39 @@ const OF_ACTOR_33: TaskId = TaskId {
     attempt: 0,
 };
 
-const S0: MsgId = MsgId::Script { actor: 0, place: 0 };
+const LINE_0: MsgId = MsgId::Script { actor: 0, place: 0 };
 
-const S1: MsgId = MsgId::Script { actor: 0, place: 1 };
+const LINE_1: MsgId = MsgId::Script { actor: 0, place: 1 };
 
-const S2: MsgId = MsgId::Script { actor: 0, place: 2 };
+const LINE_2: MsgId = MsgId::Script { actor: 0, place: 2 };
 
-const S3: MsgId = MsgId::Script { actor: 0, place: 3 };
+const LINE_3: MsgId = MsgId::Script { actor: 0, place: 3 };
 
 /// The first post of each task, and the second of the first.
-const M0: MsgId = MsgId::Task { task: T0, place: 0 };
+const POST_0: MsgId = MsgId::Task {
+    task: TASK_0,
+    place: 0,
+};
 
-const M1: MsgId = MsgId::Task { task: T1, place: 0 };
+const POST_1: MsgId = MsgId::Task {
+    task: TASK_1,
+    place: 0,
+};
 
-const M2: MsgId = MsgId::Task { task: T2, place: 0 };
+const POST_2: MsgId = MsgId::Task {
+    task: TASK_2,
+    place: 0,
+};
 
-const M3: MsgId = MsgId::Task { task: T3, place: 0 };
+const POST_3: MsgId = MsgId::Task {
+    task: TASK_3,
+    place: 0,
+};
 
-const SECOND_OF_T0: MsgId = MsgId::Task { task: T0, place: 1 };
+const SECOND_POST_0: MsgId = MsgId::Task {
+    task: TASK_0,
+    place: 1,
+};
 
 const X: Spot = Spot::Branch(0);
 
@@ -92,71 +107,71 @@ const ONE_POST: Case = Case {
         posts: &[(A, 7)],
     },
     steps: &[
-        Step::Post(S0, A, 7),
-        Step::Fire(T0, X, &[S0], &[]),
-        Step::Put(T0, None),
-        Step::Start(T0, 1),
-        Step::End(T0, EndHow::Done),
+        Step::Post(LINE_0, A, 7),
+        Step::Fire(TASK_0, X, &[LINE_0], &[]),
+        Step::Put(TASK_0, None),
+        Step::Start(TASK_0, 1),
+        Step::End(TASK_0, EndHow::Done),
     ],
     wrong: &[
         Wrong {
             after: 0,
-            step: Step::Post(S0, A, 8),
+            step: Step::Post(LINE_0, A, 8),
             rule: 1,
         },
         Wrong {
             after: 1,
-            step: Step::Post(S0, A, 7),
+            step: Step::Post(LINE_0, A, 7),
             rule: 1,
         },
         Wrong {
             after: 1,
-            step: Step::Fire(OF_ACTOR_33, X, &[S0], &[]),
+            step: Step::Fire(OF_ACTOR_33, X, &[LINE_0], &[]),
             rule: 4,
         },
         Wrong {
             after: 1,
-            step: Step::Fire(T0, X, &[S1], &[]),
+            step: Step::Fire(TASK_0, X, &[LINE_1], &[]),
             rule: 6,
         },
         Wrong {
             after: 1,
-            step: Step::Fire(T0, X, &[S0], &[T0]),
+            step: Step::Fire(TASK_0, X, &[LINE_0], &[TASK_0]),
             rule: 8,
         },
         Wrong {
             after: 1,
-            step: Step::Put(T0, None),
+            step: Step::Put(TASK_0, None),
             rule: 11,
         },
         Wrong {
             after: 2,
-            step: Step::Fire(T0, X, &[S0], &[]),
+            step: Step::Fire(TASK_0, X, &[LINE_0], &[]),
             rule: 4,
         },
         Wrong {
             after: 2,
-            step: Step::Admit(T0),
+            step: Step::Admit(TASK_0),
             rule: 9,
         },
         Wrong {
             after: 2,
-            step: Step::Put(T0, Some(T0)),
+            step: Step::Put(TASK_0, Some(TASK_0)),
             rule: 12,
         },
         Wrong {
             after: 3,
-            step: Step::Start(T0, 0),
+            step: Step::Start(TASK_0, 0),
             rule: 14,
         },
         Wrong {
             after: 4,
-            step: Step::End(T0, EndHow::Shed),
+            step: Step::End(TASK_0, EndHow::Shed),
             rule: 16,
         },
         Wrong {
             after: 5,
-            step: Step::End(T0, EndHow::Done),
+            step: Step::End(TASK_0, EndHow::Done),
             rule: 15,
         },
     ],
@@ -176,16 +191,16 @@ const CHOICE: Case = Case {
         posts: &[(A, 1), (B, 2)],
     },
     steps: &[
-        Step::Post(S0, A, 1),
-        Step::Post(S1, B, 2),
-        Step::Fire(T0, X, &[S0], &[]),
-        Step::Put(T0, None),
-        Step::Start(T0, 1),
-        Step::End(T0, EndHow::Done),
+        Step::Post(LINE_0, A, 1),
+        Step::Post(LINE_1, B, 2),
+        Step::Fire(TASK_0, X, &[LINE_0], &[]),
+        Step::Put(TASK_0, None),
+        Step::Start(TASK_0, 1),
+        Step::End(TASK_0, EndHow::Done),
     ],
     wrong: &[Wrong {
         after: 3,
-        step: Step::Fire(T1, Y, &[S1], &[]),
+        step: Step::Fire(TASK_1, Y, &[LINE_1], &[]),
         rule: 5,
     }],
 };
@@ -203,24 +218,24 @@ const GATHER: Case = Case {
     shows: "a gather takes what it can from the lower port",
     wired: GATHER_WIRED,
     steps: &[
-        Step::Post(S0, A, 1),
-        Step::Post(S1, B, 2),
-        Step::Post(S2, B, 3),
-        Step::Post(S3, A, 4),
-        Step::Fire(T0, X, &[S0, S3, S1], &[]),
-        Step::Put(T0, None),
-        Step::Start(T0, 1),
-        Step::End(T0, EndHow::Done),
+        Step::Post(LINE_0, A, 1),
+        Step::Post(LINE_1, B, 2),
+        Step::Post(LINE_2, B, 3),
+        Step::Post(LINE_3, A, 4),
+        Step::Fire(TASK_0, X, &[LINE_0, LINE_3, LINE_1], &[]),
+        Step::Put(TASK_0, None),
+        Step::Start(TASK_0, 1),
+        Step::End(TASK_0, EndHow::Done),
     ],
     wrong: &[
         Wrong {
             after: 4,
-            step: Step::Fire(T0, X, &[S3, S0, S1], &[]),
+            step: Step::Fire(TASK_0, X, &[LINE_3, LINE_0, LINE_1], &[]),
             rule: 6,
         },
         Wrong {
             after: 4,
-            step: Step::Fire(T0, X, &[S0, S3], &[]),
+            step: Step::Fire(TASK_0, X, &[LINE_0, LINE_3], &[]),
             rule: 6,
         },
     ],
@@ -230,14 +245,14 @@ const GATHER_OTHER_SPLIT: Case = Case {
     shows: "another split of a gather is allowed too",
     wired: GATHER_WIRED,
     steps: &[
-        Step::Post(S0, A, 1),
-        Step::Post(S1, B, 2),
-        Step::Post(S2, B, 3),
-        Step::Post(S3, A, 4),
-        Step::Fire(T0, X, &[S0, S1, S2], &[]),
-        Step::Put(T0, None),
-        Step::Start(T0, 1),
-        Step::End(T0, EndHow::Done),
+        Step::Post(LINE_0, A, 1),
+        Step::Post(LINE_1, B, 2),
+        Step::Post(LINE_2, B, 3),
+        Step::Post(LINE_3, A, 4),
+        Step::Fire(TASK_0, X, &[LINE_0, LINE_1, LINE_2], &[]),
+        Step::Put(TASK_0, None),
+        Step::Start(TASK_0, 1),
+        Step::End(TASK_0, EndHow::Done),
     ],
     wrong: &[],
 };
@@ -253,42 +268,42 @@ const DISCARD: Case = Case {
         posts: &[(A, 1), (A, 2), (A, 3), (A, 4)],
     },
     steps: &[
-        Step::Post(S0, A, 1),
-        Step::Post(S1, A, 2),
-        Step::Post(S2, A, 3),
-        Step::Post(S3, A, 4),
-        Step::Fire(T0, X, &[S0], &[]),
-        Step::Fire(T1, X, &[S1], &[]),
-        Step::Fire(T2, X, &[S2], &[]),
-        Step::Fire(T3, X, &[S3], &[]),
-        Step::Put(T0, None),
-        Step::Put(T1, None),
-        Step::Put(T2, Some(T0)),
-        Step::Put(T3, Some(T1)),
-        Step::Start(T2, 1),
-        Step::End(T2, EndHow::Done),
-        Step::Start(T3, 1),
-        Step::End(T3, EndHow::Done),
+        Step::Post(LINE_0, A, 1),
+        Step::Post(LINE_1, A, 2),
+        Step::Post(LINE_2, A, 3),
+        Step::Post(LINE_3, A, 4),
+        Step::Fire(TASK_0, X, &[LINE_0], &[]),
+        Step::Fire(TASK_1, X, &[LINE_1], &[]),
+        Step::Fire(TASK_2, X, &[LINE_2], &[]),
+        Step::Fire(TASK_3, X, &[LINE_3], &[]),
+        Step::Put(TASK_0, None),
+        Step::Put(TASK_1, None),
+        Step::Put(TASK_2, Some(TASK_0)),
+        Step::Put(TASK_3, Some(TASK_1)),
+        Step::Start(TASK_2, 1),
+        Step::End(TASK_2, EndHow::Done),
+        Step::Start(TASK_3, 1),
+        Step::End(TASK_3, EndHow::Done),
     ],
     wrong: &[
         Wrong {
             after: 9,
-            step: Step::Put(T1, Some(T0)),
+            step: Step::Put(TASK_1, Some(TASK_0)),
             rule: 12,
         },
         Wrong {
             after: 10,
-            step: Step::Put(T2, None),
+            step: Step::Put(TASK_2, None),
             rule: 12,
         },
         Wrong {
             after: 10,
-            step: Step::Put(T2, Some(T1)),
+            step: Step::Put(TASK_2, Some(TASK_1)),
             rule: 12,
         },
         Wrong {
             after: 12,
-            step: Step::Start(T3, 1),
+            step: Step::Start(TASK_3, 1),
             rule: 13,
         },
     ],
@@ -305,26 +320,26 @@ const THROTTLE: Case = Case {
         posts: &[(A, 1), (A, 2)],
     },
     steps: &[
-        Step::Post(S0, A, 1),
-        Step::Post(S1, A, 2),
-        Step::Fire(T0, X, &[S0], &[]),
-        Step::Put(T0, None),
-        Step::Start(T0, 1),
-        Step::Fire(T1, X, &[S1], &[]),
-        Step::Put(T1, None),
-        Step::End(T0, EndHow::Done),
-        Step::Start(T1, 1),
-        Step::End(T1, EndHow::Done),
+        Step::Post(LINE_0, A, 1),
+        Step::Post(LINE_1, A, 2),
+        Step::Fire(TASK_0, X, &[LINE_0], &[]),
+        Step::Put(TASK_0, None),
+        Step::Start(TASK_0, 1),
+        Step::Fire(TASK_1, X, &[LINE_1], &[]),
+        Step::Put(TASK_1, None),
+        Step::End(TASK_0, EndHow::Done),
+        Step::Start(TASK_1, 1),
+        Step::End(TASK_1, EndHow::Done),
     ],
     wrong: &[
         Wrong {
             after: 3,
-            step: Step::Fire(T1, X, &[S1], &[]),
+            step: Step::Fire(TASK_1, X, &[LINE_1], &[]),
             rule: 7,
         },
         Wrong {
             after: 4,
-            step: Step::Fire(T1, X, &[S1], &[]),
+            step: Step::Fire(TASK_1, X, &[LINE_1], &[]),
             rule: 7,
         },
     ],
@@ -345,44 +360,44 @@ const INTERLEAVE_GROUPS: Case = Case {
         posts: &[(A, 1), (B, 2), (C, 3)],
     },
     steps: &[
-        Step::Post(S0, A, 1),
-        Step::Post(S1, B, 2),
-        Step::Post(S2, C, 3),
-        Step::Fire(T0, X, &[S0], &[]),
-        Step::Fire(T1, Y, &[S1], &[]),
-        Step::Fire(T2, Z, &[S2], &[]),
-        Step::Admit(T0),
-        Step::Put(T0, None),
-        Step::Start(T0, 1),
-        Step::End(T0, EndHow::Done),
-        Step::Admit(T1),
-        Step::Put(T1, None),
-        Step::Start(T1, 1),
-        Step::End(T1, EndHow::Done),
-        Step::Admit(T2),
-        Step::Put(T2, None),
-        Step::Start(T2, 1),
-        Step::End(T2, EndHow::Done),
+        Step::Post(LINE_0, A, 1),
+        Step::Post(LINE_1, B, 2),
+        Step::Post(LINE_2, C, 3),
+        Step::Fire(TASK_0, X, &[LINE_0], &[]),
+        Step::Fire(TASK_1, Y, &[LINE_1], &[]),
+        Step::Fire(TASK_2, Z, &[LINE_2], &[]),
+        Step::Admit(TASK_0),
+        Step::Put(TASK_0, None),
+        Step::Start(TASK_0, 1),
+        Step::End(TASK_0, EndHow::Done),
+        Step::Admit(TASK_1),
+        Step::Put(TASK_1, None),
+        Step::Start(TASK_1, 1),
+        Step::End(TASK_1, EndHow::Done),
+        Step::Admit(TASK_2),
+        Step::Put(TASK_2, None),
+        Step::Start(TASK_2, 1),
+        Step::End(TASK_2, EndHow::Done),
     ],
     wrong: &[
         Wrong {
             after: 6,
-            step: Step::Put(T0, None),
+            step: Step::Put(TASK_0, None),
             rule: 11,
         },
         Wrong {
             after: 7,
-            step: Step::Admit(T2),
+            step: Step::Admit(TASK_2),
             rule: 9,
         },
         Wrong {
             after: 9,
-            step: Step::Admit(T1),
+            step: Step::Admit(TASK_1),
             rule: 10,
         },
         Wrong {
             after: 13,
-            step: Step::Admit(T2),
+            step: Step::Admit(TASK_2),
             rule: 10,
         },
     ],
@@ -402,37 +417,37 @@ const TEARDOWN_CUTS: Case = Case {
         posts: &[(A, 1), (A, 2), (B, 3)],
     },
     steps: &[
-        Step::Post(S0, A, 1),
-        Step::Post(S1, A, 2),
-        Step::Post(S2, B, 3),
-        Step::Fire(T0, X, &[S0], &[]),
-        Step::Fire(T1, X, &[S1], &[]),
-        Step::Fire(T2, Y, &[S2], &[T0, T1]),
-        Step::Admit(T2),
-        Step::Put(T2, None),
-        Step::Start(T2, 1),
-        Step::Post(M2, A, 9),
-        Step::End(T2, EndHow::Done),
+        Step::Post(LINE_0, A, 1),
+        Step::Post(LINE_1, A, 2),
+        Step::Post(LINE_2, B, 3),
+        Step::Fire(TASK_0, X, &[LINE_0], &[]),
+        Step::Fire(TASK_1, X, &[LINE_1], &[]),
+        Step::Fire(TASK_2, Y, &[LINE_2], &[TASK_0, TASK_1]),
+        Step::Admit(TASK_2),
+        Step::Put(TASK_2, None),
+        Step::Start(TASK_2, 1),
+        Step::Post(POST_2, A, 9),
+        Step::End(TASK_2, EndHow::Done),
     ],
     wrong: &[
         Wrong {
             after: 5,
-            step: Step::Fire(T2, Y, &[S2], &[]),
+            step: Step::Fire(TASK_2, Y, &[LINE_2], &[]),
             rule: 8,
         },
         Wrong {
             after: 5,
-            step: Step::Fire(T2, Y, &[S2], &[T0]),
+            step: Step::Fire(TASK_2, Y, &[LINE_2], &[TASK_0]),
             rule: 8,
         },
         Wrong {
             after: 6,
-            step: Step::Put(T0, None),
+            step: Step::Put(TASK_0, None),
             rule: 11,
         },
         Wrong {
             after: 11,
-            step: Step::Fire(T3, X, &[M2], &[]),
+            step: Step::Fire(TASK_3, X, &[POST_2], &[]),
             rule: 5,
         },
     ],
@@ -452,49 +467,49 @@ const AWAIT: Case = Case {
         posts: &[(A, 1), (C, 2), (B, 3)],
     },
     steps: &[
-        Step::Post(S0, A, 1),
-        Step::Post(S1, C, 2),
-        Step::Post(S2, B, 3),
-        Step::Fire(T0, X, &[S0], &[]),
-        Step::Fire(T1, Y, &[S1], &[]),
-        Step::Admit(T0),
-        Step::Put(T0, None),
-        Step::Start(T0, 1),
-        Step::End(T0, EndHow::Yield),
-        Step::Fire(T2, Spot::Site(0, 0), &[S2], &[]),
-        Step::Put(T2, None),
-        Step::Start(T2, 1),
-        Step::Post(M2, D, 4),
-        Step::End(T2, EndHow::Done),
-        Step::Admit(T1),
-        Step::Put(T1, None),
-        Step::Start(T1, 1),
-        Step::End(T1, EndHow::Done),
+        Step::Post(LINE_0, A, 1),
+        Step::Post(LINE_1, C, 2),
+        Step::Post(LINE_2, B, 3),
+        Step::Fire(TASK_0, X, &[LINE_0], &[]),
+        Step::Fire(TASK_1, Y, &[LINE_1], &[]),
+        Step::Admit(TASK_0),
+        Step::Put(TASK_0, None),
+        Step::Start(TASK_0, 1),
+        Step::End(TASK_0, EndHow::Yield),
+        Step::Fire(TASK_2, Spot::Site(0, 0), &[LINE_2], &[]),
+        Step::Put(TASK_2, None),
+        Step::Start(TASK_2, 1),
+        Step::Post(POST_2, D, 4),
+        Step::End(TASK_2, EndHow::Done),
+        Step::Admit(TASK_1),
+        Step::Put(TASK_1, None),
+        Step::Start(TASK_1, 1),
+        Step::End(TASK_1, EndHow::Done),
     ],
     wrong: &[
         Wrong {
             after: 8,
-            step: Step::End(T0, EndHow::Done),
+            step: Step::End(TASK_0, EndHow::Done),
             rule: 16,
         },
         Wrong {
             after: 8,
-            step: Step::Fire(T2, Spot::Site(0, 0), &[S2], &[]),
+            step: Step::Fire(TASK_2, Spot::Site(0, 0), &[LINE_2], &[]),
             rule: 5,
         },
         Wrong {
             after: 9,
-            step: Step::Fire(T2, Spot::Site(0, 0), &[S1], &[]),
+            step: Step::Fire(TASK_2, Spot::Site(0, 0), &[LINE_1], &[]),
             rule: 6,
         },
         Wrong {
             after: 9,
-            step: Step::Admit(T1),
+            step: Step::Admit(TASK_1),
             rule: 10,
         },
         Wrong {
             after: 12,
-            step: Step::Post(M2, D, 3),
+            step: Step::Post(POST_2, D, 3),
             rule: 2,
         },
     ],
@@ -511,51 +526,51 @@ const BUDGET_SHED: Case = Case {
         posts: &[(A, 5)],
     },
     steps: &[
-        Step::Post(S0, A, 5),
-        Step::Fire(T0, X, &[S0], &[]),
-        Step::Put(T0, None),
-        Step::Start(T0, 1),
-        Step::Post(M0, A, 5),
-        Step::Fire(T1, X, &[M0], &[]),
-        Step::Put(T1, None),
-        Step::End(T0, EndHow::Done),
-        Step::Start(T1, 1),
-        Step::Post(M1, A, 5),
-        Step::Fire(T2, X, &[M1], &[]),
-        Step::Put(T2, None),
-        Step::End(T1, EndHow::Done),
-        Step::Start(T2, 1),
-        Step::Post(M2, A, 5),
-        Step::Fire(T3, X, &[M2], &[]),
-        Step::Put(T3, None),
-        Step::End(T2, EndHow::Done),
-        Step::Start(T3, 1),
-        Step::End(T3, EndHow::Shed),
+        Step::Post(LINE_0, A, 5),
+        Step::Fire(TASK_0, X, &[LINE_0], &[]),
+        Step::Put(TASK_0, None),
+        Step::Start(TASK_0, 1),
+        Step::Post(POST_0, A, 5),
+        Step::Fire(TASK_1, X, &[POST_0], &[]),
+        Step::Put(TASK_1, None),
+        Step::End(TASK_0, EndHow::Done),
+        Step::Start(TASK_1, 1),
+        Step::Post(POST_1, A, 5),
+        Step::Fire(TASK_2, X, &[POST_1], &[]),
+        Step::Put(TASK_2, None),
+        Step::End(TASK_1, EndHow::Done),
+        Step::Start(TASK_2, 1),
+        Step::Post(POST_2, A, 5),
+        Step::Fire(TASK_3, X, &[POST_2], &[]),
+        Step::Put(TASK_3, None),
+        Step::End(TASK_2, EndHow::Done),
+        Step::Start(TASK_3, 1),
+        Step::End(TASK_3, EndHow::Shed),
     ],
     wrong: &[
         Wrong {
             after: 4,
-            step: Step::Post(M0, A, 6),
+            step: Step::Post(POST_0, A, 6),
             rule: 2,
         },
         Wrong {
             after: 4,
-            step: Step::Post(SECOND_OF_T0, A, 5),
+            step: Step::Post(SECOND_POST_0, A, 5),
             rule: 2,
         },
         Wrong {
             after: 4,
-            step: Step::End(T0, EndHow::Shed),
+            step: Step::End(TASK_0, EndHow::Shed),
             rule: 16,
         },
         Wrong {
             after: 18,
-            step: Step::Post(M3, A, 5),
+            step: Step::Post(POST_3, A, 5),
             rule: 2,
         },
         Wrong {
             after: 19,
-            step: Step::Post(M3, A, 5),
+            step: Step::Post(POST_3, A, 5),
             rule: 3,
         },
     ],
