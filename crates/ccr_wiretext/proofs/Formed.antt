@@ -1,6 +1,6 @@
 -- The line forms: what is read is in the grammar, and what is in the grammar is read.
 use Rattle.std.proofs.Common.{◌≡◌, ℕ, ◌+◌, ◌<◌, Bool, true, false, List, [], ◌∷◌, ◌++◌, length, Some, Result, Ok, Err, inl, inr, refl, sym, ap, subst, ◌∙◌, append-nil, arith}
-use Rattle.std.specs.Prelude.{nat_lt, not}
+use Rattle.std.specs.Prelude.{nat_lt, not, ◌==◌}
 use Rattle.ccr_base.specs.declared.handlers.Action.{Action}
 use Rattle.ccr_base.specs.declared.handlers.Action.TheVariants as actions
 use Rattle.ccr_base.specs.declared.messages.Sent.{Sent}
@@ -12,11 +12,9 @@ use Rattle.ccr_wiring.specs.declared.parts.BranchPart.{BranchPart}
 use Rattle.ccr_wiring.specs.declared.parts.ArbiterPart.{ArbiterPart}
 use Rattle.ccr_wiring.specs.declared.parts.HandlerPart.{HandlerPart}
 use Rattle.ccr_wiring.specs.declared.parts.PosterPart.{PosterPart}
-use Rattle.ccr_wiring.specs.Groups.{is_empty}
-use Rattle.ccr_wiring.specs.Limits.{branch_count, script_count}
 use Rattle.ccr_wiretext.specs.declared.keyword.Keyword.TheVariants as keywords
 use Rattle.ccr_wiretext.specs.Names.{as_queue, as_cause, as_handler}
-use Rattle.ccr_wiretext.specs.Drafts.{Declared}
+use Rattle.ccr_wiretext.specs.Drafts.{Declared, branch_count, script_count}
 use Rattle.ccr_wiretext.specs.Places.{Words, ◌>>=◌, unless, limited, no_more, new_name, reference, port, number, number_within, policy, group, expr}
 use Rattle.ccr_wiretext.specs.Patterns.{pattern, all_members, causes}
 use Rattle.ccr_wiretext.specs.Forms.{crowds, budget_form, queue_form, name_form, set_form, cause_form, branch_tail, receive_room, receive_form, branch_form, post_form, fail_form, caused_form, await_form, script_form, arbiter_end_form}
@@ -324,12 +322,12 @@ script_read draft part words post said =
     rw (said.spelled, limit_read 10000 (script_count draft.parts + length part.posts) said.room, port_read draft said.to post.port (said.value ∷ said.rest) said.refers, number_read said.value post.value said.rest said.number, causes_read draft.names [] post.causes said.rest said.causes) refl
 
 -- end of a choice or Interleave
-pub arbiter_end_said : (part : ArbiterPart) (words : Words) (y : Unit {0}) → arbiter_end_form part words ≡ Ok y → (words ≡ []) × (is_empty part.branches ≡ false)
+pub arbiter_end_said : (part : ArbiterPart) (words : Words) (y : Unit {0}) → arbiter_end_form part words ≡ Ok y → (words ≡ []) × ((length part.branches == 0) ≡ false)
 unfolding arbiter_end_form
 arbiter_end_said part words y e =
-    let some = bind_ok (unless (not (is_empty part.branches)) 11) (λ some. no_more words) y e in
+    let some = bind_ok (unless (not (length part.branches == 0)) 11) (λ some. no_more words) y e in
     (no_more_ok words y some.2, not_true _ (unless_ok _ 11 some.0 some.1))
 
-pub arbiter_end_read : (part : ArbiterPart) (words : Words) → words ≡ [] → is_empty part.branches ≡ false → arbiter_end_form part words ≡ Ok tt
+pub arbiter_end_read : (part : ArbiterPart) (words : Words) → words ≡ [] → (length part.branches == 0) ≡ false → arbiter_end_form part words ≡ Ok tt
 unfolding arbiter_end_form
 arbiter_end_read part words none some = rw (none, some) refl

@@ -9,3 +9,12 @@ pub mod Patterned
 pub mod Formed
 pub mod Blocked
 pub mod Texts
+pub mod Each
+pub mod Fit
+pub mod NamesApart
+pub mod Spotted
+pub mod Sound
+pub mod Told
+pub mod SoundLines
+pub mod NoCode
+pub mod Answered

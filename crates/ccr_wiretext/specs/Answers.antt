@@ -6,6 +6,7 @@ use Rattle.ccr_wiretext.specs.declared.stop.Stop.TheVariants as stops
 use Rattle.ccr_wiretext.specs.declared.refused.ReadRefused.{ReadRefused}
 use Rattle.ccr_wiretext.specs.declared.refused.ReadRefused.TheVariants as refusals
 use Rattle.ccr_wiretext.specs.Places.{Words}
+use Rattle.ccr_wiretext.specs.Lines.{IsText}
 
 abbrev pub Fails : {Y : Type 0} → Stop → Result Y ℕ → Type 0
 Fails stops.Memory read = Unit {0}
@@ -43,3 +44,8 @@ abbrev pub IsReading : Result Parts ReadRefused → Result Parts (ℕ × ℕ) �
 IsReading (Ok parts) read = read ≡ Ok parts
 IsReading (Err refusals.Memory) read = Unit {0}
 IsReading (Err (refusals.At line code)) read = read ≡ Err (line, code)
+
+-- where a line is refused, the text says nothing
+abbrev pub IsNoText : List ℕ → ReadRefused → Type 0
+IsNoText text refusals.Memory = Unit {0}
+IsNoText text (refusals.At line code) = (parts : Parts) → IsText text parts → ⊥

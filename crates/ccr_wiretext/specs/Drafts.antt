@@ -1,5 +1,5 @@
 -- What the lines so far declare.
-use Rattle.std.specs.Prelude.{ℕ, Bool, true, false, List, [], ◌∷◌, ◌++◌, length}
+use Rattle.std.specs.Prelude.{ℕ, Bool, true, false, List, [], ◌∷◌, ◌++◌, length, map, sum}
 use Rattle.std.specs.List.{slice_get}
 use Rattle.std.specs.Option.{option_map_or}
 use Rattle.ccr_base.specs.declared.handlers.Action.{Action}
@@ -14,6 +14,7 @@ use Rattle.ccr_wiring.specs.declared.parts.HandlerPart.{HandlerPart}
 use Rattle.ccr_wiring.specs.declared.parts.PosterPart.{PosterPart}
 use Rattle.ccr_wiring.specs.declared.parts.Kind.{Kind}
 use Rattle.ccr_wiring.specs.declared.parts.Kind.TheVariants as arbiters
+use Rattle.ccr_wiring.specs.Limits.{posts_in_all}
 use Rattle.ccr_wiring.specs.Spots.{branch_named}
 use Rattle.ccr_wiretext.specs.declared.named.Named.{Named}
 use Rattle.ccr_wiretext.specs.declared.named.Named.TheVariants as kinds
@@ -100,6 +101,14 @@ end_arbiter draft part = record draft { parts = record draft.parts { arbiters = 
 
 abbrev pub end_poster : Declared → PosterPart → Declared
 end_poster draft part = record draft { parts = record draft.parts { posters = draft.parts.posters ++ part ∷ [] }; block = blocks.Outside }
+
+-- how many branches the arbiters have together
+abbrev pub branch_count : Parts → ℕ
+branch_count parts = sum (map (λ (arbiter : ArbiterPart). length arbiter.branches) parts.arbiters)
+
+-- how many posts the scripts have together
+abbrev pub script_count : Parts → ℕ
+script_count parts = posts_in_all parts.posters
 
 -- the ports of a set
 abbrev pub members_of : Declared → ℕ → List ℕ

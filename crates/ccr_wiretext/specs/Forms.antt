@@ -1,5 +1,5 @@
 -- The forms of a line: what stands behind its first word, and what it says.
-use Rattle.std.specs.Prelude.{ℕ, Bool, not, List, [], ◌∷◌, ◌++◌, ◌+◌, length, nat_lt, Result, Ok, Err}
+use Rattle.std.specs.Prelude.{ℕ, Bool, not, List, [], ◌∷◌, ◌++◌, ◌+◌, ◌==◌, length, nat_lt, Result, Ok, Err}
 use Rattle.std.specs.List.{list_any}
 use Rattle.ccr_base.specs.declared.handlers.Action.{Action}
 use Rattle.ccr_base.specs.declared.handlers.Action.TheVariants as actions
@@ -13,11 +13,9 @@ use Rattle.ccr_wiring.specs.declared.parts.BranchPart.{BranchPart}
 use Rattle.ccr_wiring.specs.declared.parts.ArbiterPart.{ArbiterPart}
 use Rattle.ccr_wiring.specs.declared.parts.HandlerPart.{HandlerPart}
 use Rattle.ccr_wiring.specs.declared.parts.PosterPart.{PosterPart}
-use Rattle.ccr_wiring.specs.Groups.{is_empty}
-use Rattle.ccr_wiring.specs.Limits.{branch_count, script_count}
 use Rattle.ccr_wiring.specs.Spots.{branch_named, times}
 use Rattle.ccr_wiretext.specs.Names.{as_queue, as_cause, as_handler}
-use Rattle.ccr_wiretext.specs.Drafts.{Declared}
+use Rattle.ccr_wiretext.specs.Drafts.{Declared, branch_count, script_count}
 use Rattle.ccr_wiretext.specs.Places.{Words, ◌>>=◌, unless, limited, no_more, new_name, reference, port, number, number_within, policy, group, expr}
 use Rattle.ccr_wiretext.specs.Patterns.{pattern, all_members, causes}
 
@@ -146,5 +144,5 @@ end_form words = no_more words
 -- end of a choice or Interleave, which has a branch
 unfoldable pub arbiter_end_form : ArbiterPart → Words → Result (Unit {0}) ℕ
 arbiter_end_form part words = do
-  some ← unless (not (is_empty part.branches)) 11
+  some ← unless (not (length part.branches == 0)) 11
   no_more words

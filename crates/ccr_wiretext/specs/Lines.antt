@@ -1,5 +1,5 @@
 -- The grammar of the lines: which words say what is declared next, line form by line form, and of a whole text.
-use Rattle.std.specs.Prelude.{◌≡◌, ℕ, ◌+◌, ◌<◌, ◌≤◌, true, false, List, [], ◌∷◌, ◌++◌, length, Option, Some, None, ◌⊎◌}
+use Rattle.std.specs.Prelude.{◌≡◌, ℕ, ◌+◌, ◌<◌, ◌≤◌, ◌==◌, true, false, List, [], ◌∷◌, ◌++◌, length, Option, Some, None, ◌⊎◌}
 use Rattle.ccr_base.specs.declared.handlers.Action.{Action}
 use Rattle.ccr_base.specs.declared.handlers.Action.TheVariants as actions
 use Rattle.ccr_base.specs.declared.handlers.Expr.{Expr}
@@ -14,8 +14,6 @@ use Rattle.ccr_wiring.specs.declared.parts.ArbiterPart.{ArbiterPart}
 use Rattle.ccr_wiring.specs.declared.parts.HandlerPart.{HandlerPart}
 use Rattle.ccr_wiring.specs.declared.parts.PosterPart.{PosterPart}
 use Rattle.ccr_wiring.specs.declared.parts.Kind.TheVariants as arbiters
-use Rattle.ccr_wiring.specs.Groups.{is_empty}
-use Rattle.ccr_wiring.specs.Limits.{branch_count, script_count}
 use Rattle.ccr_text.specs.declared.lines.Line.{Line}
 use Rattle.ccr_text.specs.Lines.{lines_of}
 use Rattle.ccr_wiretext.specs.declared.keyword.Keyword.{Keyword}
@@ -24,7 +22,7 @@ use Rattle.ccr_wiretext.specs.declared.draft.Block.{Block}
 use Rattle.ccr_wiretext.specs.declared.draft.Block.TheVariants as blocks
 use Rattle.ccr_wiretext.specs.Keywords.{keyword}
 use Rattle.ccr_wiretext.specs.Names.{as_queue, as_cause, as_handler}
-use Rattle.ccr_wiretext.specs.Drafts.{Declared, nothing, with_budget, with_queue, with_port, with_set, with_cause, with_receive, with_handler, with_arbiter, with_poster, with_action, with_branch, with_post, end_handler, end_arbiter, end_poster}
+use Rattle.ccr_wiretext.specs.Drafts.{Declared, branch_count, script_count, nothing, with_budget, with_queue, with_port, with_set, with_cause, with_receive, with_handler, with_arbiter, with_poster, with_action, with_branch, with_post, end_handler, end_arbiter, end_poster}
 use Rattle.ccr_wiretext.specs.Places.{Words}
 use Rattle.ccr_wiretext.specs.Forms.{crowds}
 use Rattle.ccr_wiretext.specs.Blocks.{group_of, apart}
@@ -144,7 +142,7 @@ SaysInHandler draft part first words new =
 -- in a choice or Interleave: `end` behind a branch or more, or a branch of a group that its kind has
 abbrev pub SaysInArbiter : Declared → ArbiterPart → Keyword → Words → Declared → Type 0
 SaysInArbiter draft part first words new =
-    ((first ≡ keywords.End) × (words ≡ []) × (is_empty part.branches ≡ false) × (new ≡ end_arbiter draft part))
+    ((first ≡ keywords.End) × (words ≡ []) × ((length part.branches == 0) ≡ false) × (new ≡ end_arbiter draft part))
     ⊎ ((group : Group) × (group_of part.kind first ≡ Some group) × (branch : BranchPart) × IsBranch draft part group words branch × (new ≡ with_branch draft part branch))
 
 -- in a poster: `end`, or a post

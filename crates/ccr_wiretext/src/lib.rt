@@ -17,7 +17,7 @@ mod words;
 mod writing;
 
 pub use laws::reading_is_exact;
-pub use reading::read_parts;
+pub use reading::{read_parts, read_wiring};
 pub use refused::ReadRefused;
 pub use writing::write_wiring;
 

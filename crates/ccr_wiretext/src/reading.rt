@@ -1,7 +1,9 @@
 //! A text, line by line.
 
-ghost use Rattle.std.specs.Prelude.{◌≡◌, ◌≤◌, length, None};
-ghost use Rattle.ccr_wiretext.specs.Answers.{Gives, GivesState, IsReading, refused};
+ghost use Rattle.std.specs.Prelude.{◌≡◌, ◌≤◌, length, None, IfOk, IfErr};
+ghost use Rattle.ccr_wiring.specs.Valid.{IsValid};
+ghost use Rattle.ccr_wiretext.specs.Answers.{Gives, GivesState, IsReading, IsNoText, refused};
+ghost use Rattle.ccr_wiretext.specs.Lines.{IsText};
 ghost use Rattle.ccr_wiretext.specs.Reading.{is_comment, is_head, after_all, after_line, at_end, reading, reading_text};
 
 use crate::cursor::Cursor;
@@ -11,7 +13,7 @@ use crate::refused::ReadRefused;
 use crate::stop::Stop;
 use ccr_base::Name;
 use ccr_text::{Line, split_lines};
-use ccr_wiring::Parts;
+use ccr_wiring::{Parts, Unfit, Wiring};
 use std::alloc::Global;
 use std::marker::Model;
 
@@ -138,8 +140,7 @@ fn read_lines(alloc: Global, lines: &[Line]) -> Result<Parts, ReadRefused>
     }
 }
 
-/// The parts that a text says, or its first offending line and the code. Near linear in the text's length.
-pub fn read_parts(alloc: Global, text: &[u8]) -> Result<Parts, ReadRefused>
+fn read_text(alloc: Global, text: &[u8]) -> Result<Parts, ReadRefused>
     requires { length text.now ≤ 1048576 }
     ensures { IsReading result (reading_text text.now) }
 {
@@ -147,4 +148,31 @@ pub fn read_parts(alloc: Global, text: &[u8]) -> Result<Parts, ReadRefused>
         return Err(ReadRefused::Memory);
     };
     read_lines(alloc, lines.as_slice())
+}
+
+/// The parts that a text says, or its first offending line and the code. Near linear in the text's length.
+pub fn read_parts(alloc: Global, text: &[u8]) -> Result<Parts, ReadRefused>
+    requires { length text.now ≤ 1048576 }
+    ensures reading { IsReading result (reading_text text.now) }
+    ensures grammar { IfOk result (λ parts. IsText text.now parts) }
+    ensures valid { IfOk result (λ parts. IsValid parts) }
+    ensures refused { IfErr result (λ refused. IsNoText text.now refused) }
+{
+    read_text(alloc, text)
+}
+
+/// The wiring that a text says, or its first offending line and the code (docs/FORMATS.md). Near linear in the text's
+/// length.
+pub fn read_wiring(alloc: Global, text: &[u8]) -> Result<Wiring, ReadRefused>
+    requires { length text.now ≤ 1048576 }
+    ensures reading { IsReading result (reading_text text.now) }
+    ensures grammar { IfOk result (λ wiring. IsText text.now wiring) }
+    ensures refused { IfErr result (λ refused. IsNoText text.now refused) }
+{
+    let parts = read_parts(alloc, text)?;
+    match Wiring::check(alloc, parts) {
+        Ok(wiring) => Ok(wiring),
+        Err(Unfit::Memory) => Err(ReadRefused::Memory),
+        Err(Unfit::Code(_)) => unreachable!(),
+    }
 }

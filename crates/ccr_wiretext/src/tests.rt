@@ -1,6 +1,7 @@
 use super::*;
 use std::test::*;
 
+mod canonical;
 mod limits;
 mod lines;
 mod words;
@@ -10,7 +11,7 @@ fn refusal(rt: &HostRuntime, text: &[u8]) -> (u32, u8) {
     if text.len() > 1_048_576 {
         return (0, 98);
     }
-    match read_parts(rt.alloc(), text) {
+    match read_wiring(rt.alloc(), text) {
         Ok(_) => (0, 0),
         Err(ReadRefused::At { line, code }) => (line, code),
         Err(ReadRefused::Memory) => (0, 99),

@@ -79,3 +79,55 @@ fn one_more_in_a_line_or_block(rt: HostRuntime) -> Result<(), Fail> {
     }
     Ok(())
 }
+
+#[test]
+fn only_line_feeds(rt: HostRuntime) -> Result<(), Fail> {
+    let text = Vec::from_elem(rt.alloc(), 10u8, 1_048_576)?;
+    assert_eq!(rt; refusal(&rt, &text), (1_048_576, 2));
+    Ok(())
+}
+
+#[test]
+fn one_more_of_all_arbiters(rt: HostRuntime) -> Result<(), Fail> {
+    let alloc = rt.alloc();
+    let ports = repeated(alloc, 254, "port p", "\n", "")?;
+    let mut text = Vec::from_slice(alloc, &ports)?;
+    for number in 0..254u32 {
+        let digits = number.to_string(alloc)?;
+        text.extend_from_slice(b"receive r")?;
+        text.extend_from_slice(digits.as_bytes())?;
+        text.extend_from_slice(b" once q h take p")?;
+        text.extend_from_slice(digits.as_bytes())?;
+        text.extend_from_slice(b" 1 any\n")?;
+    }
+    text.extend_from_slice(b"receive x once q h take a 1 any\nreceive y once q h take a 1 any\n")?;
+    assert_eq!(rt; refusal(&rt, &text), (0, 0));
+    let mut receive = Vec::from_slice(alloc, &text)?;
+    receive.extend_from_slice(b"receive z z")?;
+    assert_eq!(rt; refusal(&rt, &receive), (518, 10));
+    text.extend_from_slice(b"choice c")?;
+    assert_eq!(rt; refusal(&rt, &text), (518, 10));
+    Ok(())
+}
+
+#[test]
+fn one_more_post(rt: HostRuntime) -> Result<(), Fail> {
+    let rows = [
+        (9_998, "poster p\nend\nposter o\npost a 1\npost a 2\n", "", 0, 9),
+        (9_998, "poster p\nend\nposter o\npost a 1\npost a 2\n", "end\n", 0, 0),
+        (9_998, "poster p\nend\nposter o\npost a 1\npost a 2\n", "post a 1\n", 10_011, 10),
+    ];
+    for (count, before, last, line, code) in &rows {
+        let mut text = Vec::new(rt.alloc());
+        text.extend_from_slice(BASE.as_bytes())?;
+        text.extend_from_slice(before.as_bytes())?;
+        for _ in 0..*count {
+            text.extend_from_slice(b"post b 1\n")?;
+        }
+        text.extend_from_slice(last.as_bytes())?;
+        let found = refusal(&rt, &text);
+        assert!(rt; found.1 == *code);
+        assert!(rt; *line == 0 || found.0 == *line);
+    }
+    Ok(())
+}

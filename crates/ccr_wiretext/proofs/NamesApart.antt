@@ -1,0 +1,64 @@
+-- The declared names stay apart and known.
+use Rattle.std.proofs.Common.{◌≡◌, ℕ, Bool, true, false, cond, List, [], ◌∷◌, ◌++◌, map, Option, Some, None, ◌⊎◌, inl, inr, refl, sym, ap, subst, ◌∙◌}
+use Rattle.std.specs.Prelude.{◌||◌, not}
+use Rattle.std.specs.Str.{bytes_eq}
+use Rattle.std.specs.List.{list_any}
+use Rattle.std.specs.Option.{option_and_then}
+use Rattle.std.proofs.lemmas.Slice.Eq.{bytes_eq-Decides}
+use Rattle.ccr_text.specs.Words.{is_name_of}
+use Rattle.ccr_wiring.specs.Names.{has_name, has_repeated}
+use Rattle.ccr_wiretext.specs.declared.named.Named.{Named}
+use Rattle.ccr_wiretext.specs.Names.{Naming, named}
+use Rattle.ccr_wiretext.specs.Grammar.{IsNew, Refers}
+use Rattle.ccr_wiretext.proofs.Each.{Each, each_push, each_insert, neither, none_inserted}
+
+differ_back : (a b : List ℕ) → bytes_eq a b ≡ false → bytes_eq b a ≡ false
+differ_back a b e = by (bytes_eq b a) refl
+  where
+    by : (t : Bool) → bytes_eq b a ≡ t → t ≡ false
+    by false is = refl
+    by true is = absurd (let same : b ≡ a = (bytes_eq-Decides b a).0 is in let h : true ≡ false = sym (subst (λ v. bytes_eq v b ≡ true) same ((bytes_eq-Decides b b).1 refl)) ∙ e in cc)
+
+-- names of which no two are equal, with another one among them
+repeated_insert : (xs ys : List (List ℕ)) (name : List ℕ) → has_repeated (xs ++ ys) ≡ false → has_name (xs ++ ys) name ≡ false → has_repeated (xs ++ name ∷ ys) ≡ false
+repeated_insert [] ys name apart new = rw (new, apart) refl
+repeated_insert (x ∷ xs) ys name apart new =
+    let aparts = neither (has_name (xs ++ ys) x) (has_repeated (xs ++ ys)) apart in
+    let news = neither (bytes_eq x name) (has_name (xs ++ ys) name) new in
+    rw (none_inserted (λ other. bytes_eq other x) xs ys name aparts.0 (differ_back x name news.0), repeated_insert xs ys name aparts.1 news.1) refl
+
+-- the names of the parts, as the table of names knows them
+pub record NamesApart (names : Naming) (declared : List (List ℕ)) : Type 0 where
+  pub apart : has_repeated declared ≡ false
+  pub formed : Each (λ name. is_name_of name ≡ true) declared
+  pub fresh : (name : List ℕ) → named names name ≡ None → has_name declared name ≡ false
+
+named_none : (names : Naming) (name word : List ℕ) (what : Named) → named (names ++ (name, what) ∷ []) word ≡ None → (named names word ≡ None) × (bytes_eq word name ≡ false)
+named_none [] name word what e = (refl, by (bytes_eq word name) e)
+  where
+    by : (t : Bool) → cond t (Some what) None ≡ None → t ≡ false
+    by true h = absurd cc
+    by false h = refl
+named_none (entry ∷ names) name word what e = by (bytes_eq word entry.0) e (named_none names name word what)
+  where
+    by : (t : Bool) → cond t (Some entry.1) (named (names ++ (name, what) ∷ []) word) ≡ None → (named (names ++ (name, what) ∷ []) word ≡ None → (named names word ≡ None) × (bytes_eq word name ≡ false))
+      → (cond t (Some entry.1) (named names word) ≡ None) × (bytes_eq word name ≡ false)
+    by true h next = absurd cc
+    by false h next = next h
+
+-- one name more, at its place among the names of the parts
+pub name_added : (names : Naming) (xs ys : List (List ℕ)) (name : List ℕ) (what : Named) → NamesApart names (xs ++ ys) → IsNew names name → NamesApart (names ++ (name, what) ∷ []) (xs ++ name ∷ ys)
+name_added names xs ys name what apart new = record {
+  apart = repeated_insert xs ys name apart.apart (apart.fresh name new.new);
+  formed = each_insert (λ name. is_name_of name ≡ true) xs ys name apart.formed new.formed;
+  fresh = λ word none. let parts = named_none names name word what none in none_inserted (λ other. bytes_eq other word) xs ys name (apart.fresh word parts.0) (differ_back word name parts.1);
+}
+
+-- what each name stands for
+pub named_each : (P : Named → Type 0) (names : Naming) (word : List ℕ) (what : Named) → Each (λ (entry : List ℕ × Named). P entry.1) names → named names word ≡ Some what → P what
+named_each P [] word what each e = absurd cc
+named_each P (entry ∷ names) word what each e = by (bytes_eq word entry.0) e (named_each P names word what each.1)
+  where
+    by : (t : Bool) → cond t (Some entry.1) (named names word) ≡ Some what → (named names word ≡ Some what → P what) → P what
+    by true h next = subst P (let same : entry.1 ≡ what = cc in same) each.0
+    by false h next = next h

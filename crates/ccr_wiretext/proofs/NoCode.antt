@@ -1,0 +1,204 @@
+-- What a text says has no code of refusal.
+use Rattle.std.proofs.Common.{◌≡◌, ℕ, ◌+◌, ◌<◌, ◌≤◌, Bool, true, false, List, [], ◌∷◌, ◌++◌, length, Some, None, ◌⊎◌, inl, inr, refl, sym, ap, subst, ◌∙◌, arith, append-nil}
+use Rattle.std.specs.Prelude.{◌==◌, ◌&&◌, ◌||◌, not, nat_lt, nat_le}
+use Rattle.std.specs.List.{list_any}
+use Rattle.std.proofs.lemmas.Bool.Decides.{nat_tests}
+use Rattle.ccr_base.specs.declared.policies.Policy.{Policy}
+use Rattle.ccr_base.specs.declared.policies.Policy.TheVariants as policies
+use Rattle.ccr_base.specs.declared.handlers.Action.{Action}
+use Rattle.ccr_base.specs.declared.handlers.Action.TheVariants as actions
+use Rattle.ccr_base.specs.declared.handlers.Expr.{Expr}
+use Rattle.ccr_base.specs.declared.handlers.Expr.TheVariants as exprs
+use Rattle.ccr_base.specs.declared.messages.Sent.{Sent}
+use Rattle.ccr_base.specs.declared.patterns.Slot.{Slot}
+use Rattle.ccr_base.specs.declared.patterns.Pattern.{Pattern}
+use Rattle.ccr_base.specs.declared.patterns.Pattern.TheVariants as patterns
+use Rattle.ccr_wiring.specs.declared.parts.Parts.{Parts}
+use Rattle.ccr_wiring.specs.declared.parts.QueuePart.{QueuePart}
+use Rattle.ccr_wiring.specs.declared.parts.SetPart.{SetPart}
+use Rattle.ccr_wiring.specs.declared.parts.CausePart.{CausePart}
+use Rattle.ccr_wiring.specs.declared.parts.HandlerPart.{HandlerPart}
+use Rattle.ccr_wiring.specs.declared.parts.BranchPart.{BranchPart}
+use Rattle.ccr_wiring.specs.declared.parts.ArbiterPart.{ArbiterPart}
+use Rattle.ccr_wiring.specs.declared.parts.PosterPart.{PosterPart}
+use Rattle.ccr_wiring.specs.Groups.{may_have, is_receive, is_misgrouped, has_strange_group, has_misgrouped, is_branchless, has_branchless}
+use Rattle.ccr_wiring.specs.Names.{declared_names, has_repeated_name, has_malformed_name}
+use Rattle.ccr_wiring.specs.References.{is_beyond, action_is_dangling, pattern_is_dangling, branch_is_dangling, post_is_dangling, set_is_dangling, cause_is_dangling, handler_is_dangling, arbiter_is_dangling, poster_is_dangling, has_dangling}
+use Rattle.ccr_wiring.specs.Repeats.{branch_repeats, arbiter_repeats, set_repeats, post_repeats, poster_repeats, has_repeat}
+use Rattle.ccr_wiring.specs.Limits.{policy_is_outside, expr_is_outside, action_is_outside, slot_is_outside, pattern_is_outside, branch_is_outside, queue_is_outside, set_is_outside, handler_is_outside, arbiter_is_outside, has_too_many, has_outside}
+use Rattle.ccr_wiring.specs.Spots.{times, named_ports, has_crowded_port}
+use Rattle.ccr_wiring.specs.Codes.{code_of}
+use Rattle.ccr_text.specs.Words.{is_name_of}
+use Rattle.ccr_text.specs.declared.lines.Line.{Line}
+use Rattle.ccr_text.specs.Lines.{lines_of}
+use Rattle.ccr_wiretext.specs.declared.draft.Block.TheVariants as blocks
+use Rattle.ccr_wiretext.specs.Names.{Naming}
+use Rattle.ccr_wiretext.specs.Keywords.{keyword}
+use Rattle.ccr_wiretext.specs.Drafts.{Declared, nothing}
+use Rattle.ccr_wiretext.specs.Lines.{AreLines, AreHeadedLines, IsText}
+use Rattle.ccr_wiretext.proofs.Each.{Each, each_false}
+use Rattle.ccr_wiretext.proofs.Fit.{PolicyFit, ExprFit, ActionFit, SlotFit, PatternFit, BranchFit, BranchesFit, ArbiterFit, Shaped, SetFit, HandlerFit, PostFit, PosterFit}
+use Rattle.ccr_wiretext.proofs.Spotted.{Uncrowded}
+use Rattle.ccr_wiretext.proofs.Sound.{Counts, Fits, Sound, is_cause_fit}
+use Rattle.ccr_wiretext.proofs.SoundLines.{SoundDraft, line_sound}
+
+below : (count n : ℕ) → n < count → is_beyond count n ≡ false
+below count n less = grind (arith, nat_tests, less)
+
+within : (most n : ℕ) → n ≤ most → nat_lt most n ≡ false
+within most n less = grind (arith, nat_tests, less)
+
+above : (least n : ℕ) → least ≤ n → nat_lt n least ≡ false
+above least n more = grind (arith, nat_tests, more)
+
+-- ---- numbers that name nothing
+
+numbers_named : (count : ℕ) (numbers : List ℕ) → Each (λ n. n < count) numbers → list_any (is_beyond count) numbers ≡ false
+numbers_named count numbers fit = each_false (λ n. n < count) (is_beyond count) (below count) numbers fit
+
+action_named : (parts : Parts) (action : Action) → ActionFit (length parts.ports) (length parts.causes) action → action_is_dangling parts action ≡ false
+action_named parts (actions.Post port value) fit = below (length parts.ports) port fit.0
+action_named parts (actions.Fail value) fit = refl
+action_named parts (actions.Add cause) fit = below (length parts.causes) cause fit
+action_named parts (actions.Remove cause) fit = below (length parts.causes) cause fit
+action_named parts (actions.Await port) fit = below (length parts.ports) port fit
+
+pattern_named : (parts : Parts) (shape : Pattern) → PatternFit (length parts.ports) shape → pattern_is_dangling parts shape ≡ false
+pattern_named parts (patterns.Slots slots) fit = each_false (SlotFit (length parts.ports)) (λ (slot : Slot). is_beyond (length parts.ports) slot.port) (λ slot one. below (length parts.ports) slot.port one.0) slots fit.0
+pattern_named parts (patterns.Gather total first second) fit = rw (below (length parts.ports) first fit.0, below (length parts.ports) second fit.1) refl
+
+branch_named_so : (parts : Parts) (branch : BranchPart) → BranchFit (length parts.queues) (length parts.handlers) (length parts.ports) branch → branch_is_dangling parts branch ≡ false
+branch_named_so parts branch fit = rw (below (length parts.queues) branch.queue fit.0, below (length parts.handlers) branch.handler fit.1, pattern_named parts branch.pattern fit.2) refl
+
+post_named : (parts : Parts) (post : Sent) → PostFit (length parts.ports) (length parts.causes) post → post_is_dangling parts post ≡ false
+post_named parts post fit = rw (below (length parts.ports) post.port fit.0, numbers_named (length parts.causes) post.causes fit.1) refl
+
+arbiter_named_so : (parts : Parts) (part : ArbiterPart) → ArbiterFit (length parts.queues) (length parts.handlers) (length parts.ports) part → arbiter_is_dangling parts part ≡ false
+arbiter_named_so parts part fit =
+    each_false (λ (branch : BranchPart). BranchFit (length parts.queues) (length parts.handlers) (length parts.ports) branch × (may_have part.kind branch.group ≡ true)) (branch_is_dangling parts)
+      (λ branch one. branch_named_so parts branch one.0) part.branches fit.0
+
+none_dangles : (parts : Parts) → Fits parts → has_dangling parts ≡ false
+none_dangles parts fits = rw (
+    each_false (SetFit (length parts.ports)) (set_is_dangling parts) (λ part fit. numbers_named (length parts.ports) part.ports fit.0) parts.sets fits.sets,
+    each_false (is_cause_fit (length parts.ports)) (cause_is_dangling parts) (λ part fit. below (length parts.ports) part.port fit) parts.causes fits.causes,
+    each_false (HandlerFit (length parts.ports) (length parts.causes)) (handler_is_dangling parts) (λ part fit. each_false (ActionFit (length parts.ports) (length parts.causes)) (action_is_dangling parts) (action_named parts) part.handler.actions fit.0) parts.handlers fits.handlers,
+    each_false (ArbiterFit (length parts.queues) (length parts.handlers) (length parts.ports)) (arbiter_is_dangling parts) (arbiter_named_so parts) parts.arbiters fits.arbiters,
+    each_false (PosterFit (length parts.ports) (length parts.causes)) (poster_is_dangling parts) (λ part fit. each_false (PostFit (length parts.ports) (length parts.causes)) (post_is_dangling parts) (post_named parts) part.posts fit) parts.posters fits.posters) refl
+
+-- ---- repeats
+
+pattern_once : (ports : ℕ) (branch : BranchPart) (shape : Pattern) → branch.pattern ≡ shape → PatternFit ports shape → branch_repeats branch ≡ false
+pattern_once ports branch (patterns.Slots slots) is fit = rw (is, fit.1) refl
+pattern_once ports branch (patterns.Gather total first second) is fit = rw (is, fit.2) refl
+
+none_repeats : (parts : Parts) → Fits parts → has_repeat parts ≡ false
+none_repeats parts fits = rw (
+    each_false (SetFit (length parts.ports)) set_repeats (λ part fit. rw fit.1 refl) parts.sets fits.sets,
+    each_false (ArbiterFit (length parts.queues) (length parts.handlers) (length parts.ports)) arbiter_repeats
+      (λ part fit. each_false (λ (branch : BranchPart). BranchFit (length parts.queues) (length parts.handlers) (length parts.ports) branch × (may_have part.kind branch.group ≡ true)) branch_repeats
+        (λ branch one. pattern_once (length parts.ports) branch branch.pattern refl one.0.2) part.branches fit.0) parts.arbiters fits.arbiters,
+    each_false (PosterFit (length parts.ports) (length parts.causes)) poster_repeats (λ part fit. each_false (PostFit (length parts.ports) (length parts.causes)) post_repeats (λ post one. rw one.2 refl) part.posts fit) parts.posters fits.posters) refl
+
+-- ---- limits
+
+policy_within : (p : Policy) → PolicyFit p → policy_is_outside p ≡ false
+policy_within policies.Unbounded fit = refl
+policy_within (policies.Discard n) fit = rw (above 1 n fit.0, within 1000 n fit.1) refl
+policy_within (policies.Throttle n) fit = rw (above 1 n fit.0, within 1000 n fit.1) refl
+
+expr_within : (value : Expr) → ExprFit value → expr_is_outside value ≡ false
+expr_within (exprs.Number n) fit = refl
+expr_within (exprs.Arg k) fit = rw (above 0 k (omega arith), within 65535 k fit) refl
+expr_within exprs.Sum fit = refl
+expr_within exprs.Count fit = refl
+
+action_within : (ports causes : ℕ) (action : Action) → ActionFit ports causes action → action_is_outside action ≡ false
+action_within ports causes (actions.Post port value) fit = expr_within value fit.1
+action_within ports causes (actions.Fail value) fit = expr_within value fit
+action_within ports causes (actions.Add cause) fit = refl
+action_within ports causes (actions.Remove cause) fit = refl
+action_within ports causes (actions.Await port) fit = refl
+
+slot_within : (ports : ℕ) (slot : Slot) → SlotFit ports slot → slot_is_outside slot ≡ false
+slot_within ports slot fit =
+    let same : (slot.least == slot.most) ≡ true = grind (arith, nat_tests, fit.1) in
+    rw (same, above 1 slot.least fit.2, within 1000 slot.least fit.3) refl
+
+pattern_within : (ports : ℕ) (shape : Pattern) → PatternFit ports shape → pattern_is_outside shape ≡ false
+pattern_within ports (patterns.Slots slots) fit = rw (above 1 (length slots) fit.2, within 8 (length slots) fit.3, each_false (SlotFit ports) slot_is_outside (slot_within ports) slots fit.0) refl
+pattern_within ports (patterns.Gather total first second) fit = rw (above 1 total fit.3, within 1000 total fit.4) refl
+
+few : (parts : Parts) → Counts parts → has_too_many parts ≡ false
+few parts c = rw (within 16 _ c.queues, within 256 _ c.ports, within 64 _ c.sets, within 32 _ c.causes, within 256 _ c.handlers, within 256 _ c.arbiters, within 256 _ c.branches, within 16 _ c.posters, within 10000 _ c.posts) refl
+
+none_outside : (parts : Parts) → Counts parts → Fits parts → has_outside parts ≡ false
+none_outside parts c fits = rw (
+    within 10000 parts.budget c.budget, few parts c,
+    each_false (λ (part : QueuePart). PolicyFit part.policy) queue_is_outside (λ part fit. policy_within part.policy fit) parts.queues fits.queues,
+    each_false (SetFit (length parts.ports)) set_is_outside (λ part fit. rw (above 1 (length part.ports) fit.2, within 8 (length part.ports) fit.3) refl) parts.sets fits.sets,
+    each_false (HandlerFit (length parts.ports) (length parts.causes)) handler_is_outside
+      (λ part fit. rw (within 16 (length part.handler.actions) fit.1, each_false (ActionFit (length parts.ports) (length parts.causes)) action_is_outside (action_within (length parts.ports) (length parts.causes)) part.handler.actions fit.0) refl) parts.handlers fits.handlers,
+    each_false (ArbiterFit (length parts.queues) (length parts.handlers) (length parts.ports)) arbiter_is_outside
+      (λ part fit. each_false (λ (branch : BranchPart). BranchFit (length parts.queues) (length parts.handlers) (length parts.ports) branch × (may_have part.kind branch.group ≡ true)) branch_is_outside
+        (λ branch one. pattern_within (length parts.ports) branch.pattern one.0.2) part.branches fit.0) parts.arbiters fits.arbiters) refl
+
+-- ---- groups
+
+arbiter_grouped : (queues handlers ports : ℕ) (part : ArbiterPart) → ArbiterFit queues handlers ports part → is_misgrouped part ≡ false
+arbiter_grouped queues handlers ports part (branches, shaped) = by shaped
+  where
+    strange : has_strange_group part ≡ false
+    strange = each_false (λ (branch : BranchPart). BranchFit queues handlers ports branch × (may_have part.kind branch.group ≡ true)) (λ (branch : BranchPart). not (may_have part.kind branch.group)) (λ branch one. rw one.1 refl) part.branches branches
+    by : Shaped part → is_misgrouped part ≡ false
+    by (inl (kind, one)) = rw (strange, kind, one) refl
+    by (inr (kind, some)) = rw (strange, kind) refl
+
+arbiter_branched : (queues handlers ports : ℕ) (part : ArbiterPart) → ArbiterFit queues handlers ports part → is_branchless part ≡ false
+arbiter_branched queues handlers ports part (branches, inl (kind, one)) = rw kind refl
+arbiter_branched queues handlers ports part (branches, inr (kind, some)) = rw (kind, some) refl
+
+-- ---- all codes
+
+none_passes : (f : ℕ → Bool) → ((n : ℕ) → f n ≡ false) → (numbers : List ℕ) → list_any f numbers ≡ false
+none_passes f none [] = refl
+none_passes f none (n ∷ numbers) = rw (none n, none_passes f none numbers) refl
+
+uncrowded_parts : (parts : Parts) (spotted : List ℕ) → spotted ≡ named_ports parts ++ [] → Uncrowded spotted → has_crowded_port parts ≡ false
+uncrowded_parts parts spotted spots uncrowded =
+    let fine : Uncrowded (named_ports parts) = subst Uncrowded (spots ∙ append-nil (named_ports parts)) uncrowded in
+    none_passes (λ port. nat_lt 16 (times port (named_ports parts))) (λ port. within 16 (times port (named_ports parts)) (fine port)) (named_ports parts)
+
+sound_parts : (parts : Parts) (names : Naming) (spotted : List ℕ) → Sound parts names spotted blocks.Outside → code_of parts ≡ None
+unfolding code_of
+sound_parts parts names spotted s =
+    let grouped : has_misgrouped parts ≡ false = each_false (ArbiterFit (length parts.queues) (length parts.handlers) (length parts.ports)) is_misgrouped (arbiter_grouped (length parts.queues) (length parts.handlers) (length parts.ports)) parts.arbiters s.fits.arbiters in
+    let apart : has_repeated_name parts ≡ false = s.apart.apart in
+    let branched : has_branchless parts ≡ false = each_false (ArbiterFit (length parts.queues) (length parts.handlers) (length parts.ports)) is_branchless (arbiter_branched (length parts.queues) (length parts.handlers) (length parts.ports)) parts.arbiters s.fits.arbiters in
+    let formed : has_malformed_name parts ≡ false = each_false (λ name. is_name_of name ≡ true) (λ name. not (is_name_of name)) (λ name e. rw e refl) (declared_names parts) s.apart.formed in
+    rw (grouped, apart, none_dangles parts s.fits, none_repeats parts s.fits, none_outside parts s.counts s.fits, branched, uncrowded_parts parts spotted s.spots s.uncrowded, formed) refl
+
+nothing_sound : SoundDraft nothing
+nothing_sound = record {
+  counts = record { budget = omega arith; queues = omega arith; ports = omega arith; sets = omega arith; causes = omega arith; handlers = omega arith; arbiters = omega arith; branches = omega arith; posters = omega arith; posts = omega arith };
+  fits = record { queues = tt; sets = tt; causes = tt; handlers = tt; arbiters = tt; posters = tt };
+  known = tt;
+  apart = record { apart = refl; formed = tt; fresh = λ name none. refl };
+  spots = refl; uncrowded = λ port. omega arith; begun = tt }
+
+lines_have_none : (draft : Declared) (lines : List Line) (parts : Parts) → SoundDraft draft → AreLines draft lines parts → code_of parts ≡ None
+lines_have_none draft [] parts sound said =
+    let outside : Sound draft.parts draft.names draft.spotted blocks.Outside = subst (Sound draft.parts draft.names draft.spotted) said.0 sound in
+    ap code_of said.1 ∙ sound_parts draft.parts draft.names draft.spotted outside
+lines_have_none draft (line ∷ lines) parts sound (clean, inl said) = lines_have_none draft lines parts sound said.1
+lines_have_none draft (line ∷ lines) parts sound (clean, inr said) =
+    lines_have_none said.2 lines parts (line_sound draft.block draft (keyword said.0) said.1 said.2 refl sound said.5) said.6
+
+headed_have_none : (lines : List Line) (parts : Parts) → AreHeadedLines lines parts → code_of parts ≡ None
+headed_have_none [] parts said = absurd said
+headed_have_none (line ∷ lines) parts (clean, inl said) = headed_have_none lines parts said.1
+headed_have_none (line ∷ lines) parts (clean, inr said) = lines_have_none nothing lines parts nothing_sound said.1
+
+-- the parts that a text says have no code of refusal
+pub text_has_none : (text : List ℕ) (parts : Parts) → IsText text parts → code_of parts ≡ None
+text_has_none text parts said = headed_have_none (lines_of text) parts said

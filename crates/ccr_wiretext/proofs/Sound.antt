@@ -1,0 +1,155 @@
+-- What the lines so far declare has no code of refusal, but for a branch that an open block may still get.
+use Rattle.std.proofs.Common.{◌≡◌, ℕ, ◌+◌, ◌<◌, ◌≤◌, Bool, true, false, List, [], ◌∷◌, ◌++◌, length, map, Some, None, ◌⊎◌, inl, inr, refl, sym, ap, subst, ◌∙◌, arith, append_assoc, append-nil, length-append}
+use Rattle.std.specs.Prelude.{◌==◌, sum, flat_map}
+use Rattle.std.specs.List.{list_any}
+use Rattle.std.specs.Option.{option_and_then}
+use Rattle.ccr_base.specs.declared.messages.Sent.{Sent}
+use Rattle.ccr_base.specs.declared.handlers.Action.{Action}
+use Rattle.ccr_wiring.specs.declared.parts.Parts.{Parts}
+use Rattle.ccr_wiring.specs.declared.parts.SetPart.{SetPart}
+use Rattle.ccr_wiring.specs.declared.parts.CausePart.{CausePart}
+use Rattle.ccr_wiring.specs.declared.parts.QueuePart.{QueuePart}
+use Rattle.ccr_wiring.specs.declared.parts.HandlerPart.{HandlerPart}
+use Rattle.ccr_wiring.specs.declared.parts.BranchPart.{BranchPart}
+use Rattle.ccr_wiring.specs.declared.parts.ArbiterPart.{ArbiterPart}
+use Rattle.ccr_wiring.specs.declared.parts.PosterPart.{PosterPart}
+use Rattle.ccr_wiring.specs.Groups.{is_receive}
+use Rattle.ccr_wiring.specs.Names.{arbiter_names, declared_names}
+use Rattle.ccr_wiring.specs.Spots.{branches_named, named_ports}
+use Rattle.ccr_wiretext.specs.declared.named.Named.{Named}
+use Rattle.ccr_wiretext.specs.declared.named.Named.TheVariants as kinds
+use Rattle.ccr_wiretext.specs.declared.draft.Block.{Block}
+use Rattle.ccr_wiretext.specs.declared.draft.Block.TheVariants as blocks
+use Rattle.ccr_wiretext.specs.Names.{Naming}
+use Rattle.ccr_wiretext.specs.Drafts.{Declared, branch_count, script_count}
+use Rattle.ccr_wiretext.proofs.Each.{Each, each_push, each_more}
+use Rattle.ccr_wiretext.proofs.Fit.{PolicyFit, SetFit, HandlerFit, BranchesFit, ArbiterFit, PosterFit, set_more, handler_more, arbiter_more, poster_more}
+use Rattle.ccr_wiretext.proofs.NamesApart.{NamesApart}
+use Rattle.ccr_wiretext.proofs.Spotted.{Uncrowded}
+
+-- the parts with the open block as it stands
+abbrev pub whole : Parts → Block → Parts
+whole parts blocks.Outside = parts
+whole parts (blocks.Handler part) = record parts { handlers = parts.handlers ++ part ∷ [] }
+whole parts (blocks.Arbiter part) = record parts { arbiters = parts.arbiters ++ part ∷ [] }
+whole parts (blocks.Poster part) = record parts { posters = parts.posters ++ part ∷ [] }
+
+-- how many handlers have names
+abbrev pub handlers_named : Parts → Block → ℕ
+handlers_named parts (blocks.Handler part) = length parts.handlers + 1
+handlers_named parts _ = length parts.handlers
+
+-- the ports that the spots of the open block name
+abbrev pub open_ports : Parts → Block → List ℕ
+open_ports parts (blocks.Arbiter part) = branches_named parts part.branches
+open_ports parts _ = []
+
+-- a name stands for something that is there
+abbrev pub KindFit : Parts → ℕ → Named → Type 0
+KindFit parts handlers (kinds.Queue n) = n < length parts.queues
+KindFit parts handlers (kinds.Port n) = n < length parts.ports
+KindFit parts handlers (kinds.Cause n) = n < length parts.causes
+KindFit parts handlers (kinds.Handler n) = n < handlers
+KindFit parts handlers _ = Unit {0}
+
+-- what stands in the open block
+abbrev pub OpenFit : Parts → Block → Type 0
+OpenFit parts blocks.Outside = Unit {0}
+OpenFit parts (blocks.Handler part) = HandlerFit (length parts.ports) (length parts.causes) part × (length parts.handlers < 256)
+OpenFit parts (blocks.Arbiter part) = BranchesFit (length parts.queues) (length parts.handlers) (length parts.ports) part × (is_receive part.kind ≡ false) × (length parts.arbiters < 256) × (branch_count parts + length part.branches ≤ 256)
+OpenFit parts (blocks.Poster part) = PosterFit (length parts.ports) (length parts.causes) part × (length parts.posters < 16) × (script_count parts + length part.posts ≤ 10000)
+
+-- the numbers of the parts are within their limits
+pub record Counts (parts : Parts) : Type 0 where
+  pub budget : parts.budget ≤ 10000
+  pub queues : length parts.queues ≤ 16
+  pub ports : length parts.ports ≤ 256
+  pub sets : length parts.sets ≤ 64
+  pub causes : length parts.causes ≤ 32
+  pub handlers : length parts.handlers ≤ 256
+  pub arbiters : length parts.arbiters ≤ 256
+  pub branches : branch_count parts ≤ 256
+  pub posters : length parts.posters ≤ 16
+  pub posts : script_count parts ≤ 10000
+
+-- each part is fit
+pub record Fits (parts : Parts) : Type 0 where
+  pub queues : Each (λ (part : QueuePart). PolicyFit part.policy) parts.queues
+  pub sets : Each (SetFit (length parts.ports)) parts.sets
+  pub causes : Each (λ (part : CausePart). part.port < length parts.ports) parts.causes
+  pub handlers : Each (HandlerFit (length parts.ports) (length parts.causes)) parts.handlers
+  pub arbiters : Each (ArbiterFit (length parts.queues) (length parts.handlers) (length parts.ports)) parts.arbiters
+  pub posters : Each (PosterFit (length parts.ports) (length parts.causes)) parts.posters
+
+pub record Sound (parts : Parts) (names : Naming) (spotted : List ℕ) (block : Block) : Type 0 where
+  pub counts : Counts parts
+  pub fits : Fits parts
+  pub known : Each (λ (entry : List ℕ × Named). KindFit parts (handlers_named parts block) entry.1) names
+  pub apart : NamesApart names (declared_names (whole parts block))
+  pub spots : spotted ≡ named_ports parts ++ open_ports parts block
+  pub uncrowded : Uncrowded spotted
+  pub begun : OpenFit parts block
+
+-- ---- more of a kind
+
+abbrev pub is_cause_fit : ℕ → CausePart → Type 0
+is_cause_fit ports part = part.port < ports
+
+pub queue_fits : (parts : Parts) (part : QueuePart) → Fits parts → PolicyFit part.policy → Fits (record parts { queues = parts.queues ++ part ∷ [] })
+queue_fits parts part fits fit =
+    let grows : length parts.queues ≤ length (parts.queues ++ part ∷ []) = omega (arith, length-append {A = QueuePart} parts.queues (part ∷ [])) in
+    record {
+      queues = each_push (λ (part : QueuePart). PolicyFit part.policy) parts.queues part fits.queues fit;
+      sets = fits.sets; causes = fits.causes; handlers = fits.handlers;
+      arbiters = each_more _ _ (arbiter_more (length parts.queues) (length (parts.queues ++ part ∷ [])) (length parts.handlers) (length parts.handlers) (length parts.ports) (length parts.ports) grows (omega arith) (omega arith)) parts.arbiters fits.arbiters;
+      posters = fits.posters;
+    }
+
+pub port_fits : (parts : Parts) (name : List ℕ) → Fits parts → Fits (record parts { ports = parts.ports ++ name ∷ [] })
+port_fits parts name fits =
+    let grows : length parts.ports ≤ length (parts.ports ++ name ∷ []) = omega (arith, length-append {A = List ℕ} parts.ports (name ∷ [])) in
+    let more : ℕ = length (parts.ports ++ name ∷ []) in
+    record {
+      queues = fits.queues;
+      sets = each_more _ _ (set_more (length parts.ports) more grows) parts.sets fits.sets;
+      causes = each_more (is_cause_fit (length parts.ports)) (is_cause_fit more) (λ part below. omega (arith, below)) parts.causes fits.causes;
+      handlers = each_more _ _ (handler_more (length parts.ports) more (length parts.causes) (length parts.causes) grows (omega arith)) parts.handlers fits.handlers;
+      arbiters = each_more _ _ (arbiter_more (length parts.queues) (length parts.queues) (length parts.handlers) (length parts.handlers) (length parts.ports) more (omega arith) (omega arith) grows) parts.arbiters fits.arbiters;
+      posters = each_more _ _ (poster_more (length parts.ports) more (length parts.causes) (length parts.causes) grows (omega arith)) parts.posters fits.posters;
+    }
+
+pub set_fits : (parts : Parts) (part : SetPart) → Fits parts → SetFit (length parts.ports) part → Fits (record parts { sets = parts.sets ++ part ∷ [] })
+set_fits parts part fits fit = record {
+  queues = fits.queues; sets = each_push (SetFit (length parts.ports)) parts.sets part fits.sets fit; causes = fits.causes; handlers = fits.handlers; arbiters = fits.arbiters; posters = fits.posters }
+
+pub cause_fits : (parts : Parts) (part : CausePart) → Fits parts → part.port < length parts.ports → Fits (record parts { causes = parts.causes ++ part ∷ [] })
+cause_fits parts part fits fit =
+    let grows : length parts.causes ≤ length (parts.causes ++ part ∷ []) = omega (arith, length-append {A = CausePart} parts.causes (part ∷ [])) in
+    let more : ℕ = length (parts.causes ++ part ∷ []) in
+    record {
+      queues = fits.queues; sets = fits.sets;
+      causes = each_push (is_cause_fit (length parts.ports)) parts.causes part fits.causes fit;
+      handlers = each_more _ _ (handler_more (length parts.ports) (length parts.ports) (length parts.causes) more (omega arith) grows) parts.handlers fits.handlers;
+      arbiters = fits.arbiters;
+      posters = each_more _ _ (poster_more (length parts.ports) (length parts.ports) (length parts.causes) more (omega arith) grows) parts.posters fits.posters;
+    }
+
+pub handler_fits : (parts : Parts) (part : HandlerPart) → Fits parts → HandlerFit (length parts.ports) (length parts.causes) part → Fits (record parts { handlers = parts.handlers ++ part ∷ [] })
+handler_fits parts part fits fit =
+    let grows : length parts.handlers ≤ length (parts.handlers ++ part ∷ []) = omega (arith, length-append {A = HandlerPart} parts.handlers (part ∷ [])) in
+    record {
+      queues = fits.queues; sets = fits.sets; causes = fits.causes;
+      handlers = each_push (HandlerFit (length parts.ports) (length parts.causes)) parts.handlers part fits.handlers fit;
+      arbiters = each_more _ _ (arbiter_more (length parts.queues) (length parts.queues) (length parts.handlers) (length (parts.handlers ++ part ∷ [])) (length parts.ports) (length parts.ports) (omega arith) grows (omega arith)) parts.arbiters fits.arbiters;
+      posters = fits.posters;
+    }
+
+pub arbiter_fits : (parts : Parts) (part : ArbiterPart) → Fits parts → ArbiterFit (length parts.queues) (length parts.handlers) (length parts.ports) part → Fits (record parts { arbiters = parts.arbiters ++ part ∷ [] })
+arbiter_fits parts part fits fit = record {
+  queues = fits.queues; sets = fits.sets; causes = fits.causes; handlers = fits.handlers;
+  arbiters = each_push (ArbiterFit (length parts.queues) (length parts.handlers) (length parts.ports)) parts.arbiters part fits.arbiters fit; posters = fits.posters }
+
+pub poster_fits : (parts : Parts) (part : PosterPart) → Fits parts → PosterFit (length parts.ports) (length parts.causes) part → Fits (record parts { posters = parts.posters ++ part ∷ [] })
+poster_fits parts part fits fit = record {
+  queues = fits.queues; sets = fits.sets; causes = fits.causes; handlers = fits.handlers; arbiters = fits.arbiters;
+  posters = each_push (PosterFit (length parts.ports) (length parts.causes)) parts.posters part fits.posters fit }

@@ -1,0 +1,83 @@
+-- The ports that the spots name.
+use Rattle.std.proofs.Common.{◌≡◌, ℕ, zero, suc, ◌+◌, ◌<◌, ◌≤◌, Bool, true, false, List, [], ◌∷◌, ◌++◌, length, Some, refl, sym, ap, ◌∙◌, arith, append_assoc, append-nil}
+use Rattle.std.specs.Prelude.{◌==◌, ◌||◌, nat_lt, flat_map, count_by}
+use Rattle.std.specs.List.{list_any, slice_get}
+use Rattle.std.specs.Option.{option_map_or}
+use Rattle.std.proofs.lemmas.Bool.Decides.{nat_tests}
+use Rattle.std.proofs.lemmas.List.Sums.{sum_by-append}
+use Rattle.ccr_base.specs.declared.handlers.Action.{Action}
+use Rattle.ccr_wiring.specs.declared.parts.Parts.{Parts}
+use Rattle.ccr_wiring.specs.declared.parts.HandlerPart.{HandlerPart}
+use Rattle.ccr_wiring.specs.declared.parts.BranchPart.{BranchPart}
+use Rattle.ccr_wiring.specs.declared.parts.ArbiterPart.{ArbiterPart}
+use Rattle.ccr_wiring.specs.declared.parts.Kind.{Kind}
+use Rattle.ccr_wiring.specs.Groups.{may_have}
+use Rattle.ccr_wiring.specs.Wirings.{actions_of, awaited}
+use Rattle.ccr_wiring.specs.Spots.{pattern_ports, branch_named, branches_named, arbiters_named, named_ports, times}
+use Rattle.ccr_wiretext.specs.Drafts.{Declared}
+use Rattle.ccr_wiretext.specs.Forms.{crowds}
+use Rattle.ccr_wiretext.proofs.Each.{Each, neither}
+use Rattle.ccr_wiretext.proofs.Fit.{BranchFit, BranchesFit, ArbiterFit}
+
+-- ---- handlers behind those that a branch refers to change nothing
+
+get_front : (xs : List HandlerPart) (x : HandlerPart) (k : ℕ) → k < length xs → slice_get (xs ++ x ∷ []) k ≡ slice_get xs k
+get_front [] x k less = absurd (omega arith)
+get_front (y ∷ ys) x zero less = refl
+get_front (y ∷ ys) x (suc k) less = get_front ys x k (omega arith)
+
+branch_same : (parts : Parts) (part : HandlerPart) (branch : BranchPart) → branch.handler < length parts.handlers
+    → branch_named (record parts { handlers = parts.handlers ++ part ∷ [] }) branch ≡ branch_named parts branch
+branch_same parts part branch less = rw (get_front parts.handlers part branch.handler less) refl
+
+branches_same : (queues ports : ℕ) (kind : Kind) (parts : Parts) (part : HandlerPart) (branches : List BranchPart)
+    → Each (λ (branch : BranchPart). BranchFit queues (length parts.handlers) ports branch × (may_have kind branch.group ≡ true)) branches
+    → branches_named (record parts { handlers = parts.handlers ++ part ∷ [] }) branches ≡ branches_named parts branches
+branches_same queues ports kind parts part [] fit = refl
+branches_same queues ports kind parts part (branch ∷ branches) fit =
+    ap (λ (t : List ℕ). t ++ branches_named (record parts { handlers = parts.handlers ++ part ∷ [] }) branches) (branch_same parts part branch fit.0.0.1)
+      ∙ ap (λ (t : List ℕ). branch_named parts branch ++ t) (branches_same queues ports kind parts part branches fit.1)
+
+pub arbiters_same : (queues ports : ℕ) (parts : Parts) (part : HandlerPart) (arbiters : List ArbiterPart) → Each (ArbiterFit queues (length parts.handlers) ports) arbiters
+    → arbiters_named (record parts { handlers = parts.handlers ++ part ∷ [] }) arbiters ≡ arbiters_named parts arbiters
+arbiters_same queues ports parts part [] fit = refl
+arbiters_same queues ports parts part (arbiter ∷ arbiters) fit =
+    ap (λ (t : List ℕ). t ++ arbiters_named (record parts { handlers = parts.handlers ++ part ∷ [] }) arbiters) (branches_same queues ports arbiter.kind parts part arbiter.branches fit.0.0)
+      ∙ ap (λ (t : List ℕ). branches_named parts arbiter.branches ++ t) (arbiters_same queues ports parts part arbiters fit.1)
+
+-- ---- a branch that crowds no port
+
+-- no port stands more than 16 times
+abbrev pub Uncrowded : List ℕ → Type 0
+Uncrowded ports = (port : ℕ) → times port ports ≤ 16
+
+times_append : (port : ℕ) (xs ys : List ℕ) → times port (xs ++ ys) ≡ times port xs + times port ys
+times_append port xs ys = sum_by-append _ xs ys
+
+times_none : (port : ℕ) (ports : List ℕ) → list_any (λ other. other == port) ports ≡ false → times port ports ≡ 0
+times_none port [] none = refl
+times_none port (x ∷ xs) none =
+    let parts = neither (x == port) (list_any (λ other. other == port) xs) none in
+    let split : times port (x ∷ xs) ≡ times port (x ∷ []) + times port xs = times_append port (x ∷ []) xs in
+    let one : times port (x ∷ []) ≡ 0 = rw parts.0 refl in
+    let rest : times port xs ≡ 0 = times_none port xs parts.1 in
+    omega (arith, split, one, rest)
+
+among : (f : ℕ → Bool) (port : ℕ) (ports : List ℕ) → list_any f ports ≡ false → list_any (λ other. other == port) ports ≡ true → f port ≡ false
+among f port [] none is = absurd cc
+among f port (x ∷ xs) none is = by (x == port) refl is (neither (f x) (list_any f xs) none) (among f port xs)
+  where
+    by : (t : Bool) → (x == port) ≡ t → (t || list_any (λ other. other == port) xs) ≡ true → (f x ≡ false) × (list_any f xs ≡ false)
+      → (list_any f xs ≡ false → list_any (λ other. other == port) xs ≡ true → f port ≡ false) → f port ≡ false
+    by true e h parts next = let same : x ≡ port = grind (arith, nat_tests, e) in ap f (sym same) ∙ parts.0
+    by false e h parts next = next parts.1 h
+
+pub uncrowded_more : (draft : Declared) (branch : BranchPart) → Uncrowded draft.spotted → crowds draft branch ≡ false → Uncrowded (draft.spotted ++ branch_named draft.parts branch)
+unfolding crowds
+uncrowded_more draft branch before none port = by (list_any (λ other. other == port) new) refl
+  where
+    new : List ℕ
+    new = branch_named draft.parts branch
+    by : (t : Bool) → list_any (λ other. other == port) new ≡ t → times port (draft.spotted ++ new) ≤ 16
+    by true is = let test : nat_lt 16 (times port (draft.spotted ++ new)) ≡ false = among (λ p. nat_lt 16 (times p (draft.spotted ++ new))) port new none is in grind (arith, nat_tests, test)
+    by false is = let none_new = times_none port new is in let sum = times_append port draft.spotted new in omega (arith, none_new, sum, before port)

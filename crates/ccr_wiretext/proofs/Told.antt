@@ -1,0 +1,217 @@
+-- Facts that a line of the grammar tells.
+use Rattle.std.proofs.Common.{◌≡◌, ℕ, ◌+◌, ◌<◌, ◌≤◌, Bool, true, false, List, [], ◌∷◌, ◌++◌, length, map, Option, Some, ◌⊎◌, inl, inr, refl, sym, ap, subst, ◌∙◌, arith, append_assoc, append-nil, length-append}
+use Rattle.std.specs.Prelude.{◌==◌, ◌&&◌, ◌||◌, not, sum, flat_map}
+use Rattle.std.specs.List.{list_any}
+use Rattle.std.specs.Option.{option_and_then}
+use Rattle.std.proofs.lemmas.Bool.Decides.{nat_tests}
+use Rattle.ccr_base.specs.declared.handlers.Action.{Action}
+use Rattle.ccr_base.specs.declared.handlers.Action.TheVariants as actions
+use Rattle.ccr_base.specs.declared.handlers.Expr.{Expr}
+use Rattle.ccr_base.specs.declared.handlers.Expr.TheVariants as exprs
+use Rattle.ccr_base.specs.declared.policies.Policy.{Policy}
+use Rattle.ccr_base.specs.declared.policies.Policy.TheVariants as policies
+use Rattle.ccr_base.specs.declared.patterns.Slot.{Slot}
+use Rattle.ccr_base.specs.declared.patterns.Pattern.{Pattern}
+use Rattle.ccr_base.specs.declared.patterns.Pattern.TheVariants as patterns
+use Rattle.ccr_wiring.specs.declared.parts.Parts.{Parts}
+use Rattle.ccr_wiring.specs.declared.parts.BranchPart.{BranchPart}
+use Rattle.ccr_wiring.specs.Repeats.{has_port, are_apart, slot_ports}
+use Rattle.ccr_wiretext.specs.declared.keyword.Keyword.{Keyword}
+use Rattle.ccr_wiretext.specs.declared.keyword.Keyword.TheVariants as keywords
+use Rattle.ccr_wiretext.specs.declared.named.Named.{Named}
+use Rattle.ccr_wiretext.specs.declared.named.Named.TheVariants as kinds
+use Rattle.ccr_wiretext.specs.Names.{Naming, named, as_port, as_queue, as_cause, as_handler}
+use Rattle.ccr_wiretext.specs.Drafts.{Declared}
+use Rattle.ccr_wiretext.specs.Places.{Words}
+use Rattle.ccr_wiretext.specs.Grammar.{Refers, IsPort, IsPolicy, IsExpr, IsSlot, IsSlots, IsPattern, ArePorts, AreCauses}
+use Rattle.ccr_wiretext.specs.Lines.{IsAction, IsBranchTail}
+use Rattle.ccr_wiretext.proofs.Steps.{then_some}
+use Rattle.ccr_wiretext.proofs.Each.{Each, neither}
+use Rattle.ccr_wiretext.proofs.Fit.{PolicyFit, ExprFit, PortsFit, ActionFit, SlotFit, PatternFit, BranchFit}
+use Rattle.ccr_wiretext.proofs.NamesApart.{named_each}
+use Rattle.ccr_wiretext.proofs.Sound.{KindFit}
+
+-- the table of names, each of which stands for something that is there
+abbrev pub Known : Parts → ℕ → Naming → Type 0
+Known parts handlers names = Each (λ (entry : List ℕ × Named). KindFit parts handlers entry.1) names
+
+kind_port : (parts : Parts) (handlers n : ℕ) (what : Named) → KindFit parts handlers what → as_port what ≡ Some n → n < length parts.ports
+kind_port parts handlers n (kinds.Port k) fit e = let same : k ≡ n = cc in omega arith
+kind_port parts handlers n (kinds.Queue k) fit e = absurd cc
+kind_port parts handlers n (kinds.Set k) fit e = absurd cc
+kind_port parts handlers n (kinds.Cause k) fit e = absurd cc
+kind_port parts handlers n (kinds.Handler k) fit e = absurd cc
+kind_port parts handlers n kinds.Arbiter fit e = absurd cc
+kind_port parts handlers n kinds.Branch fit e = absurd cc
+kind_port parts handlers n kinds.Poster fit e = absurd cc
+
+kind_queue : (parts : Parts) (handlers n : ℕ) (what : Named) → KindFit parts handlers what → as_queue what ≡ Some n → n < length parts.queues
+kind_queue parts handlers n (kinds.Queue k) fit e = let same : k ≡ n = cc in omega arith
+kind_queue parts handlers n (kinds.Port k) fit e = absurd cc
+kind_queue parts handlers n (kinds.Set k) fit e = absurd cc
+kind_queue parts handlers n (kinds.Cause k) fit e = absurd cc
+kind_queue parts handlers n (kinds.Handler k) fit e = absurd cc
+kind_queue parts handlers n kinds.Arbiter fit e = absurd cc
+kind_queue parts handlers n kinds.Branch fit e = absurd cc
+kind_queue parts handlers n kinds.Poster fit e = absurd cc
+
+kind_cause : (parts : Parts) (handlers n : ℕ) (what : Named) → KindFit parts handlers what → as_cause what ≡ Some n → n < length parts.causes
+kind_cause parts handlers n (kinds.Cause k) fit e = let same : k ≡ n = cc in omega arith
+kind_cause parts handlers n (kinds.Queue k) fit e = absurd cc
+kind_cause parts handlers n (kinds.Set k) fit e = absurd cc
+kind_cause parts handlers n (kinds.Port k) fit e = absurd cc
+kind_cause parts handlers n (kinds.Handler k) fit e = absurd cc
+kind_cause parts handlers n kinds.Arbiter fit e = absurd cc
+kind_cause parts handlers n kinds.Branch fit e = absurd cc
+kind_cause parts handlers n kinds.Poster fit e = absurd cc
+
+kind_handler : (parts : Parts) (handlers n : ℕ) (what : Named) → KindFit parts handlers what → as_handler what ≡ Some n → n < handlers
+kind_handler parts handlers n (kinds.Handler k) fit e = let same : k ≡ n = cc in omega arith
+kind_handler parts handlers n (kinds.Queue k) fit e = absurd cc
+kind_handler parts handlers n (kinds.Set k) fit e = absurd cc
+kind_handler parts handlers n (kinds.Port k) fit e = absurd cc
+kind_handler parts handlers n (kinds.Cause k) fit e = absurd cc
+kind_handler parts handlers n kinds.Arbiter fit e = absurd cc
+kind_handler parts handlers n kinds.Branch fit e = absurd cc
+kind_handler parts handlers n kinds.Poster fit e = absurd cc
+
+-- what a reference refers to is there
+referred : (as_kind : Named → Option ℕ) (P : Named → Type 0) (Q : ℕ → Type 0) → ((n : ℕ) (what : Named) → P what → as_kind what ≡ Some n → Q n)
+    → (names : Naming) (word : List ℕ) (n : ℕ) → Each (λ (entry : List ℕ × Named). P entry.1) names → Refers as_kind names word n → Q n
+referred as_kind P Q kind names word n known refers =
+    let what = then_some as_kind (named names word) n refers in
+    kind n what.0 (named_each P names word what.0 known what.1) what.2
+
+pub port_there : (draft : Declared) (handlers : ℕ) (word : List ℕ) (n : ℕ) → Known draft.parts handlers draft.names → IsPort draft word n → n < length draft.parts.ports
+port_there draft handlers word n known (inl (plain, refers)) = referred as_port (KindFit draft.parts handlers) (λ k. k < length draft.parts.ports) (kind_port draft.parts handlers) draft.names word n known refers
+port_there draft handlers word n known (inr said) = referred as_port (KindFit draft.parts handlers) (λ k. k < length draft.parts.ports) (kind_port draft.parts handlers) draft.names said.name n known said.in_names
+
+cause_there : (draft : Declared) (handlers : ℕ) (word : List ℕ) (n : ℕ) → Known draft.parts handlers draft.names → Refers as_cause draft.names word n → n < length draft.parts.causes
+cause_there draft handlers word n known refers = referred as_cause (KindFit draft.parts handlers) (λ k. k < length draft.parts.causes) (kind_cause draft.parts handlers) draft.names word n known refers
+
+pub policy_fit : (words : Words) (p : Policy) → IsPolicy words p → PolicyFit p
+policy_fit words policies.Unbounded said = tt
+policy_fit words (policies.Discard n) said = (said.2.above, said.2.below)
+policy_fit words (policies.Throttle n) said = (said.2.above, said.2.below)
+
+expr_fit : (words : Words) (value : Expr) → IsExpr words value → ExprFit value
+expr_fit words (exprs.Number n) said = tt
+expr_fit words (exprs.Arg k) said = said.2.below
+expr_fit words exprs.Sum said = tt
+expr_fit words exprs.Count said = tt
+
+-- ---- numbers of which each is none of those found before it
+
+apart_push : (xs : List ℕ) (x : ℕ) → are_apart xs ≡ true → has_port xs x ≡ false → are_apart (xs ++ x ∷ []) ≡ true
+apart_push [] x apart new = refl
+apart_push (y ∷ ys) x apart new =
+    let parts = neither (y == x) (has_port ys x) new in
+    let both = halves (not (has_port ys y)) (are_apart ys) apart in
+    rw (still_none ys x y (negated (has_port ys y) both.0) (turned y x parts.0), apart_push ys x both.1 parts.1) refl
+  where
+    halves : (a b : Bool) → (a && b) ≡ true → (a ≡ true) × (b ≡ true)
+    halves true b e = (refl, e)
+    halves false b e = absurd cc
+    negated : (a : Bool) → not a ≡ true → a ≡ false
+    negated true e = absurd cc
+    negated false e = refl
+    turned : (a b : ℕ) → (a == b) ≡ false → (b == a) ≡ false
+    turned a b e = grind (arith, nat_tests, e)
+    still_none : (zs : List ℕ) (z w : ℕ) → has_port zs w ≡ false → (z == w) ≡ false → has_port (zs ++ z ∷ []) w ≡ false
+    still_none [] z w none differ = rw differ refl
+    still_none (v ∷ zs) z w none differ = let parts = neither (v == w) (has_port zs w) none in rw (parts.0, still_none zs z w parts.1 differ) refl
+
+ports_fit : (draft : Declared) (handlers : ℕ) → Known draft.parts handlers draft.names → (found ports : List ℕ) (words : Words) → are_apart found ≡ true → ArePorts draft found ports words
+    → PortsFit (length draft.parts.ports) ports × (are_apart (found ++ ports) ≡ true)
+ports_fit draft handlers known found [] words apart said = (tt, rw (append-nil found) apart)
+ports_fit draft handlers known found (port ∷ ports) words apart said =
+    let rest = ports_fit draft handlers known (found ++ port ∷ []) ports said.1 (apart_push found port apart said.4) said.5 in
+    ((port_there draft handlers said.0 port known said.3, rest.0), subst (λ all. are_apart all ≡ true) (append_assoc found (port ∷ []) ports) rest.1)
+
+pub members_fit : (draft : Declared) (handlers : ℕ) → Known draft.parts handlers draft.names → (ports : List ℕ) (words : Words) → ArePorts draft [] ports words
+    → PortsFit (length draft.parts.ports) ports × (are_apart ports ≡ true)
+members_fit draft handlers known ports words said = ports_fit draft handlers known [] ports words refl said
+
+causes_go : (draft : Declared) (handlers : ℕ) → Known draft.parts handlers draft.names → (found causes : List ℕ) (words : Words) → are_apart found ≡ true → AreCauses draft.names found causes words
+    → PortsFit (length draft.parts.causes) causes × (are_apart (found ++ causes) ≡ true)
+causes_go draft handlers known found [] words apart said = (tt, rw (append-nil found) apart)
+causes_go draft handlers known found (cause ∷ causes) words apart said =
+    let rest = causes_go draft handlers known (found ++ cause ∷ []) causes said.1 (apart_push found cause apart said.4) said.5 in
+    ((cause_there draft handlers said.0 cause known said.3, rest.0), subst (λ all. are_apart all ≡ true) (append_assoc found (cause ∷ []) causes) rest.1)
+
+pub causes_fit : (draft : Declared) (handlers : ℕ) → Known draft.parts handlers draft.names → (causes : List ℕ) (words : Words) → AreCauses draft.names [] causes words
+    → PortsFit (length draft.parts.causes) causes × (are_apart causes ≡ true)
+causes_fit draft handlers known causes words said = causes_go draft handlers known [] causes words refl said
+
+same_ports : (found : List Slot) (port : ℕ) → list_any (λ other. other.port == port) found ≡ has_port (slot_ports found) port
+same_ports [] port = refl
+same_ports (slot ∷ found) port = ap (λ t. (slot.port == port) || t) (same_ports found port)
+
+ports_push : (found : List Slot) (slot : Slot) → slot_ports (found ++ slot ∷ []) ≡ slot_ports found ++ slot.port ∷ []
+ports_push [] slot = refl
+ports_push (other ∷ found) slot = ap (λ (t : List ℕ). other.port ∷ t) (ports_push found slot)
+
+slots_fit : (draft : Declared) (handlers : ℕ) → Known draft.parts handlers draft.names → (found slots : List Slot) (words : Words) → are_apart (slot_ports found) ≡ true → IsSlots draft found slots words
+    → Each (SlotFit (length draft.parts.ports)) slots × (are_apart (slot_ports (found ++ slots)) ≡ true)
+slots_fit draft handlers known found [] words apart said = (tt, rw (append-nil found) apart)
+slots_fit draft handlers known found (slot ∷ slots) words apart said =
+    let new : are_apart (slot_ports (found ++ slot ∷ [])) ≡ true = rw (ports_push found slot) (apart_push (slot_ports found) slot.port apart (sym (same_ports found slot.port) ∙ said.4)) in
+    let rest = slots_fit draft handlers known (found ++ slot ∷ []) slots said.1 new said.5 in
+    (((port_there draft handlers said.3.port slot.port known said.3.refers, said.3.exact, said.3.counted.above, said.3.counted.below), rest.0),
+     subst (λ all. are_apart (slot_ports all) ≡ true) (append_assoc found (slot ∷ []) slots) rest.1)
+
+pattern_fit : (draft : Declared) (handlers : ℕ) → Known draft.parts handlers draft.names → (words : Words) (shape : Pattern) → IsPattern draft words shape → PatternFit (length draft.parts.ports) shape
+pattern_fit draft handlers known words (patterns.Slots slots) said =
+    let fit = slots_fit draft handlers known [] slots said.0 refl said.2 in (fit.0, fit.1, said.3, said.4)
+pattern_fit draft handlers known words (patterns.Gather total first second) said =
+    let g = said.2 in
+    (port_there draft handlers g.one first known g.refers, port_there draft handlers g.other second known g.other_refers, g.apart, g.counted.above, g.counted.below)
+
+pub branch_fit : (draft : Declared) (handlers : ℕ) → Known draft.parts handlers draft.names → (words : Words) (branch : BranchPart) → IsBranchTail draft words branch → BranchFit (length draft.parts.queues) handlers (length draft.parts.ports) branch
+branch_fit draft handlers known words branch said =
+    (referred as_queue (KindFit draft.parts handlers) (λ k. k < length draft.parts.queues) (kind_queue draft.parts handlers) draft.names said.queue branch.queue known said.queued,
+     referred as_handler (KindFit draft.parts handlers) (λ k. k < handlers) (kind_handler draft.parts handlers) draft.names said.handler branch.handler known said.handled,
+     pattern_fit draft handlers known said.shape branch.pattern said.pattern)
+
+pub action_fit : (draft : Declared) (handlers : ℕ) → Known draft.parts handlers draft.names → (first : Keyword) (words : Words) (action : Action) → IsAction draft first words action → ActionFit (length draft.parts.ports) (length draft.parts.causes) action
+action_fit draft handlers known keywords.Budget words action said = absurd said
+action_fit draft handlers known keywords.Queue words action said = absurd said
+action_fit draft handlers known keywords.Port words action said = absurd said
+action_fit draft handlers known keywords.Portset words action said = absurd said
+action_fit draft handlers known keywords.Cause words action said = absurd said
+action_fit draft handlers known keywords.Handler words action said = absurd said
+action_fit draft handlers known keywords.Receive words action said = absurd said
+action_fit draft handlers known keywords.Choice words action said = absurd said
+action_fit draft handlers known keywords.Interleave words action said = absurd said
+action_fit draft handlers known keywords.Poster words action said = absurd said
+action_fit draft handlers known keywords.Post words (actions.Post port value) said = (port_there draft handlers said.0 port known said.3, expr_fit said.1 value said.4)
+action_fit draft handlers known keywords.Post words (actions.Fail value) said = absurd said
+action_fit draft handlers known keywords.Post words (actions.Add cause) said = absurd said
+action_fit draft handlers known keywords.Post words (actions.Remove cause) said = absurd said
+action_fit draft handlers known keywords.Post words (actions.Await port) said = absurd said
+action_fit draft handlers known keywords.Fail words (actions.Post port value) said = absurd said
+action_fit draft handlers known keywords.Fail words (actions.Fail value) said = expr_fit words value said
+action_fit draft handlers known keywords.Fail words (actions.Add cause) said = absurd said
+action_fit draft handlers known keywords.Fail words (actions.Remove cause) said = absurd said
+action_fit draft handlers known keywords.Fail words (actions.Await port) said = absurd said
+action_fit draft handlers known keywords.Add words (actions.Post port value) said = absurd said
+action_fit draft handlers known keywords.Add words (actions.Fail value) said = absurd said
+action_fit draft handlers known keywords.Add words (actions.Add cause) said = cause_there draft handlers said.0 cause known said.2
+action_fit draft handlers known keywords.Add words (actions.Remove cause) said = absurd said
+action_fit draft handlers known keywords.Add words (actions.Await port) said = absurd said
+action_fit draft handlers known keywords.Remove words (actions.Post port value) said = absurd said
+action_fit draft handlers known keywords.Remove words (actions.Fail value) said = absurd said
+action_fit draft handlers known keywords.Remove words (actions.Add cause) said = absurd said
+action_fit draft handlers known keywords.Remove words (actions.Remove cause) said = cause_there draft handlers said.0 cause known said.2
+action_fit draft handlers known keywords.Remove words (actions.Await port) said = absurd said
+action_fit draft handlers known keywords.Await words (actions.Post port value) said = absurd said
+action_fit draft handlers known keywords.Await words (actions.Fail value) said = absurd said
+action_fit draft handlers known keywords.Await words (actions.Add cause) said = absurd said
+action_fit draft handlers known keywords.Await words (actions.Remove cause) said = absurd said
+action_fit draft handlers known keywords.Await words (actions.Await port) said = port_there draft handlers said.0 port known said.2
+action_fit draft handlers known keywords.Branch words action said = absurd said
+action_fit draft handlers known keywords.Teardown words action said = absurd said
+action_fit draft handlers known keywords.Exclusive words action said = absurd said
+action_fit draft handlers known keywords.Concurrent words action said = absurd said
+action_fit draft handlers known keywords.End words action said = absurd said
+action_fit draft handlers known keywords.Other words action said = absurd said
