@@ -9,7 +9,7 @@ use Rattle.ccr_cli.specs.Reads.{Words}
 use Rattle.ccr_cli.specs.Answers.{input_of, IsNoInput, is_run, refused_text, IsAccepted, IsDeclined, IsDue}
 
 differ : (test : Bool) → test ≡ true → test ≡ false → ⊥
-differ test yes no = cc
+differ test passes fails = cc
 
 apart : (read : Option Parts) (wiring : Parts) → read ≡ Some wiring → read ≡ None → ⊥
 apart read wiring some none = cc
@@ -19,13 +19,17 @@ unfolding input_of
 too_long None long = tt
 too_long (Some bytes) long = grind (arith, nat_tests)
 
+pub long_is_not_accepted : (rest : Option (List ℕ)) → IsLongerThan 1048576 rest → IsAccepted rest → ⊥
+long_is_not_accepted None long accepted = accepted
+long_is_not_accepted (Some bytes) long accepted = apart (input_of bytes) accepted.0 accepted.1 (too_long (Some bytes) long)
+
 pub refusal_is_due : (status : Status) (words : Words) (rest : Option (List ℕ)) (text : List ℕ) → status ≡ Refused → text ≡ refused_text → is_run words ≡ true → IsLongerThan 1048576 rest → IsDue status words rest text
 refusal_is_due status words rest text is same run long = rw is (run, too_long rest long, same)
 
 pub usage_is_due : (status : Status) (words : Words) (rest : Option (List ℕ)) (text : List ℕ) → IsDue status words rest text → is_run words ≡ false → status ≡ Usage
-usage_is_due Usage words rest text due no = refl
-usage_is_due Refused words rest text due no = absurd (differ _ due.0 no)
-usage_is_due Ran words rest text due no = absurd (differ _ due.0 no)
+usage_is_due Usage words rest text due refused = refl
+usage_is_due Refused words rest text due refused = absurd (differ _ due.0 refused)
+usage_is_due Ran words rest text due refused = absurd (differ _ due.0 refused)
 
 pub decline_is_due : (status : Status) (words : Words) (rest : Option (List ℕ)) (text : List ℕ) → IsDue status words rest text → is_run words ≡ true → IsDeclined rest → status ≡ Refused
 decline_is_due Usage words rest text due run declined = absurd (differ _ run due.0)

@@ -29,7 +29,8 @@ fn usage(alloc: Global) -> Result<Due, OutOfMemory>
     ensures status { IfOk result (λ due. due.status ≡ Status.Usage) }
     ensures text { IfOk result (λ due. due.text ≡ usage_text) }
 {
-    let text = b"usage: ccr check|run|verify|load [--workers N] [--schedule] [--json] [--size N]\ndone 1\n";
+    let text =
+        b"usage: ccr check|run|verify|load [--workers N] [--schedule] [--json] [--size N]\ndone 1\n";
     Ok(Due {
         status: Status::Usage,
         text: List::from_vec(Vec::from_slice(alloc, text)?),

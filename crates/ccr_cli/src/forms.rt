@@ -188,12 +188,7 @@ impl Draft {
 
     /// A line behind `handler NAME`.
     #[tactic(auto, unfolding(crate::specs::Forms::handler_line))]
-    fn handler_line(
-        &mut self,
-        name: Name,
-        first: Keyword,
-        words: Cursor<'_>,
-    ) -> Result<(), Unread>
+    fn handler_line(&mut self, name: Name, first: Keyword, words: Cursor<'_>) -> Result<(), Unread>
         ensures { GivesState self.new result (handler_line self.old name first words.entry) }
     {
         match first {

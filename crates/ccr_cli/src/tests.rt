@@ -5,19 +5,24 @@ use std::alloc::Global;
 use std::test::*;
 
 /// A receiver, and one post to its port.
-const ONE_POST: &str = "ccr 1\nqueue q unbounded\nhandler h\nend\nport a\nreceive r always q h take a 1 any\nposter p\npost a 7\nend\n";
+const ONE_POST: &str =
+    "ccr 1\nqueue q unbounded\nhandler h\nend\nport a\nreceive r always q h take a 1 any\nposter p\npost a 7\nend\n";
 
 /// A receiver, and nobody who posts.
-const NO_POSTS: &str = "ccr 1\nqueue q unbounded\nhandler h\nend\nport a\nreceive r always q h take a 1 any\n";
+const NO_POSTS: &str =
+    "ccr 1\nqueue q unbounded\nhandler h\nend\nport a\nreceive r always q h take a 1 any\n";
 
 /// What a run of `ONE_POST` writes.
-const ONE_POST_RUN: &str = "history 1\npost s0.0 a 7\nfire t1.0 r s0.0\nput t1.0\nstart t1.0 1\nend t1.0 done\nreport 1\nport a posted 1 taken 1 held 0\nbranch r fired 1\nqueue q put 1 dropped 0\ntotal posted 1 taken 1 held 0 fired 1 done 1 failed 0 shed 0 yield 0 cut 0 dropped 0 left 0\ndone 0\n";
+const ONE_POST_RUN: &str =
+    "history 1\npost s0.0 a 7\nfire t1.0 r s0.0\nput t1.0\nstart t1.0 1\nend t1.0 done\nreport 1\nport a posted 1 taken 1 held 0\nbranch r fired 1\nqueue q put 1 dropped 0\ntotal posted 1 taken 1 held 0 fired 1 done 1 failed 0 shed 0 yield 0 cut 0 dropped 0 left 0\ndone 0\n";
 
 /// What a run of `NO_POSTS` writes.
-const NO_POSTS_RUN: &str = "history 1\nreport 1\nport a posted 0 taken 0 held 0\nbranch r fired 0\nqueue q put 0 dropped 0\ntotal posted 0 taken 0 held 0 fired 0 done 0 failed 0 shed 0 yield 0 cut 0 dropped 0 left 0\ndone 0\n";
+const NO_POSTS_RUN: &str =
+    "history 1\nreport 1\nport a posted 0 taken 0 held 0\nbranch r fired 0\nqueue q put 0 dropped 0\ntotal posted 0 taken 0 held 0 fired 0 done 0 failed 0 shed 0 yield 0 cut 0 dropped 0 left 0\ndone 0\n";
 
 /// What refused words give.
-const USAGE: &str = "usage: ccr check|run|verify|load [--workers N] [--schedule] [--json] [--size N]\ndone 1\n";
+const USAGE: &str =
+    "usage: ccr check|run|verify|load [--workers N] [--schedule] [--json] [--size N]\ndone 1\n";
 
 /// What a refused input gives.
 const REFUSED: &str = "refused\ndone 2\n";
@@ -49,7 +54,9 @@ fn answer<R: AllocGlobal>(
     let failing = List::from_vec([read].to_vec(alloc)?);
     let mut source = MemorySource::new(List::from_vec(input.to_vec(alloc)?), failing);
     let failing = List::from_vec([write].to_vec(alloc)?);
-    let mut sink = MemorySink::new(alloc, 10_000, failing).ok().ok_or("memory")?;
+    let mut sink = MemorySink::new(alloc, 10_000, failing)
+        .ok()
+        .ok_or("memory")?;
     let status = run_ccr(rt, words.as_slice(), &mut source, &mut sink, &OpenGate);
     Ok((status, sink.written().to_vec(alloc)?))
 }

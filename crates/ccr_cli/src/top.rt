@@ -26,7 +26,7 @@ pub fn run_ccr<R: AllocGlobal, S: Source, K: Sink, G: Gate + Sync>(
     ensures usage_source { is_run words.now ≡ false → source.new ≡ source.old }
 
     ensures refused { result ≡ 2 → IsAnswered Refused words.now (S.rest source.old) (K.written sink.old) (K.written sink.new) }
-    ensures refused_due { is_run words.now ≡ true → IsDeclined (S.rest source.old) → Contains (2 ∷ 3 ∷ 4 ∷ 5 ∷ []) result }
+    ensures refused_due { is_run words.now ≡ true → IsDeclined (S.rest source.old) → 2 ≤ result }
 
     ensures read_fault { result ≡ 3 → Rose (S.faults source.old) (S.faults source.new) }
     ensures read_words { result ≡ 3 → is_run words.now ≡ true }
