@@ -175,42 +175,23 @@ fn one_more_of_all_arbiters(rt: HostRuntime) -> Result<(), Fail> {
     Ok(())
 }
 
+/// The seven lines, two posts of a poster and 9,998 of another one, then `last`.
+fn with_posts(alloc: Global, last: &str) -> Result<Vec<u8>, OutOfMemory> {
+    let mut text = Vec::new(alloc);
+    text.extend_from_slice(BASE.as_bytes())?;
+    text.extend_from_slice(b"poster p\npost a 1\npost a 2\nend\nposter o\n")?;
+    for _ in 0..9_998u32 {
+        text.extend_from_slice(b"post b 1\n")?;
+    }
+    text.extend_from_slice(last.as_bytes())?;
+    Ok(text)
+}
+
 #[test]
 fn one_more_post(rt: HostRuntime) -> Result<(), Fail> {
-    let rows = [
-        (
-            9_998,
-            "poster p\nend\nposter o\npost a 1\npost a 2\n",
-            "",
-            0,
-            9,
-        ),
-        (
-            9_998,
-            "poster p\nend\nposter o\npost a 1\npost a 2\n",
-            "end\n",
-            0,
-            0,
-        ),
-        (
-            9_998,
-            "poster p\nend\nposter o\npost a 1\npost a 2\n",
-            "post a 1\n",
-            10_011,
-            10,
-        ),
-    ];
-    for (count, before, last, line, code) in &rows {
-        let mut text = Vec::new(rt.alloc());
-        text.extend_from_slice(BASE.as_bytes())?;
-        text.extend_from_slice(before.as_bytes())?;
-        for _ in 0..*count {
-            text.extend_from_slice(b"post b 1\n")?;
-        }
-        text.extend_from_slice(last.as_bytes())?;
-        let found = refusal(&rt, &text);
-        assert!(rt; found.1 == *code);
-        assert!(rt; *line == 0 || found.0 == *line);
-    }
+    let all = with_posts(rt.alloc(), "end\n")?;
+    assert_eq!(rt; refusal(&rt, &all), (0, 0));
+    let more = with_posts(rt.alloc(), "post a 1\n")?;
+    assert_eq!(rt; refusal(&rt, &more), (10_011, 10));
     Ok(())
 }
