@@ -103,7 +103,7 @@ branch_more k l h i p q queues handlers ports branch fit = (omega (arith, fit.0)
 pub branches_more : (k l h i p q : ℕ) → k ≤ l → h ≤ i → p ≤ q → (part : ArbiterPart) → BranchesFit k h p part → BranchesFit l i q part
 branches_more k l h i p q queues handlers ports part fit =
     each_more (λ (branch : BranchPart). BranchFit k h p branch × (may_have part.kind branch.group ≡ true)) (λ (branch : BranchPart). BranchFit l i q branch × (may_have part.kind branch.group ≡ true))
-      (λ branch one. (branch_more k l h i p q queues handlers ports branch one.0, one.1)) part.branches fit
+    (λ branch one. (branch_more k l h i p q queues handlers ports branch one.0, one.1)) part.branches fit
 
 pub arbiter_more : (k l h i p q : ℕ) → k ≤ l → h ≤ i → p ≤ q → (part : ArbiterPart) → ArbiterFit k h p part → ArbiterFit l i q part
 arbiter_more k l h i p q queues handlers ports part fit = (branches_more k l h i p q queues handlers ports part fit.0, fit.1)

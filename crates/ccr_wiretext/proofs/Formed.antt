@@ -99,7 +99,12 @@ set_said draft words part e =
     let made : SetPart = record { name = name.0.0; ports = ports.0 } in
     subst (IsSet draft words) (ok_is made part ports.2) (record {
       room = limit_ok 64 (length draft.parts.sets) room.0 room.1;
-      rest = name.0.1; spelled = named_so.0; name = named_so.1; ports = said.0; some = said.1; few = said.2;
+      rest = name.0.1;
+      spelled = named_so.0;
+      name = named_so.1;
+      ports = said.0;
+      some = said.1;
+      few = said.2;
     })
 
 pub set_read : (draft : Declared) (words : Words) (part : SetPart) → IsSet draft words part → set_form draft words ≡ Ok part
@@ -142,13 +147,20 @@ tail_said draft name g words branch e =
     let room = bind_ok (unless (not (crowds draft made)) 12) _ branch shape.2 in
     let queued = reference_said as_queue draft.names words queue.0 queue.1 in
     let handled = reference_said as_handler draft.names queue.0.1 handler.0 handler.1 in
-    subst (λ (b : BranchPart). (name ≡ b.name) × (g ≡ b.group) × IsBranchTail draft words b) (ok_is made branch room.2) (refl, refl, record {
-      queue = queued.0; handler = handled.0; shape = handler.0.1;
-      spelled = queued.1 ∙ ap (λ (v : Words). queued.0 ∷ v) handled.1;
-      queued = queued.2; handled = handled.2;
-      pattern = pattern_said draft handler.0.1 shape.0 shape.1;
-      uncrowded = not_true _ (unless_ok _ 12 room.0 room.1);
-    })
+    subst (λ (b : BranchPart). (name ≡ b.name) × (g ≡ b.group) × IsBranchTail draft words b) (ok_is made branch room.2) (
+      refl,
+      refl,
+      record {
+        queue = queued.0;
+        handler = handled.0;
+        shape = handler.0.1;
+        spelled = queued.1 ∙ ap (λ (v : Words). queued.0 ∷ v) handled.1;
+        queued = queued.2;
+        handled = handled.2;
+        pattern = pattern_said draft handler.0.1 shape.0 shape.1;
+        uncrowded = not_true _ (unless_ok _ 12 room.0 room.1);
+      },
+    )
 
 tail_read : (draft : Declared) (words : Words) (branch : BranchPart) → IsBranchTail draft words branch → branch_tail draft branch.name branch.group words ≡ Ok branch
 unfolding branch_tail
@@ -180,7 +192,8 @@ receive_said draft words branch e =
     record {
       room = rooms.0;
       branch_room = rooms.1;
-      group = grouped_so.0; rest = kind.0.1;
+      group = grouped_so.0;
+      rest = kind.0.1;
       spelled = named_so.0 ∙ ap (λ (v : Words). name.0.0 ∷ v) grouped_so.1 ∙ ap (λ (n : List ℕ). n ∷ grouped_so.0 ∷ kind.0.1) tail.0;
       name = subst (IsNew draft.names) tail.0 named_so.1;
       grouped = subst (IsGroup grouped_so.0) tail.1 grouped_so.2;
@@ -191,7 +204,7 @@ pub receive_read : (draft : Declared) (words : Words) (branch : BranchPart) → 
 unfolding receive_form
 receive_read draft words branch said =
     rw (said.spelled, room_read draft said.room said.branch_room, new_name_read draft.names branch.name (said.group ∷ said.rest) said.name, group_read said.group branch.group said.rest said.grouped)
-      (tail_read draft said.rest branch said.tail)
+    (tail_read draft said.rest branch said.tail)
 
 -- NAME QUEUE HANDLER PATTERN
 pub branch_said : (draft : Declared) (part : ArbiterPart) (g : Group) (words : Words) (branch : BranchPart) → branch_form draft part g words ≡ Ok branch → IsBranch draft part g words branch
@@ -214,7 +227,7 @@ pub branch_read : (draft : Declared) (part : ArbiterPart) (g : Group) (words : W
 unfolding branch_form
 branch_read draft part g words branch said =
     rw (said.spelled, limit_read 256 (branch_count draft.parts + length part.branches) said.branch_room, new_name_read draft.names branch.name said.rest said.name)
-      (ap (λ h. branch_tail draft branch.name h said.rest) (sym said.grouped) ∙ tail_read draft said.rest branch said.tail)
+    (ap (λ h. branch_tail draft branch.name h said.rest) (sym said.grouped) ∙ tail_read draft said.rest branch said.tail)
 
 -- post PORT EXPR, in a handler
 pub post_said : (draft : Declared) (part : HandlerPart) (words : Words) (action : Action) → post_form draft part words ≡ Ok action → (length part.handler.actions < 16) × IsAction draft keywords.Post words action
@@ -226,9 +239,16 @@ post_said draft part words action e =
     let none = bind_ok (no_more value.0.1) _ action value.2 in
     let referred = port_said draft words to.0 to.1 in
     let valued = expr_said to.0.1 value.0 value.1 in
-    subst (λ (a : Action). (length part.handler.actions < 16) × IsAction draft keywords.Post words a) (ok_is (actions.Post to.0.0 value.0.0) action none.2)
-      (limit_ok 16 (length part.handler.actions) room.0 room.1, (referred.0, valued.0,
-       referred.1 ∙ ap (λ (v : Words). referred.0 ∷ v) (valued.1 ∙ rw (no_more_ok value.0.1 none.0 none.1) (append-nil valued.0)), referred.2, valued.2))
+    subst (λ (a : Action). (length part.handler.actions < 16) × IsAction draft keywords.Post words a) (ok_is (actions.Post to.0.0 value.0.0) action none.2) (
+      limit_ok 16 (length part.handler.actions) room.0 room.1,
+      (
+        referred.0,
+        valued.0,
+        referred.1 ∙ ap (λ (v : Words). referred.0 ∷ v) (valued.1 ∙ rw (no_more_ok value.0.1 none.0 none.1) (append-nil valued.0)),
+        referred.2,
+        valued.2,
+      ),
+    )
 
 pub post_read : (draft : Declared) (part : HandlerPart) (words : Words) (action : Action) → length part.handler.actions < 16 → IsAction draft keywords.Post words action → post_form draft part words ≡ Ok action
 unfolding post_form
@@ -250,7 +270,7 @@ fail_said draft part words action e =
     let valued = expr_said words value.0 value.1 in
     let whole : valued.0 ≡ words = sym (append-nil valued.0) ∙ rw (← (no_more_ok value.0.1 none.0 none.1)) (sym valued.1) in
     subst (λ (a : Action). (length part.handler.actions < 16) × IsAction draft keywords.Fail words a) (ok_is (actions.Fail value.0.0) action none.2)
-      (limit_ok 16 (length part.handler.actions) room.0 room.1, subst (λ v. IsExpr v value.0.0) whole valued.2)
+    (limit_ok 16 (length part.handler.actions) room.0 room.1, subst (λ v. IsExpr v value.0.0) whole valued.2)
 
 pub fail_read : (draft : Declared) (part : HandlerPart) (words : Words) (action : Action) → length part.handler.actions < 16 → IsAction draft keywords.Fail words action → fail_form part words ≡ Ok action
 unfolding fail_form
@@ -271,7 +291,7 @@ caused_said draft part words cause e =
     let none = bind_ok (no_more name.0.1) _ cause name.2 in
     let said = reference_said as_cause draft.names words name.0 name.1 in
     subst (λ (n : ℕ). (length part.handler.actions < 16) × IsAction draft keywords.Add words (actions.Add n)) (ok_is name.0.0 cause none.2)
-      (limit_ok 16 (length part.handler.actions) room.0 room.1, (said.0, said.1 ∙ ap (λ (v : Words). said.0 ∷ v) (no_more_ok name.0.1 none.0 none.1), said.2))
+    (limit_ok 16 (length part.handler.actions) room.0 room.1, (said.0, said.1 ∙ ap (λ (v : Words). said.0 ∷ v) (no_more_ok name.0.1 none.0 none.1), said.2))
 
 pub caused_read : (draft : Declared) (part : HandlerPart) (words : Words) (cause : ℕ) → length part.handler.actions < 16 → IsAction draft keywords.Add words (actions.Add cause) → caused_form draft part words ≡ Ok cause
 unfolding caused_form
@@ -286,7 +306,7 @@ await_said draft part words action e =
     let none = bind_ok (no_more from.0.1) _ action from.2 in
     let said = port_said draft words from.0 from.1 in
     subst (λ (a : Action). (length part.handler.actions < 16) × IsAction draft keywords.Await words a) (ok_is (actions.Await from.0.0) action none.2)
-      (limit_ok 16 (length part.handler.actions) room.0 room.1, (said.0, said.1 ∙ ap (λ (v : Words). said.0 ∷ v) (no_more_ok from.0.1 none.0 none.1), said.2))
+    (limit_ok 16 (length part.handler.actions) room.0 room.1, (said.0, said.1 ∙ ap (λ (v : Words). said.0 ∷ v) (no_more_ok from.0.1 none.0 none.1), said.2))
 
 pub await_read : (draft : Declared) (part : HandlerPart) (words : Words) (action : Action) → length part.handler.actions < 16 → IsAction draft keywords.Await words action → await_form draft part words ≡ Ok action
 unfolding await_form
@@ -310,9 +330,12 @@ script_said draft part words post e =
     let made : Sent = record { port = to.0.0; value = value.0.0; causes = all.0 } in
     subst (IsPost draft part words) (ok_is made post all.2) (record {
       room = limit_ok 10000 (script_count draft.parts + length part.posts) room.0 room.1;
-      to = referred.0; value = valued.0; rest = value.0.1;
+      to = referred.0;
+      value = valued.0;
+      rest = value.0.1;
       spelled = referred.1 ∙ ap (λ (v : Words). referred.0 ∷ v) valued.1;
-      refers = referred.2; number = valued.2;
+      refers = referred.2;
+      number = valued.2;
       causes = subst (λ v. AreCauses draft.names [] v value.0.1) (sym caused.1) caused.2;
     })
 

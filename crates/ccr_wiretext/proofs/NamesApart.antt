@@ -42,7 +42,7 @@ named_none [] name word what e = (refl, by (bytes_eq word name) e)
 named_none (entry ∷ names) name word what e = by (bytes_eq word entry.0) e (named_none names name word what)
   where
     by : (t : Bool) → cond t (Some entry.1) (named (names ++ (name, what) ∷ []) word) ≡ None → (named (names ++ (name, what) ∷ []) word ≡ None → (named names word ≡ None) × (bytes_eq word name ≡ false))
-      → (cond t (Some entry.1) (named names word) ≡ None) × (bytes_eq word name ≡ false)
+        → (cond t (Some entry.1) (named names word) ≡ None) × (bytes_eq word name ≡ false)
     by true h next = absurd cc
     by false h next = next h
 

@@ -76,15 +76,16 @@ post_named parts post fit = rw (below (length parts.ports) post.port fit.0, numb
 arbiter_named_so : (parts : Parts) (part : ArbiterPart) → ArbiterFit (length parts.queues) (length parts.handlers) (length parts.ports) part → arbiter_is_dangling parts part ≡ false
 arbiter_named_so parts part fit =
     each_false (λ (branch : BranchPart). BranchFit (length parts.queues) (length parts.handlers) (length parts.ports) branch × (may_have part.kind branch.group ≡ true)) (branch_is_dangling parts)
-      (λ branch one. branch_named_so parts branch one.0) part.branches fit.0
+    (λ branch one. branch_named_so parts branch one.0) part.branches fit.0
 
 none_dangles : (parts : Parts) → Fits parts → has_dangling parts ≡ false
 none_dangles parts fits = rw (
-    each_false (SetFit (length parts.ports)) (set_is_dangling parts) (λ part fit. numbers_named (length parts.ports) part.ports fit.0) parts.sets fits.sets,
-    each_false (is_cause_fit (length parts.ports)) (cause_is_dangling parts) (λ part fit. below (length parts.ports) part.port fit) parts.causes fits.causes,
-    each_false (HandlerFit (length parts.ports) (length parts.causes)) (handler_is_dangling parts) (λ part fit. each_false (ActionFit (length parts.ports) (length parts.causes)) (action_is_dangling parts) (action_named parts) part.handler.actions fit.0) parts.handlers fits.handlers,
-    each_false (ArbiterFit (length parts.queues) (length parts.handlers) (length parts.ports)) (arbiter_is_dangling parts) (arbiter_named_so parts) parts.arbiters fits.arbiters,
-    each_false (PosterFit (length parts.ports) (length parts.causes)) (poster_is_dangling parts) (λ part fit. each_false (PostFit (length parts.ports) (length parts.causes)) (post_is_dangling parts) (post_named parts) part.posts fit) parts.posters fits.posters) refl
+  each_false (SetFit (length parts.ports)) (set_is_dangling parts) (λ part fit. numbers_named (length parts.ports) part.ports fit.0) parts.sets fits.sets,
+  each_false (is_cause_fit (length parts.ports)) (cause_is_dangling parts) (λ part fit. below (length parts.ports) part.port fit) parts.causes fits.causes,
+  each_false (HandlerFit (length parts.ports) (length parts.causes)) (handler_is_dangling parts) (λ part fit. each_false (ActionFit (length parts.ports) (length parts.causes)) (action_is_dangling parts) (action_named parts) part.handler.actions fit.0) parts.handlers fits.handlers,
+  each_false (ArbiterFit (length parts.queues) (length parts.handlers) (length parts.ports)) (arbiter_is_dangling parts) (arbiter_named_so parts) parts.arbiters fits.arbiters,
+  each_false (PosterFit (length parts.ports) (length parts.causes)) (poster_is_dangling parts) (λ part fit. each_false (PostFit (length parts.ports) (length parts.causes)) (post_is_dangling parts) (post_named parts) part.posts fit) parts.posters fits.posters,
+) refl
 
 -- ---- repeats
 
@@ -94,11 +95,12 @@ pattern_once ports branch (patterns.Gather total first second) is fit = rw (is, 
 
 none_repeats : (parts : Parts) → Fits parts → has_repeat parts ≡ false
 none_repeats parts fits = rw (
-    each_false (SetFit (length parts.ports)) set_repeats (λ part fit. rw fit.1 refl) parts.sets fits.sets,
-    each_false (ArbiterFit (length parts.queues) (length parts.handlers) (length parts.ports)) arbiter_repeats
+  each_false (SetFit (length parts.ports)) set_repeats (λ part fit. rw fit.1 refl) parts.sets fits.sets,
+  each_false (ArbiterFit (length parts.queues) (length parts.handlers) (length parts.ports)) arbiter_repeats
       (λ part fit. each_false (λ (branch : BranchPart). BranchFit (length parts.queues) (length parts.handlers) (length parts.ports) branch × (may_have part.kind branch.group ≡ true)) branch_repeats
-        (λ branch one. pattern_once (length parts.ports) branch branch.pattern refl one.0.2) part.branches fit.0) parts.arbiters fits.arbiters,
-    each_false (PosterFit (length parts.ports) (length parts.causes)) poster_repeats (λ part fit. each_false (PostFit (length parts.ports) (length parts.causes)) post_repeats (λ post one. rw one.2 refl) part.posts fit) parts.posters fits.posters) refl
+      (λ branch one. pattern_once (length parts.ports) branch branch.pattern refl one.0.2) part.branches fit.0) parts.arbiters fits.arbiters,
+  each_false (PosterFit (length parts.ports) (length parts.causes)) poster_repeats (λ part fit. each_false (PostFit (length parts.ports) (length parts.causes)) post_repeats (λ post one. rw one.2 refl) part.posts fit) parts.posters fits.posters,
+) refl
 
 -- ---- limits
 
@@ -134,14 +136,16 @@ few parts c = rw (within 16 _ c.queues, within 256 _ c.ports, within 64 _ c.sets
 
 none_outside : (parts : Parts) → Counts parts → Fits parts → has_outside parts ≡ false
 none_outside parts c fits = rw (
-    within 10000 parts.budget c.budget, few parts c,
-    each_false (λ (part : QueuePart). PolicyFit part.policy) queue_is_outside (λ part fit. policy_within part.policy fit) parts.queues fits.queues,
-    each_false (SetFit (length parts.ports)) set_is_outside (λ part fit. rw (above 1 (length part.ports) fit.2, within 8 (length part.ports) fit.3) refl) parts.sets fits.sets,
-    each_false (HandlerFit (length parts.ports) (length parts.causes)) handler_is_outside
+  within 10000 parts.budget c.budget,
+  few parts c,
+  each_false (λ (part : QueuePart). PolicyFit part.policy) queue_is_outside (λ part fit. policy_within part.policy fit) parts.queues fits.queues,
+  each_false (SetFit (length parts.ports)) set_is_outside (λ part fit. rw (above 1 (length part.ports) fit.2, within 8 (length part.ports) fit.3) refl) parts.sets fits.sets,
+  each_false (HandlerFit (length parts.ports) (length parts.causes)) handler_is_outside
       (λ part fit. rw (within 16 (length part.handler.actions) fit.1, each_false (ActionFit (length parts.ports) (length parts.causes)) action_is_outside (action_within (length parts.ports) (length parts.causes)) part.handler.actions fit.0) refl) parts.handlers fits.handlers,
-    each_false (ArbiterFit (length parts.queues) (length parts.handlers) (length parts.ports)) arbiter_is_outside
+  each_false (ArbiterFit (length parts.queues) (length parts.handlers) (length parts.ports)) arbiter_is_outside
       (λ part fit. each_false (λ (branch : BranchPart). BranchFit (length parts.queues) (length parts.handlers) (length parts.ports) branch × (may_have part.kind branch.group ≡ true)) branch_is_outside
-        (λ branch one. pattern_within (length parts.ports) branch.pattern one.0.2) part.branches fit.0) parts.arbiters fits.arbiters) refl
+      (λ branch one. pattern_within (length parts.ports) branch.pattern one.0.2) part.branches fit.0) parts.arbiters fits.arbiters,
+) refl
 
 -- ---- groups
 
@@ -150,6 +154,7 @@ arbiter_grouped queues handlers ports part (branches, shaped) = by shaped
   where
     strange : has_strange_group part ≡ false
     strange = each_false (λ (branch : BranchPart). BranchFit queues handlers ports branch × (may_have part.kind branch.group ≡ true)) (λ (branch : BranchPart). not (may_have part.kind branch.group)) (λ branch one. rw one.1 refl) part.branches branches
+
     by : Shaped part → is_misgrouped part ≡ false
     by (inl (kind, one)) = rw (strange, kind, one) refl
     by (inr (kind, some)) = rw (strange, kind) refl
@@ -184,7 +189,10 @@ nothing_sound = record {
   fits = record { queues = tt; sets = tt; causes = tt; handlers = tt; arbiters = tt; posters = tt };
   known = tt;
   apart = record { apart = refl; formed = tt; fresh = λ name none. refl };
-  spots = refl; uncrowded = λ port. omega arith; begun = tt }
+  spots = refl;
+  uncrowded = λ port. omega arith;
+  begun = tt;
+}
 
 lines_have_none : (draft : Declared) (lines : List Line) (parts : Parts) → SoundDraft draft → AreLines draft lines parts → code_of parts ≡ None
 lines_have_none draft [] parts sound said =

@@ -25,20 +25,20 @@ unfolding pred
 pred_said [] x e = absurd cc
 pred_said (w ∷ words) x e = elim (chosen (bytes_eq w (codes "any")) (Ok (preds.Any, words)) _ (Ok x) e) [
   | inl here ↦
-    subst (λ (y : Pred × Words). (front : Words) × (w ∷ words ≡ front ++ y.1) × IsPred front y.0) (ok_is (preds.Any, words) x here.1)
+      subst (λ (y : Pred × Words). (front : Words) × (w ∷ words ≡ front ++ y.1) × IsPred front y.0) (ok_is (preds.Any, words) x here.1)
       (w ∷ [], refl, ap (λ (v : List ℕ). v ∷ []) (same_word w (codes "any") here.0))
   | inr other1 ↦ elim (chosen (bytes_eq w (codes "eq")) (number words >>= limit_as preds.Eq) _ (Ok x) other1.1) [
     | inl here ↦
-      let said = numbered_said preds.Eq words x here.1 in
-      (w ∷ said.1 ∷ [], ap (λ (v : Words). w ∷ v) said.2, subst (IsPred (w ∷ said.1 ∷ [])) said.4 (said.1, keyed w (codes "eq") said.1 here.0, said.3))
+        let said = numbered_said preds.Eq words x here.1 in
+        (w ∷ said.1 ∷ [], ap (λ (v : Words). w ∷ v) said.2, subst (IsPred (w ∷ said.1 ∷ [])) said.4 (said.1, keyed w (codes "eq") said.1 here.0, said.3))
     | inr other2 ↦ elim (chosen (bytes_eq w (codes "lt")) (number words >>= limit_as preds.Lt) _ (Ok x) other2.1) [
       | inl here ↦
-        let said = numbered_said preds.Lt words x here.1 in
-        (w ∷ said.1 ∷ [], ap (λ (v : Words). w ∷ v) said.2, subst (IsPred (w ∷ said.1 ∷ [])) said.4 (said.1, keyed w (codes "lt") said.1 here.0, said.3))
+          let said = numbered_said preds.Lt words x here.1 in
+          (w ∷ said.1 ∷ [], ap (λ (v : Words). w ∷ v) said.2, subst (IsPred (w ∷ said.1 ∷ [])) said.4 (said.1, keyed w (codes "lt") said.1 here.0, said.3))
       | inr other3 ↦ elim (chosen (bytes_eq w (codes "ge")) (number words >>= limit_as preds.Ge) _ (Ok x) other3.1) [
         | inl here ↦
-          let said = numbered_said preds.Ge words x here.1 in
-          (w ∷ said.1 ∷ [], ap (λ (v : Words). w ∷ v) said.2, subst (IsPred (w ∷ said.1 ∷ [])) said.4 (said.1, keyed w (codes "ge") said.1 here.0, said.3))
+            let said = numbered_said preds.Ge words x here.1 in
+            (w ∷ said.1 ∷ [], ap (λ (v : Words). w ∷ v) said.2, subst (IsPred (w ∷ said.1 ∷ [])) said.4 (said.1, keyed w (codes "ge") said.1 here.0, said.3))
         | inr other4 ↦ absurd (let h : Err 3 ≡ Ok x = other4.1 in cc)
       ]
     ]
@@ -65,11 +65,12 @@ slot_said draft found words x e =
     let counted = within_said 1 1000 to.0.1 count.0 count.1 in
     let tested = pred_said count.0.1 test.0 test.1 in
     let made : Slot = record { port = to.0.0; least = count.0.0; most = count.0.0; pred = test.0.0 } in
-    subst (λ (y : Slot × Words). (front : Words) × (words ≡ front ++ y.1) × IsSlot draft front y.0 × (list_any (λ other. other.port == y.0.port) found ≡ false)) (ok_is (made, test.0.1) x test.2)
-      (referred.0 ∷ counted.0 ∷ tested.0,
-       referred.1 ∙ ap (λ (v : Words). referred.0 ∷ v) (counted.1 ∙ ap (λ (v : Words). counted.0 ∷ v) tested.1),
-       record { port = referred.0; count = counted.0; test = tested.0; spelled = refl; refers = referred.2; counted = counted.2; exact = refl; tests = tested.2 },
-       not_true _ (unless_ok _ 8 apart.0 apart.1))
+    subst (λ (y : Slot × Words). (front : Words) × (words ≡ front ++ y.1) × IsSlot draft front y.0 × (list_any (λ other. other.port == y.0.port) found ≡ false)) (ok_is (made, test.0.1) x test.2) (
+      referred.0 ∷ counted.0 ∷ tested.0,
+      referred.1 ∙ ap (λ (v : Words). referred.0 ∷ v) (counted.1 ∙ ap (λ (v : Words). counted.0 ∷ v) tested.1),
+      record { port = referred.0; count = counted.0; test = tested.0; spelled = refl; refers = referred.2; counted = counted.2; exact = refl; tests = tested.2 },
+      not_true _ (unless_ok _ 8 apart.0 apart.1),
+    )
 
 slot_is : (s : Slot) → s.most ≡ s.least → record { port = s.port; least = s.least; most = s.least; pred = s.pred } ≡ s
 slot_is s e = ap (λ (m : ℕ). record { port = s.port; least = s.least; most = m; pred = s.pred }) (sym e)
@@ -79,7 +80,7 @@ pub slot_read : (draft : Declared) (found : List Slot) (front : Words) (s : Slot
 unfolding slot
 slot_read draft found front s rest said apart =
     rw (said.spelled, port_read draft said.port s.port (said.count ∷ said.test ++ rest) said.refers, apart, within_read 1 1000 said.count s.least (said.test ++ rest) said.counted, pred_read said.test s.pred rest said.tests)
-      (ap (λ (t : Slot). done (t, rest)) (slot_is s said.exact))
+    (ap (λ (t : Slot). done (t, rest)) (slot_is s said.exact))
   where
     done : Slot × Words → Result (Slot × Words) ℕ
     done x = Ok x
@@ -111,7 +112,7 @@ slots_read draft (suc room) found (s ∷ more) words said few =
     let one = slot_read draft found said.0 s said.1 said.3 said.4 in
     let here : slot draft found words ≡ Ok (s, said.1) = ap (slot draft found) said.2 ∙ one in
     slots_next draft room found said.0 words s said.1 said.3 said.2 here
-      ∙ slots_read draft room (found ++ s ∷ []) more said.1 said.5 (omega arith) ∙ ap (λ (v : List Slot). Ok v) (append_assoc found (s ∷ []) more)
+    ∙ slots_read draft room (found ++ s ∷ []) more said.1 said.5 (omega arith) ∙ ap (λ (v : List Slot). Ok v) (append_assoc found (s ∷ []) more)
 
 -- one port more
 pub new_port_said : (draft : Declared) (found : List ℕ) (words : Words) (x : ℕ × Words) → new_port draft found words ≡ Ok x
@@ -122,7 +123,7 @@ new_port_said draft found words x e =
     let apart = bind_ok (unless (not (has_port found to.0.0)) 8) (λ apart. Ok to.0) x to.2 in
     let said = port_said draft words to.0 to.1 in
     subst (λ (y : ℕ × Words). (word : List ℕ) × (words ≡ word ∷ y.1) × IsPort draft word y.0 × (has_port found y.0 ≡ false)) (ok_is to.0 x apart.2)
-      (said.0, said.1, said.2, not_true _ (unless_ok _ 8 apart.0 apart.1))
+    (said.0, said.1, said.2, not_true _ (unless_ok _ 8 apart.0 apart.1))
 
 pub new_port_read : (draft : Declared) (found : List ℕ) (word : List ℕ) (n : ℕ) (rest : Words) → IsPort draft word n → has_port found n ≡ false → new_port draft found (word ∷ rest) ≡ Ok (n, rest)
 unfolding new_port
@@ -157,12 +158,22 @@ gathered_said draft words p e =
     let none = bind_ok (no_more second.0.1) _ p second.2 in
     let counted = within_said 1 1000 words total.0 total.1 in
     let one = port_said draft total.0.1 first.0 first.1 in
-    let other = new_port_said draft (first.0.0 ∷ []) first.0.1 second.0 second.1 in
-    (total.0.0, first.0.0, second.0.0, sym (ok_is (patterns.Gather total.0.0 first.0.0 second.0.0) p none.2),
-     record {
-       count = counted.0; one = one.0; other = other.0;
-       spelled = counted.1 ∙ ap (λ (v : Words). counted.0 ∷ v) (one.1 ∙ ap (λ (v : Words). one.0 ∷ v) (other.1 ∙ ap (λ (v : Words). other.0 ∷ v) (no_more_ok second.0.1 none.0 none.1)));
-       counted = counted.2; refers = one.2; other_refers = other.2; apart = not_either (first.0.0 == second.0.0) other.3 })
+    let other = new_port_said draft (first.0.0 ∷ []) first.0.1 second.0 second.1 in (
+      total.0.0,
+      first.0.0,
+      second.0.0,
+      sym (ok_is (patterns.Gather total.0.0 first.0.0 second.0.0) p none.2),
+      record {
+        count = counted.0;
+        one = one.0;
+        other = other.0;
+        spelled = counted.1 ∙ ap (λ (v : Words). counted.0 ∷ v) (one.1 ∙ ap (λ (v : Words). one.0 ∷ v) (other.1 ∙ ap (λ (v : Words). other.0 ∷ v) (no_more_ok second.0.1 none.0 none.1)));
+        counted = counted.2;
+        refers = one.2;
+        other_refers = other.2;
+        apart = not_either (first.0.0 == second.0.0) other.3;
+      },
+    )
   where
     not_either : (b : Bool) → list_any (λ (t : Bool). t) (b ∷ []) ≡ false → b ≡ false
     not_either true h = absurd cc
@@ -180,12 +191,12 @@ unfolding pattern
 pattern_said draft [] p e = absurd cc
 pattern_said draft (w ∷ words) p e = elim (chosen (bytes_eq w (codes "take")) (taken draft words) _ (Ok p) e) [
   | inl here ↦
-    let said = taken_said draft words p here.1 in
-    subst (IsPattern draft (w ∷ words)) (sym said.1) (words, ap (λ (v : List ℕ). v ∷ words) (same_word w (codes "take") here.0), said.2, said.3, said.4)
+      let said = taken_said draft words p here.1 in
+      subst (IsPattern draft (w ∷ words)) (sym said.1) (words, ap (λ (v : List ℕ). v ∷ words) (same_word w (codes "take") here.0), said.2, said.3, said.4)
   | inr other1 ↦ elim (chosen (bytes_eq w (codes "gather")) (gathered draft words) _ (Ok p) other1.1) [
     | inl here ↦
-      let said = gathered_said draft words p here.1 in
-      subst (IsPattern draft (w ∷ words)) (sym said.3) (words, ap (λ (v : List ℕ). v ∷ words) (same_word w (codes "gather") here.0), said.4)
+        let said = gathered_said draft words p here.1 in
+        subst (IsPattern draft (w ∷ words)) (sym said.3) (words, ap (λ (v : List ℕ). v ∷ words) (same_word w (codes "gather") here.0), said.4)
     | inr other2 ↦ absurd (let h : Err 3 ≡ Ok p = other2.1 in cc)
   ]
 ]
@@ -238,9 +249,11 @@ causes_said names found [] all e = ([], sym (ok_is found all e) ∙ sym (append-
 causes_said names found (w ∷ words) all e =
     let cause = bind_ok (or_code (option_and_then as_cause (named names w)) 7) (λ cause. unless (not (has_port found cause)) 8 >>= λ apart. causes names (found ++ cause ∷ []) words) all e in
     let apart = bind_ok (unless (not (has_port found cause.0)) 8) (λ apart. causes names (found ++ cause.0 ∷ []) words) all cause.2 in
-    let rest = causes_said names (found ++ cause.0 ∷ []) words all apart.2 in
-    (cause.0 ∷ rest.0, rest.1 ∙ append_assoc found (cause.0 ∷ []) rest.0,
-     (w, words, refl, or_code_ok _ 7 cause.0 cause.1, not_true _ (unless_ok _ 8 apart.0 apart.1), rest.2))
+    let rest = causes_said names (found ++ cause.0 ∷ []) words all apart.2 in (
+      cause.0 ∷ rest.0,
+      rest.1 ∙ append_assoc found (cause.0 ∷ []) rest.0,
+      (w, words, refl, or_code_ok _ 7 cause.0 cause.1, not_true _ (unless_ok _ 8 apart.0 apart.1), rest.2),
+    )
 
 pub causes_read : (names : Naming) (found more : List ℕ) (words : Words) → AreCauses names found more words → causes names found words ≡ Ok (found ++ more)
 unfolding causes

@@ -25,7 +25,7 @@ new_name_said names words x e =
     let b = bind_ok (unless (is_name_of a.0.0) 14) (λ formed. unless (not (is_some (named names a.0.0))) 6 >>= λ new. Ok a.0) x a.2 in
     let c = bind_ok (unless (not (is_some (named names a.0.0))) 6) (λ new. Ok a.0) x b.2 in
     subst (λ (y : List ℕ × Words). (words ≡ y.0 ∷ y.1) × IsNew names y.0) (ok_is a.0 x c.2)
-      (word_ok words a.0 a.1, record { formed = unless_ok _ 14 b.0 b.1; new = none_is _ (unless_ok _ 6 c.0 c.1) })
+    (word_ok words a.0 a.1, record { formed = unless_ok _ 14 b.0 b.1; new = none_is _ (unless_ok _ 6 c.0 c.1) })
 
 pub new_name_read : (names : Naming) (name : List ℕ) (rest : Words) → IsNew names name → new_name names (name ∷ rest) ≡ Ok (name, rest)
 unfolding new_name
@@ -66,7 +66,7 @@ within_said low high words x e =
     let test = unless_ok (nat_le low a.0.0 && nat_le a.0.0 high) 10 c.0 c.1 in
     let said = number_said words a.0 a.1 in
     subst (λ (y : ℕ × Words). (ds : List ℕ) × (words ≡ ds ∷ y.1) × IsWithin low high ds y.0) (ok_is a.0 x c.2)
-      (said.0, said.1, record { value = said.2; above = grind (arith, nat_tests, test); below = grind (arith, nat_tests, test) })
+    (said.0, said.1, record { value = said.2; above = grind (arith, nat_tests, test); below = grind (arith, nat_tests, test) })
 
 pub within_read : (low high : ℕ) (digits : List ℕ) (n : ℕ) (rest : Words) → IsWithin low high digits n → number_within low high (digits ∷ rest) ≡ Ok (n, rest)
 unfolding number_within
@@ -105,16 +105,16 @@ unfolding policy
 policy_said [] x e = absurd cc
 policy_said (w ∷ words) x e = elim (chosen (bytes_eq w (codes "unbounded")) (Ok (policies.Unbounded, words)) _ (Ok x) e) [
   | inl here ↦
-    subst (λ (y : Policy × Words). (front : Words) × (w ∷ words ≡ front ++ y.1) × IsPolicy front y.0) (ok_is (policies.Unbounded, words) x here.1)
+      subst (λ (y : Policy × Words). (front : Words) × (w ∷ words ≡ front ++ y.1) × IsPolicy front y.0) (ok_is (policies.Unbounded, words) x here.1)
       (w ∷ [], refl, ap (λ (v : List ℕ). v ∷ []) (same_word w (codes "unbounded") here.0))
   | inr other1 ↦ elim (chosen (bytes_eq w (codes "discard")) (number_within 1 1000 words >>= limit_as policies.Discard) _ (Ok x) other1.1) [
     | inl here ↦
-      let said = bounded_said 1 1000 policies.Discard words x here.1 in
-      (w ∷ said.1 ∷ [], ap (λ (v : Words). w ∷ v) said.2, subst (IsPolicy (w ∷ said.1 ∷ [])) said.4 (said.1, keyed w (codes "discard") said.1 here.0, said.3))
+        let said = bounded_said 1 1000 policies.Discard words x here.1 in
+        (w ∷ said.1 ∷ [], ap (λ (v : Words). w ∷ v) said.2, subst (IsPolicy (w ∷ said.1 ∷ [])) said.4 (said.1, keyed w (codes "discard") said.1 here.0, said.3))
     | inr other2 ↦ elim (chosen (bytes_eq w (codes "throttle")) (number_within 1 1000 words >>= limit_as policies.Throttle) _ (Ok x) other2.1) [
       | inl here ↦
-        let said = bounded_said 1 1000 policies.Throttle words x here.1 in
-        (w ∷ said.1 ∷ [], ap (λ (v : Words). w ∷ v) said.2, subst (IsPolicy (w ∷ said.1 ∷ [])) said.4 (said.1, keyed w (codes "throttle") said.1 here.0, said.3))
+          let said = bounded_said 1 1000 policies.Throttle words x here.1 in
+          (w ∷ said.1 ∷ [], ap (λ (v : Words). w ∷ v) said.2, subst (IsPolicy (w ∷ said.1 ∷ [])) said.4 (said.1, keyed w (codes "throttle") said.1 here.0, said.3))
       | inr other3 ↦ absurd (let h : Err 3 ≡ Ok x = other3.1 in cc)
     ]
   ]
@@ -132,10 +132,10 @@ unfolding group
 group_said [] x e = absurd cc
 group_said (w ∷ words) x e = elim (chosen (bytes_eq w (codes "once")) (Ok (groups.Once, words)) _ (Ok x) e) [
   | inl here ↦
-    subst (λ (y : Group × Words). (v : List ℕ) × (w ∷ words ≡ v ∷ y.1) × IsGroup v y.0) (ok_is (groups.Once, words) x here.1) (w, refl, same_word w (codes "once") here.0)
+      subst (λ (y : Group × Words). (v : List ℕ) × (w ∷ words ≡ v ∷ y.1) × IsGroup v y.0) (ok_is (groups.Once, words) x here.1) (w, refl, same_word w (codes "once") here.0)
   | inr other1 ↦ elim (chosen (bytes_eq w (codes "always")) (Ok (groups.Always, words)) _ (Ok x) other1.1) [
     | inl here ↦
-      subst (λ (y : Group × Words). (v : List ℕ) × (w ∷ words ≡ v ∷ y.1) × IsGroup v y.0) (ok_is (groups.Always, words) x here.1) (w, refl, same_word w (codes "always") here.0)
+        subst (λ (y : Group × Words). (v : List ℕ) × (w ∷ words ≡ v ∷ y.1) × IsGroup v y.0) (ok_is (groups.Always, words) x here.1) (w, refl, same_word w (codes "always") here.0)
     | inr other2 ↦ absurd (let h : Err 3 ≡ Ok x = other2.1 in cc)
   ]
 ]
@@ -163,19 +163,19 @@ unfolding expr
 expr_said [] x e = absurd cc
 expr_said (w ∷ words) x e = elim (chosen (bytes_eq w (codes "sum")) (Ok (exprs.Sum, words)) _ (Ok x) e) [
   | inl here ↦
-    subst (λ (y : Expr × Words). (front : Words) × (w ∷ words ≡ front ++ y.1) × IsExpr front y.0) (ok_is (exprs.Sum, words) x here.1)
+      subst (λ (y : Expr × Words). (front : Words) × (w ∷ words ≡ front ++ y.1) × IsExpr front y.0) (ok_is (exprs.Sum, words) x here.1)
       (w ∷ [], refl, ap (λ (v : List ℕ). v ∷ []) (same_word w (codes "sum") here.0))
   | inr other1 ↦ elim (chosen (bytes_eq w (codes "count")) (Ok (exprs.Count, words)) _ (Ok x) other1.1) [
     | inl here ↦
-      subst (λ (y : Expr × Words). (front : Words) × (w ∷ words ≡ front ++ y.1) × IsExpr front y.0) (ok_is (exprs.Count, words) x here.1)
+        subst (λ (y : Expr × Words). (front : Words) × (w ∷ words ≡ front ++ y.1) × IsExpr front y.0) (ok_is (exprs.Count, words) x here.1)
         (w ∷ [], refl, ap (λ (v : List ℕ). v ∷ []) (same_word w (codes "count") here.0))
     | inr other2 ↦ elim (chosen (bytes_eq w (codes "arg")) (number_within 0 65535 words >>= limit_as exprs.Arg) _ (Ok x) other2.1) [
       | inl here ↦
-        let said = bounded_said 0 65535 exprs.Arg words x here.1 in
-        (w ∷ said.1 ∷ [], ap (λ (v : Words). w ∷ v) said.2, subst (IsExpr (w ∷ said.1 ∷ [])) said.4 (said.1, keyed w (codes "arg") said.1 here.0, said.3))
+          let said = bounded_said 0 65535 exprs.Arg words x here.1 in
+          (w ∷ said.1 ∷ [], ap (λ (v : Words). w ∷ v) said.2, subst (IsExpr (w ∷ said.1 ∷ [])) said.4 (said.1, keyed w (codes "arg") said.1 here.0, said.3))
       | inr other3 ↦
-        let a = bind_ok (or_code (number_of w) 5) (λ value. Ok (exprs.Number value, words)) x other3.1 in
-        subst (λ (y : Expr × Words). (front : Words) × (w ∷ words ≡ front ++ y.1) × IsExpr front y.0) (ok_is (exprs.Number a.0, words) x a.2)
+          let a = bind_ok (or_code (number_of w) 5) (λ value. Ok (exprs.Number value, words)) x other3.1 in
+          subst (λ (y : Expr × Words). (front : Words) × (w ∷ words ≡ front ++ y.1) × IsExpr front y.0) (ok_is (exprs.Number a.0, words) x a.2)
           (w ∷ [], refl, (w, refl, or_code_ok (number_of w) 5 a.0 a.1))
     ]
   ]

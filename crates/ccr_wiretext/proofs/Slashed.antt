@@ -30,9 +30,9 @@ cut_at [] = inl (refl, refl)
 cut_at (b ∷ bytes) = by (is_slash b) refl (cut_at bytes)
   where
     by : (t : Bool) → is_slash b ≡ t → ((list_any is_slash bytes ≡ false) × (before bytes ≡ length bytes)) ⊎ IsCut bytes
-      → ((list_any is_slash (b ∷ bytes) ≡ false) × (before (b ∷ bytes) ≡ length (b ∷ bytes))) ⊎ IsCut (b ∷ bytes)
+        → ((list_any is_slash (b ∷ bytes) ≡ false) × (before (b ∷ bytes) ≡ length (b ∷ bytes))) ⊎ IsCut (b ∷ bytes)
     by true e rest = let is : b ≡ 47 = grind (arith, nat_tests, e) in
-      inr (record { set = []; name = bytes; spelled = ap (λ (v : ℕ). v ∷ bytes) is; plain = refl; place = rw e refl })
+        inr (record { set = []; name = bytes; spelled = ap (λ (v : ℕ). v ∷ bytes) is; plain = refl; place = rw e refl })
     by false e (inl (plain, place)) = inl (rw (e, plain) refl, rw (e, place) (omega arith))
     by false e (inr cut) = inr (record { set = b ∷ cut.set; name = cut.name; spelled = ap (λ (v : List ℕ). b ∷ v) cut.spelled; plain = rw (e, cut.plain) refl; place = rw (e, cut.place) (omega arith) })
 
@@ -98,21 +98,26 @@ port_is draft word n e = by (slash_place word) refl e
         unslashed : IsPlain word
         unslashed = elim (cut_at word) [ inl parts ↦ parts.0 | inr cut ↦ absurd (let found : slash_place word ≡ Some (length cut.set) = cut_place word cut in let h2 : None ≡ Some (length cut.set) = sym at ∙ found in cc) ]
     by (Some place) at h =
-      let cut = place_cut word place at in
-      let set = then_some (set_port draft (drop (place + 1) word)) (option_and_then as_set (named draft.names (take place word))) n h in
-      let other = then_some (member draft set.0) (option_and_then as_port (named draft.names (drop (place + 1) word))) n set.2 in
-      let front : take place word ≡ cut.0.set = ap (λ k. take k word) cut.1 ∙ ap (take (length cut.0.set)) cut.0.spelled ∙ take_front cut.0.set (47 ∷ cut.0.name) in
-      let behind : drop (place + 1) word ≡ cut.0.name = ap (λ k. drop (k + 1) word) cut.1 ∙ ap (drop (length cut.0.set + 1)) cut.0.spelled ∙ drop_front cut.0.set cut.0.name in
-      elim (chosen (has_port (members_of draft set.0) other.0) (Some other.0) None (Some n) other.2) [
-        | inl is ↦
-          let same : other.0 ≡ n = (let s : Some other.0 ≡ Some n = is.1 in cc) in
-          inr (record {
-            set = cut.0.set; name = cut.0.name; spelled = cut.0.spelled; plain = cut.0.plain; number = set.0;
-            in_set = subst (λ w. option_and_then as_set (named draft.names w) ≡ Some set.0) front set.1;
-            in_names = subst (λ w. option_and_then as_port (named draft.names w) ≡ Some n) behind (other.1 ∙ ap Some same);
-            member = subst (λ p. has_port (members_of draft set.0) p ≡ true) same is.0 })
-        | inr is ↦ absurd (let s : None ≡ Some n = is.1 in cc)
-      ]
+        let cut = place_cut word place at in
+        let set = then_some (set_port draft (drop (place + 1) word)) (option_and_then as_set (named draft.names (take place word))) n h in
+        let other = then_some (member draft set.0) (option_and_then as_port (named draft.names (drop (place + 1) word))) n set.2 in
+        let front : take place word ≡ cut.0.set = ap (λ k. take k word) cut.1 ∙ ap (take (length cut.0.set)) cut.0.spelled ∙ take_front cut.0.set (47 ∷ cut.0.name) in
+        let behind : drop (place + 1) word ≡ cut.0.name = ap (λ k. drop (k + 1) word) cut.1 ∙ ap (drop (length cut.0.set + 1)) cut.0.spelled ∙ drop_front cut.0.set cut.0.name in
+        elim (chosen (has_port (members_of draft set.0) other.0) (Some other.0) None (Some n) other.2) [
+          | inl is ↦
+              let same : other.0 ≡ n = (let s : Some other.0 ≡ Some n = is.1 in cc) in
+              inr (record {
+                set = cut.0.set;
+                name = cut.0.name;
+                spelled = cut.0.spelled;
+                plain = cut.0.plain;
+                number = set.0;
+                in_set = subst (λ w. option_and_then as_set (named draft.names w) ≡ Some set.0) front set.1;
+                in_names = subst (λ w. option_and_then as_port (named draft.names w) ≡ Some n) behind (other.1 ∙ ap Some same);
+                member = subst (λ p. has_port (members_of draft set.0) p ≡ true) same is.0;
+              })
+          | inr is ↦ absurd (let s : None ≡ Some n = is.1 in cc)
+        ]
 
 port_means : (draft : Declared) (word : List ℕ) (n : ℕ) → IsPort draft word n → port_of draft word ≡ Some n
 port_means draft word n (inl (plain, refers)) = rw (plain_none word plain) refers

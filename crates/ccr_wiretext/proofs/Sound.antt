@@ -100,7 +100,9 @@ queue_fits parts part fits fit =
     let grows : length parts.queues ≤ length (parts.queues ++ part ∷ []) = omega (arith, length-append {A = QueuePart} parts.queues (part ∷ [])) in
     record {
       queues = each_push (λ (part : QueuePart). PolicyFit part.policy) parts.queues part fits.queues fit;
-      sets = fits.sets; causes = fits.causes; handlers = fits.handlers;
+      sets = fits.sets;
+      causes = fits.causes;
+      handlers = fits.handlers;
       arbiters = each_more _ _ (arbiter_more (length parts.queues) (length (parts.queues ++ part ∷ [])) (length parts.handlers) (length parts.handlers) (length parts.ports) (length parts.ports) grows (omega arith) (omega arith)) parts.arbiters fits.arbiters;
       posters = fits.posters;
     }
@@ -120,14 +122,21 @@ port_fits parts name fits =
 
 pub set_fits : (parts : Parts) (part : SetPart) → Fits parts → SetFit (length parts.ports) part → Fits (record parts { sets = parts.sets ++ part ∷ [] })
 set_fits parts part fits fit = record {
-  queues = fits.queues; sets = each_push (SetFit (length parts.ports)) parts.sets part fits.sets fit; causes = fits.causes; handlers = fits.handlers; arbiters = fits.arbiters; posters = fits.posters }
+  queues = fits.queues;
+  sets = each_push (SetFit (length parts.ports)) parts.sets part fits.sets fit;
+  causes = fits.causes;
+  handlers = fits.handlers;
+  arbiters = fits.arbiters;
+  posters = fits.posters;
+}
 
 pub cause_fits : (parts : Parts) (part : CausePart) → Fits parts → part.port < length parts.ports → Fits (record parts { causes = parts.causes ++ part ∷ [] })
 cause_fits parts part fits fit =
     let grows : length parts.causes ≤ length (parts.causes ++ part ∷ []) = omega (arith, length-append {A = CausePart} parts.causes (part ∷ [])) in
     let more : ℕ = length (parts.causes ++ part ∷ []) in
     record {
-      queues = fits.queues; sets = fits.sets;
+      queues = fits.queues;
+      sets = fits.sets;
       causes = each_push (is_cause_fit (length parts.ports)) parts.causes part fits.causes fit;
       handlers = each_more _ _ (handler_more (length parts.ports) (length parts.ports) (length parts.causes) more (omega arith) grows) parts.handlers fits.handlers;
       arbiters = fits.arbiters;
@@ -138,7 +147,9 @@ pub handler_fits : (parts : Parts) (part : HandlerPart) → Fits parts → Handl
 handler_fits parts part fits fit =
     let grows : length parts.handlers ≤ length (parts.handlers ++ part ∷ []) = omega (arith, length-append {A = HandlerPart} parts.handlers (part ∷ [])) in
     record {
-      queues = fits.queues; sets = fits.sets; causes = fits.causes;
+      queues = fits.queues;
+      sets = fits.sets;
+      causes = fits.causes;
       handlers = each_push (HandlerFit (length parts.ports) (length parts.causes)) parts.handlers part fits.handlers fit;
       arbiters = each_more _ _ (arbiter_more (length parts.queues) (length parts.queues) (length parts.handlers) (length (parts.handlers ++ part ∷ [])) (length parts.ports) (length parts.ports) (omega arith) grows (omega arith)) parts.arbiters fits.arbiters;
       posters = fits.posters;
@@ -146,10 +157,20 @@ handler_fits parts part fits fit =
 
 pub arbiter_fits : (parts : Parts) (part : ArbiterPart) → Fits parts → ArbiterFit (length parts.queues) (length parts.handlers) (length parts.ports) part → Fits (record parts { arbiters = parts.arbiters ++ part ∷ [] })
 arbiter_fits parts part fits fit = record {
-  queues = fits.queues; sets = fits.sets; causes = fits.causes; handlers = fits.handlers;
-  arbiters = each_push (ArbiterFit (length parts.queues) (length parts.handlers) (length parts.ports)) parts.arbiters part fits.arbiters fit; posters = fits.posters }
+  queues = fits.queues;
+  sets = fits.sets;
+  causes = fits.causes;
+  handlers = fits.handlers;
+  arbiters = each_push (ArbiterFit (length parts.queues) (length parts.handlers) (length parts.ports)) parts.arbiters part fits.arbiters fit;
+  posters = fits.posters;
+}
 
 pub poster_fits : (parts : Parts) (part : PosterPart) → Fits parts → PosterFit (length parts.ports) (length parts.causes) part → Fits (record parts { posters = parts.posters ++ part ∷ [] })
 poster_fits parts part fits fit = record {
-  queues = fits.queues; sets = fits.sets; causes = fits.causes; handlers = fits.handlers; arbiters = fits.arbiters;
-  posters = each_push (PosterFit (length parts.ports) (length parts.causes)) parts.posters part fits.posters fit }
+  queues = fits.queues;
+  sets = fits.sets;
+  causes = fits.causes;
+  handlers = fits.handlers;
+  arbiters = fits.arbiters;
+  posters = each_push (PosterFit (length parts.ports) (length parts.causes)) parts.posters part fits.posters fit;
+}

@@ -104,26 +104,35 @@ adds_all names name what old new adds apart =
 
 abbrev queue_names : Parts → List (List ℕ)
 queue_names parts = map (λ (part : QueuePart). part.name) parts.queues
+
 abbrev set_names : Parts → List (List ℕ)
 set_names parts = map (λ (part : SetPart). part.name) parts.sets
+
 abbrev cause_names : Parts → List (List ℕ)
 cause_names parts = map (λ (part : CausePart). part.name) parts.causes
+
 abbrev handler_names : Parts → List (List ℕ)
 handler_names parts = map (λ (part : HandlerPart). part.name) parts.handlers
+
 abbrev firing_names : Parts → List (List ℕ)
 firing_names parts = flat_map arbiter_names parts.arbiters
+
 abbrev poster_names : Parts → List (List ℕ)
 poster_names parts = map (λ (part : PosterPart). part.name) parts.posters
 
 -- the names up to a kind
 abbrev to_ports : Parts → List (List ℕ)
 to_ports parts = queue_names parts ++ parts.ports
+
 abbrev to_sets : Parts → List (List ℕ)
 to_sets parts = to_ports parts ++ set_names parts
+
 abbrev to_causes : Parts → List (List ℕ)
 to_causes parts = to_sets parts ++ cause_names parts
+
 abbrev to_handlers : Parts → List (List ℕ)
 to_handlers parts = to_causes parts ++ handler_names parts
+
 abbrev to_firings : Parts → List (List ℕ)
 to_firings parts = to_handlers parts ++ firing_names parts
 
@@ -156,44 +165,44 @@ queue_adds : (parts : Parts) (names : Naming) (part : QueuePart) (what : Named) 
 queue_adds parts names part what new declared =
     let more : List (List ℕ) = map (λ (part : QueuePart). part.name) (parts.queues ++ part ∷ []) in
     let here : Adds names part.name what (queue_names parts) more =
-      adds_to names part.name what (queue_names parts) (queue_names parts ++ part.name ∷ []) more (adds_here names part.name what new (queue_names parts)) (sym (map_snoc (λ (part : QueuePart). part.name) parts.queues part)) in
+    adds_to names part.name what (queue_names parts) (queue_names parts ++ part.name ∷ []) more (adds_here names part.name what new (queue_names parts)) (sym (map_snoc (λ (part : QueuePart). part.name) parts.queues part)) in
     adds_all names part.name what (declared_names parts) (declared_names (record parts { queues = parts.queues ++ part ∷ [] }))
-      (before_sets parts names part.name what (queue_names parts ++ parts.ports) (more ++ parts.ports) (adds_before names part.name what (queue_names parts) more parts.ports here)) declared
+    (before_sets parts names part.name what (queue_names parts ++ parts.ports) (more ++ parts.ports) (adds_before names part.name what (queue_names parts) more parts.ports here)) declared
 
 port_adds : (parts : Parts) (names : Naming) (name : List ℕ) (what : Named) → IsNew names name → NamesApart names (declared_names parts)
     → NamesApart (names ++ (name, what) ∷ []) (declared_names (record parts { ports = parts.ports ++ name ∷ [] }))
 port_adds parts names name what new declared =
     let here : Adds names name what (to_ports parts) (queue_names parts ++ (parts.ports ++ name ∷ [])) =
-      adds_to names name what (to_ports parts) (to_ports parts ++ name ∷ []) (queue_names parts ++ (parts.ports ++ name ∷ [])) (adds_here names name what new (to_ports parts)) (append_assoc (queue_names parts) parts.ports (name ∷ [])) in
+    adds_to names name what (to_ports parts) (to_ports parts ++ name ∷ []) (queue_names parts ++ (parts.ports ++ name ∷ [])) (adds_here names name what new (to_ports parts)) (append_assoc (queue_names parts) parts.ports (name ∷ [])) in
     adds_all names name what (declared_names parts) (declared_names (record parts { ports = parts.ports ++ name ∷ [] }))
-      (before_sets parts names name what (to_ports parts) (queue_names parts ++ (parts.ports ++ name ∷ [])) here) declared
+    (before_sets parts names name what (to_ports parts) (queue_names parts ++ (parts.ports ++ name ∷ [])) here) declared
 
 set_adds : (parts : Parts) (names : Naming) (part : SetPart) (what : Named) → IsNew names part.name → NamesApart names (declared_names parts)
     → NamesApart (names ++ (part.name, what) ∷ []) (declared_names (record parts { sets = parts.sets ++ part ∷ [] }))
 set_adds parts names part what new declared =
     let more : List (List ℕ) = map (λ (part : SetPart). part.name) (parts.sets ++ part ∷ []) in
     let here : Adds names part.name what (to_sets parts) (to_ports parts ++ more) =
-      adds_to names part.name what (to_sets parts) (to_sets parts ++ part.name ∷ []) (to_ports parts ++ more) (adds_here names part.name what new (to_sets parts)) (behind (to_ports parts) (set_names parts) part.name more (map_snoc (λ (part : SetPart). part.name) parts.sets part)) in
+    adds_to names part.name what (to_sets parts) (to_sets parts ++ part.name ∷ []) (to_ports parts ++ more) (adds_here names part.name what new (to_sets parts)) (behind (to_ports parts) (set_names parts) part.name more (map_snoc (λ (part : SetPart). part.name) parts.sets part)) in
     adds_all names part.name what (declared_names parts) (declared_names (record parts { sets = parts.sets ++ part ∷ [] }))
-      (before_causes parts names part.name what (to_sets parts) (to_ports parts ++ more) here) declared
+    (before_causes parts names part.name what (to_sets parts) (to_ports parts ++ more) here) declared
 
 cause_adds : (parts : Parts) (names : Naming) (part : CausePart) (what : Named) → IsNew names part.name → NamesApart names (declared_names parts)
     → NamesApart (names ++ (part.name, what) ∷ []) (declared_names (record parts { causes = parts.causes ++ part ∷ [] }))
 cause_adds parts names part what new declared =
     let more : List (List ℕ) = map (λ (part : CausePart). part.name) (parts.causes ++ part ∷ []) in
     let here : Adds names part.name what (to_causes parts) (to_sets parts ++ more) =
-      adds_to names part.name what (to_causes parts) (to_causes parts ++ part.name ∷ []) (to_sets parts ++ more) (adds_here names part.name what new (to_causes parts)) (behind (to_sets parts) (cause_names parts) part.name more (map_snoc (λ (part : CausePart). part.name) parts.causes part)) in
+    adds_to names part.name what (to_causes parts) (to_causes parts ++ part.name ∷ []) (to_sets parts ++ more) (adds_here names part.name what new (to_causes parts)) (behind (to_sets parts) (cause_names parts) part.name more (map_snoc (λ (part : CausePart). part.name) parts.causes part)) in
     adds_all names part.name what (declared_names parts) (declared_names (record parts { causes = parts.causes ++ part ∷ [] }))
-      (before_handlers parts names part.name what (to_causes parts) (to_sets parts ++ more) here) declared
+    (before_handlers parts names part.name what (to_causes parts) (to_sets parts ++ more) here) declared
 
 handler_adds : (parts : Parts) (names : Naming) (part : HandlerPart) (what : Named) → IsNew names part.name → NamesApart names (declared_names parts)
     → NamesApart (names ++ (part.name, what) ∷ []) (declared_names (record parts { handlers = parts.handlers ++ part ∷ [] }))
 handler_adds parts names part what new declared =
     let more : List (List ℕ) = map (λ (part : HandlerPart). part.name) (parts.handlers ++ part ∷ []) in
     let here : Adds names part.name what (to_handlers parts) (to_causes parts ++ more) =
-      adds_to names part.name what (to_handlers parts) (to_handlers parts ++ part.name ∷ []) (to_causes parts ++ more) (adds_here names part.name what new (to_handlers parts)) (behind (to_causes parts) (handler_names parts) part.name more (map_snoc (λ (part : HandlerPart). part.name) parts.handlers part)) in
+    adds_to names part.name what (to_handlers parts) (to_handlers parts ++ part.name ∷ []) (to_causes parts ++ more) (adds_here names part.name what new (to_handlers parts)) (behind (to_causes parts) (handler_names parts) part.name more (map_snoc (λ (part : HandlerPart). part.name) parts.handlers part)) in
     adds_all names part.name what (declared_names parts) (declared_names (record parts { handlers = parts.handlers ++ part ∷ [] }))
-      (before_firings parts names part.name what (to_handlers parts) (to_causes parts ++ more) here) declared
+    (before_firings parts names part.name what (to_handlers parts) (to_causes parts ++ more) here) declared
 
 -- a name more at the end of the arbiters' names
 firing_adds : (parts : Parts) (names : Naming) (old new : List ArbiterPart) (name : List ℕ) (what : Named) → flat_map arbiter_names new ≡ flat_map arbiter_names old ++ name ∷ [] → IsNew names name
@@ -202,7 +211,7 @@ firing_adds parts names old new name what one is_new declared =
     let some : List (List ℕ) = to_handlers parts ++ flat_map arbiter_names old in
     let more : List (List ℕ) = to_handlers parts ++ flat_map arbiter_names new in
     let here : Adds names name what some more =
-      adds_to names name what some (some ++ name ∷ []) more (adds_here names name what is_new some) (behind (to_handlers parts) (flat_map arbiter_names old) name (flat_map arbiter_names new) one) in
+    adds_to names name what some (some ++ name ∷ []) more (adds_here names name what is_new some) (behind (to_handlers parts) (flat_map arbiter_names old) name (flat_map arbiter_names new) one) in
     adds_all names name what (declared_names (record parts { arbiters = old })) (declared_names (record parts { arbiters = new })) (before_posters parts names name what some more here) declared
 
 -- an arbiter that declares one name
@@ -210,7 +219,7 @@ arbiter_adds : (parts : Parts) (names : Naming) (part : ArbiterPart) (name : Lis
     → NamesApart (names ++ (name, what) ∷ []) (declared_names (record parts { arbiters = parts.arbiters ++ part ∷ [] }))
 arbiter_adds parts names part name what one new declared =
     firing_adds parts names parts.arbiters (parts.arbiters ++ part ∷ []) name what
-      (flat_push arbiter_names parts.arbiters part ∙ ap (λ (v : List (List ℕ)). flat_map arbiter_names parts.arbiters ++ v) one) new declared
+    (flat_push arbiter_names parts.arbiters part ∙ ap (λ (v : List (List ℕ)). flat_map arbiter_names parts.arbiters ++ v) one) new declared
 
 names_grow : (part : ArbiterPart) (branch : BranchPart) → is_receive part.kind ≡ false → arbiter_names (record part { branches = part.branches ++ branch ∷ [] }) ≡ arbiter_names part ++ branch.name ∷ []
 names_grow part branch kind = rw (kind, map_snoc (λ (branch : BranchPart). branch.name) part.branches branch) refl
@@ -222,8 +231,8 @@ branch_adds parts names part branch what kind new declared =
     let grown : ArbiterPart = record part { branches = part.branches ++ branch ∷ [] } in
     let front : List (List ℕ) = flat_map arbiter_names parts.arbiters in
     firing_adds parts names (parts.arbiters ++ part ∷ []) (parts.arbiters ++ grown ∷ []) branch.name what
-      (flat_push arbiter_names parts.arbiters grown ∙ ap (λ (v : List (List ℕ)). front ++ v) (names_grow part branch kind)
-        ∙ sym (append_assoc front (arbiter_names part) (branch.name ∷ [])) ∙ ap (λ (v : List (List ℕ)). v ++ branch.name ∷ []) (sym (flat_push arbiter_names parts.arbiters part))) new declared
+    (flat_push arbiter_names parts.arbiters grown ∙ ap (λ (v : List (List ℕ)). front ++ v) (names_grow part branch kind)
+    ∙ sym (append_assoc front (arbiter_names part) (branch.name ∷ [])) ∙ ap (λ (v : List (List ℕ)). v ++ branch.name ∷ []) (sym (flat_push arbiter_names parts.arbiters part))) new declared
 
 poster_adds : (parts : Parts) (names : Naming) (part : PosterPart) (what : Named) → IsNew names part.name → NamesApart names (declared_names parts)
     → NamesApart (names ++ (part.name, what) ∷ []) (declared_names (record parts { posters = parts.posters ++ part ∷ [] }))
@@ -231,7 +240,7 @@ poster_adds parts names part what new declared =
     let more : List (List ℕ) = map (λ (part : PosterPart). part.name) (parts.posters ++ part ∷ []) in
     let some : List (List ℕ) = to_firings parts ++ poster_names parts in
     adds_all names part.name what (declared_names parts) (declared_names (record parts { posters = parts.posters ++ part ∷ [] }))
-      (adds_to names part.name what some (some ++ part.name ∷ []) (to_firings parts ++ more) (adds_here names part.name what new some) (behind (to_firings parts) (poster_names parts) part.name more (map_snoc (λ (part : PosterPart). part.name) parts.posters part))) declared
+    (adds_to names part.name what some (some ++ part.name ∷ []) (to_firings parts ++ more) (adds_here names part.name what new some) (behind (to_firings parts) (poster_names parts) part.name more (map_snoc (λ (part : PosterPart). part.name) parts.posters part))) declared
 
 -- ---- the lines outside blocks
 
@@ -240,7 +249,11 @@ budget_sound draft words n s said = let c = s.counts in record {
   counts = record { budget = said.within.below; queues = c.queues; ports = c.ports; sets = c.sets; causes = c.causes; handlers = c.handlers; arbiters = c.arbiters; branches = c.branches; posters = c.posters; posts = c.posts };
   fits = record { queues = s.fits.queues; sets = s.fits.sets; causes = s.fits.causes; handlers = s.fits.handlers; arbiters = s.fits.arbiters; posters = s.fits.posters };
   known = known_more draft.parts (record draft.parts { budget = n }) (length draft.parts.handlers) (length draft.parts.handlers) (omega arith) (omega arith) (omega arith) (omega arith) draft.names s.known;
-  apart = s.apart; spots = s.spots; uncrowded = s.uncrowded; begun = tt }
+  apart = s.apart;
+  spots = s.spots;
+  uncrowded = s.uncrowded;
+  begun = tt;
+}
 
 queue_sound : (draft : Declared) (words : Words) (part : QueuePart) → Sound draft.parts draft.names draft.spotted blocks.Outside → IsQueue draft words part
     → Sound (record draft.parts { queues = draft.parts.queues ++ part ∷ [] }) (draft.names ++ (part.name, kinds.Queue (length draft.parts.queues)) ∷ []) draft.spotted blocks.Outside
@@ -254,9 +267,12 @@ queue_sound draft words part s said =
       counts = record { budget = c.budget; queues = omega arith; ports = c.ports; sets = c.sets; causes = c.causes; handlers = c.handlers; arbiters = c.arbiters; branches = c.branches; posters = c.posters; posts = c.posts };
       fits = queue_fits draft.parts part s.fits (policy_fit said.rule part.policy said.policy);
       known = each_push (λ (entry : List ℕ × Named). KindFit new h entry.1) draft.names (part.name, kinds.Queue (length draft.parts.queues))
-        (known_more draft.parts new h h (omega arith) (omega arith) (omega arith) (omega arith) draft.names s.known) (omega arith);
+          (known_more draft.parts new h h (omega arith) (omega arith) (omega arith) (omega arith) draft.names s.known) (omega arith);
       apart = queue_adds draft.parts draft.names part (kinds.Queue (length draft.parts.queues)) said.name s.apart;
-      spots = s.spots; uncrowded = s.uncrowded; begun = tt }
+      spots = s.spots;
+      uncrowded = s.uncrowded;
+      begun = tt;
+    }
 
 port_sound : (draft : Declared) (words : Words) (name : List ℕ) → Sound draft.parts draft.names draft.spotted blocks.Outside → IsName 256 (length draft.parts.ports) draft words name
     → Sound (record draft.parts { ports = draft.parts.ports ++ name ∷ [] }) (draft.names ++ (name, kinds.Port (length draft.parts.ports)) ∷ []) draft.spotted blocks.Outside
@@ -270,9 +286,12 @@ port_sound draft words name s said =
       counts = record { budget = c.budget; queues = c.queues; ports = omega arith; sets = c.sets; causes = c.causes; handlers = c.handlers; arbiters = c.arbiters; branches = c.branches; posters = c.posters; posts = c.posts };
       fits = port_fits draft.parts name s.fits;
       known = each_push (λ (entry : List ℕ × Named). KindFit new h entry.1) draft.names (name, kinds.Port (length draft.parts.ports))
-        (known_more draft.parts new h h (omega arith) (omega arith) (omega arith) (omega arith) draft.names s.known) (omega arith);
+          (known_more draft.parts new h h (omega arith) (omega arith) (omega arith) (omega arith) draft.names s.known) (omega arith);
       apart = port_adds draft.parts draft.names name (kinds.Port (length draft.parts.ports)) said.new s.apart;
-      spots = s.spots; uncrowded = s.uncrowded; begun = tt }
+      spots = s.spots;
+      uncrowded = s.uncrowded;
+      begun = tt;
+    }
 
 set_sound : (draft : Declared) (words : Words) (part : SetPart) → Sound draft.parts draft.names draft.spotted blocks.Outside → IsSet draft words part
     → Sound (record draft.parts { sets = draft.parts.sets ++ part ∷ [] }) (draft.names ++ (part.name, kinds.Set (length draft.parts.sets)) ∷ []) draft.spotted blocks.Outside
@@ -287,9 +306,12 @@ set_sound draft words part s said =
       counts = record { budget = c.budget; queues = c.queues; ports = c.ports; sets = omega arith; causes = c.causes; handlers = c.handlers; arbiters = c.arbiters; branches = c.branches; posters = c.posters; posts = c.posts };
       fits = set_fits draft.parts part s.fits (fit.0, fit.1, said.some, said.few);
       known = each_push (λ (entry : List ℕ × Named). KindFit new h entry.1) draft.names (part.name, kinds.Set (length draft.parts.sets))
-        (known_more draft.parts new h h (omega arith) (omega arith) (omega arith) (omega arith) draft.names s.known) tt;
+          (known_more draft.parts new h h (omega arith) (omega arith) (omega arith) (omega arith) draft.names s.known) tt;
       apart = set_adds draft.parts draft.names part (kinds.Set (length draft.parts.sets)) said.name s.apart;
-      spots = s.spots; uncrowded = s.uncrowded; begun = tt }
+      spots = s.spots;
+      uncrowded = s.uncrowded;
+      begun = tt;
+    }
 
 cause_sound : (draft : Declared) (words : Words) (part : CausePart) → Sound draft.parts draft.names draft.spotted blocks.Outside → IsCause draft words part
     → Sound (record draft.parts { causes = draft.parts.causes ++ part ∷ [] }) (draft.names ++ (part.name, kinds.Cause (length draft.parts.causes)) ∷ []) draft.spotted blocks.Outside
@@ -303,9 +325,12 @@ cause_sound draft words part s said =
       counts = record { budget = c.budget; queues = c.queues; ports = c.ports; sets = c.sets; causes = omega arith; handlers = c.handlers; arbiters = c.arbiters; branches = c.branches; posters = c.posters; posts = c.posts };
       fits = cause_fits draft.parts part s.fits (port_there draft h said.port part.port s.known said.refers);
       known = each_push (λ (entry : List ℕ × Named). KindFit new h entry.1) draft.names (part.name, kinds.Cause (length draft.parts.causes))
-        (known_more draft.parts new h h (omega arith) (omega arith) (omega arith) (omega arith) draft.names s.known) (omega arith);
+          (known_more draft.parts new h h (omega arith) (omega arith) (omega arith) (omega arith) draft.names s.known) (omega arith);
       apart = cause_adds draft.parts draft.names part (kinds.Cause (length draft.parts.causes)) said.name s.apart;
-      spots = s.spots; uncrowded = s.uncrowded; begun = tt }
+      spots = s.spots;
+      uncrowded = s.uncrowded;
+      begun = tt;
+    }
 
 receive_group : (word : List ℕ) (g : Group) → IsGroup word g → may_have arbiters.Receive g ≡ true
 receive_group word groups.Once said = refl
@@ -332,11 +357,13 @@ receive_sound draft words branch s said =
       counts = record { budget = c.budget; queues = c.queues; ports = c.ports; sets = c.sets; causes = c.causes; handlers = c.handlers; arbiters = omega arith; branches = omega (arith, counted); posters = c.posters; posts = c.posts };
       fits = arbiter_fits draft.parts (receiver branch) s.fits (((branch_fit draft h s.known said.rest branch said.tail, receive_group said.group branch.group said.grouped), tt), inl (refl, same_name branch.name));
       known = each_push (λ (entry : List ℕ × Named). KindFit new h entry.1) draft.names (branch.name, kinds.Branch)
-        (known_more draft.parts new h h (omega arith) (omega arith) (omega arith) (omega arith) draft.names s.known) tt;
+          (known_more draft.parts new h h (omega arith) (omega arith) (omega arith) (omega arith) draft.names s.known) tt;
       apart = arbiter_adds draft.parts draft.names (receiver branch) branch.name kinds.Branch refl said.name s.apart;
       spots = ap (λ (t : List ℕ). t ++ branch_named draft.parts branch) (s.spots ∙ append-nil (named_ports draft.parts))
-        ∙ sym (flat_push (arbiter_named draft.parts) draft.parts.arbiters (receiver branch) ∙ ap (λ (t : List ℕ). named_ports draft.parts ++ t) (append-nil (branch_named draft.parts branch))) ∙ sym (append-nil (flat_map (arbiter_named draft.parts) (draft.parts.arbiters ++ receiver branch ∷ [])));
-      uncrowded = uncrowded_more draft branch s.uncrowded said.tail.uncrowded; begun = tt }
+          ∙ sym (flat_push (arbiter_named draft.parts) draft.parts.arbiters (receiver branch) ∙ ap (λ (t : List ℕ). named_ports draft.parts ++ t) (append-nil (branch_named draft.parts branch))) ∙ sym (append-nil (flat_map (arbiter_named draft.parts) (draft.parts.arbiters ++ receiver branch ∷ [])));
+      uncrowded = uncrowded_more draft branch s.uncrowded said.tail.uncrowded;
+      begun = tt;
+    }
 
 -- ---- blocks open
 
@@ -345,11 +372,15 @@ handler_sound : (draft : Declared) (words : Words) (name : List ℕ) → Sound d
 handler_sound draft words name s said =
     let h : ℕ = length draft.parts.handlers in
     record {
-      counts = s.counts; fits = s.fits;
+      counts = s.counts;
+      fits = s.fits;
       known = each_push (λ (entry : List ℕ × Named). KindFit draft.parts (h + 1) entry.1) draft.names (name, kinds.Handler h)
-        (known_more draft.parts draft.parts h (h + 1) (omega arith) (omega arith) (omega arith) (omega arith) draft.names s.known) (omega arith);
+          (known_more draft.parts draft.parts h (h + 1) (omega arith) (omega arith) (omega arith) (omega arith) draft.names s.known) (omega arith);
       apart = handler_adds draft.parts draft.names (record { name = name; handler = record { actions = [] } }) (kinds.Handler h) said.new s.apart;
-      spots = s.spots; uncrowded = s.uncrowded; begun = ((tt, omega arith), said.room) }
+      spots = s.spots;
+      uncrowded = s.uncrowded;
+      begun = ((tt, omega arith), said.room);
+    }
 
 block_sound : (draft : Declared) (words : Words) (name : List ℕ) (kind : Kind) → is_receive kind ≡ false → Sound draft.parts draft.names draft.spotted blocks.Outside → IsName 256 (length draft.parts.arbiters) draft words name
     → Sound draft.parts (draft.names ++ (name, kinds.Arbiter) ∷ []) draft.spotted (blocks.Arbiter (record { name = name; kind = kind; branches = [] }))
@@ -357,10 +388,14 @@ block_sound draft words name kind block s said =
     let h : ℕ = length draft.parts.handlers in
     let branches = s.counts.branches in
     record {
-      counts = s.counts; fits = s.fits;
+      counts = s.counts;
+      fits = s.fits;
       known = each_push (λ (entry : List ℕ × Named). KindFit draft.parts h entry.1) draft.names (name, kinds.Arbiter) s.known tt;
       apart = arbiter_adds draft.parts draft.names (record { name = name; kind = kind; branches = [] }) name kinds.Arbiter (rw block refl) said.new s.apart;
-      spots = s.spots; uncrowded = s.uncrowded; begun = (tt, block, said.room, omega arith) }
+      spots = s.spots;
+      uncrowded = s.uncrowded;
+      begun = (tt, block, said.room, omega arith);
+    }
 
 poster_sound : (draft : Declared) (words : Words) (name : List ℕ) → Sound draft.parts draft.names draft.spotted blocks.Outside → IsName 16 (length draft.parts.posters) draft words name
     → Sound draft.parts (draft.names ++ (name, kinds.Poster) ∷ []) draft.spotted (blocks.Poster (record { name = name; posts = [] }))
@@ -368,10 +403,14 @@ poster_sound draft words name s said =
     let h : ℕ = length draft.parts.handlers in
     let posts = s.counts.posts in
     record {
-      counts = s.counts; fits = s.fits;
+      counts = s.counts;
+      fits = s.fits;
       known = each_push (λ (entry : List ℕ × Named). KindFit draft.parts h entry.1) draft.names (name, kinds.Poster) s.known tt;
       apart = poster_adds draft.parts draft.names (record { name = name; posts = [] }) kinds.Poster said.new s.apart;
-      spots = s.spots; uncrowded = s.uncrowded; begun = (tt, said.room, omega arith) }
+      spots = s.spots;
+      uncrowded = s.uncrowded;
+      begun = (tt, said.room, omega arith);
+    }
 
 -- ---- lines in blocks
 
@@ -382,21 +421,26 @@ last_same f (z ∷ xs) x y e = ap (λ (v : List (List ℕ)). f z ∷ v) (last_sa
 names_same : (parts : Parts) (names : Naming) (old new : HandlerPart) → old.name ≡ new.name → NamesApart names (declared_names (whole parts (blocks.Handler old))) → NamesApart names (declared_names (whole parts (blocks.Handler new)))
 names_same parts names old new e apart =
     subst (λ (v : List (List ℕ)). NamesApart names (to_causes parts ++ v ++ firing_names parts ++ poster_names parts))
-      (last_same (λ (part : HandlerPart). part.name) parts.handlers old new e) apart
+    (last_same (λ (part : HandlerPart). part.name) parts.handlers old new e) apart
 
 posters_same : (parts : Parts) (names : Naming) (old new : PosterPart) → old.name ≡ new.name → NamesApart names (declared_names (whole parts (blocks.Poster old))) → NamesApart names (declared_names (whole parts (blocks.Poster new)))
 posters_same parts names old new e apart =
     subst (λ (v : List (List ℕ)). NamesApart names (to_firings parts ++ v))
-      (last_same (λ (part : PosterPart). part.name) parts.posters old new e) apart
+    (last_same (λ (part : PosterPart). part.name) parts.posters old new e) apart
 
 action_sound : (draft : Declared) (part : HandlerPart) (first : Keyword) (words : Words) (action : Action) → Sound draft.parts draft.names draft.spotted (blocks.Handler part) → length part.handler.actions < 16 → IsAction draft first words action
     → Sound draft.parts draft.names draft.spotted (blocks.Handler (record part { handler = record { actions = part.handler.actions ++ action ∷ [] } }))
 action_sound draft part first words action s room said =
     let more = one_more part.handler.actions action in
     record {
-      counts = s.counts; fits = s.fits; known = s.known; apart = names_same draft.parts draft.names part (record part { handler = record { actions = part.handler.actions ++ action ∷ [] } }) refl s.apart;
-      spots = s.spots; uncrowded = s.uncrowded;
-      begun = ((each_push (ActionFit (length draft.parts.ports) (length draft.parts.causes)) part.handler.actions action s.begun.0.0 (action_fit draft (length draft.parts.handlers + 1) s.known first words action said), omega arith), s.begun.1) }
+      counts = s.counts;
+      fits = s.fits;
+      known = s.known;
+      apart = names_same draft.parts draft.names part (record part { handler = record { actions = part.handler.actions ++ action ∷ [] } }) refl s.apart;
+      spots = s.spots;
+      uncrowded = s.uncrowded;
+      begun = ((each_push (ActionFit (length draft.parts.ports) (length draft.parts.causes)) part.handler.actions action s.begun.0.0 (action_fit draft (length draft.parts.handlers + 1) s.known first words action said), omega arith), s.begun.1);
+    }
 
 post_sound : (draft : Declared) (part : PosterPart) (words : Words) (post : Sent) → Sound draft.parts draft.names draft.spotted (blocks.Poster part) → IsPost draft part words post
     → Sound draft.parts draft.names draft.spotted (blocks.Poster (record part { posts = part.posts ++ post ∷ [] }))
@@ -406,9 +450,14 @@ post_sound draft part words post s said =
     let h : ℕ = length draft.parts.handlers in
     let caused = causes_fit draft h s.known post.causes said.rest said.causes in
     record {
-      counts = s.counts; fits = s.fits; known = s.known; apart = posters_same draft.parts draft.names part (record part { posts = part.posts ++ post ∷ [] }) refl s.apart;
-      spots = s.spots; uncrowded = s.uncrowded;
-      begun = (each_push (PostFit (length draft.parts.ports) (length draft.parts.causes)) part.posts post s.begun.0 (port_there draft h said.to post.port s.known said.refers, caused.0, caused.1), s.begun.1, omega arith) }
+      counts = s.counts;
+      fits = s.fits;
+      known = s.known;
+      apart = posters_same draft.parts draft.names part (record part { posts = part.posts ++ post ∷ [] }) refl s.apart;
+      spots = s.spots;
+      uncrowded = s.uncrowded;
+      begun = (each_push (PostFit (length draft.parts.ports) (length draft.parts.causes)) part.posts post s.begun.0 (port_there draft h said.to post.port s.known said.refers, caused.0, caused.1), s.begun.1, omega arith);
+    }
 
 group_may : (kind : Kind) (first : Keyword) (g : Group) → group_of kind first ≡ Some g → may_have kind g ≡ true
 group_may arbiters.Receive keywords.Budget g e = absurd cc
@@ -482,15 +531,17 @@ branch_sound draft part first g words branch s may said =
     let room = said.branch_room in
     let h : ℕ = length draft.parts.handlers in
     let fit : BranchFit (length draft.parts.queues) h (length draft.parts.ports) branch × (may_have part.kind branch.group ≡ true) =
-      (branch_fit draft h s.known said.rest branch said.tail, ap (may_have part.kind) said.grouped ∙ group_may part.kind first g may) in
+    (branch_fit draft h s.known said.rest branch said.tail, ap (may_have part.kind) said.grouped ∙ group_may part.kind first g may) in
     record {
-      counts = s.counts; fits = s.fits;
+      counts = s.counts;
+      fits = s.fits;
       known = each_push (λ (entry : List ℕ × Named). KindFit draft.parts h entry.1) draft.names (branch.name, kinds.Branch) s.known tt;
       apart = branch_adds draft.parts draft.names part branch kinds.Branch s.begun.1 said.name s.apart;
       spots = ap (λ (t : List ℕ). t ++ branch_named draft.parts branch) s.spots ∙ append_assoc (named_ports draft.parts) (arbiter_named draft.parts part) (branch_named draft.parts branch)
-        ∙ ap (λ (t : List ℕ). named_ports draft.parts ++ t) (sym (flat_push (branch_named draft.parts) part.branches branch));
+          ∙ ap (λ (t : List ℕ). named_ports draft.parts ++ t) (sym (flat_push (branch_named draft.parts) part.branches branch));
       uncrowded = uncrowded_more draft branch s.uncrowded said.tail.uncrowded;
-      begun = (each_push (λ (b : BranchPart). BranchFit (length draft.parts.queues) h (length draft.parts.ports) b × (may_have part.kind b.group ≡ true)) part.branches branch s.begun.0 fit, s.begun.1, s.begun.2, omega arith) }
+      begun = (each_push (λ (b : BranchPart). BranchFit (length draft.parts.queues) h (length draft.parts.ports) b × (may_have part.kind b.group ≡ true)) part.branches branch s.begun.0 fit, s.begun.1, s.begun.2, omega arith);
+    }
 
 -- ---- blocks close
 
@@ -506,7 +557,9 @@ handler_closed parts names spotted part s =
       known = known_more parts new (length parts.handlers + 1) (length (parts.handlers ++ part ∷ [])) (omega arith) (omega arith) (omega arith) (omega arith) names s.known;
       apart = s.apart;
       spots = s.spots ∙ ap (λ (t : List ℕ). t ++ []) (sym (arbiters_same (length parts.queues) (length parts.ports) parts part parts.arbiters s.fits.arbiters));
-      uncrowded = s.uncrowded; begun = tt }
+      uncrowded = s.uncrowded;
+      begun = tt;
+    }
 
 arbiter_closed : (parts : Parts) (names : Naming) (spotted : List ℕ) (part : ArbiterPart) → (length part.branches == 0) ≡ false → Sound parts names spotted (blocks.Arbiter part) → Sound (record parts { arbiters = parts.arbiters ++ part ∷ [] }) names spotted blocks.Outside
 arbiter_closed parts names spotted part some s =
@@ -523,7 +576,9 @@ arbiter_closed parts names spotted part some s =
       known = known_more parts new h h (omega arith) (omega arith) (omega arith) (omega arith) names s.known;
       apart = s.apart;
       spots = s.spots ∙ sym (flat_push (arbiter_named parts) parts.arbiters part) ∙ sym (append-nil (flat_map (arbiter_named parts) (parts.arbiters ++ part ∷ [])));
-      uncrowded = s.uncrowded; begun = tt }
+      uncrowded = s.uncrowded;
+      begun = tt;
+    }
 
 poster_closed : (parts : Parts) (names : Naming) (spotted : List ℕ) (part : PosterPart) → Sound parts names spotted (blocks.Poster part) → Sound (record parts { posters = parts.posters ++ part ∷ [] }) names spotted blocks.Outside
 poster_closed parts names spotted part s =
@@ -538,7 +593,11 @@ poster_closed parts names spotted part s =
       counts = record { budget = c.budget; queues = c.queues; ports = c.ports; sets = c.sets; causes = c.causes; handlers = c.handlers; arbiters = c.arbiters; branches = c.branches; posters = omega arith; posts = omega (arith, counted) };
       fits = poster_fits parts part s.fits s.begun.0;
       known = known_more parts new h h (omega arith) (omega arith) (omega arith) (omega arith) names s.known;
-      apart = s.apart; spots = s.spots; uncrowded = s.uncrowded; begun = tt }
+      apart = s.apart;
+      spots = s.spots;
+      uncrowded = s.uncrowded;
+      begun = tt;
+    }
 
 -- ---- any line
 

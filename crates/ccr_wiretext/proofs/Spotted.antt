@@ -36,14 +36,14 @@ branches_same : (queues ports : ℕ) (kind : Kind) (parts : Parts) (part : Handl
 branches_same queues ports kind parts part [] fit = refl
 branches_same queues ports kind parts part (branch ∷ branches) fit =
     ap (λ (t : List ℕ). t ++ branches_named (record parts { handlers = parts.handlers ++ part ∷ [] }) branches) (branch_same parts part branch fit.0.0.1)
-      ∙ ap (λ (t : List ℕ). branch_named parts branch ++ t) (branches_same queues ports kind parts part branches fit.1)
+    ∙ ap (λ (t : List ℕ). branch_named parts branch ++ t) (branches_same queues ports kind parts part branches fit.1)
 
 pub arbiters_same : (queues ports : ℕ) (parts : Parts) (part : HandlerPart) (arbiters : List ArbiterPart) → Each (ArbiterFit queues (length parts.handlers) ports) arbiters
     → arbiters_named (record parts { handlers = parts.handlers ++ part ∷ [] }) arbiters ≡ arbiters_named parts arbiters
 arbiters_same queues ports parts part [] fit = refl
 arbiters_same queues ports parts part (arbiter ∷ arbiters) fit =
     ap (λ (t : List ℕ). t ++ arbiters_named (record parts { handlers = parts.handlers ++ part ∷ [] }) arbiters) (branches_same queues ports arbiter.kind parts part arbiter.branches fit.0.0)
-      ∙ ap (λ (t : List ℕ). branches_named parts arbiter.branches ++ t) (arbiters_same queues ports parts part arbiters fit.1)
+    ∙ ap (λ (t : List ℕ). branches_named parts arbiter.branches ++ t) (arbiters_same queues ports parts part arbiters fit.1)
 
 -- ---- a branch that crowds no port
 
@@ -68,7 +68,7 @@ among f port [] none is = absurd cc
 among f port (x ∷ xs) none is = by (x == port) refl is (neither (f x) (list_any f xs) none) (among f port xs)
   where
     by : (t : Bool) → (x == port) ≡ t → (t || list_any (λ other. other == port) xs) ≡ true → (f x ≡ false) × (list_any f xs ≡ false)
-      → (list_any f xs ≡ false → list_any (λ other. other == port) xs ≡ true → f port ≡ false) → f port ≡ false
+        → (list_any f xs ≡ false → list_any (λ other. other == port) xs ≡ true → f port ≡ false) → f port ≡ false
     by true e h parts next = let same : x ≡ port = grind (arith, nat_tests, e) in ap f (sym same) ∙ parts.0
     by false e h parts next = next parts.1 h
 
@@ -78,6 +78,7 @@ uncrowded_more draft branch before none port = by (list_any (λ other. other == 
   where
     new : List ℕ
     new = branch_named draft.parts branch
+
     by : (t : Bool) → list_any (λ other. other == port) new ≡ t → times port (draft.spotted ++ new) ≤ 16
     by true is = let test : nat_lt 16 (times port (draft.spotted ++ new)) ≡ false = among (λ p. nat_lt 16 (times p (draft.spotted ++ new))) port new none is in grind (arith, nat_tests, test)
     by false is = let none_new = times_none port new is in let sum = times_append port draft.spotted new in omega (arith, none_new, sum, before port)

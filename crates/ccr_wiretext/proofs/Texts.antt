@@ -76,7 +76,7 @@ unfolding reading_after
 step_ok so last line lines parts e = by (after_line so line) refl e
   where
     by : (r : Result So ℕ) → after_line so line ≡ r → ◌≡◌ {A = Result Parts (ℕ × ℕ)} (elim r [ Ok new ↦ reading_after new line.number lines | Err code ↦ Err (line.number, code) ]) (Ok parts)
-      → (new : So) × (after_line so line ≡ Ok new) × (reading_after new line.number lines ≡ Ok parts)
+        → (new : So) × (after_line so line ≡ Ok new) × (reading_after new line.number lines ≡ Ok parts)
     by (Ok new) is h = (new, is, h)
     by (Err code) is h = absurd cc
 
@@ -126,13 +126,15 @@ lines_said : (draft : Declared) (last : ℕ) (lines : List Line) (parts : Parts)
 lines_said draft last [] parts e = end_said draft last parts e
 lines_said draft last (line ∷ lines) parts e =
     let step = step_ok (Some draft) last line lines parts e in
-    let after = line_after (Some draft) step.0 line step.1 in
-    (after.0, elim after.1 [
-      | inl blank ↦ inl (blank.0, lines_said draft line.number lines parts (subst (λ so. reading_after so line.number lines ≡ Ok parts) (sym blank.1) step.2))
-      | inr told ↦
-        let next = told_lines draft step.0 told.first told.others told.told in
-        inr (told.first, told.others, next.0, told.spelled, told.plain, next.2, lines_said next.0 line.number lines parts (subst (λ so. reading_after so line.number lines ≡ Ok parts) next.1 step.2))
-    ])
+    let after = line_after (Some draft) step.0 line step.1 in (
+      after.0,
+      elim after.1 [
+        | inl blank ↦ inl (blank.0, lines_said draft line.number lines parts (subst (λ so. reading_after so line.number lines ≡ Ok parts) (sym blank.1) step.2))
+        | inr told ↦
+            let next = told_lines draft step.0 told.first told.others told.told in
+            inr (told.first, told.others, next.0, told.spelled, told.plain, next.2, lines_said next.0 line.number lines parts (subst (λ so. reading_after so line.number lines ≡ Ok parts) next.1 step.2))
+      ],
+    )
 
 lines_read : (draft : Declared) (last : ℕ) (lines : List Line) (parts : Parts) → AreLines draft lines parts → reading_after (Some draft) last lines ≡ Ok parts
 lines_read draft last [] parts said = end_read draft last parts said.0 said.1
@@ -140,19 +142,21 @@ lines_read draft last (line ∷ lines) parts (clean, inl said) =
     step_read (Some draft) (Some draft) last line lines (blank_after (Some draft) line clean said.0) ∙ lines_read draft line.number lines parts said.1
 lines_read draft last (line ∷ lines) parts (clean, inr said) =
     step_read (Some draft) (Some said.2) last line lines (told_after (Some draft) (Some said.2) line clean said.0 said.1 said.3 said.4 (says_lines draft said.2 said.0 said.1 said.5))
-      ∙ lines_read said.2 line.number lines parts said.6
+    ∙ lines_read said.2 line.number lines parts said.6
 
 headed_said : (last : ℕ) (lines : List Line) (parts : Parts) → reading_after None last lines ≡ Ok parts → AreHeadedLines lines parts
 headed_said last [] parts e = headless last parts e
 headed_said last (line ∷ lines) parts e =
     let step = step_ok None last line lines parts e in
-    let after = line_after None step.0 line step.1 in
-    (after.0, elim after.1 [
-      | inl blank ↦ inl (blank.0, headed_said line.number lines parts (subst (λ so. reading_after so line.number lines ≡ Ok parts) (sym blank.1) step.2))
-      | inr told ↦
-        let head = told_head step.0 told.first told.others told.told in
-        inr (rw told.spelled head.0, lines_said nothing line.number lines parts (subst (λ so. reading_after so line.number lines ≡ Ok parts) head.1 step.2))
-    ])
+    let after = line_after None step.0 line step.1 in (
+      after.0,
+      elim after.1 [
+        | inl blank ↦ inl (blank.0, headed_said line.number lines parts (subst (λ so. reading_after so line.number lines ≡ Ok parts) (sym blank.1) step.2))
+        | inr told ↦
+            let head = told_head step.0 told.first told.others told.told in
+            inr (rw told.spelled head.0, lines_said nothing line.number lines parts (subst (λ so. reading_after so line.number lines ≡ Ok parts) head.1 step.2))
+      ],
+    )
 
 headed_read : (last : ℕ) (lines : List Line) (parts : Parts) → AreHeadedLines lines parts → reading_after None last lines ≡ Ok parts
 headed_read last [] parts said = absurd said

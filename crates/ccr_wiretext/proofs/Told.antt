@@ -112,11 +112,14 @@ apart_push (y ∷ ys) x apart new =
     halves : (a b : Bool) → (a && b) ≡ true → (a ≡ true) × (b ≡ true)
     halves true b e = (refl, e)
     halves false b e = absurd cc
+
     negated : (a : Bool) → not a ≡ true → a ≡ false
     negated true e = absurd cc
     negated false e = refl
+
     turned : (a b : ℕ) → (a == b) ≡ false → (b == a) ≡ false
     turned a b e = grind (arith, nat_tests, e)
+
     still_none : (zs : List ℕ) (z w : ℕ) → has_port zs w ≡ false → (z == w) ≡ false → has_port (zs ++ z ∷ []) w ≡ false
     still_none [] z w none differ = rw differ refl
     still_none (v ∷ zs) z w none differ = let parts = neither (v == w) (has_port zs w) none in rw (parts.0, still_none zs z w parts.1 differ) refl
@@ -156,9 +159,10 @@ slots_fit : (draft : Declared) (handlers : ℕ) → Known draft.parts handlers d
 slots_fit draft handlers known found [] words apart said = (tt, rw (append-nil found) apart)
 slots_fit draft handlers known found (slot ∷ slots) words apart said =
     let new : are_apart (slot_ports (found ++ slot ∷ [])) ≡ true = rw (ports_push found slot) (apart_push (slot_ports found) slot.port apart (sym (same_ports found slot.port) ∙ said.4)) in
-    let rest = slots_fit draft handlers known (found ++ slot ∷ []) slots said.1 new said.5 in
-    (((port_there draft handlers said.3.port slot.port known said.3.refers, said.3.exact, said.3.counted.above, said.3.counted.below), rest.0),
-     subst (λ all. are_apart (slot_ports all) ≡ true) (append_assoc found (slot ∷ []) slots) rest.1)
+    let rest = slots_fit draft handlers known (found ++ slot ∷ []) slots said.1 new said.5 in (
+      ((port_there draft handlers said.3.port slot.port known said.3.refers, said.3.exact, said.3.counted.above, said.3.counted.below), rest.0),
+      subst (λ all. are_apart (slot_ports all) ≡ true) (append_assoc found (slot ∷ []) slots) rest.1,
+    )
 
 pattern_fit : (draft : Declared) (handlers : ℕ) → Known draft.parts handlers draft.names → (words : Words) (shape : Pattern) → IsPattern draft words shape → PatternFit (length draft.parts.ports) shape
 pattern_fit draft handlers known words (patterns.Slots slots) said =
@@ -168,10 +172,11 @@ pattern_fit draft handlers known words (patterns.Gather total first second) said
     (port_there draft handlers g.one first known g.refers, port_there draft handlers g.other second known g.other_refers, g.apart, g.counted.above, g.counted.below)
 
 pub branch_fit : (draft : Declared) (handlers : ℕ) → Known draft.parts handlers draft.names → (words : Words) (branch : BranchPart) → IsBranchTail draft words branch → BranchFit (length draft.parts.queues) handlers (length draft.parts.ports) branch
-branch_fit draft handlers known words branch said =
-    (referred as_queue (KindFit draft.parts handlers) (λ k. k < length draft.parts.queues) (kind_queue draft.parts handlers) draft.names said.queue branch.queue known said.queued,
-     referred as_handler (KindFit draft.parts handlers) (λ k. k < handlers) (kind_handler draft.parts handlers) draft.names said.handler branch.handler known said.handled,
-     pattern_fit draft handlers known said.shape branch.pattern said.pattern)
+branch_fit draft handlers known words branch said = (
+  referred as_queue (KindFit draft.parts handlers) (λ k. k < length draft.parts.queues) (kind_queue draft.parts handlers) draft.names said.queue branch.queue known said.queued,
+  referred as_handler (KindFit draft.parts handlers) (λ k. k < handlers) (kind_handler draft.parts handlers) draft.names said.handler branch.handler known said.handled,
+  pattern_fit draft handlers known said.shape branch.pattern said.pattern,
+)
 
 pub action_fit : (draft : Declared) (handlers : ℕ) → Known draft.parts handlers draft.names → (first : Keyword) (words : Words) (action : Action) → IsAction draft first words action → ActionFit (length draft.parts.ports) (length draft.parts.causes) action
 action_fit draft handlers known keywords.Budget words action said = absurd said

@@ -11,7 +11,7 @@ pub line_spaced : (first : List ℕ) (words : List (List ℕ)) → line_text (fi
 line_spaced first [] = simp append-nil
 line_spaced first (word ∷ words) =
     append_assoc first (32 ∷ joined (word ∷ words)) (10 ∷ []) ∙ ap (λ (t : List ℕ). first ++ 32 ∷ t) (line_spaced word words)
-      ∙ simp append_assoc
+    ∙ simp append_assoc
 
 -- a line at the end of a text
 pub line_put : (old first : List ℕ) (others : List (List ℕ)) → ((old ++ first) ++ flat_map (λ (word : List ℕ). 32 ∷ word) others) ++ 10 ∷ [] ≡ old ++ line_text (first ∷ others)

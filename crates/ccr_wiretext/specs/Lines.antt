@@ -169,7 +169,7 @@ AreLines draft [] parts = (draft.block ≡ blocks.Outside) × (parts ≡ draft.p
 AreLines draft (line ∷ lines) parts = (line.clean ≡ true) × (
     (IsBlank line.words × AreLines draft lines parts)
     ⊎ ((first : List ℕ) × (words : Words) × (new : Declared) × (line.words ≡ first ∷ words) × (is_comment first ≡ false)
-      × Says draft.block draft (keyword first) words new × AreLines new lines parts))
+    × Says draft.block draft (keyword first) words new × AreLines new lines parts))
 
 -- `ccr 1` is the first line that isn't blank
 abbrev pub AreHeadedLines : List Line → Parts → Type 0

@@ -18,10 +18,10 @@ unfoldable pub pred : Words → Result (Pred × Words) ℕ
 pred words = do
   name ← word words
   if bytes_eq name.0 (codes "any") then Ok (preds.Any, name.1) else
-    if bytes_eq name.0 (codes "eq") then (number name.1 >>= λ value. Ok (preds.Eq value.0, value.1)) else
-    if bytes_eq name.0 (codes "lt") then (number name.1 >>= λ value. Ok (preds.Lt value.0, value.1)) else
-    if bytes_eq name.0 (codes "ge") then (number name.1 >>= λ value. Ok (preds.Ge value.0, value.1)) else
-    Err 3
+      if bytes_eq name.0 (codes "eq") then (number name.1 >>= λ value. Ok (preds.Eq value.0, value.1)) else
+      if bytes_eq name.0 (codes "lt") then (number name.1 >>= λ value. Ok (preds.Lt value.0, value.1)) else
+      if bytes_eq name.0 (codes "ge") then (number name.1 >>= λ value. Ok (preds.Ge value.0, value.1)) else
+      Err 3
 
 -- a port that isn't among those found before it
 unfoldable pub new_port : Declared → List ℕ → Words → Result (ℕ × Words) ℕ
@@ -68,8 +68,8 @@ unfoldable pub pattern : Declared → Words → Result Pattern ℕ
 pattern draft words = do
   name ← word words
   if bytes_eq name.0 (codes "take") then taken draft name.1 else
-    if bytes_eq name.0 (codes "gather") then gathered draft name.1 else
-    Err 3
+      if bytes_eq name.0 (codes "gather") then gathered draft name.1 else
+      Err 3
 
 -- further members of a set behind those that were found, as long as words are left and there is room
 unfoldable pub members : Declared → ℕ → List ℕ → Words → Result (List ℕ) ℕ

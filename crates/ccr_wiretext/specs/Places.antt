@@ -110,23 +110,23 @@ unfoldable pub policy : Words → Result (Policy × Words) ℕ
 policy words = do
   name ← word words
   if bytes_eq name.0 (codes "unbounded") then Ok (policies.Unbounded, name.1) else
-    if bytes_eq name.0 (codes "discard") then (number_within 1 1000 name.1 >>= λ limit. Ok (policies.Discard limit.0, limit.1)) else
-    if bytes_eq name.0 (codes "throttle") then (number_within 1 1000 name.1 >>= λ limit. Ok (policies.Throttle limit.0, limit.1)) else
-    Err 3
+      if bytes_eq name.0 (codes "discard") then (number_within 1 1000 name.1 >>= λ limit. Ok (policies.Discard limit.0, limit.1)) else
+      if bytes_eq name.0 (codes "throttle") then (number_within 1 1000 name.1 >>= λ limit. Ok (policies.Throttle limit.0, limit.1)) else
+      Err 3
 
 -- once or always
 unfoldable pub group : Words → Result (Group × Words) ℕ
 group words = do
   name ← word words
   if bytes_eq name.0 (codes "once") then Ok (groups.Once, name.1) else
-    if bytes_eq name.0 (codes "always") then Ok (groups.Always, name.1) else
-    Err 3
+      if bytes_eq name.0 (codes "always") then Ok (groups.Always, name.1) else
+      Err 3
 
 -- N, arg N, sum or count
 unfoldable pub expr : Words → Result (Expr × Words) ℕ
 expr words = do
   name ← word words
   if bytes_eq name.0 (codes "sum") then Ok (exprs.Sum, name.1) else
-    if bytes_eq name.0 (codes "count") then Ok (exprs.Count, name.1) else
-    if bytes_eq name.0 (codes "arg") then (number_within 0 65535 name.1 >>= λ place. Ok (exprs.Arg place.0, place.1)) else
-    (or_code (number_of name.0) 5 >>= λ value. Ok (exprs.Number value, name.1))
+      if bytes_eq name.0 (codes "count") then Ok (exprs.Count, name.1) else
+      if bytes_eq name.0 (codes "arg") then (number_within 0 65535 name.1 >>= λ place. Ok (exprs.Arg place.0, place.1)) else
+      (or_code (number_of name.0) 5 >>= λ value. Ok (exprs.Number value, name.1))

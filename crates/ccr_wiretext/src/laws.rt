@@ -10,5 +10,4 @@ ghost use Rattle.ccr_wiretext.specs.Reading.{reading_text};
 pub fn reading_is_exact()
     ensures said { (text : List ℕ) (parts : Said) → reading_text text ≡ Ok parts → IsText text parts }
     ensures read { (text : List ℕ) (parts : Said) → IsText text parts → reading_text text ≡ Ok parts }
-{
-}
+{}

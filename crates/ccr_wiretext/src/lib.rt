@@ -23,4 +23,3 @@ pub use writing::write_wiring;
 
 #[cfg(test)]
 mod tests;
-

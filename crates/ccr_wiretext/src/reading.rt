@@ -44,9 +44,7 @@ fn is_comment_word(word: &[u8]) -> bool
 fn is_head_line(words: &[Name]) -> bool
     ensures { result ≡ is_head words.now }
 {
-    words.len() == 2
-        && is_text(words[0].as_slice(), "ccr")
-        && is_text(words[1].as_slice(), "1")
+    words.len() == 2 && is_text(words[0].as_slice(), "ccr") && is_text(words[1].as_slice(), "1")
 }
 
 impl Reader {

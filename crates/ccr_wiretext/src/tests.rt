@@ -35,12 +35,10 @@ fn refusal_behind(rt: &HostRuntime, lines: &str) -> (u32, u8) {
 
 /// Each text is refused at that line with that code.
 fn are_refused(rt: &HostRuntime, rows: &[(&str, u32, u8)]) -> bool {
-    rows.iter()
-        .all(|(text, line, code)| refusal(rt, text.as_bytes()) == (*line, *code))
+    rows.iter().all(|(text, line, code)| refusal(rt, text.as_bytes()) == (*line, *code))
 }
 
 /// The same of lines behind the seven.
 fn are_refused_behind(rt: &HostRuntime, rows: &[(&str, u32, u8)]) -> bool {
-    rows.iter()
-        .all(|(lines, line, code)| refusal_behind(rt, lines) == (*line, *code))
+    rows.iter().all(|(lines, line, code)| refusal_behind(rt, lines) == (*line, *code))
 }

@@ -17,9 +17,11 @@ fn is_written(rt: &HostRuntime, text: &str, wanted: &str) -> bool {
     }
 }
 
-const MESSY: &str = "# a robot\r\n ccr\t1\r\n\r\nposter p0\r\nend\r\nport a\nhandler h\npost a 007\nfail arg 00\nend\nqueue q discard 0010\nport b\nportset s b a\nbudget 0099\ncause u s/b\ncause v a\nhandler k\n add u\n remove v\n await s/a\n post s/b sum\n fail count\nend\nqueue t throttle 1\nqueue w unbounded\n# arbiters\nreceive one once q h take s/a 01 any b 2 eq 3\nchoice c\nbranch x t k take a 3 lt 18446744073709551615\nbranch y t k gather 5 s/b a\nend\ninterleave i\nconcurrent g q h take a 1 ge 0\nexclusive e q h take b 1000 any\nteardown z w k take a 1 any\nend\nreceive two always w k gather 1 a b\nposter p1\npost s/a 5 u v\npost b 18446744073709551615\nend";
+const MESSY: &str =
+    "# a robot\r\n ccr\t1\r\n\r\nposter p0\r\nend\r\nport a\nhandler h\npost a 007\nfail arg 00\nend\nqueue q discard 0010\nport b\nportset s b a\nbudget 0099\ncause u s/b\ncause v a\nhandler k\n add u\n remove v\n await s/a\n post s/b sum\n fail count\nend\nqueue t throttle 1\nqueue w unbounded\n# arbiters\nreceive one once q h take s/a 01 any b 2 eq 3\nchoice c\nbranch x t k take a 3 lt 18446744073709551615\nbranch y t k gather 5 s/b a\nend\ninterleave i\nconcurrent g q h take a 1 ge 0\nexclusive e q h take b 1000 any\nteardown z w k take a 1 any\nend\nreceive two always w k gather 1 a b\nposter p1\npost s/a 5 u v\npost b 18446744073709551615\nend";
 
-const CANONICAL: &str = "ccr 1\nbudget 99\nqueue q discard 10\nqueue t throttle 1\nqueue w unbounded\nport a\nport b\nportset s b a\ncause u b\ncause v a\nhandler h\npost a 7\nfail arg 0\nend\nhandler k\nadd u\nremove v\nawait a\npost b sum\nfail count\nend\nreceive one once q h take a 1 any b 2 eq 3\nchoice c\nbranch x t k take a 3 lt 18446744073709551615\nbranch y t k gather 5 b a\nend\ninterleave i\nconcurrent g q h take a 1 ge 0\nexclusive e q h take b 1000 any\nteardown z w k take a 1 any\nend\nreceive two always w k gather 1 a b\nposter p0\nend\nposter p1\npost a 5 u v\npost b 18446744073709551615\nend\n";
+const CANONICAL: &str =
+    "ccr 1\nbudget 99\nqueue q discard 10\nqueue t throttle 1\nqueue w unbounded\nport a\nport b\nportset s b a\ncause u b\ncause v a\nhandler h\npost a 7\nfail arg 0\nend\nhandler k\nadd u\nremove v\nawait a\npost b sum\nfail count\nend\nreceive one once q h take a 1 any b 2 eq 3\nchoice c\nbranch x t k take a 3 lt 18446744073709551615\nbranch y t k gather 5 b a\nend\ninterleave i\nconcurrent g q h take a 1 ge 0\nexclusive e q h take b 1000 any\nteardown z w k take a 1 any\nend\nreceive two always w k gather 1 a b\nposter p0\nend\nposter p1\npost a 5 u v\npost b 18446744073709551615\nend\n";
 
 #[test]
 fn messy_text_is_written_canonically(rt: HostRuntime) -> Result<(), Fail> {
@@ -31,6 +33,12 @@ fn messy_text_is_written_canonically(rt: HostRuntime) -> Result<(), Fail> {
 #[test]
 fn budget_line_is_always_written(rt: HostRuntime) -> Result<(), Fail> {
     assert!(rt; is_written(&rt, "ccr 1", "ccr 1\nbudget 10000\n"));
-    assert!(rt; is_written(&rt, "# x\r\nccr\t1\r\nqueue\tq\tunbounded\r\nport a\r\nhandler h\r\nend\r\nreceive r always q h take a 1 any\r\n", "ccr 1\nbudget 10000\nqueue q unbounded\nport a\nhandler h\nend\nreceive r always q h take a 1 any\n"));
+    assert!(rt;
+        is_written(
+            &rt,
+            "# x\r\nccr\t1\r\nqueue\tq\tunbounded\r\nport a\r\nhandler h\r\nend\r\nreceive r always q h take a 1 any\r\n",
+            "ccr 1\nbudget 10000\nqueue q unbounded\nport a\nhandler h\nend\nreceive r always q h take a 1 any\n"
+        )
+    );
     Ok(())
 }

@@ -49,9 +49,30 @@ fn one_more_of_a_kind(rt: HostRuntime) -> Result<(), Fail> {
         (255, "handler k", "\nend\n", "handler k", 518, 10),
         (16, "poster p", "\nend\n", "", 0, 0),
         (16, "poster p", "\nend\n", "poster p", 40, 10),
-        (16, "receive r", " once q h take a 1 any\n", "receive x once q h take b 1 any", 0, 0),
-        (16, "receive r", " once q h take a 1 any\n", "receive x once q h take b 1 any a 1 any", 24, 12),
-        (16, "receive r", " once q h take a 1 any\n", "receive x once q h take a 1 any 4", 24, 7),
+        (
+            16,
+            "receive r",
+            " once q h take a 1 any\n",
+            "receive x once q h take b 1 any",
+            0,
+            0,
+        ),
+        (
+            16,
+            "receive r",
+            " once q h take a 1 any\n",
+            "receive x once q h take b 1 any a 1 any",
+            24,
+            12,
+        ),
+        (
+            16,
+            "receive r",
+            " once q h take a 1 any\n",
+            "receive x once q h take a 1 any 4",
+            24,
+            7,
+        ),
     ];
     for row in &rows {
         assert!(rt; is_refused(&rt, row));
@@ -62,17 +83,61 @@ fn one_more_of_a_kind(rt: HostRuntime) -> Result<(), Fail> {
 #[test]
 fn one_more_in_a_line_or_block(rt: HostRuntime) -> Result<(), Fail> {
     let rows = [
-        ("handler k\nfail 1\nfail 1\nfail 1\nfail 1\nfail 1\nfail 1\nfail 1\nfail 1\nfail 1\nfail 1\nfail 1\nfail 1\nfail 1\nfail 1\nfail 1\nfail 1\nend", 0, 0),
-        ("handler k\nfail 1\nfail 1\nfail 1\nfail 1\nfail 1\nfail 1\nfail 1\nfail 1\nfail 1\nfail 1\nfail 1\nfail 1\nfail 1\nfail 1\nfail 1\nfail 1\nfail", 25, 10),
-        ("port c\nport d\nport e\nport f\nport g\nport i\nportset s a b c d e f g i", 0, 0),
-        ("port c\nport d\nport e\nport f\nport g\nport i\nportset s a b c d e f g i z", 14, 10),
-        ("port c\nport d\nport e\nport f\nport g\nport i\nportset s a b c d e f g i a", 14, 10),
-        ("port c\nport d\nport e\nport f\nport g\nport i\nreceive r once q h take a 1 any b 1 any c 1 any d 1 any e 1 any f 1 any g 1 any i 1 any", 0, 0),
-        ("port c\nport d\nport e\nport f\nport g\nport i\nreceive r once q h take a 1 any b 1 any c 1 any d 1 any e 1 any f 1 any g 1 any i 1 any z", 14, 10),
-        ("port c\nport d\nport e\nport f\nport g\nport i\nreceive r once q h take a 1 any b 1 any c 1 any d 1 any e 1 any f 1 any g 1 any i 1 any a", 14, 10),
-        ("handler k\nawait a\nawait a\nawait a\nawait a\nawait a\nawait a\nawait a\nawait a\nend\nreceive r once q k take b 1 any\nreceive s once q k take b 1 any\nreceive t once q h take a 1 any", 20, 12),
-        ("handler k\nawait a\nawait a\nawait a\nawait a\nawait a\nawait a\nawait a\nend\nchoice c\nbranch r q k take a 1 any\nbranch s q k take a 1 any\nbranch t q h gather 2 b a", 20, 12),
-        ("handler k\nfail 1\nawait a\nawait a\nawait a\nawait a\nawait a\nawait a\nawait a\nawait a\nend\ninterleave i\nexclusive r q k take b 1 any\nconcurrent s q k take b 1 any\nteardown t q k take b 1 any", 22, 12),
+        (
+            "handler k\nfail 1\nfail 1\nfail 1\nfail 1\nfail 1\nfail 1\nfail 1\nfail 1\nfail 1\nfail 1\nfail 1\nfail 1\nfail 1\nfail 1\nfail 1\nfail 1\nend",
+            0,
+            0,
+        ),
+        (
+            "handler k\nfail 1\nfail 1\nfail 1\nfail 1\nfail 1\nfail 1\nfail 1\nfail 1\nfail 1\nfail 1\nfail 1\nfail 1\nfail 1\nfail 1\nfail 1\nfail 1\nfail",
+            25,
+            10,
+        ),
+        (
+            "port c\nport d\nport e\nport f\nport g\nport i\nportset s a b c d e f g i",
+            0,
+            0,
+        ),
+        (
+            "port c\nport d\nport e\nport f\nport g\nport i\nportset s a b c d e f g i z",
+            14,
+            10,
+        ),
+        (
+            "port c\nport d\nport e\nport f\nport g\nport i\nportset s a b c d e f g i a",
+            14,
+            10,
+        ),
+        (
+            "port c\nport d\nport e\nport f\nport g\nport i\nreceive r once q h take a 1 any b 1 any c 1 any d 1 any e 1 any f 1 any g 1 any i 1 any",
+            0,
+            0,
+        ),
+        (
+            "port c\nport d\nport e\nport f\nport g\nport i\nreceive r once q h take a 1 any b 1 any c 1 any d 1 any e 1 any f 1 any g 1 any i 1 any z",
+            14,
+            10,
+        ),
+        (
+            "port c\nport d\nport e\nport f\nport g\nport i\nreceive r once q h take a 1 any b 1 any c 1 any d 1 any e 1 any f 1 any g 1 any i 1 any a",
+            14,
+            10,
+        ),
+        (
+            "handler k\nawait a\nawait a\nawait a\nawait a\nawait a\nawait a\nawait a\nawait a\nend\nreceive r once q k take b 1 any\nreceive s once q k take b 1 any\nreceive t once q h take a 1 any",
+            20,
+            12,
+        ),
+        (
+            "handler k\nawait a\nawait a\nawait a\nawait a\nawait a\nawait a\nawait a\nend\nchoice c\nbranch r q k take a 1 any\nbranch s q k take a 1 any\nbranch t q h gather 2 b a",
+            20,
+            12,
+        ),
+        (
+            "handler k\nfail 1\nawait a\nawait a\nawait a\nawait a\nawait a\nawait a\nawait a\nawait a\nend\ninterleave i\nexclusive r q k take b 1 any\nconcurrent s q k take b 1 any\nteardown t q k take b 1 any",
+            22,
+            12,
+        ),
     ];
     for (lines, line, code) in &rows {
         assert_eq!(rt; refusal_behind(&rt, lines), (*line, *code));
@@ -110,24 +175,23 @@ fn one_more_of_all_arbiters(rt: HostRuntime) -> Result<(), Fail> {
     Ok(())
 }
 
+/// The seven lines, two posts of a poster and 9,998 of another one, then `last`.
+fn with_posts(alloc: Global, last: &str) -> Result<Vec<u8>, OutOfMemory> {
+    let mut text = Vec::new(alloc);
+    text.extend_from_slice(BASE.as_bytes())?;
+    text.extend_from_slice(b"poster p\npost a 1\npost a 2\nend\nposter o\n")?;
+    for _ in 0..9_998u32 {
+        text.extend_from_slice(b"post b 1\n")?;
+    }
+    text.extend_from_slice(last.as_bytes())?;
+    Ok(text)
+}
+
 #[test]
 fn one_more_post(rt: HostRuntime) -> Result<(), Fail> {
-    let rows = [
-        (9_998, "poster p\nend\nposter o\npost a 1\npost a 2\n", "", 0, 9),
-        (9_998, "poster p\nend\nposter o\npost a 1\npost a 2\n", "end\n", 0, 0),
-        (9_998, "poster p\nend\nposter o\npost a 1\npost a 2\n", "post a 1\n", 10_011, 10),
-    ];
-    for (count, before, last, line, code) in &rows {
-        let mut text = Vec::new(rt.alloc());
-        text.extend_from_slice(BASE.as_bytes())?;
-        text.extend_from_slice(before.as_bytes())?;
-        for _ in 0..*count {
-            text.extend_from_slice(b"post b 1\n")?;
-        }
-        text.extend_from_slice(last.as_bytes())?;
-        let found = refusal(&rt, &text);
-        assert!(rt; found.1 == *code);
-        assert!(rt; *line == 0 || found.0 == *line);
-    }
+    let all = with_posts(rt.alloc(), "end\n")?;
+    assert_eq!(rt; refusal(&rt, &all), (0, 0));
+    let more = with_posts(rt.alloc(), "post a 1\n")?;
+    assert_eq!(rt; refusal(&rt, &more), (10_011, 10));
     Ok(())
 }

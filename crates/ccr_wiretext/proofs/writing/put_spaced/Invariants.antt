@@ -1,6 +1,5 @@
 use Rattle.std.proofs.Common.{◌≡◌, ◌++◌, ◌∷◌, map, take}
 use Rattle.std.specs.Prelude.{flat_map}
-
 use Rattle.ccr_wiretext.proofs.writing.put_spaced.Given as goal
 
 abbrev pub invariant-loop-word : goal.invariant-loop-word
