@@ -1,7 +1,2 @@
-pub mod Plain
-pub mod Reads
-pub mod Keywords
-pub mod Drafts
-pub mod Forms
-pub mod Reading
+pub mod Words
 pub mod Answers

@@ -1,11 +1,17 @@
 //! A run on one thread, as text.
 
-ghost use Rattle.std.specs.Prelude.{◌≡◌, ◌≤◌, true, length, IfOk};
-ghost use Rattle.ccr_model.specs.Legal.{IsLegal, IsQuiet, is_complete};
-ghost use Rattle.ccr_cli.specs.Answers.{IsRun};
+ghost use Rattle.std.specs.Prelude.{◌≡◌, ◌≤◌, ◌++◌, [], true, length, IfOk};
+ghost use Rattle.ccr_model.specs.Legal.{IsLegal, IsQuiet, has_shed, is_shed_end, is_complete};
+ghost use Rattle.ccr_model.specs.Order.{IsFinished};
+ghost use Rattle.ccr_trace.specs.HistoryText.{history_text};
+ghost use Rattle.ccr_report.specs.Report.{report_text};
+ghost use Rattle.ccr_cli.specs.Answers.{Answers};
+ghost use Rattle.ccr_cli.specs.declared.words.Word.TheVariants.{Run};
 
+use crate::answer::Due;
+use crate::status::Status;
 use ccr_base::{ActorNo, List, OutOfMemory};
-use ccr_model::History;
+use ccr_model::{EndHow, Event, History};
 use ccr_report::report_text;
 use ccr_serial::Serial;
 use ccr_text::put_bytes;
@@ -24,6 +30,7 @@ fn closer_of(wiring: &Wiring) -> ActorNo
 
 /// The history of a run from the empty history to its end.
 fn run_history(alloc: Global, wiring: &Wiring) -> Result<History, OutOfMemory>
+    ensures finished { IfOk result (IsFinished wiring.now (length wiring.now.posters) []) }
     ensures legal { IfOk result (IsLegal wiring.now) }
     ensures complete { IfOk result (λ history. is_complete wiring.now history ≡ true) }
     ensures quiet { IfOk result (IsQuiet wiring.now) }
@@ -32,14 +39,55 @@ fn run_history(alloc: Global, wiring: &Wiring) -> Result<History, OutOfMemory>
     engine.finish()
 }
 
-/// The history of a run, its report and the last line.
-pub fn run_text(alloc: Global, wiring: &Wiring) -> Result<List<u8>, OutOfMemory>
-    ensures { IfOk result (λ text. IsRun wiring.now text) }
+fn is_shed_end(event: &Event) -> bool
+    ensures { result ≡ is_shed_end event.now }
+{
+    match event {
+        Event::End {
+            how: EndHow::Shed,
+            ..
+        } => true,
+        _ => false,
+    }
+}
+
+/// Whether a task was shed.
+fn has_shed(events: &[Event]) -> bool
+    ensures { result ≡ has_shed events.now }
+{
+    events.iter().any(is_shed_end)
+}
+
+/// The history's text, its report and the last line.
+fn run_text(
+    alloc: Global,
+    wiring: &Wiring,
+    history: &History,
+    last: &[u8],
+) -> Result<List<u8>, OutOfMemory>
+    ensures { IfOk result (λ text. text ≡ history_text wiring.now history.now ++ report_text wiring.now history.now ++ last.now) }
+{
+    let mut text = write_history(alloc, wiring, history)?;
+    let report = report_text(alloc, wiring, history)?;
+    put_bytes(&mut text, report.as_slice())?;
+    put_bytes(&mut text, last)?;
+    Ok(text)
+}
+
+/// What a run of the wiring writes.
+pub fn run(alloc: Global, wiring: &Wiring) -> Result<Due, OutOfMemory>
+    ensures { IfOk result (λ due. Answers Run wiring.now due.status due.text) }
 {
     let history = run_history(alloc, wiring)?;
-    let mut text = write_history(alloc, wiring, &history)?;
-    let report = report_text(alloc, wiring, &history)?;
-    put_bytes(&mut text, report.as_slice())?;
-    put_bytes(&mut text, b"done 0\n")?;
-    Ok(text)
+    if has_shed(history.events()) {
+        Ok(Due {
+            status: Status::Shed,
+            text: run_text(alloc, wiring, &history, b"done 6\n")?,
+        })
+    } else {
+        Ok(Due {
+            status: Status::Done,
+            text: run_text(alloc, wiring, &history, b"done 0\n")?,
+        })
+    }
 }

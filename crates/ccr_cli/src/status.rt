@@ -8,9 +8,11 @@ use ccr_base::OutOfMemory;
 /// What a text is written for. Each is its exit status.
 #[derive(Clone, Copy, Debug, PartialEq, Eq)]
 pub enum Status {
-    Ran = 0,
+    Done = 0,
     Usage = 1,
     Refused = 2,
+    Shed = 6,
+    TooLong = 8,
 }
 
 /// Why nothing is written. Each is its exit status.

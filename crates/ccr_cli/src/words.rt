@@ -1,17 +1,41 @@
 //! The program's words.
 
 ghost use Rattle.std.specs.Prelude.{◌≡◌};
-ghost use Rattle.ccr_cli.specs.Answers.{is_run};
+ghost use Rattle.std.specs.Str.{bytes_eq};
+ghost use Rattle.ccr_cli.specs.Words.{said};
 
-use crate::keyword::is_text;
 use ccr_base::Name;
 
-/// Whether the words are `run --workers 0`.
-pub fn is_run(words: &[Name]) -> bool
-    ensures { result ≡ is_run words.now }
+/// What the words ask for: a wiring in its canonical form, or a run on one thread.
+#[derive(Clone, Copy, Debug, PartialEq, Eq)]
+pub enum Word {
+    Check,
+    Run,
+}
+
+/// Whether the word is this text.
+fn is_text(word: &[u8], text: &str) -> bool
+    ensures { result ≡ bytes_eq word.now text.now }
 {
-    words.len() == 3
-        && is_text(words[0].as_slice(), "run")
-        && is_text(words[1].as_slice(), "--workers")
-        && is_text(words[2].as_slice(), "0")
+    word == text.as_bytes()
+}
+
+/// What the words ask for: `check`, or `run --workers 0`. None for all others.
+pub fn said(words: &[Name]) -> Option<Word>
+    ensures { result ≡ said words.now }
+{
+    match words {
+        [word] if is_text(word.as_slice(), "check") => Some(Word::Check),
+        [word, option, value] => {
+            if is_text(word.as_slice(), "run")
+                && is_text(option.as_slice(), "--workers")
+                && is_text(value.as_slice(), "0")
+            {
+                Some(Word::Run)
+            } else {
+                None
+            }
+        }
+        _ => None,
+    }
 }
