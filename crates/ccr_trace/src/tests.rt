@@ -169,12 +169,7 @@ fn push_turns(history: &mut History) -> Result<(), Fail> {
 
 /// An end of each kind.
 fn push_ends(history: &mut History) -> Result<(), Fail> {
-    for how in [
-        EndHow::Done,
-        EndHow::Failed(7),
-        EndHow::Yield,
-        EndHow::Shed,
-    ] {
+    for how in [EndHow::Done, EndHow::Failed(7), EndHow::Yield, EndHow::Shed] {
         push(history, Event::End { task: FIRST, how })?;
     }
     Ok(())
