@@ -11,3 +11,6 @@ mod tasks;
 
 pub use counts::totals;
 pub use lines::{put_total, report_text};
+
+#[cfg(test)]
+mod tests;

@@ -17,10 +17,37 @@ fn only<T: Drop>(alloc: Global, item: T) -> Result<List<T>, Fail> {
     Ok(list)
 }
 
-/// Ports `a` and `b`, a cause `k`, and a receive `x` whose handler awaits `b`.
-fn wiring(alloc: Global) -> Result<Wiring, Fail> {
-    let mut ports = only(alloc, name(alloc, b"a")?)?;
-    ports.push(name(alloc, b"b")?).ok().ok_or("memory")?;
+/// A queue `q` without a bound.
+fn queues(alloc: Global) -> Result<List<QueuePart>, Fail> {
+    let queue = QueuePart {
+        name: name(alloc, b"q")?,
+        policy: Policy::Unbounded,
+    };
+    only(alloc, queue)
+}
+
+/// A cause `k`, whose port is `b`.
+fn causes(alloc: Global) -> Result<List<CausePart>, Fail> {
+    let cause = CausePart {
+        name: name(alloc, b"k")?,
+        port: 1,
+    };
+    only(alloc, cause)
+}
+
+/// A handler `h` that awaits `b`.
+fn handlers(alloc: Global) -> Result<List<HandlerPart>, Fail> {
+    let handler = HandlerPart {
+        name: name(alloc, b"h")?,
+        handler: Handler {
+            actions: only(alloc, Action::Await(1))?,
+        },
+    };
+    only(alloc, handler)
+}
+
+/// A receive `x` that takes one message of `a`, each time that one is held.
+fn arbiters(alloc: Global) -> Result<List<ArbiterPart>, Fail> {
     let slot = Slot {
         port: 0,
         least: 1,
@@ -34,41 +61,26 @@ fn wiring(alloc: Global) -> Result<Wiring, Fail> {
         handler: 0,
         pattern: Pattern::Slots(only(alloc, slot)?),
     };
+    let receive = ArbiterPart {
+        name: name(alloc, b"x")?,
+        kind: Kind::Receive,
+        branches: only(alloc, branch)?,
+    };
+    only(alloc, receive)
+}
+
+/// Ports `a` and `b`, a cause `k`, and a receive `x` whose handler awaits `b`.
+fn wiring(alloc: Global) -> Result<Wiring, Fail> {
+    let mut ports = only(alloc, name(alloc, b"a")?)?;
+    ports.push(name(alloc, b"b")?).ok().ok_or("memory")?;
     let parts = Parts {
         budget: 5,
-        queues: only(
-            alloc,
-            QueuePart {
-                name: name(alloc, b"q")?,
-                policy: Policy::Unbounded,
-            },
-        )?,
+        queues: queues(alloc)?,
         ports,
         sets: List::new(alloc),
-        causes: only(
-            alloc,
-            CausePart {
-                name: name(alloc, b"k")?,
-                port: 1,
-            },
-        )?,
-        handlers: only(
-            alloc,
-            HandlerPart {
-                name: name(alloc, b"h")?,
-                handler: Handler {
-                    actions: only(alloc, Action::Await(1))?,
-                },
-            },
-        )?,
-        arbiters: only(
-            alloc,
-            ArbiterPart {
-                name: name(alloc, b"x")?,
-                kind: Kind::Receive,
-                branches: only(alloc, branch)?,
-            },
-        )?,
+        causes: causes(alloc)?,
+        handlers: handlers(alloc)?,
+        arbiters: arbiters(alloc)?,
         posters: List::new(alloc),
     };
     Ok(Wiring::check(alloc, parts).ok().ok_or("not valid")?)
@@ -84,75 +96,92 @@ const SECOND: TaskId = TaskId {
     attempt: 4294967295,
 };
 
-/// One event of each form.
-fn history(alloc: Global) -> Result<History, Fail> {
-    let posted = MsgId::Script {
-        actor: 0,
-        place: 10,
+const POSTED: MsgId = MsgId::Script {
+    actor: 0,
+    place: 10,
+};
+
+const ANSWER: MsgId = MsgId::Task {
+    task: FIRST,
+    place: 3,
+};
+
+fn push(history: &mut History, event: Event) -> Result<(), Fail> {
+    Ok(history.push(event).ok().ok_or("memory")?)
+}
+
+/// Posts with a cause and without one.
+fn push_posts(alloc: Global, history: &mut History) -> Result<(), Fail> {
+    let caused = Msg {
+        id: POSTED,
+        port: 0,
+        value: 18446744073709551615,
+        causes: only(alloc, 0)?,
     };
-    let answer = MsgId::Task {
+    push(history, Event::Post(caused))?;
+    let plain = Msg {
+        id: ANSWER,
+        port: 1,
+        value: 0,
+        causes: List::new(alloc),
+    };
+    push(history, Event::Post(plain))
+}
+
+/// A firing of a branch, and one of a site with cuts.
+fn push_fires(alloc: Global, history: &mut History) -> Result<(), Fail> {
+    let at_branch = Event::Fire {
         task: FIRST,
-        place: 3,
+        spot: Spot::Branch(0),
+        messages: List::from_vec([POSTED, ANSWER].to_vec(alloc)?),
+        cuts: List::new(alloc),
     };
-    let mut history = History::new(alloc);
-    let events = [
-        Event::Post(Msg {
-            id: posted,
-            port: 0,
-            value: 18446744073709551615,
-            causes: only(alloc, 0)?,
-        }),
-        Event::Post(Msg {
-            id: answer,
-            port: 1,
-            value: 0,
-            causes: List::new(alloc),
-        }),
-        Event::Fire {
-            task: FIRST,
-            spot: Spot::Branch(0),
-            messages: List::from_vec([posted, answer].to_vec(alloc)?),
-            cuts: List::new(alloc),
-        },
-        Event::Fire {
-            task: SECOND,
-            spot: Spot::Site(0, 0),
-            messages: only(alloc, posted)?,
-            cuts: List::from_vec([FIRST, SECOND].to_vec(alloc)?),
-        },
-        Event::Admit(SECOND),
-        Event::Put {
-            task: FIRST,
-            dropped: None,
-        },
-        Event::Put {
-            task: FIRST,
-            dropped: Some(SECOND),
-        },
+    push(history, at_branch)?;
+    let at_site = Event::Fire {
+        task: SECOND,
+        spot: Spot::Site(0, 0),
+        messages: only(alloc, POSTED)?,
+        cuts: List::from_vec([FIRST, SECOND].to_vec(alloc)?),
+    };
+    push(history, at_site)
+}
+
+/// What becomes of tasks: admitted, put with a drop and without one, started.
+fn push_turns(history: &mut History) -> Result<(), Fail> {
+    push(history, Event::Admit(SECOND))?;
+    for dropped in [None, Some(SECOND)] {
+        push(
+            history,
+            Event::Put {
+                task: FIRST,
+                dropped,
+            },
+        )?;
+    }
+    push(
+        history,
         Event::Start {
             task: FIRST,
             actor: 12,
         },
-        Event::End {
-            task: FIRST,
-            how: EndHow::Done,
-        },
-        Event::End {
-            task: FIRST,
-            how: EndHow::Failed(7),
-        },
-        Event::End {
-            task: FIRST,
-            how: EndHow::Yield,
-        },
-        Event::End {
-            task: FIRST,
-            how: EndHow::Shed,
-        },
-    ];
-    for event in events {
-        history.push(event).ok().ok_or("memory")?;
+    )
+}
+
+/// An end of each kind.
+fn push_ends(history: &mut History) -> Result<(), Fail> {
+    for how in [EndHow::Done, EndHow::Failed(7), EndHow::Yield, EndHow::Shed] {
+        push(history, Event::End { task: FIRST, how })?;
     }
+    Ok(())
+}
+
+/// One event of each form.
+fn history(alloc: Global) -> Result<History, Fail> {
+    let mut history = History::new(alloc);
+    push_posts(alloc, &mut history)?;
+    push_fires(alloc, &mut history)?;
+    push_turns(&mut history)?;
+    push_ends(&mut history)?;
     Ok(history)
 }
 
