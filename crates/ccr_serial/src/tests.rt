@@ -4,7 +4,7 @@ use super::*;
 use ccr_base::{
     Group, Handler, List, Name, OutOfMemory, Pattern, Policy, Pred, Sent, Slot, TaskId,
 };
-use ccr_model::{EndHow, Event};
+use ccr_model::{EndHow, Event, History};
 use ccr_wiring::{
     ArbiterPart, BranchPart, HandlerPart, Kind, Parts, PosterPart, QueuePart, Unfit, Wiring,
 };
@@ -111,5 +111,16 @@ fn steps_one_by_one(rt: HostRuntime) -> Result<(), Fail> {
     assert!(rt; matches!(engine.step()?, Stepped::Did(Event::End { .. })));
     assert!(rt; matches!(engine.step()?, Stepped::Quiet));
     assert_eq!(rt; engine.history().events().len(), 5);
+    Ok(())
+}
+
+#[test]
+fn goes_on_from_a_history(rt: HostRuntime) -> Result<(), Fail> {
+    let wiring = wiring(rt.alloc())?;
+    assert!(rt; wiring.parts().posters.as_slice().len() == 1);
+    let whole = Serial::start(rt.alloc(), &wiring, 1)?.finish()?;
+    let resumed = Serial::resume(rt.alloc(), &wiring, 2, History::new(rt.alloc()));
+    let engine = resumed.map_err(|(refused, _)| refused)?;
+    assert_eq!(rt; engine.finish()?.events().len(), whole.events().len());
     Ok(())
 }
