@@ -5,7 +5,7 @@ use Rattle.std.specs.List.{list_all}
 use Rattle.std.proofs.lemmas.Bool.Decides.{nat_tests}
 use Rattle.std.proofs.lemmas.List.Concat.{flat_map-cons}
 use Rattle.ccr_text.specs.Words.{is_mark, is_blank, is_clean, pieces, words_of}
-use Rattle.ccr_text.specs.Lines.{cut, line_of, numbered, lines_of}
+use Rattle.ccr_text.specs.Lines.{cut, numbered_line, numbered, lines_of}
 use Rattle.ccr_text.specs.Spelling.{joined, line_text, text_of, spelled_lines, AreWords, AreLines}
 
 both : (a b : Bool) → (a && b) ≡ true → (a ≡ true) × (b ≡ true)
@@ -70,7 +70,7 @@ pub lines_again : (number : ℕ) (lines : List (List (List ℕ))) → AreLines l
 lines_again number [] are = refl
 lines_again number (words ∷ lines) are =
     let regrouped : text_of (words ∷ lines) ≡ joined words ++ 10 ∷ text_of lines = flat_map-cons line_text words lines ∙ append_assoc (joined words) (10 ∷ []) (text_of lines) in
-    let first : line_of number (joined words) ≡ record { number = number; words = words; clean = true } = rw (joined_words words are.0, joined_clean words are.0) refl in
+    let first : numbered_line number (joined words) ≡ record { number = number; words = words; clean = true } = rw (joined_words words are.0, joined_clean words are.0) refl in
     ap (λ (t : List ℕ). numbered number (cut t)) regrouped ∙ rw (cut_line (joined words) (text_of lines) (joined_feeds words are.0), first, lines_again (number + 1) lines are.1) refl
 
 pub text_again : (lines : List (List (List ℕ))) → AreLines lines → lines_of (text_of lines) ≡ spelled_lines 1 lines

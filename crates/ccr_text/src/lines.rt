@@ -2,7 +2,7 @@
 
 ghost use Rattle.std.specs.Prelude.{◌≡◌, ◌≢◌, ◌≤◌, ◌<◌, false, [], ◌∷◌, ◌++◌, IfOk, IfSome, IfNone, length};
 ghost use Rattle.std.specs.Option.{option_map_or};
-ghost use Rattle.ccr_text.specs.Lines.{cut, has_feed, line_of, lines_of};
+ghost use Rattle.ccr_text.specs.Lines.{cut, has_feed, numbered_line, lines_of};
 
 use crate::words::{is_clean_line, words_in};
 use ccr_base::{List, Name, OutOfMemory};
@@ -36,8 +36,8 @@ pub fn cut_line(text: &[u8]) -> (&[u8], Option<&[u8]>)
 }
 
 /// The line with these bytes, which have no LF, and this number.
-pub fn line_of(alloc: Global, number: u32, bytes: &[u8]) -> Result<Line, OutOfMemory>
-    ensures { IfOk result (λ line. line ≡ line_of number bytes.now) }
+pub fn numbered_line(alloc: Global, number: u32, bytes: &[u8]) -> Result<Line, OutOfMemory>
+    ensures { IfOk result (λ line. line ≡ numbered_line number bytes.now) }
 {
     Ok(Line {
         number,
@@ -58,7 +58,7 @@ pub fn split_lines(alloc: Global, text: &[u8]) -> Result<List<Line>, OutOfMemory
     'lines: while !rest.is_empty() {
         let (bytes, after) = cut_line(rest);
         number += 1;
-        let line = line_of(alloc, number, bytes)?;
+        let line = numbered_line(alloc, number, bytes)?;
         lines.push(line).map_err(|(refused, _)| refused)?;
         rest = after.unwrap_or(&[]);
     }

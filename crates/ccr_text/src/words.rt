@@ -21,7 +21,7 @@ pub fn is_clean_line(line: &[u8]) -> bool
 }
 
 /// What stands before the first byte that is no mark, and what stands behind that byte.
-fn cut_word(line: &[u8]) -> (&[u8], Option<&[u8]>)
+pub fn cut_word(line: &[u8]) -> (&[u8], Option<&[u8]>)
     ensures whole { IfNone result.1 (pieces line.now ≡ result.0.now ∷ []) }
     ensures cut { IfSome result.1 (λ after. pieces line.now ≡ result.0.now ∷ pieces after.now) }
     ensures shorter { IfSome result.1 (λ after. length after.now < length line.now) }

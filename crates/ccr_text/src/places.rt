@@ -1,0 +1,54 @@
+//! Where in a text the first line stands that begins with a word.
+
+ghost use Rattle.std.specs.Prelude.{◌≡◌, ◌≤◌, [], Some, IfSome, IfNone, length};
+ghost use Rattle.std.specs.List.{slice_get};
+ghost use Rattle.ccr_text.specs.Words.{words_of};
+ghost use Rattle.ccr_text.specs.Lines.{begins_with, line_of};
+
+use crate::lines::cut_line;
+use crate::words::cut_word;
+
+/// The first word of a line, if it has one.
+fn first_word(line: &[u8]) -> Option<&[u8]>
+    ensures some { IfSome result (λ word. slice_get (words_of line.now) 0 ≡ Some word.now) }
+    ensures none { IfNone result (words_of line.now ≡ []) }
+{
+    let mut rest = Some(line);
+    'pieces: while let Some(bytes) = rest {
+        let (word, after) = cut_word(bytes);
+        if !word.is_empty() {
+            return Some(word);
+        }
+        rest = after;
+    }
+    None
+}
+
+/// Whether the line's first word is this one.
+fn begins_with(word: &[u8], line: &[u8]) -> bool
+    ensures { result ≡ begins_with word.now line.now }
+{
+    match first_word(line) {
+        Some(first) => first == word,
+        None => false,
+    }
+}
+
+/// The byte where the first line begins whose first word is `word`, and how many lines stand before it; without such a
+/// line the text's length and its number of lines. One pass, which takes no memory.
+pub fn line_of(text: &[u8], word: &[u8]) -> (usize, u32)
+    requires { length text.now ≤ 33554432 }
+    ensures { result ≡ line_of text.now word.now }
+{
+    let mut rest = text;
+    let mut number: u32 = 0;
+    'lines: while !rest.is_empty() {
+        let (line, after) = cut_line(rest);
+        if begins_with(word, line) {
+            return (text.len() - rest.len(), number);
+        }
+        number += 1;
+        rest = after.unwrap_or(&[]);
+    }
+    (text.len(), number)
+}
