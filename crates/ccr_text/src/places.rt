@@ -38,7 +38,9 @@ fn begins_with(word: &[u8], line: &[u8]) -> bool
 /// line the text's length and its number of lines. One pass, which takes no memory.
 pub fn line_of(text: &[u8], word: &[u8]) -> (usize, u32)
     requires { length text.now ≤ 33554432 }
-    ensures { result ≡ line_of text.now word.now }
+    ensures place { result ≡ line_of text.now word.now }
+    ensures within { result.0 ≤ length text.now }
+    ensures few { result.1 ≤ length text.now }
 {
     let mut rest = text;
     let mut number: u32 = 0;
