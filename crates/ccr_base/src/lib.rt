@@ -15,7 +15,7 @@ pub use choices::{can_choose, choose};
 pub use gate::{Gate, OpenGate, Point};
 pub use handlers::{Action, Expr, Handler};
 pub use list::{List, Name, OutOfMemory};
-pub use messages::{Msg, Sent, Value};
+pub use messages::{Msg, Seen, Sent, Value};
 pub use names::{
     ActorNo, ArbiterNo, BranchNo, CauseNo, HandlerNo, MsgId, Place, PortNo, QueueNo, Spot, TaskId,
 };

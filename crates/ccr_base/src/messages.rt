@@ -1,6 +1,6 @@
 //! Messages, and posts that have no name yet.
 
-ghost use Rattle.std.specs.Prelude.{◌≡◌, IfOk};
+ghost use Rattle.std.specs.Prelude.{◌≡◌, IfOk, List, [], ◌∷◌, map, refl};
 
 use crate::{CauseNo, List, MsgId, OutOfMemory, PortNo};
 use std::alloc::Global;
@@ -37,4 +37,49 @@ impl Msg {
             causes: self.causes.copy(alloc)?,
         })
     }
+}
+
+/// What stands for a message: a message itself, or a reference to one. A list of such stands for a list of messages,
+/// one for one.
+pub trait Seen {
+    ghost use Rattle.ccr_base.specs.declared.messages.Msg.{Msg};
+
+    ghost message: { Self → Msg };
+
+    ghost seen: { List Self → List Msg };
+
+    fn value(&self) -> Value
+        ensures { result ≡ (message self.now).value };
+
+    ghost none: { seen [] ≡ [] };
+
+    ghost one_more: { (x : Self) (xs : List Self) → seen (x ∷ xs) ≡ message x ∷ seen xs };
+}
+
+impl Seen for Msg {
+    ghost message = { λ message. message };
+
+    ghost seen = { λ messages. messages };
+
+    fn value(&self) -> Value {
+        self.value
+    }
+
+    ghost none = { refl };
+
+    ghost one_more = { λ _ _. refl };
+}
+
+impl Seen for &Msg {
+    ghost message = { λ message. message.now };
+
+    ghost seen = { λ messages. map (λ message. message.now) messages };
+
+    fn value(&self) -> Value {
+        self.value
+    }
+
+    ghost none = { refl };
+
+    ghost one_more = { λ _ _. refl };
 }

@@ -37,6 +37,14 @@ fn messages(alloc: Global, values: &[u64]) -> Result<Vec<Msg>, OutOfMemory> {
     Ok(found)
 }
 
+fn references<'a>(alloc: Global, items: &'a [Msg]) -> Result<Vec<&'a Msg>, OutOfMemory> {
+    let mut found = Vec::new(alloc);
+    for item in items {
+        found.push(item)?;
+    }
+    Ok(found)
+}
+
 fn slot(least: u32, most: u32, pred: Pred) -> Slot
     ensures { result ≡ record { port = 0; least = least; most = most; pred = pred } }
 {
@@ -62,6 +70,18 @@ fn chooses_the_oldest(rt: HostRuntime) -> Result<(), Fail> {
     let twelve = slot(2, 2, Pred::Eq(12));
     assert!(rt; choose(rt.alloc(), &items, &twelve)?.is_none());
     assert!(rt; !can_choose(&items, &twelve));
+    Ok(())
+}
+
+#[test]
+fn chooses_among_references(rt: HostRuntime) -> Result<(), Fail> {
+    let items = messages(rt.alloc(), &[3, 12, 4, 15, 9])?;
+    let waiting = references(rt.alloc(), &items)?;
+    assert!(rt; waiting.len() == 5);
+    let large = slot(1, 2, Pred::Ge(9));
+    let places = choose(rt.alloc(), &waiting, &large)?.ok_or("none")?;
+    assert_eq!(rt; places.as_slice(), [1, 3].as_slice());
+    assert!(rt; can_choose(&waiting, &large));
     Ok(())
 }
 

@@ -8,15 +8,15 @@ use Rattle.ccr_base.proofs.Chosen.{messages_at-chosen}
 use Rattle.ccr_base.proofs.choices.choose.Goals as goal
 
 pub returns-then-len-slot : goal.returns-then-len-slot
-returns-then-len-slot c =
+returns-then-len-slot g c =
     let slot = c.args.slot.now in
-    let items = c.args.items.now in
+    let items = g.T.Seen.seen c.args.items.now in
     let places : ◌≡◌ {A = Option (List ℕ)} None (chosen slot items) = grind (arith, nat_tests, common_steps, length-places_from slot.pred items 0) in
     record { places = places; choice = ap (option_map (messages_at items)) places ∙ messages_at-chosen slot items }
 
 pub returns : goal.returns
-returns c =
+returns g c =
     let slot = c.args.slot.now in
-    let items = c.args.items.now in
+    let items = g.T.Seen.seen c.args.items.now in
     let places : ◌≡◌ {A = Option (List ℕ)} (Some c.from_vec.result) (chosen slot items) = grind (arith, nat_tests, common_steps, length-places_from slot.pred items 0) in
     record { places = places; choice = ap (option_map (messages_at items)) places ∙ messages_at-chosen slot items }

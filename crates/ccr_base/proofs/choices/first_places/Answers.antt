@@ -5,4 +5,6 @@ use Rattle.ccr_base.proofs.choices.first_places.Goals as goal
 use Rattle.ccr_base.proofs.choices.first_places.Goals.{then-holds+in_ok-push, else-holds}
 
 pub loop-place-preserved : goal.loop-place-preserved
-loop-place-preserved c = elim c.if-holds.branch [ then-holds+in_ok-push w ↦ grind (arith, common_steps, take-places_from) | else-holds w ↦ grind (arith, common_steps, skip-places_from) ]
+loop-place-preserved g c =
+    let step = g.met.T.Seen.one_more in
+    elim c.if-holds.branch [ then-holds+in_ok-push w ↦ grind (arith, common_steps, take-places_from, step) | else-holds w ↦ grind (arith, common_steps, skip-places_from, step) ]
