@@ -51,10 +51,10 @@ arbiters_same queues ports parts part (arbiter ∷ arbiters) fit =
 abbrev pub Uncrowded : List ℕ → Type 0
 Uncrowded ports = (port : ℕ) → times port ports ≤ 16
 
-times_append : (port : ℕ) (xs ys : List ℕ) → times port (xs ++ ys) ≡ times port xs + times port ys
+pub times_append : (port : ℕ) (xs ys : List ℕ) → times port (xs ++ ys) ≡ times port xs + times port ys
 times_append port xs ys = sum_by-append _ xs ys
 
-times_none : (port : ℕ) (ports : List ℕ) → list_any (λ other. other == port) ports ≡ false → times port ports ≡ 0
+pub times_none : (port : ℕ) (ports : List ℕ) → list_any (λ other. other == port) ports ≡ false → times port ports ≡ 0
 times_none port [] none = refl
 times_none port (x ∷ xs) none =
     let parts = neither (x == port) (list_any (λ other. other == port) xs) none in
@@ -63,7 +63,7 @@ times_none port (x ∷ xs) none =
     let rest : times port xs ≡ 0 = times_none port xs parts.1 in
     omega (arith, split, one, rest)
 
-among : (f : ℕ → Bool) (port : ℕ) (ports : List ℕ) → list_any f ports ≡ false → list_any (λ other. other == port) ports ≡ true → f port ≡ false
+pub among : (f : ℕ → Bool) (port : ℕ) (ports : List ℕ) → list_any f ports ≡ false → list_any (λ other. other == port) ports ≡ true → f port ≡ false
 among f port [] none is = absurd cc
 among f port (x ∷ xs) none is = by (x == port) refl is (neither (f x) (list_any f xs) none) (among f port xs)
   where
