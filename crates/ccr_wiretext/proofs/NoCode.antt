@@ -36,7 +36,7 @@ use Rattle.ccr_wiretext.specs.Names.{Naming}
 use Rattle.ccr_wiretext.specs.Keywords.{keyword}
 use Rattle.ccr_wiretext.specs.Drafts.{Declared, nothing}
 use Rattle.ccr_wiretext.specs.Lines.{AreLines, AreHeadedLines, IsText}
-use Rattle.ccr_wiretext.proofs.Each.{Each, each_false}
+use Rattle.ccr_wiretext.proofs.Each.{Each, each_false, none_passes}
 use Rattle.ccr_wiretext.proofs.Fit.{PolicyFit, ExprFit, ActionFit, SlotFit, PatternFit, BranchFit, BranchesFit, ArbiterFit, Shaped, SetFit, HandlerFit, PostFit, PosterFit}
 use Rattle.ccr_wiretext.proofs.Spotted.{Uncrowded}
 use Rattle.ccr_wiretext.proofs.Sound.{Counts, Fits, Sound, is_cause_fit}
@@ -164,10 +164,6 @@ arbiter_branched queues handlers ports part (branches, inl (kind, one)) = rw kin
 arbiter_branched queues handlers ports part (branches, inr (kind, some)) = rw (kind, some) refl
 
 -- ---- all codes
-
-none_passes : (f : ℕ → Bool) → ((n : ℕ) → f n ≡ false) → (numbers : List ℕ) → list_any f numbers ≡ false
-none_passes f none [] = refl
-none_passes f none (n ∷ numbers) = rw (none n, none_passes f none numbers) refl
 
 uncrowded_parts : (parts : Parts) (spotted : List ℕ) → spotted ≡ named_ports parts ++ [] → Uncrowded spotted → has_crowded_port parts ≡ false
 uncrowded_parts parts spotted spots uncrowded =

@@ -33,6 +33,7 @@ use Rattle.ccr_wiretext.specs.Places.{Words}
 use Rattle.ccr_wiretext.specs.Grammar.{IsNew, IsGroup}
 use Rattle.ccr_wiretext.specs.Blocks.{group_of, apart}
 use Rattle.ccr_wiretext.specs.Lines.{IsBudget, IsQueue, IsName, IsSet, IsCause, IsReceive, IsBranch, IsAction, IsPost, SaysOutside, SaysInPoster, Says}
+use Rattle.ccr_wiretext.proofs.Steps.{same_name}
 use Rattle.ccr_wiretext.proofs.Each.{Each, each_push, each_more}
 use Rattle.ccr_wiretext.proofs.Fit.{ActionFit, BranchFit, PostFit}
 use Rattle.ccr_wiretext.proofs.NamesApart.{NamesApart, name_added}
@@ -339,9 +340,6 @@ receive_group word groups.Choice said = absurd said
 receive_group word groups.Teardown said = absurd said
 receive_group word groups.Exclusive said = absurd said
 receive_group word groups.Concurrent said = absurd said
-
-same_name : (name : List ℕ) → bytes_eq name name ≡ true
-same_name name = (bytes_eq-Decides name name).1 refl
 
 receive_sound : (draft : Declared) (words : Words) (branch : BranchPart) → Sound draft.parts draft.names draft.spotted blocks.Outside → IsReceive draft words branch
     → Sound (record draft.parts { arbiters = draft.parts.arbiters ++ receiver branch ∷ [] }) (draft.names ++ (branch.name, kinds.Branch) ∷ []) (draft.spotted ++ branch_named draft.parts branch) blocks.Outside

@@ -46,6 +46,13 @@ pub not_true : (b : Bool) → not b ≡ true → b ≡ false
 not_true true e = absurd cc
 not_true false e = refl
 
+pub not_false : (b : Bool) → not b ≡ false → b ≡ true
+not_false true e = refl
+not_false false e = absurd cc
+
+pub same_name : (name : List ℕ) → bytes_eq name name ≡ true
+same_name name = (bytes_eq-Decides name name).1 refl
+
 pub same_word : (w text : List ℕ) → bytes_eq w text ≡ true → w ≡ text
 same_word w text e = (bytes_eq-Decides w text).0 e
 

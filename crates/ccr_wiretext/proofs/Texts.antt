@@ -13,6 +13,7 @@ use Rattle.ccr_wiretext.specs.Places.{Words, ◌>>=◌, unless}
 use Rattle.ccr_wiretext.specs.Blocks.{line_in}
 use Rattle.ccr_wiretext.specs.Reading.{So, is_comment, is_head, after_words, after_all, after_line, closed, at_end, at_line, reading_after, reading_text}
 use Rattle.ccr_wiretext.specs.Lines.{Says, IsBlank, AreLines, AreHeadedLines, IsText}
+use Rattle.ccr_wiretext.proofs.Each.{both}
 use Rattle.ccr_wiretext.proofs.Steps.{bind_ok, ok_is, unless_ok, chosen, same_word}
 use Rattle.ccr_wiretext.proofs.Blocked.{line_said, line_read}
 
@@ -47,10 +48,6 @@ words_blank so (first ∷ words) blank = rw blank refl
 blank_after : (so : So) (line : Line) → line.clean ≡ true → IsBlank line.words → after_line so line ≡ Ok so
 unfolding after_line
 blank_after so line clean blank = rw clean (words_blank so line.words blank)
-
-both : (a b : Bool) → (a && b) ≡ true → (a ≡ true) × (b ≡ true)
-both true b e = (refl, e)
-both false b e = absurd cc
 
 head_words : (words : Words) → is_head words ≡ true → after_all None words ≡ Ok (Some nothing)
 unfolding after_all after_words

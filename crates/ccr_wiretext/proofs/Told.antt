@@ -146,7 +146,7 @@ pub causes_fit : (draft : Declared) (handlers : ℕ) → Known draft.parts handl
     → PortsFit (length draft.parts.causes) causes × (are_apart causes ≡ true)
 causes_fit draft handlers known causes words said = causes_go draft handlers known [] causes words refl said
 
-same_ports : (found : List Slot) (port : ℕ) → list_any (λ other. other.port == port) found ≡ has_port (slot_ports found) port
+pub same_ports : (found : List Slot) (port : ℕ) → list_any (λ other. other.port == port) found ≡ has_port (slot_ports found) port
 same_ports [] port = refl
 same_ports (slot ∷ found) port = ap (λ t. (slot.port == port) || t) (same_ports found port)
 

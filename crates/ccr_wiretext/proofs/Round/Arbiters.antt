@@ -19,7 +19,7 @@ use Rattle.ccr_wiretext.specs.Drafts.{Declared, branch_count, receiver, with_rec
 use Rattle.ccr_wiretext.specs.Spelling.{branch_words, arbiter_lines}
 use Rattle.ccr_wiretext.specs.Values.{IsPatternValued, IsArbiterValued}
 use Rattle.ccr_wiretext.proofs.Steps.{same_word}
-use Rattle.ccr_wiretext.proofs.Each.{Each}
+use Rattle.ccr_wiretext.proofs.Each.{Each, both}
 use Rattle.ccr_wiretext.proofs.Fit.{Shaped, ArbiterFit}
 use Rattle.ccr_wiretext.proofs.Spotted.{Uncrowded}
 use Rattle.ccr_wiretext.proofs.Round.Leads.{outside, Leads, leads_to, leads_from, walk, room_before, room_for, each_at, all_at, each_all}
@@ -49,10 +49,6 @@ record IsReady (whole parts : Parts) (names : Naming) (spotted : List ℕ) (part
   fine : Uncrowded (spotted ++ arbiter_named parts part)
   room : length parts.arbiters < 256
   branch_room : branch_count parts + length part.branches ≤ 256
-
-both : (a b : Bool) → (a && b) ≡ true → (a ≡ true) × (b ≡ true)
-both true b e = (refl, e)
-both false b e = absurd cc
 
 abbrev as_receive : List ℕ → List BranchPart → ArbiterPart
 as_receive name branches = record { name = name; kind = arbiters.Receive; branches = branches }

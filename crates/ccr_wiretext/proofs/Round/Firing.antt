@@ -5,7 +5,6 @@ use Rattle.std.specs.List.{All}
 use Rattle.std.specs.Str.{bytes_eq}
 use Rattle.std.proofs.lemmas.List.{flat_map_more}
 use Rattle.std.proofs.lemmas.List.Concat.{flat_map-append}
-use Rattle.std.proofs.lemmas.List.Sums.{sum_by-append}
 use Rattle.ccr_base.specs.declared.policies.Group.{Group}
 use Rattle.ccr_base.specs.declared.policies.Group.TheVariants as groups
 use Rattle.ccr_text.specs.Spelling.{AreWords}
@@ -32,7 +31,7 @@ use Rattle.ccr_wiretext.specs.Values.{IsPatternValued, IsArbiterValued}
 use Rattle.ccr_wiretext.proofs.Steps.{same_word}
 use Rattle.ccr_wiretext.proofs.Each.{Each}
 use Rattle.ccr_wiretext.proofs.Fit.{BranchFit, BranchesFit, Shaped, ArbiterFit}
-use Rattle.ccr_wiretext.proofs.Spotted.{Uncrowded}
+use Rattle.ccr_wiretext.proofs.Spotted.{Uncrowded, times_append}
 use Rattle.ccr_wiretext.proofs.Round.Leads.{inside, outside, IsStep, step_to, Leads, leads_on, leads_to, walk, walk_lines, room_before, room_for, each_at, all_at}
 use Rattle.ccr_wiretext.proofs.Round.Namings.{Good, entries, names_of, names_append, good_front, is_new, next_names, next_new}
 use Rattle.ccr_wiretext.proofs.Round.Terms.{Again, IsWord, word_more, name_word}
@@ -52,9 +51,6 @@ arbiter_entries part = elim part.kind [
 ]
 
 -- ---- no port is crowded up to here
-
-times_append : (port : ℕ) (xs ys : List ℕ) → times port (xs ++ ys) ≡ times port xs + times port ys
-times_append port xs ys = sum_by-append _ xs ys
 
 uncrowded_front : (xs ys : List ℕ) → Uncrowded (xs ++ ys) → Uncrowded xs
 uncrowded_front xs ys fine port = let split = times_append port xs ys in let all = fine port in omega arith

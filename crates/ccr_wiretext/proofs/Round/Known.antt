@@ -16,7 +16,8 @@ use Rattle.ccr_wiretext.specs.Names.{Naming, as_port, as_queue, as_cause, as_han
 use Rattle.ccr_wiretext.specs.Drafts.{Declared}
 use Rattle.ccr_wiretext.specs.Grammar.{IsPort, ArePorts, AreCauses}
 use Rattle.ccr_wiretext.specs.Spelling.{port_name, queue_name, cause_name, handler_name}
-use Rattle.ccr_wiretext.proofs.Each.{Each, neither}
+use Rattle.ccr_wiretext.proofs.Steps.{not_true}
+use Rattle.ccr_wiretext.proofs.Each.{both, neither}
 use Rattle.ccr_wiretext.proofs.Fit.{PortsFit}
 use Rattle.ccr_wiretext.proofs.Round.Namings.{Good, IsKnown, entries, names_of, known_get, known_more, get_some}
 use Rattle.ccr_wiretext.proofs.Round.Terms.{IsWord, name_word, name_plain}
@@ -93,14 +94,6 @@ port_says parts draft knows port less = let known = knows port less in inl (name
 pub port_word : (parts : Parts) (names : Naming) → KnowsPorts parts names → (port : ℕ) → port < length parts.ports → IsWord (port_name parts port)
 port_word parts names knows port less = name_word (port_name parts port) (knows port less).formed
 
-both : (a b : Bool) → (a && b) ≡ true → (a ≡ true) × (b ≡ true)
-both true b e = (refl, e)
-both false b e = absurd cc
-
-is_false : (a : Bool) → not a ≡ true → a ≡ false
-is_false true e = absurd cc
-is_false false e = refl
-
 behind_none : (f : ℕ → Bool) (xs : List ℕ) (x : ℕ) (ys : List ℕ) → list_any f (xs ++ x ∷ ys) ≡ false → f x ≡ false
 behind_none f [] x ys e = (neither (f x) (list_any f ys) e).0
 behind_none f (y ∷ xs) x ys e = behind_none f xs x ys (neither (f y) (list_any f (xs ++ x ∷ ys)) e).1
@@ -110,7 +103,7 @@ pub not_before : (found : List ℕ) (x : ℕ) (xs : List ℕ) → are_apart (fou
 not_before [] x xs apart = refl
 not_before (y ∷ found) x xs apart =
     let parts = both (not (has_port (found ++ x ∷ xs) y)) (are_apart (found ++ x ∷ xs)) apart in
-    let other = behind_none (λ other. other == y) found x xs (is_false (has_port (found ++ x ∷ xs) y) parts.0) in
+    let other = behind_none (λ other. other == y) found x xs (not_true (has_port (found ++ x ∷ xs) y) parts.0) in
     let turned : (y == x) ≡ false = grind (arith, nat_tests, other) in
     rw (turned, not_before found x xs parts.1) refl
 

@@ -11,6 +11,7 @@ use Rattle.ccr_wiring.specs.Names.{has_name, has_repeated, has_malformed}
 use Rattle.ccr_wiretext.specs.declared.named.Named.{Named}
 use Rattle.ccr_wiretext.specs.Names.{Naming, named}
 use Rattle.ccr_wiretext.specs.Grammar.{IsNew, Refers}
+use Rattle.ccr_wiretext.proofs.Steps.{not_false, same_name}
 use Rattle.ccr_wiretext.proofs.Each.{neither}
 
 abbrev pub names_of : Naming → List (List ℕ)
@@ -56,25 +57,15 @@ fresh (entry ∷ names) name rest e =
     let other = neither (bytes_eq name entry.0) (has_name rest entry.0) here.1 in
     rw other.0 (fresh names name rest parts.1)
 
-is_formed : (name : List ℕ) → not (is_name_of name) ≡ false → is_name_of name ≡ true
-is_formed name e = by (is_name_of name) e
-  where
-    by : (t : Bool) → not t ≡ false → t ≡ true
-    by true h = refl
-    by false h = absurd cc
-
 -- the next of the names is a new one
 pub is_new : (names : Naming) (name : List ℕ) (what : Named) (rest : Naming) → Good (names_of (names ++ (name, what) ∷ rest)) → IsNew names name
 is_new names name what rest good =
     let split : names_of (names ++ (name, what) ∷ rest) ≡ names_of names ++ name ∷ names_of rest = names_append names ((name, what) ∷ rest) in
     let formed = any_parts (λ name. not (is_name_of name)) (names_of names) (name ∷ names_of rest) (ap has_malformed (sym split) ∙ good.formed) in
     record {
-      formed = is_formed name (neither (not (is_name_of name)) (has_malformed (names_of rest)) formed.1).0;
+      formed = not_false (is_name_of name) (neither (not (is_name_of name)) (has_malformed (names_of rest)) formed.1).0;
       new = fresh names name (names_of rest) (ap has_repeated (sym split) ∙ good.apart);
     }
-
-pub same_name : (name : List ℕ) → bytes_eq name name ≡ true
-same_name name = (bytes_eq-Decides name name).1 refl
 
 -- what is declared stays declared
 named_more : (names more : Naming) (word : List ℕ) (what : Named) → named names word ≡ Some what → named (names ++ more) word ≡ Some what
@@ -116,7 +107,7 @@ formed_get : {X : Type 0} (name : X → List ℕ) (make : ℕ → Named) (start 
 formed_get name make start [] k x e formed = absurd cc
 formed_get name make start (y ∷ ys) zero x e formed =
     let parts = neither (not (is_name_of (name y))) (has_malformed (names_of (entries name make (start + 1) ys))) formed in
-    subst (λ z. is_name_of (name z) ≡ true) (some_is y x e) (is_formed (name y) parts.0)
+    subst (λ z. is_name_of (name z) ≡ true) (some_is y x e) (not_false (is_name_of (name y)) parts.0)
 formed_get name make start (y ∷ ys) (suc k) x e formed =
     formed_get name make (start + 1) ys k x e (neither (not (is_name_of (name y))) (has_malformed (names_of (entries name make (start + 1) ys))) formed).1
 

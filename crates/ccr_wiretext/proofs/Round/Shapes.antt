@@ -2,6 +2,7 @@
 use Rattle.std.proofs.Common.{◌≡◌, ℕ, ◌+◌, ◌<◌, ◌≤◌, Bool, true, false, List, [], ◌∷◌, ◌++◌, length, map, refl, sym, ap, subst, ◌∙◌, arith, append_assoc}
 use Rattle.std.specs.Prelude.{◌==◌, ◌||◌, nat_lt, codes, decimal, flat_map}
 use Rattle.std.specs.List.{All, list_any}
+use Rattle.std.proofs.lemmas.List.{map-append}
 use Rattle.std.proofs.lemmas.Bool.Decides.{nat_tests}
 use Rattle.ccr_base.specs.declared.patterns.Slot.{Slot}
 use Rattle.ccr_base.specs.declared.patterns.Pattern.{Pattern}
@@ -19,9 +20,10 @@ use Rattle.ccr_wiretext.specs.Grammar.{IsSlot, IsSlots, IsPattern}
 use Rattle.ccr_wiretext.specs.Lines.{IsBranchTail}
 use Rattle.ccr_wiretext.specs.Spelling.{port_name, queue_name, handler_name, pred_words, slot_words, pattern_words}
 use Rattle.ccr_wiretext.specs.Values.{IsPredValued, IsPatternValued}
-use Rattle.ccr_wiretext.proofs.Each.{Each}
+use Rattle.ccr_wiretext.proofs.Each.{Each, none_passes}
 use Rattle.ccr_wiretext.proofs.Fit.{SlotFit, PatternFit, BranchFit}
 use Rattle.ccr_wiretext.proofs.Spotted.{Uncrowded}
+use Rattle.ccr_wiretext.proofs.Told.{same_ports}
 use Rattle.ccr_wiretext.proofs.Round.Leads.{each_all}
 use Rattle.ccr_wiretext.proofs.Round.Terms.{Again, word_more, words_on, name_word, number_word, within_says, pred_says, pred_clean}
 use Rattle.ccr_wiretext.proofs.Round.Known.{KnowsPorts, KnowsQueues, KnowsHandlers, port_says, port_word, not_before}
@@ -48,14 +50,6 @@ slot_clean again whole draft knows slot fit valued =
     word_more (port_name whole slot.port) (decimal slot.least ∷ pred_words slot.pred) (port_word whole draft.names knows slot.port fit.0)
     (word_more (decimal slot.least) (pred_words slot.pred) (number_word again slot.least (omega (arith, fit.3))) (pred_clean again slot.pred valued))
 
-same_ports : (found : List Slot) (port : ℕ) → list_any (λ other. other.port == port) found ≡ has_port (slot_ports found) port
-same_ports [] port = refl
-same_ports (slot ∷ found) port = ap (λ t. (slot.port == port) || t) (same_ports found port)
-
-ports_append : (xs ys : List Slot) → slot_ports (xs ++ ys) ≡ slot_ports xs ++ slot_ports ys
-ports_append [] ys = refl
-ports_append (slot ∷ xs) ys = ap (λ (t : List ℕ). slot.port ∷ t) (ports_append xs ys)
-
 slots_say : Again → (whole : Parts) (draft : Declared) → KnowsPorts whole draft.names → (found slots : List Slot) → Each (SlotFit (length whole.ports)) slots → Each SlotValued slots → are_apart (slot_ports (found ++ slots)) ≡ true
     → IsSlots draft found slots (flat_map (slot_words whole) slots)
 slots_say again whole draft knows found [] fit valued apart = refl
@@ -64,7 +58,7 @@ slots_say again whole draft knows found (slot ∷ slots) fit valued apart = (
   flat_map (slot_words whole) slots,
   refl,
   slot_says again whole draft knows slot fit.0 valued.0,
-  same_ports found slot.port ∙ not_before (slot_ports found) slot.port (slot_ports slots) (ap are_apart (sym (ports_append found (slot ∷ slots))) ∙ apart),
+  same_ports found slot.port ∙ not_before (slot_ports found) slot.port (slot_ports slots) (ap are_apart (sym (map-append (λ (s : Slot). s.port) found (slot ∷ slots))) ∙ apart),
   slots_say again whole draft knows (found ++ slot ∷ []) slots fit.1 valued.1 (ap (λ all. are_apart (slot_ports all)) (append_assoc found (slot ∷ []) slots) ∙ apart),
 )
 
@@ -111,10 +105,6 @@ pub record KnowsAll (whole : Parts) (names : Naming) : Type 0 where
   pub queues : KnowsQueues whole names
   pub handlers : KnowsHandlers whole names
   pub ports : KnowsPorts whole names
-
-none_passes : (f : ℕ → Bool) → ((n : ℕ) → f n ≡ false) → (numbers : List ℕ) → list_any f numbers ≡ false
-none_passes f none [] = refl
-none_passes f none (n ∷ numbers) = rw (none n, none_passes f none numbers) refl
 
 crowds_none : (draft : Declared) (branch : BranchPart) → Uncrowded (draft.spotted ++ branch_named draft.parts branch) → crowds draft branch ≡ false
 unfolding crowds

@@ -16,6 +16,8 @@ use Rattle.ccr_wiretext.specs.Values.{IsExprValued, IsPredValued}
 use Rattle.ccr_wiretext.specs.Places.{Words}
 use Rattle.ccr_wiretext.specs.Grammar.{IsPlain, IsNumber, IsWithin, IsPolicy, IsExpr, IsPred}
 use Rattle.ccr_wiretext.specs.Spelling.{policy_words, expr_words, pred_words}
+use Rattle.ccr_wiretext.proofs.Steps.{not_true}
+use Rattle.ccr_wiretext.proofs.Each.{both}
 use Rattle.ccr_wiretext.proofs.Fit.{PolicyFit, ExprFit}
 
 -- the digits of a number read as that number
@@ -33,10 +35,6 @@ word_more word words is are = (is.0, is.1, are)
 pub words_on : (xs ys : Words) → AreWords xs → AreWords ys → AreWords (xs ++ ys)
 words_on [] ys first second = second
 words_on (word ∷ xs) ys first second = (first.0, first.1, words_on xs ys first.2 second)
-
-both : (a b : Bool) → (a && b) ≡ true → (a ≡ true) × (b ≡ true)
-both true b e = (refl, e)
-both false b e = absurd cc
 
 all_more : (f g : ℕ → Bool) → ((b : ℕ) → f b ≡ true → g b ≡ true) → (bytes : List ℕ) → list_all f bytes ≡ true → list_all g bytes ≡ true
 all_more f g more [] e = refl
@@ -82,15 +80,11 @@ name_plain (first ∷ others) e =
 digits_word : (digits : List ℕ) (n : ℕ) → IsNumber digits n → IsWord digits
 digits_word digits n e = by (is_digits digits && nat_lt (value_after 0 digits) (2 ^ 64)) refl e
   where
-    is_some : (a : Bool) → not a ≡ true → a ≡ false
-    is_some true h = absurd cc
-    is_some false h = refl
-
     by : (t : Bool) → (is_digits digits && nat_lt (value_after 0 digits) (2 ^ 64)) ≡ t → cond t (Some (value_after 0 digits)) None ≡ Some n → IsWord digits
     by true is h =
         let parts = both (is_digits digits) (nat_lt (value_after 0 digits) (2 ^ 64)) is in
         let digit = both (not (length digits == 0)) (list_all is_ascii_digit digits) parts.0 in
-        (is_some (length digits == 0) digit.0, all_more is_ascii_digit is_mark digit_mark digits digit.1)
+        (not_true (length digits == 0) digit.0, all_more is_ascii_digit is_mark digit_mark digits digit.1)
     by false is h = absurd cc
 
 pub number_word : Again → (n : ℕ) → n < 2 ^ 64 → IsWord (decimal n)

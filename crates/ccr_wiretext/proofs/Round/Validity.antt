@@ -30,6 +30,7 @@ use Rattle.ccr_wiring.specs.Limits.{is_outside, policy_is_outside, expr_is_outsi
 use Rattle.ccr_wiring.specs.Spots.{times, named_ports, has_crowded_port}
 use Rattle.ccr_wiring.specs.Codes.{code_of}
 use Rattle.ccr_wiring.specs.Valid.{IsValid}
+use Rattle.ccr_wiretext.proofs.Steps.{not_true, not_false}
 use Rattle.ccr_wiretext.proofs.Each.{Each, neither}
 use Rattle.ccr_wiretext.proofs.Fit.{PolicyFit, ExprFit, PortsFit, ActionFit, SlotFit, PatternFit, BranchFit, BranchesFit, ArbiterFit, Shaped, SetFit, HandlerFit, PostFit, PosterFit}
 use Rattle.ccr_wiretext.proofs.Spotted.{Uncrowded, times_none, among}
@@ -48,10 +49,6 @@ none_of_two f g (x ∷ xs) first second =
     let a = neither (f x) (list_any f xs) first in
     let b = neither (g x) (list_any g xs) second in
     rw (a.0, b.0, none_of_two f g xs a.1 b.1) refl
-
-is_true : (a : Bool) → not a ≡ false → a ≡ true
-is_true true e = refl
-is_true false e = absurd cc
 
 pub below : (count n : ℕ) → is_beyond count n ≡ false → n < count
 below count n e = grind (arith, nat_tests, e)
@@ -97,7 +94,7 @@ handler_fits parts part there inside =
 slot_fits : (parts : Parts) (slot : Slot) → is_beyond (length parts.ports) slot.port ≡ false → slot_is_outside slot ≡ false → SlotFit (length parts.ports) slot
 slot_fits parts slot there inside =
     let exact = neither (not (slot.least == slot.most)) (is_outside 1 1000 slot.least) inside in
-    let same = is_true (slot.least == slot.most) exact.0 in
+    let same = not_false (slot.least == slot.most) exact.0 in
     let counted = limits 1 1000 slot.least exact.1 in
     (below (length parts.ports) slot.port there, grind (arith, nat_tests, same), counted.0, counted.1)
 
@@ -115,17 +112,13 @@ pattern_fits parts (patterns.Slots slots) there once inside =
 pattern_fits parts (patterns.Gather total first second) there once inside =
     let ports = neither (is_beyond (length parts.ports) first) (is_beyond (length parts.ports) second) there in
     let counted = limits 1 1000 total inside in
-    (below (length parts.ports) first ports.0, below (length parts.ports) second ports.1, apart (first == second) once, counted.0, counted.1)
-  where
-    apart : (a : Bool) → not a ≡ true → a ≡ false
-    apart true e = absurd cc
-    apart false e = refl
+    (below (length parts.ports) first ports.0, below (length parts.ports) second ports.1, not_true (first == second) once, counted.0, counted.1)
 
 branch_fits : (parts : Parts) (branch : BranchPart) → branch_is_dangling parts branch ≡ false → branch_repeats branch ≡ false → branch_is_outside branch ≡ false → BranchFit (length parts.queues) (length parts.handlers) (length parts.ports) branch
 branch_fits parts branch there once inside =
     let a = neither (is_beyond (length parts.queues) branch.queue || is_beyond (length parts.handlers) branch.handler) (pattern_is_dangling parts branch.pattern) there in
     let b = neither (is_beyond (length parts.queues) branch.queue) (is_beyond (length parts.handlers) branch.handler) a.0 in
-    (below (length parts.queues) branch.queue b.0, below (length parts.handlers) branch.handler b.1, pattern_fits parts branch.pattern a.1 (is_true (names_ports_once branch.pattern) once) inside)
+    (below (length parts.queues) branch.queue b.0, below (length parts.handlers) branch.handler b.1, pattern_fits parts branch.pattern a.1 (not_false (names_ports_once branch.pattern) once) inside)
 
 abbrev strange : Kind → BranchPart → Bool
 strange kind branch = not (may_have kind branch.group)
@@ -139,7 +132,7 @@ branches_fit parts part there once inside grouped =
     let a = neither (branch_is_dangling parts branch || branch_repeats branch) (branch_is_outside branch || strange part.kind branch) e in
     let b = neither (branch_is_dangling parts branch) (branch_repeats branch) a.0 in
     let c = neither (branch_is_outside branch) (strange part.kind branch) a.1 in
-    (branch_fits parts branch b.0 b.1 c.0, is_true (may_have part.kind branch.group) c.1))
+    (branch_fits parts branch b.0 b.1 c.0, not_false (may_have part.kind branch.group) c.1))
     part.branches
     (none_of_two (λ branch. branch_is_dangling parts branch || branch_repeats branch) (λ branch. branch_is_outside branch || strange part.kind branch) part.branches
     (none_of_two (branch_is_dangling parts) branch_repeats part.branches there once) (none_of_two branch_is_outside (strange part.kind) part.branches inside grouped))
@@ -148,7 +141,7 @@ shaped : (part : ArbiterPart) → (is_receive part.kind && not (is_one_named par
 shaped part one some = by (is_receive part.kind) refl one some
   where
     by : (t : Bool) → is_receive part.kind ≡ t → (t && not (is_one_named part.name part.branches)) ≡ false → (not t && (length part.branches == 0)) ≡ false → Shaped part
-    by true is a b = inl (is, is_true (is_one_named part.name part.branches) a)
+    by true is a b = inl (is, not_false (is_one_named part.name part.branches) a)
     by false is a b = inr (is, b)
 
 pub arbiter_fits : (parts : Parts) (part : ArbiterPart) → arbiter_is_dangling parts part ≡ false → arbiter_repeats part ≡ false → arbiter_is_outside part ≡ false → is_misgrouped part ≡ false → is_branchless part ≡ false
@@ -160,12 +153,12 @@ arbiter_fits parts part there once inside grouped some =
 pub set_fits : (parts : Parts) (part : SetPart) → set_is_dangling parts part ≡ false → set_repeats part ≡ false → set_is_outside part ≡ false → SetFit (length parts.ports) part
 set_fits parts part there once inside =
     let counted = limits 1 8 (length part.ports) inside in
-    (numbers_fit (length parts.ports) part.ports there, is_true (are_apart part.ports) once, counted.0, counted.1)
+    (numbers_fit (length parts.ports) part.ports there, not_false (are_apart part.ports) once, counted.0, counted.1)
 
 post_fits : (parts : Parts) (post : Sent) → post_is_dangling parts post ≡ false → post_repeats post ≡ false → PostFit (length parts.ports) (length parts.causes) post
 post_fits parts post there once =
     let a = neither (is_beyond (length parts.ports) post.port) (has_beyond (length parts.causes) post.causes) there in
-    (below (length parts.ports) post.port a.0, numbers_fit (length parts.causes) post.causes a.1, is_true (are_apart post.causes) once)
+    (below (length parts.ports) post.port a.0, numbers_fit (length parts.causes) post.causes a.1, not_false (are_apart post.causes) once)
 
 pub poster_fits : (parts : Parts) (part : PosterPart) → poster_is_dangling parts part ≡ false → poster_repeats part ≡ false → PosterFit (length parts.ports) (length parts.causes) part
 poster_fits parts part there once =
