@@ -1,8 +1,7 @@
 -- The canonical lines of the arbiters.
-use Rattle.std.proofs.Common.{◌≡◌, ℕ, ◌+◌, ◌<◌, ◌≤◌, Bool, true, false, List, [], ◌∷◌, ◌++◌, length, map, Some, ◌⊎◌, inl, inr, refl, sym, ap, subst, ◌∙◌, arith, append_assoc, append-nil}
-use Rattle.std.specs.Prelude.{◌==◌, ◌&&◌, codes, sum, flat_map}
+use Rattle.std.proofs.Common.{◌≡◌, ℕ, ◌+◌, ◌<◌, ◌≤◌, true, false, List, [], ◌∷◌, ◌++◌, length, map, Some, inl, inr, refl, sym, ap, subst, ◌∙◌, arith, append_assoc, append-nil}
+use Rattle.std.specs.Prelude.{◌==◌, codes, flat_map}
 use Rattle.std.specs.List.{All}
-use Rattle.std.specs.Str.{bytes_eq}
 use Rattle.std.proofs.lemmas.List.{flat_map_more}
 use Rattle.std.proofs.lemmas.List.Concat.{flat_map-append}
 use Rattle.ccr_base.specs.declared.policies.Group.{Group}
@@ -13,27 +12,26 @@ use Rattle.ccr_wiring.specs.declared.parts.BranchPart.{BranchPart}
 use Rattle.ccr_wiring.specs.declared.parts.ArbiterPart.{ArbiterPart}
 use Rattle.ccr_wiring.specs.declared.parts.Kind.{Kind}
 use Rattle.ccr_wiring.specs.declared.parts.Kind.TheVariants as arbiters
-use Rattle.ccr_wiring.specs.Groups.{may_have, is_receive, is_one_named}
-use Rattle.ccr_wiring.specs.Spots.{branch_named, branches_named, arbiters_named, times}
+use Rattle.ccr_wiring.specs.Groups.{may_have, is_receive}
+use Rattle.ccr_wiring.specs.Spots.{branch_named, branches_named}
 use Rattle.ccr_wiretext.specs.declared.keyword.Keyword.{Keyword}
 use Rattle.ccr_wiretext.specs.declared.keyword.Keyword.TheVariants as keywords
 use Rattle.ccr_wiretext.specs.declared.named.Named.TheVariants as kinds
 use Rattle.ccr_wiretext.specs.declared.draft.Block.TheVariants as blocks
 use Rattle.ccr_wiretext.specs.Keywords.{keyword}
 use Rattle.ccr_wiretext.specs.Names.{Naming}
-use Rattle.ccr_wiretext.specs.Drafts.{Declared, branch_count, receiver, with_receive, with_arbiter, with_branch, end_arbiter}
+use Rattle.ccr_wiretext.specs.Drafts.{Declared, branch_count, with_receive, with_arbiter, with_branch, end_arbiter}
 use Rattle.ccr_wiretext.specs.Places.{Words}
 use Rattle.ccr_wiretext.specs.Blocks.{group_of}
 use Rattle.ccr_wiretext.specs.Reading.{is_comment}
 use Rattle.ccr_wiretext.specs.Grammar.{IsNew, IsGroup}
-use Rattle.ccr_wiretext.specs.Spelling.{group_words, branch_words, end_words, block_lines, arbiter_lines}
+use Rattle.ccr_wiretext.specs.Spelling.{group_words, branch_words, end_words, block_lines}
 use Rattle.ccr_wiretext.specs.Values.{IsPatternValued, IsArbiterValued}
-use Rattle.ccr_wiretext.proofs.Steps.{same_word}
 use Rattle.ccr_wiretext.proofs.Each.{Each}
-use Rattle.ccr_wiretext.proofs.Fit.{BranchFit, BranchesFit, Shaped, ArbiterFit}
+use Rattle.ccr_wiretext.proofs.Fit.{BranchFit, ArbiterFit}
 use Rattle.ccr_wiretext.proofs.Spotted.{Uncrowded, times_append}
-use Rattle.ccr_wiretext.proofs.Round.Leads.{inside, outside, IsStep, step_to, Leads, leads_on, leads_to, walk, walk_lines, room_before, room_for, each_at, all_at}
-use Rattle.ccr_wiretext.proofs.Round.Namings.{Good, entries, names_of, names_append, good_front, is_new, next_names, next_new}
+use Rattle.ccr_wiretext.proofs.Round.Leads.{inside, outside, IsStep, step_to, Leads, leads_on, leads_to, walk_lines, room_before, each_at, all_at}
+use Rattle.ccr_wiretext.proofs.Round.Namings.{Good, entries, names_of, next_names, next_new}
 use Rattle.ccr_wiretext.proofs.Round.Terms.{Again, IsWord, word_more, name_word}
 use Rattle.ccr_wiretext.proofs.Round.Known.{queues_stay, handlers_stay, ports_stay}
 use Rattle.ccr_wiretext.proofs.Round.Shapes.{KnowsAll, tail_words, tail_says, tail_clean}

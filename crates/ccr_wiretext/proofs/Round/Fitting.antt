@@ -2,21 +2,16 @@
 use Rattle.std.proofs.Common.{◌≡◌, ℕ, ◌<◌, ◌≤◌, Bool, true, false, List, length, refl, arith}
 use Rattle.std.specs.Prelude.{◌==◌, ◌||◌, nat_lt}
 use Rattle.std.specs.List.{list_any}
-use Rattle.std.proofs.lemmas.Bool.Decides.{nat_tests}
 use Rattle.ccr_wiring.specs.declared.parts.Parts.{Parts}
 use Rattle.ccr_wiring.specs.declared.parts.QueuePart.{QueuePart}
-use Rattle.ccr_wiring.specs.declared.parts.SetPart.{SetPart}
 use Rattle.ccr_wiring.specs.declared.parts.CausePart.{CausePart}
-use Rattle.ccr_wiring.specs.declared.parts.HandlerPart.{HandlerPart}
-use Rattle.ccr_wiring.specs.declared.parts.ArbiterPart.{ArbiterPart}
-use Rattle.ccr_wiring.specs.declared.parts.PosterPart.{PosterPart}
 use Rattle.ccr_wiring.specs.Groups.{is_misgrouped, is_branchless}
 use Rattle.ccr_wiring.specs.Names.{declared_names}
 use Rattle.ccr_wiring.specs.References.{set_is_dangling, cause_is_dangling, handler_is_dangling, arbiter_is_dangling, poster_is_dangling, has_dangling_set, has_dangling_cause, has_dangling_handler, has_dangling_arbiter, has_dangling_poster}
 use Rattle.ccr_wiring.specs.Repeats.{arbiter_repeats, set_repeats, poster_repeats, has_repeating_set, has_repeating_arbiter, has_repeating_poster}
 use Rattle.ccr_wiring.specs.Limits.{policy_is_outside, set_is_outside, handler_is_outside, arbiter_is_outside, has_branches_above, has_posts_above, has_too_many, has_outside_queue, has_outside_set, has_outside_handler, has_outside_arbiter}
 use Rattle.ccr_wiring.specs.Spots.{times, named_ports}
-use Rattle.ccr_wiretext.proofs.Each.{Each, neither}
+use Rattle.ccr_wiretext.proofs.Each.{neither}
 use Rattle.ccr_wiretext.proofs.Fit.{PolicyFit, ArbiterFit, SetFit, HandlerFit, PosterFit}
 use Rattle.ccr_wiretext.proofs.Spotted.{Uncrowded, times_none, among}
 use Rattle.ccr_wiretext.proofs.Sound.{Counts, Fits}

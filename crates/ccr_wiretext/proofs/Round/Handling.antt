@@ -1,5 +1,5 @@
 -- The canonical lines of the handlers.
-use Rattle.std.proofs.Common.{◌≡◌, ℕ, ◌+◌, ◌<◌, ◌≤◌, List, [], ◌∷◌, ◌++◌, length, map, inl, inr, refl, sym, ap, ◌∙◌, arith, append-nil}
+use Rattle.std.proofs.Common.{ℕ, ◌<◌, ◌≤◌, List, [], ◌∷◌, ◌++◌, length, map, inl, inr, refl, ap, append-nil}
 use Rattle.std.specs.Prelude.{codes, flat_map}
 use Rattle.ccr_base.specs.declared.handlers.Action.{Action}
 use Rattle.ccr_base.specs.declared.handlers.Action.TheVariants as actions
@@ -19,7 +19,7 @@ use Rattle.ccr_wiretext.proofs.Fit.{ActionFit, HandlerFit}
 use Rattle.ccr_wiretext.proofs.Round.Leads.{inside, outside, IsStep, Leads, leads_on, leads_to, leads_from, walk, walk_lines, room_before, each_at, all_at}
 use Rattle.std.specs.List.{All}
 use Rattle.ccr_wiretext.proofs.Round.Namings.{Good, names_of, next_names, next_new}
-use Rattle.ccr_wiretext.proofs.Round.Terms.{Again, IsWord, word_more, name_word, expr_says, expr_clean}
+use Rattle.ccr_wiretext.proofs.Round.Terms.{Again, word_more, name_word, expr_says, expr_clean}
 use Rattle.ccr_wiretext.proofs.Round.Known.{handler_entries, KnowsPorts, KnowsCauses, ports_stay, causes_stay, port_says, port_word}
 
 -- ---- one action

@@ -1,5 +1,5 @@
 -- The canonical lines of the queues, ports, port sets and causes.
-use Rattle.std.proofs.Common.{◌≡◌, ℕ, ◌+◌, ◌<◌, ◌≤◌, List, [], ◌∷◌, ◌++◌, length, map, refl, sym, ap, ◌∙◌, append-nil}
+use Rattle.std.proofs.Common.{ℕ, ◌<◌, ◌≤◌, List, [], ◌∷◌, ◌++◌, length, map, refl, ap, append-nil}
 use Rattle.std.specs.Prelude.{codes}
 use Rattle.ccr_wiring.specs.declared.parts.Parts.{Parts}
 use Rattle.ccr_wiring.specs.declared.parts.QueuePart.{QueuePart}
@@ -9,7 +9,7 @@ use Rattle.ccr_wiretext.specs.declared.keyword.Keyword.TheVariants as keywords
 use Rattle.ccr_wiretext.specs.declared.named.Named.TheVariants as kinds
 use Rattle.ccr_wiretext.specs.Keywords.{keyword}
 use Rattle.ccr_wiretext.specs.Names.{Naming}
-use Rattle.ccr_wiretext.specs.Drafts.{Declared, with_queue, with_port, with_set, with_cause}
+use Rattle.ccr_wiretext.specs.Drafts.{with_queue, with_port, with_set, with_cause}
 use Rattle.ccr_wiretext.specs.Grammar.{IsNew}
 use Rattle.ccr_wiretext.specs.Spelling.{port_name, policy_words, queue_words, port_words, set_words, cause_words}
 use Rattle.ccr_wiretext.proofs.Each.{Each}

@@ -1,6 +1,6 @@
 -- What a valid wiring has: numbers within their limits, references that name something, names apart, ports not crowded.
-use Rattle.std.proofs.Common.{◌≡◌, ℕ, ◌+◌, ◌<◌, ◌≤◌, Bool, true, false, cond, List, [], ◌∷◌, ◌++◌, length, Option, Some, None, ◌⊎◌, inl, inr, refl, sym, ap, ◌∙◌, arith}
-use Rattle.std.specs.Prelude.{◌==◌, ◌&&◌, ◌||◌, not, nat_lt, nat_le}
+use Rattle.std.proofs.Common.{◌≡◌, ℕ, ◌<◌, ◌≤◌, Bool, true, false, cond, List, [], ◌∷◌, length, Option, Some, None, inl, inr, refl, arith}
+use Rattle.std.specs.Prelude.{◌==◌, ◌&&◌, ◌||◌, not, nat_lt}
 use Rattle.std.specs.List.{list_any}
 use Rattle.std.proofs.lemmas.Bool.Decides.{nat_tests}
 use Rattle.ccr_base.specs.declared.policies.Policy.{Policy}
@@ -14,28 +14,23 @@ use Rattle.ccr_base.specs.declared.patterns.Slot.{Slot}
 use Rattle.ccr_base.specs.declared.patterns.Pattern.{Pattern}
 use Rattle.ccr_base.specs.declared.patterns.Pattern.TheVariants as patterns
 use Rattle.ccr_wiring.specs.declared.parts.Parts.{Parts}
-use Rattle.ccr_wiring.specs.declared.parts.QueuePart.{QueuePart}
 use Rattle.ccr_wiring.specs.declared.parts.SetPart.{SetPart}
-use Rattle.ccr_wiring.specs.declared.parts.CausePart.{CausePart}
 use Rattle.ccr_wiring.specs.declared.parts.HandlerPart.{HandlerPart}
 use Rattle.ccr_wiring.specs.declared.parts.BranchPart.{BranchPart}
 use Rattle.ccr_wiring.specs.declared.parts.ArbiterPart.{ArbiterPart}
 use Rattle.ccr_wiring.specs.declared.parts.PosterPart.{PosterPart}
 use Rattle.ccr_wiring.specs.declared.parts.Kind.{Kind}
 use Rattle.ccr_wiring.specs.Groups.{may_have, is_receive, is_one_named, is_misgrouped, has_strange_group, has_misgrouped, is_branchless, has_branchless}
-use Rattle.ccr_wiring.specs.Names.{declared_names, has_repeated_name, has_malformed_name}
-use Rattle.ccr_wiring.specs.References.{is_beyond, has_beyond, action_is_dangling, slots_are_dangling, pattern_is_dangling, branch_is_dangling, post_is_dangling, set_is_dangling, cause_is_dangling, handler_is_dangling, arbiter_is_dangling, poster_is_dangling, has_dangling_set, has_dangling_cause, has_dangling_handler, has_dangling_arbiter, has_dangling_poster, has_dangling}
-use Rattle.ccr_wiring.specs.Repeats.{are_apart, slot_ports, names_ports_once, branch_repeats, arbiter_repeats, set_repeats, post_repeats, poster_repeats, has_repeating_set, has_repeating_arbiter, has_repeating_poster, has_repeat}
-use Rattle.ccr_wiring.specs.Limits.{is_outside, policy_is_outside, expr_is_outside, action_is_outside, slot_is_outside, pattern_is_outside, branch_is_outside, queue_is_outside, set_is_outside, handler_is_outside, arbiter_is_outside, posts_in_all, has_branches_above, has_posts_above, has_too_many, has_outside_queue, has_outside_set, has_outside_handler, has_outside_arbiter, has_outside}
-use Rattle.ccr_wiring.specs.Spots.{times, named_ports, has_crowded_port}
+use Rattle.ccr_wiring.specs.Names.{has_repeated_name, has_malformed_name}
+use Rattle.ccr_wiring.specs.References.{is_beyond, has_beyond, action_is_dangling, pattern_is_dangling, branch_is_dangling, post_is_dangling, set_is_dangling, handler_is_dangling, arbiter_is_dangling, poster_is_dangling, has_dangling}
+use Rattle.ccr_wiring.specs.Repeats.{are_apart, names_ports_once, branch_repeats, arbiter_repeats, set_repeats, post_repeats, poster_repeats, has_repeat}
+use Rattle.ccr_wiring.specs.Limits.{is_outside, policy_is_outside, expr_is_outside, action_is_outside, slot_is_outside, pattern_is_outside, branch_is_outside, set_is_outside, handler_is_outside, arbiter_is_outside, has_outside}
+use Rattle.ccr_wiring.specs.Spots.{has_crowded_port}
 use Rattle.ccr_wiring.specs.Codes.{code_of}
 use Rattle.ccr_wiring.specs.Valid.{IsValid}
 use Rattle.ccr_wiretext.proofs.Steps.{not_true, not_false}
 use Rattle.ccr_wiretext.proofs.Each.{Each, neither}
 use Rattle.ccr_wiretext.proofs.Fit.{PolicyFit, ExprFit, PortsFit, ActionFit, SlotFit, PatternFit, BranchFit, BranchesFit, ArbiterFit, Shaped, SetFit, HandlerFit, PostFit, PosterFit}
-use Rattle.ccr_wiretext.proofs.Spotted.{Uncrowded, times_none, among}
-use Rattle.ccr_wiretext.proofs.Sound.{Counts, Fits}
-use Rattle.ccr_wiretext.proofs.Round.Namings.{Good}
 
 -- ---- tests that fail
 

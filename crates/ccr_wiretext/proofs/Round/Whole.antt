@@ -1,7 +1,7 @@
 -- The canonical text of a valid wiring says that wiring.
-use Rattle.std.proofs.Common.{◌≡◌, ℕ, ◌<◌, ◌≤◌, true, false, List, [], ◌∷◌, ◌++◌, length, map, Ok, inl, inr, refl, sym, ap, subst, ◌∙◌, arith, append-nil}
+use Rattle.std.proofs.Common.{◌≡◌, ℕ, ◌≤◌, List, [], ◌∷◌, ◌++◌, map, Ok, inr, refl, sym, ap, subst, ◌∙◌, arith}
 use Rattle.std.specs.Prelude.{codes, decimal, flat_map}
-use Rattle.std.proofs.lemmas.List.{map-append, map-id}
+use Rattle.std.proofs.lemmas.List.{map-id}
 use Rattle.ccr_text.specs.Lines.{lines_of}
 use Rattle.ccr_text.specs.Spelling.{AreLines as AreClean, text_of, spelled_lines}
 use Rattle.ccr_wiring.specs.declared.parts.Parts.{Parts}
@@ -15,7 +15,7 @@ use Rattle.ccr_wiring.specs.declared.parts.PosterPart.{PosterPart}
 use Rattle.ccr_wiring.specs.declared.parts.Kind.{Kind}
 use Rattle.ccr_wiring.specs.declared.parts.Kind.TheVariants as arbiters
 use Rattle.ccr_wiring.specs.Names.{arbiter_names, declared_names}
-use Rattle.ccr_wiring.specs.Spots.{arbiters_named, named_ports}
+use Rattle.ccr_wiring.specs.Spots.{named_ports}
 use Rattle.ccr_wiring.specs.Valid.{IsValid}
 use Rattle.ccr_wiretext.specs.declared.keyword.Keyword.TheVariants as keywords
 use Rattle.ccr_wiretext.specs.declared.named.Named.TheVariants as kinds
@@ -28,16 +28,15 @@ use Rattle.ccr_wiretext.specs.Lines.{AreHeadedLines, IsText}
 use Rattle.ccr_wiretext.specs.Spelling.{budget_words, queue_words, port_words, set_words, cause_words, handler_lines, arbiter_lines, poster_lines, queue_lines, port_lines, acting_lines, canonical_lines, spelling}
 use Rattle.ccr_wiretext.specs.Values.{IsValued}
 use Rattle.ccr_wiretext.proofs.Texts.{text_read}
-use Rattle.ccr_wiretext.proofs.Spotted.{Uncrowded}
 use Rattle.ccr_wiretext.proofs.Sound.{Counts, Fits}
 use Rattle.ccr_wiretext.proofs.Round.Leads.{outside, IsStep, Leads, leads_on, leads_say, leads_clean}
-use Rattle.ccr_wiretext.proofs.Round.Namings.{Good, entries, names_of, names_append, names_entries, good_front}
+use Rattle.ccr_wiretext.proofs.Round.Namings.{Good, names_of, names_append, names_entries, good_front}
 use Rattle.ccr_wiretext.proofs.Round.Terms.{Again, word_more, number_word, within_says}
-use Rattle.ccr_wiretext.proofs.Round.Known.{queue_entries, port_entries, set_entries, cause_entries, handler_entries, ports_known, queues_known, causes_known, handlers_known, ports_stay, queues_stay, causes_stay, handlers_stay}
+use Rattle.ccr_wiretext.proofs.Round.Known.{queue_entries, port_entries, set_entries, cause_entries, handler_entries, ports_known, queues_known, causes_known, handlers_known, ports_stay, queues_stay, causes_stay}
 use Rattle.ccr_wiretext.proofs.Round.Sources.{queues_lead, ports_lead, sets_lead, causes_lead}
 use Rattle.ccr_wiretext.proofs.Round.Handling.{handlers_lead}
 use Rattle.ccr_wiretext.proofs.Round.Shapes.{KnowsAll}
-use Rattle.ccr_wiretext.proofs.Round.Firing.{branch_entries, arbiter_entries}
+use Rattle.ccr_wiretext.proofs.Round.Firing.{arbiter_entries}
 use Rattle.ccr_wiretext.proofs.Round.Arbiters.{firing_entries, arbiters_lead}
 use Rattle.ccr_wiretext.proofs.Round.Posting.{poster_entries, posters_lead}
 use Rattle.ccr_wiretext.proofs.Round.Validity.{NoCode, no_code}
