@@ -1,3 +1,4 @@
 pub mod Standing
 pub mod WholePattern
 pub mod Times
+pub mod Drops
