@@ -4,3 +4,6 @@ pub mod SingleFirings
 pub mod Steps
 pub mod TaskLife
 pub mod FullQueues
+pub mod HeldBefore
+pub mod States
+pub mod OneFates
