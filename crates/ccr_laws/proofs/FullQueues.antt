@@ -1,15 +1,12 @@
 -- A `discard n` queue never holds more than n tasks, so a put that drops finds exactly n.
-use Rattle.std.proofs.Common.{◌≡◌, ℕ, zero, suc, ◌+◌, ◌<◌, ◌≤◌, Bool, true, false, not, ◌&&◌, ◌||◌, List, [], ◌∷◌, ◌++◌, length, map, filter, Option, Some, None, option_to_list, refl, sym, ap, ◌∙◌, arith, subst, append-nil, length-append}
-use Rattle.std.specs.Prelude.{◌==◌, if◌then◌else◌, nat_lt, nat_le, find, option_and_then}
-use Rattle.std.specs.List.{slice_get, list_any}
+use Rattle.std.proofs.Common.{◌≡◌, ℕ, suc, ◌<◌, ◌≤◌, Bool, true, false, not, List, [], ◌∷◌, ◌++◌, length, map, filter, Option, Some, None, option_to_list, refl, sym, ap, ◌∙◌, arith, subst, append-nil, length-append}
+use Rattle.std.specs.Prelude.{◌==◌, if◌then◌else◌, nat_le, find, option_and_then}
+use Rattle.std.specs.List.{slice_get}
 use Rattle.std.specs.Option.{option_map_or}
 use Rattle.std.proofs.lemmas.List.Elements.{filter_agree}
 use Rattle.std.proofs.lemmas.Bool.Decides.{nat_tests}
-use Rattle.ccr_base.specs.declared.names.MsgId.{MsgId}
 use Rattle.ccr_base.specs.declared.names.TaskId.{TaskId}
-use Rattle.ccr_base.specs.declared.names.Spot.{Spot}
-use Rattle.ccr_base.specs.declared.policies.Policy.{Policy}
-use Rattle.ccr_base.specs.declared.policies.Policy.TheVariants.{Unbounded, Discard, Throttle}
+use Rattle.ccr_base.specs.declared.policies.Policy.TheVariants.{Unbounded, Discard}
 use Rattle.ccr_wiring.specs.declared.parts.Parts.{Parts}
 use Rattle.ccr_wiring.specs.declared.parts.QueuePart.{QueuePart}
 use Rattle.ccr_wiring.specs.Wirings.{Seat, policy_of}
@@ -20,7 +17,7 @@ use Rattle.ccr_wiring.proofs.Validity.{no_codes, within}
 use Rattle.ccr_model.specs.declared.history.Event.{Event}
 use Rattle.ccr_model.specs.declared.history.Event.TheVariants.{Post, Fire, Admit, Put, Start, End}
 use Rattle.ccr_base.specs.Names.{same_task, has_task, without}
-use Rattle.ccr_model.specs.Firings.{Firing, firings, firing_of, firing_named, fired, put, put_by, dropped, dropped_by, started, started_by}
+use Rattle.ccr_model.specs.Firings.{Firing, firings, firing_of, fired, put, put_by, dropped, dropped_by, started, started_by}
 use Rattle.ccr_model.specs.TaskData.{seat_of}
 use Rattle.ccr_model.specs.Tasks.{is_for_queue, queued}
 use Rattle.ccr_model.specs.Rules.{is_new, drop_at, drop_by}
@@ -28,12 +25,12 @@ use Rattle.ccr_model.specs.Legal.{IsAllowed, IsLegal}
 use Rattle.ccr_model.proofs.PostNames.{refused_not}
 use Rattle.ccr_model.proofs.Quiet.{some_of}
 use Rattle.ccr_model.proofs.Allowing.{same_task-self}
-use Rattle.ccr_model.proofs.Covered.{same_task-is, or_left, or_right, head_rest}
+use Rattle.ccr_model.proofs.Covered.{same_task-is, or_left, or_right}
 use Rattle.ccr_model.proofs.TaskSteps.{firings-push, queued-start, queued-put, queued-fire}
 use Rattle.ccr_laws.specs.Standing.{Stands}
 use Rattle.ccr_laws.specs.Drops.{DropsOldest}
 use Rattle.ccr_laws.proofs.Allowed.{allowed_at, legal_past}
-use Rattle.ccr_laws.proofs.Steps.{along_legal, in_one, out_of_both, not_true, new_drop, put_allowed, drop_allowed, DropFacts}
+use Rattle.ccr_laws.proofs.Steps.{along_legal, out_of_both, new_drop, put_allowed, drop_allowed}
 use Rattle.ccr_laws.proofs.TaskLife.{refuted, no_both, put-push, started-push, dropped-push, started_put, dropped_put, put_might_go, may_put-facts}
 
 -- a policy's number is at least 1

@@ -1,7 +1,7 @@
 -- What a firing names was held before it, and so untaken.
-use Rattle.std.proofs.Common.{◌≡◌, ℕ, zero, suc, ◌+◌, ◌<◌, ◌≤◌, ◌⊎◌, inl, inr, Bool, true, false, not, ◌&&◌, ◌||◌, List, [], ◌∷◌, ◌++◌, length, map, filter, flat_map, Option, Some, None, refl, sym, ap, ◌∙◌, arith, subst}
-use Rattle.std.specs.Prelude.{◌==◌, if◌then◌else◌, All, Contains}
-use Rattle.std.specs.List.{slice_get, slice_index_or, list_any, AllZip}
+use Rattle.std.proofs.Common.{◌≡◌, ℕ, ◌⊎◌, inl, inr, Bool, true, false, not, ◌||◌, List, [], ◌∷◌, ◌++◌, flat_map, Some, refl, sym, arith, subst}
+use Rattle.std.specs.Prelude.{◌==◌, All, Contains}
+use Rattle.std.specs.List.{slice_get, AllZip}
 use Rattle.std.proofs.lemmas.Bool.Decides.{nat_tests}
 use Rattle.std.proofs.lemmas.List.Elements.{All-head, All-tail, All-filter, All-contains, filter_passes}
 use Rattle.ccr_base.specs.declared.names.MsgId.{MsgId}

@@ -1,33 +1,30 @@
 -- Each posted message has exactly one fate.
-use Rattle.std.proofs.Common.{◌≡◌, ℕ, zero, suc, ◌+◌, ◌<◌, ◌⊎◌, inl, inr, Bool, true, false, not, ◌&&◌, ◌||◌, List, [], ◌∷◌, ◌++◌, length, map, filter, Option, Some, None, refl, sym, ap, ◌∙◌, arith, subst}
+use Rattle.std.proofs.Common.{◌≡◌, ℕ, suc, inl, inr, Bool, true, false, not, ◌||◌, List, [], ◌∷◌, ◌++◌, filter, Option, Some, None, refl, sym, ap, ◌∙◌, arith, subst}
 use Rattle.std.specs.Prelude.{◌==◌, if◌then◌else◌, find, Contains}
-use Rattle.std.specs.List.{list_any, slice_index_or}
 use Rattle.std.specs.Option.{option_map, option_map_or}
 use Rattle.std.proofs.lemmas.Grind.{common_steps}
 use Rattle.std.proofs.lemmas.Bool.Decides.{nat_tests}
 use Rattle.ccr_base.specs.declared.names.MsgId.{MsgId}
 use Rattle.ccr_base.specs.declared.names.TaskId.{TaskId}
-use Rattle.ccr_base.specs.declared.names.Spot.{Spot}
 use Rattle.ccr_base.specs.declared.messages.Msg.{Msg}
 use Rattle.ccr_wiring.specs.declared.parts.Parts.{Parts}
 use Rattle.ccr_model.specs.declared.history.Event.{Event}
 use Rattle.ccr_model.specs.declared.history.Event.TheVariants.{Post, Fire, Admit, Put, Start, End}
-use Rattle.ccr_model.specs.declared.history.TaskState.{TaskState}
 use Rattle.ccr_model.specs.declared.history.Fate.{Fate}
 use Rattle.ccr_model.specs.declared.history.Fate.TheVariants.{Held, Taken}
-use Rattle.ccr_base.specs.Names.{same_task, same_message, has_message}
+use Rattle.ccr_base.specs.Names.{same_message, has_message}
 use Rattle.ccr_wiring.specs.Valid.{IsValid}
 use Rattle.ccr_model.specs.Posts.{posts, posted, held, taken, message_named}
-use Rattle.ccr_model.specs.Firings.{Firing, firings, firing_named}
-use Rattle.ccr_model.specs.Fates.{state_of, taker, fate_of, fate}
+use Rattle.ccr_model.specs.Firings.{Firing, firings}
+use Rattle.ccr_model.specs.Fates.{state_of, fate_of, fate}
 use Rattle.ccr_model.specs.Legal.{IsLegal}
-use Rattle.ccr_model.proofs.PostNames.{same_message-self, same_message-is}
+use Rattle.ccr_model.proofs.PostNames.{same_message-self}
 use Rattle.ccr_model.proofs.Quiet.{Among, Among-right}
 use Rattle.ccr_model.proofs.Stable.{firings-append}
 use Rattle.ccr_model.proofs.Allowing.{OneName-legal}
 use Rattle.ccr_laws.specs.Standing.{Stands}
-use Rattle.ccr_laws.specs.OneFate.{IsHeld, IsTakenBy, IsIn, HasFate, HasOneFate}
-use Rattle.ccr_laws.proofs.TaskLife.{no_both, firing_seated}
+use Rattle.ccr_laws.specs.OneFate.{IsHeld, IsTakenBy, HasFate, HasOneFate}
+use Rattle.ccr_laws.proofs.TaskLife.{firing_seated}
 use Rattle.ccr_laws.proofs.HeldBefore.{untaken_of_held, untaken_before}
 use Rattle.ccr_laws.proofs.States.{found_among, is_in, only_in}
 

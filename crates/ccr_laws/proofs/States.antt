@@ -1,5 +1,5 @@
 -- A task that fired is in exactly one state, the one that is told of it.
-use Rattle.std.proofs.Common.{◌≡◌, ℕ, ◌+◌, inl, inr, Bool, true, false, not, ◌&&◌, ◌||◌, List, [], ◌∷◌, ◌++◌, length, map, filter, flat_map, Option, Some, None, refl, sym, ap, ◌∙◌, arith, subst}
+use Rattle.std.proofs.Common.{◌≡◌, ℕ, inl, inr, Bool, true, false, not, ◌&&◌, ◌||◌, List, [], ◌∷◌, ◌++◌, map, filter, flat_map, Some, refl, sym, ap, ◌∙◌, arith, subst}
 use Rattle.std.specs.Prelude.{◌==◌, if◌then◌else◌, find}
 use Rattle.std.specs.Option.{option_map, option_map_or}
 use Rattle.std.proofs.lemmas.Grind.{common_steps}
@@ -16,14 +16,13 @@ use Rattle.ccr_model.specs.declared.history.TaskState.TheVariants as states
 use Rattle.ccr_base.specs.Names.{same_task, has_task, without}
 use Rattle.ccr_wiring.specs.Wirings.{Seat, seat, branch_of}
 use Rattle.ccr_model.specs.Firings.{Firing, firings, firing_named, spot_of, cut, let_in, put, dropped, started, ended}
-use Rattle.ccr_model.specs.Tasks.{is_interleave, is_branch_where, fired_by, waiting, is_for_queue, queued, running}
+use Rattle.ccr_model.specs.Tasks.{is_interleave, is_branch_where, fired_by, is_for_queue}
 use Rattle.ccr_model.specs.Rules.{needs_no_admission, may_put}
 use Rattle.ccr_model.specs.Fates.{end_of, state_of_started, state_of}
 use Rattle.ccr_model.specs.Legal.{IsLegal}
 use Rattle.ccr_model.proofs.Quiet.{Among}
 use Rattle.ccr_model.proofs.Allowing.{same_task-self}
 use Rattle.ccr_model.proofs.Covered.{same_task-is, or_left, or_right}
-use Rattle.ccr_laws.specs.Standing.{Stands}
 use Rattle.ccr_laws.specs.OneFate.{Waits, IsQueued, HasEnded, IsIn}
 use Rattle.ccr_laws.proofs.Allowed.{allowed_at}
 use Rattle.ccr_laws.proofs.Steps.{in_front, out_of_both, not_true, of_filter, to_filter, queued_facts, new_end}

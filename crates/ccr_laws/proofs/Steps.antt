@@ -1,11 +1,9 @@
 -- What an allowed event says of the tasks that it puts, drops, starts, ends and cuts.
-use Rattle.std.proofs.Common.{◌≡◌, ℕ, zero, suc, ◌+◌, ◌≤◌, ◌⊎◌, inl, inr, Bool, true, false, not, ◌&&◌, ◌||◌, List, [], ◌∷◌, ◌++◌, length, map, filter, flat_map, Option, Some, None, option_to_list, refl, sym, ap, ◌∙◌, arith, subst, append_assoc, append-nil}
-use Rattle.std.specs.Prelude.{◌==◌, if◌then◌else◌, nat_le, option_and_then}
-use Rattle.std.specs.List.{slice_get, list_any}
+use Rattle.std.proofs.Common.{◌≡◌, ℕ, ◌≤◌, ◌⊎◌, inl, inr, Bool, true, false, not, ◌||◌, List, [], ◌∷◌, ◌++◌, length, filter, Option, Some, None, refl, sym, ap, ◌∙◌, arith, subst, append_assoc, append-nil}
+use Rattle.std.specs.Prelude.{if◌then◌else◌, nat_le}
+use Rattle.std.specs.List.{slice_get}
 use Rattle.std.specs.Option.{option_map_or}
-use Rattle.std.proofs.lemmas.Grind.{common_steps}
 use Rattle.std.proofs.lemmas.Bool.Decides.{nat_tests}
-use Rattle.ccr_base.specs.declared.names.MsgId.{MsgId}
 use Rattle.ccr_base.specs.declared.names.TaskId.{TaskId}
 use Rattle.ccr_base.specs.declared.names.Spot.{Spot}
 use Rattle.ccr_base.specs.declared.names.Spot.TheVariants.{Branch, Site}
@@ -16,10 +14,10 @@ use Rattle.ccr_model.specs.declared.history.Event.{Event}
 use Rattle.ccr_model.specs.declared.history.Event.TheVariants.{Post, Fire, Admit, Put, Start, End}
 use Rattle.ccr_base.specs.Names.{same_task, has_task, same_lists, same_options, without}
 use Rattle.ccr_wiring.specs.Wirings.{Seat, seat, policy_of}
-use Rattle.ccr_model.specs.Firings.{Firing, firing_of, put, put_by, dropped, dropped_by, started, started_by, ended, ended_by}
+use Rattle.ccr_model.specs.Firings.{put, put_by, dropped, dropped_by, started, started_by, ended, ended_by}
 use Rattle.ccr_model.specs.TaskData.{seat_of}
 use Rattle.ccr_model.specs.Tasks.{waiting, is_for_queue, queued, running, is_teardown}
-use Rattle.ccr_model.specs.Rules.{refusal, refused, is_new, is_first, cuts_at, is_oldest_queued, may_start, may_put, drop_by, drop_at, may_end}
+use Rattle.ccr_model.specs.Rules.{is_new, is_first, cuts_at, is_oldest_queued, may_put, drop_by, drop_at}
 use Rattle.ccr_model.specs.Live.{is_live, has_room}
 use Rattle.ccr_model.specs.Choice.{is_choice}
 use Rattle.ccr_model.specs.Legal.{IsAllowed, IsLegal, IsLegalAfter}

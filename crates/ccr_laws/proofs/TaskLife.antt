@@ -1,7 +1,7 @@
 -- What each task of a legal history goes through: it is put after its firing or admission, starts or is dropped after its put, and isn't put where it was cut.
-use Rattle.std.proofs.Common.{◌≡◌, ℕ, zero, suc, ◌+◌, ◌≤◌, ◌⊎◌, inl, inr, Bool, true, false, not, ◌&&◌, ◌||◌, List, [], ◌∷◌, ◌++◌, length, map, filter, flat_map, Option, Some, None, option_to_list, refl, sym, ap, ◌∙◌, arith, subst, append-nil}
+use Rattle.std.proofs.Common.{◌≡◌, ℕ, ◌+◌, ◌≤◌, ◌⊎◌, inl, inr, Bool, true, false, not, ◌&&◌, ◌||◌, List, [], ◌∷◌, ◌++◌, length, map, filter, flat_map, Option, Some, None, refl, sym, ap, ◌∙◌, arith, subst, append-nil}
 use Rattle.std.specs.Prelude.{◌==◌, if◌then◌else◌}
-use Rattle.std.specs.List.{list_any, slice_get}
+use Rattle.std.specs.List.{slice_get}
 use Rattle.std.specs.Option.{option_map, option_map_or}
 use Rattle.std.proofs.lemmas.Grind.{common_steps}
 use Rattle.ccr_base.specs.declared.names.MsgId.{MsgId}
@@ -11,9 +11,9 @@ use Rattle.ccr_base.specs.declared.names.Spot.TheVariants.{Branch, Site}
 use Rattle.ccr_wiring.specs.declared.parts.Parts.{Parts}
 use Rattle.ccr_model.specs.declared.history.Event.{Event}
 use Rattle.ccr_model.specs.declared.history.Event.TheVariants.{Post, Fire, Admit, Put, Start, End}
-use Rattle.ccr_base.specs.Names.{same_task, has_task, without}
+use Rattle.ccr_base.specs.Names.{same_task, has_task}
 use Rattle.ccr_wiring.specs.Wirings.{Seat, seat, branch_of, site_port, awaited, actions_of}
-use Rattle.ccr_model.specs.Firings.{Firing, firings, firing_of, firing_named, spot_of, fired_where, cut, let_in, put, put_by, dropped, dropped_by, started, started_by, ended, ended_by}
+use Rattle.ccr_model.specs.Firings.{Firing, firings, firing_of, firing_named, cut, let_in, put, put_by, dropped, dropped_by, started, started_by, ended, ended_by}
 use Rattle.ccr_model.specs.Tasks.{is_interleave, is_branch_where, fired_by, waiting}
 use Rattle.ccr_model.specs.Rules.{needs_no_admission, may_put}
 use Rattle.ccr_model.specs.Live.{is_live}
@@ -24,10 +24,10 @@ use Rattle.ccr_model.proofs.PostNames.{both}
 use Rattle.ccr_model.proofs.Quiet.{Among, some_of}
 use Rattle.ccr_model.proofs.Stable.{firings-append, firing_named-append}
 use Rattle.ccr_model.proofs.Allowing.{OneName-legal}
-use Rattle.ccr_model.proofs.Covered.{same_task-is, or_left, or_right}
+use Rattle.ccr_model.proofs.Covered.{same_task-is}
 use Rattle.ccr_model.proofs.TakenOnce.{FireFacts-allowed}
 use Rattle.ccr_laws.specs.Drops.{times_dropped}
-use Rattle.ccr_laws.proofs.Steps.{along_legal, in_either, in_front, in_back, out_of_both, out_of_front, out_of_back, not_true, of_filter, cut_by, new_put, new_drop, new_start, new_end, new_cut, drop_no_start, cut_no_put}
+use Rattle.ccr_laws.proofs.Steps.{along_legal, in_either, in_front, out_of_both, out_of_front, out_of_back, not_true, of_filter, cut_by, new_put, new_drop, new_start, new_end, new_cut, drop_no_start, cut_no_put}
 
 pub put-push : (h : List Event) (e : Event) → put (h ++ e ∷ []) ≡ put h ++ put_by e
 put-push h e = grind (arith, common_steps)

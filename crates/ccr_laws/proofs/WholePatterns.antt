@@ -1,9 +1,8 @@
 -- A firing that is allowed takes its whole pattern.
-use Rattle.std.proofs.Common.{◌≡◌, ℕ, zero, suc, ◌+◌, ◌<◌, ◌≤◌, Bool, true, false, ◌&&◌, ◌||◌, List, [], ◌∷◌, ◌++◌, length, take, map, filter, flat_map, min, Option, Some, None, refl, sym, ap, ◌∙◌, arith, subst, length-take, length-append}
+use Rattle.std.proofs.Common.{◌≡◌, ℕ, suc, ◌+◌, ◌≤◌, Bool, true, false, ◌&&◌, ◌||◌, List, [], ◌∷◌, ◌++◌, length, take, filter, flat_map, Option, Some, None, refl, sym, ap, ◌∙◌, arith, subst, length-take, length-append}
 use Rattle.std.specs.Prelude.{◌==◌, if◌then◌else◌, All, Contains}
 use Rattle.std.specs.List.{slice_get, AllZip}
 use Rattle.std.specs.Option.{option_map_or}
-use Rattle.std.proofs.lemmas.Grind.{common_steps}
 use Rattle.std.proofs.lemmas.Bool.Decides.{nat_tests}
 use Rattle.std.proofs.lemmas.List.Elements.{All-take, All-filter, All-contains_itself, filter_passes}
 use Rattle.ccr_base.specs.declared.names.MsgId.{MsgId}
@@ -29,7 +28,7 @@ use Rattle.ccr_model.proofs.PostNames.{both, same_message-is}
 use Rattle.ccr_model.proofs.Quiet.{some_of}
 use Rattle.ccr_model.proofs.TakenOnce.{FireFacts-allowed}
 use Rattle.ccr_laws.specs.Standing.{Stands}
-use Rattle.ccr_laws.specs.WholePattern.{AreFirst, FillsSlot, FillsSlots, FillsGather, FillsPattern, IsOldest, FillsBranch, FillsSite, TakesWhole}
+use Rattle.ccr_laws.specs.WholePattern.{AreFirst, FillsSlot, FillsSlots, FillsGather, FillsPattern, IsOldest, TakesWhole}
 use Rattle.ccr_laws.proofs.Allowed.{allowed_at}
 
 -- names that pass the test are those of the messages

@@ -1,5 +1,5 @@
 -- How often branches fire.
-use Rattle.std.specs.Prelude.{ℕ, Bool, ◌==◌, ◌&&◌, List, length}
+use Rattle.std.specs.Prelude.{ℕ, ◌==◌, ◌&&◌, List, length}
 use Rattle.ccr_base.specs.declared.names.Spot.TheVariants.{Branch}
 use Rattle.ccr_wiring.specs.declared.parts.Parts.{Parts}
 use Rattle.ccr_model.specs.declared.history.Event.{Event}

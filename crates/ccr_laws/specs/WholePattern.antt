@@ -1,5 +1,5 @@
 -- What a firing takes: the whole of its pattern, from what its ports held before it.
-use Rattle.std.specs.Prelude.{◌≡◌, ℕ, ◌+◌, true, List, [], ◌∷◌, ◌++◌, length, take, flat_map, Option, Some, All, Contains}
+use Rattle.std.specs.Prelude.{◌≡◌, ℕ, ◌+◌, true, List, [], ◌∷◌, ◌++◌, length, take, flat_map, Some, All, Contains}
 use Rattle.std.specs.List.{slice_get, AllZip}
 use Rattle.ccr_base.specs.declared.names.MsgId.{MsgId}
 use Rattle.ccr_base.specs.declared.names.Spot.{Spot}
