@@ -4,6 +4,7 @@ pub mod SingleFirings
 pub mod Steps
 pub mod TaskLife
 pub mod FullQueues
+pub mod DroppingPuts
 pub mod HeldBefore
 pub mod States
 pub mod OneFates

@@ -5,15 +5,23 @@ use Rattle.ccr_base.specs.declared.names.TaskId.{TaskId}
 use Rattle.ccr_base.specs.declared.policies.Policy.TheVariants.{Discard}
 use Rattle.ccr_wiring.specs.declared.parts.Parts.{Parts}
 use Rattle.ccr_model.specs.declared.history.Event.{Event}
+use Rattle.ccr_model.specs.declared.history.Event.TheVariants.{Put}
 use Rattle.ccr_base.specs.Names.{same_task}
 use Rattle.ccr_wiring.specs.Wirings.{Seat, policy_of}
 use Rattle.ccr_model.specs.Firings.{dropped}
 use Rattle.ccr_model.specs.TaskData.{seat_of}
 use Rattle.ccr_model.specs.Tasks.{queued}
+use Rattle.ccr_laws.specs.Standing.{Stands}
 
 -- how often puts drop the task
 abbrev pub times_dropped : List Event → TaskId → ℕ
 times_dropped history task = length (filter (same_task task) (dropped history))
+
+-- some put drops the task
+pub record IsDroppedByPut (history : List Event) (task : TaskId) : Type 0 where
+  pub past : List Event
+  pub by : TaskId
+  pub stands : Stands history past (Put by (Some task))
 
 -- a put of the task, after this past, drops the other by policy alone: their queue is `discard most`, it held that many tasks, and the other was the oldest
 pub record DropsOldest (wiring : Parts) (past : List Event) (task other : TaskId) : Type 0 where

@@ -28,7 +28,7 @@ pub fn firings_take_whole_patterns()
     ensures { (wiring : Parts) → IsValid wiring → (history : List Event) → IsLegal wiring history → (past : List Event) (task : TaskId) (spot : Spot) (messages : List MsgId) (cuts : List TaskId) → Stands history past (Fire task spot messages cuts) → TakesWhole wiring past spot messages }
 {}
 
-/// A choice, a receiver that is there once, and the teardown branches of an Interleave fire at most once.
+/// A choice, a `once` receiver, and the teardown branches of an Interleave all together, fire at most once.
 pub fn single_firings_come_once()
     ensures choice { (wiring : Parts) → IsValid wiring → (history : List Event) → IsLegal wiring history → (number : ℕ) (arbiter : ArbiterPart) → slice_get wiring.arbiters number ≡ Some arbiter → arbiter.kind ≡ kinds.Choice → times_any_fired wiring history number ≤ 1 }
     ensures once { (wiring : Parts) (history : List Event) → IsLegal wiring history → (branch : ℕ) (s : Seat) → seat wiring branch ≡ Some s → s.branch.group ≡ groups.Once → times_fired history branch ≤ 1 }
