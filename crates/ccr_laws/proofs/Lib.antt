@@ -1,0 +1,10 @@
+pub mod Allowed
+pub mod WholePatterns
+pub mod SingleFirings
+pub mod Steps
+pub mod TaskLife
+pub mod FullQueues
+pub mod DroppingPuts
+pub mod HeldBefore
+pub mod States
+pub mod OneFates

@@ -1,0 +1,5 @@
+pub mod Standing
+pub mod WholePattern
+pub mod Times
+pub mod OneFate
+pub mod Drops
