@@ -1,0 +1,6 @@
+pub mod TaskLists
+pub mod TaskPlaces
+pub mod StartOrder
+pub mod LegalParts
+pub mod FiringFacts
+pub mod Cutting
