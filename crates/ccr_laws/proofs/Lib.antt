@@ -4,3 +4,5 @@ pub mod StartOrder
 pub mod LegalParts
 pub mod FiringFacts
 pub mod Cutting
+pub mod Ending
+pub mod Suspending
