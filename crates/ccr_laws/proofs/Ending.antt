@@ -1,22 +1,21 @@
 -- Who ended, and how, along a legal history.
-use Rattle.std.proofs.Common.{◌≡◌, ℕ, Bool, true, false, not, ◌&&◌, ◌||◌, List, [], ◌∷◌, ◌++◌, flat_map, Option, Some, None, option_to_list, ◌⊎◌, inl, inr, refl, sym, arith, ap, ◌∙◌, subst, append-nil}
+use Rattle.std.proofs.Common.{◌≡◌, Bool, true, false, not, List, [], ◌∷◌, ◌++◌, option_to_list, ◌⊎◌, inl, inr, refl, sym, arith, ◌∙◌, append-nil}
 use Rattle.std.proofs.lemmas.Grind.{common_steps}
 use Rattle.ccr_base.specs.declared.names.TaskId.{TaskId}
-use Rattle.ccr_base.specs.Names.{has_task, without}
+use Rattle.ccr_base.specs.Names.{has_task}
 use Rattle.ccr_wiring.specs.declared.parts.Parts.{Parts}
 use Rattle.ccr_model.specs.declared.history.EndHow.{EndHow}
 use Rattle.ccr_model.specs.declared.history.EndHow.TheVariants as ends
 use Rattle.ccr_model.specs.declared.history.Event.{Event}
 use Rattle.ccr_model.specs.declared.history.Event.TheVariants.{Post, Fire, Admit, Put, Start, End}
-use Rattle.ccr_model.specs.Firings.{started, started_by, dropped, dropped_by, ended, ended_by, yielded, yielded_by, last_segments, last_by, put}
+use Rattle.ccr_model.specs.Firings.{started, started_by, dropped, dropped_by, ended, ended_by, yielded, yielded_by, last_segments, last_by}
 use Rattle.ccr_model.specs.Tasks.{running}
-use Rattle.ccr_model.specs.Rules.{may_end}
 use Rattle.ccr_model.specs.Legal.{IsAllowed, IsLegal}
 use Rattle.ccr_model.specs.Consequences.{are_distinct_tasks}
 use Rattle.ccr_model.proofs.PostNames.{both, refused_not}
 use Rattle.ccr_laws.proofs.LegalParts.{along_legal}
 use Rattle.ccr_laws.proofs.TaskLists.{has_task-without, not_true, distinct-push}
-use Rattle.ccr_laws.proofs.TaskPlaces.{ArePlaced, ArePlaced-legal, PutFacts, PutFacts-allowed, QueuedFacts, QueuedFacts-queued, started-push, dropped-push, of_more, of_one, not_one, among_left, among_right, not_more}
+use Rattle.ccr_laws.proofs.TaskPlaces.{ArePlaced-legal, PutFacts-allowed, QueuedFacts-queued, started-push, dropped-push, of_more, of_one, not_one, among_left, among_right, not_more}
 
 pub ended-push : (h : List Event) (e : Event) → ended (h ++ e ∷ []) ≡ ended h ++ ended_by e
 ended-push h e = grind (arith, common_steps)

@@ -6,3 +6,4 @@ pub mod FiringFacts
 pub mod Cutting
 pub mod Ending
 pub mod Suspending
+pub mod Roots

@@ -1,7 +1,6 @@
 -- Who is suspended, and for whom another task goes on.
-use Rattle.std.proofs.Common.{◌≡◌, ℕ, zero, suc, ◌+◌, ◌-◌, ◌<◌, ◌≤◌, Bool, true, false, not, ◌&&◌, ◌||◌, List, [], ◌∷◌, ◌++◌, length, drop, map, filter, flat_map, Option, Some, None, refl, sym, arith, ap, ◌∙◌, subst, append-nil, length-append, length-drop}
+use Rattle.std.proofs.Common.{◌≡◌, ℕ, zero, suc, ◌<◌, ◌≤◌, Bool, true, false, not, ◌&&◌, List, [], ◌∷◌, ◌++◌, length, drop, filter, Some, refl, sym, arith, ap, ◌∙◌, subst, append-nil, length-append}
 use Rattle.std.specs.Prelude.{◌==◌, if◌then◌else◌, option_map}
-use Rattle.std.specs.Option.{option_map_or}
 use Rattle.std.proofs.lemmas.Grind.{common_steps}
 use Rattle.std.proofs.lemmas.Bool.Decides.{nat_tests}
 use Rattle.ccr_base.specs.declared.names.TaskId.{TaskId}
@@ -15,9 +14,9 @@ use Rattle.ccr_model.specs.declared.history.EndHow.{EndHow}
 use Rattle.ccr_model.specs.declared.history.EndHow.TheVariants as ends
 use Rattle.ccr_model.specs.declared.history.Event.{Event}
 use Rattle.ccr_model.specs.declared.history.Event.TheVariants.{Post, Fire, Admit, Put, Start, End}
-use Rattle.ccr_model.specs.Firings.{Firing, firing_of, firings, firing_named, fired_where, fired_at, spot_of, yielded, yielded_by}
+use Rattle.ccr_model.specs.Firings.{Firing, firing_of, firing_named, fired_at, spot_of, yielded, yielded_by}
 use Rattle.ccr_model.specs.Sites.{yields_at, yielded_at, suspended}
-use Rattle.ccr_model.specs.Live.{is_live, is_none_of}
+use Rattle.ccr_model.specs.Live.{is_none_of}
 use Rattle.ccr_model.specs.Legal.{IsAllowed, IsLegal}
 use Rattle.ccr_model.specs.Consequences.{are_distinct_tasks}
 use Rattle.ccr_model.proofs.PostNames.{both}
@@ -28,9 +27,9 @@ use Rattle.ccr_model.proofs.Allowing.{same_task-self}
 use Rattle.ccr_laws.specs.Interleaves.{is_suspended}
 use Rattle.ccr_laws.proofs.LegalParts.{along_legal}
 use Rattle.ccr_laws.proofs.TaskLists.{has_task-filter, has_task-append, filter_on, filter_append, distinct-filter, not_true}
-use Rattle.ccr_laws.proofs.TaskPlaces.{IsFired, ArePlaced, ArePlaced-legal, has_oldest, of_more, of_one}
-use Rattle.ccr_laws.proofs.FiringFacts.{FiresSo, FiresSo-allowed, firings-other}
-use Rattle.ccr_laws.proofs.Ending.{AreEnded, AreEnded-legal, RunningFacts, RunningFacts-allowed, yielded-push}
+use Rattle.ccr_laws.proofs.TaskPlaces.{IsFired, ArePlaced-legal, has_oldest, of_more, of_one}
+use Rattle.ccr_laws.proofs.FiringFacts.{FiresSo-allowed, firings-other}
+use Rattle.ccr_laws.proofs.Ending.{AreEnded-legal, RunningFacts-allowed, yielded-push}
 
 -- who was suspended fired
 yielded_fired : (w : Parts) (h : List Event) → IsLegal w h → (t : TaskId) → has_task (yielded h) t ≡ true → IsFired h t
@@ -235,6 +234,13 @@ is_gone_on h t = has_task (yielded h) t && not (is_suspended h t)
 -- where the task is suspended, if it is
 pub suspended_at : (h : List Event) (t : TaskId) (f : Firing) → firing_named h t ≡ Some f → is_suspended h t ≡ has_task (suspended h (Site (branch_of f.spot) (segment_of f.spot))) t
 suspended_at h t f is = rw is refl
+
+-- who is suspended ended so
+pub suspended_yielded : (h : List Event) (t : TaskId) → is_suspended h t ≡ true → has_task (yielded h) t ≡ true
+suspended_yielded h t is =
+    let at = some_of (λ spot. has_task (suspended h (next_site spot)) t) (spot_of h t) is in
+    let among = has_task-drop (length (fired_at h (next_site at.0))) (yielded_at h (next_site at.0)) t at.2 in
+    (both (has_task (yielded h) t) (yields_at h (next_site at.0) t) (sym (has_task-filter (yields_at h (next_site at.0)) (yielded h) t) ∙ among)).0
 
 -- for whom another went on, he stays so
 pub gone_stays : (w : Parts) (h : List Event) (e : Event) (t : TaskId) → IsLegal w h → IsAllowed w h e → is_gone_on h t ≡ true → is_gone_on (h ++ e ∷ []) t ≡ true
