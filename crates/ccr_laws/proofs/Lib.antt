@@ -7,3 +7,4 @@ pub mod Cutting
 pub mod Ending
 pub mod Suspending
 pub mod Roots
+pub mod Exclusion

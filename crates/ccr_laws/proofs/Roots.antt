@@ -24,7 +24,8 @@ use Rattle.ccr_model.proofs.TaskSteps.{firing_named-fire}
 use Rattle.ccr_model.proofs.Stable.{firing_named-append, root_at-append}
 use Rattle.ccr_model.proofs.Covered.{same_task-is, or_left, or_right}
 use Rattle.ccr_model.proofs.Allowing.{same_task-self}
-use Rattle.ccr_laws.specs.Interleaves.{is_seat_in, is_of_interleave, is_suspended}
+use Rattle.ccr_laws.specs.AtWork.{is_queued, is_suspended, is_at_work}
+use Rattle.ccr_laws.specs.Interleaves.{is_seat_in, is_of_interleave}
 use Rattle.ccr_laws.proofs.LegalParts.{along_legal}
 use Rattle.ccr_laws.proofs.TaskLists.{has_task-filter}
 use Rattle.ccr_laws.proofs.TaskPlaces.{IsFired, ArePlaced-legal, QueuedFacts-queued, among_left}
@@ -347,3 +348,14 @@ suspended_works w h legal t is =
       not_last = ends_so.not_both t yields;
       latest = rw (is, yields) refl;
     }
+
+pub work_so : (w : Parts) (h : List Event) → IsLegal w h → (t : TaskId) → is_at_work w h t ≡ true → IsAtWork h t
+work_so w h legal t is = of_test (is_queued w h t) refl is
+  where
+    later : (b : Bool) → has_task (running h) t ≡ b → b || is_suspended h t ≡ true → IsAtWork h t
+    later true e at = running_works w h legal t e
+    later false e at = suspended_works w h legal t at
+
+    of_test : (b : Bool) → is_queued w h t ≡ b → (b || has_task (running h) t) || is_suspended h t ≡ true → IsAtWork h t
+    of_test true e at = let found = some_of (λ (s : Seat). has_task (queued w h s.branch.queue) t) (seat_of w h t) e in queued_works w h legal found.0.branch.queue t found.2
+    of_test false e at = later (has_task (running h) t) refl at

@@ -24,7 +24,7 @@ use Rattle.ccr_model.proofs.Quiet.{some_of}
 use Rattle.ccr_model.proofs.Stable.{firing_named-append}
 use Rattle.ccr_model.proofs.Covered.{some_map, or_left, or_right}
 use Rattle.ccr_model.proofs.Allowing.{same_task-self}
-use Rattle.ccr_laws.specs.Interleaves.{is_suspended}
+use Rattle.ccr_laws.specs.AtWork.{is_suspended}
 use Rattle.ccr_laws.proofs.LegalParts.{along_legal}
 use Rattle.ccr_laws.proofs.TaskLists.{has_task-filter, has_task-append, filter_on, filter_append, distinct-filter, not_true}
 use Rattle.ccr_laws.proofs.TaskPlaces.{IsFired, ArePlaced-legal, has_oldest, of_more, of_one}

@@ -1,16 +1,13 @@
 -- Branches of an Interleave, and the tasks of its roots.
-use Rattle.std.specs.Prelude.{ℕ, Bool, false, ◌==◌, ◌&&◌, List}
+use Rattle.std.specs.Prelude.{ℕ, Bool, false, not, ◌==◌, ◌&&◌, List}
 use Rattle.std.specs.Option.{option_map_or}
 use Rattle.ccr_base.specs.declared.names.TaskId.{TaskId}
 use Rattle.ccr_base.specs.declared.names.Spot.{Spot}
-use Rattle.ccr_base.specs.Names.{has_task}
 use Rattle.ccr_wiring.specs.declared.parts.Parts.{Parts}
-use Rattle.ccr_wiring.specs.Wirings.{Seat, next_site}
+use Rattle.ccr_wiring.specs.Wirings.{Seat}
 use Rattle.ccr_model.specs.declared.history.Event.{Event}
-use Rattle.ccr_model.specs.Firings.{spot_of}
-use Rattle.ccr_model.specs.Sites.{suspended}
 use Rattle.ccr_model.specs.TaskData.{seat_of}
-use Rattle.ccr_model.specs.Tasks.{is_interleave, is_teardown, is_branch_where, fired_by}
+use Rattle.ccr_model.specs.Tasks.{is_interleave, is_teardown, is_concurrent, is_branch_where, fired_by}
 
 -- whether the branch is one of the Interleave
 abbrev pub is_seat_in : ℕ → Seat → Bool
@@ -19,6 +16,10 @@ is_seat_in interleave s = is_interleave s.kind && (s.arbiter == interleave)
 -- whether the branch is a teardown branch of the Interleave
 abbrev pub is_teardown_in : ℕ → Seat → Bool
 is_teardown_in interleave s = is_seat_in interleave s && is_teardown s.branch.group
+
+-- whether the branch is an exclusive or teardown branch of the Interleave, that is one that isn't concurrent
+abbrev pub is_exclusive_in : ℕ → Seat → Bool
+is_exclusive_in interleave s = is_seat_in interleave s && not (is_concurrent s.branch.group)
 
 -- whether the spot is a teardown branch of the Interleave
 abbrev pub tears_down : Parts → ℕ → Spot → Bool
@@ -36,6 +37,6 @@ is_of_interleave wiring history interleave task = option_map_or (is_seat_in inte
 abbrev pub is_of_teardown : Parts → List Event → ℕ → TaskId → Bool
 is_of_teardown wiring history interleave task = option_map_or (is_teardown_in interleave) (seat_of wiring history task) false
 
--- whether the task is suspended, at the site behind its segment
-abbrev pub is_suspended : List Event → TaskId → Bool
-is_suspended history task = option_map_or (λ spot. has_task (suspended history (next_site spot)) task) (spot_of history task) false
+-- whether an exclusive or teardown branch of the Interleave fired the task's root
+abbrev pub is_of_exclusive : Parts → List Event → ℕ → TaskId → Bool
+is_of_exclusive wiring history interleave task = option_map_or (is_exclusive_in interleave) (seat_of wiring history task) false

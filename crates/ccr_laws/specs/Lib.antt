@@ -1,2 +1,3 @@
 pub mod Queues
 pub mod Interleaves
+pub mod AtWork

@@ -8,10 +8,13 @@ ghost use Rattle.ccr_base.specs.Names.{has_task};
 ghost use Rattle.ccr_wiring.specs.declared.parts.Parts.{Parts};
 ghost use Rattle.ccr_wiring.specs.Valid.{HasGroups};
 ghost use Rattle.ccr_model.specs.declared.history.Event.{Event};
-ghost use Rattle.ccr_model.specs.declared.history.Event.TheVariants.{Fire};
+ghost use Rattle.ccr_model.specs.declared.history.Event.TheVariants.{Admit, Fire};
 ghost use Rattle.ccr_model.specs.Firings.{cut, let_in, put, started};
 ghost use Rattle.ccr_model.specs.Legal.{IsLegal};
-ghost use Rattle.ccr_laws.specs.Interleaves.{fired_in, tears_down};
+ghost use Rattle.ccr_model.specs.Sites.{root_of};
+ghost use Rattle.ccr_model.specs.Tasks.{admitted, is_over};
+ghost use Rattle.ccr_laws.specs.AtWork.{is_at_work};
+ghost use Rattle.ccr_laws.specs.Interleaves.{fired_in, is_of_exclusive, is_of_interleave, tears_down};
 
 /// After a teardown has fired no branch of its Interleave fires.
 pub fn after_a_teardown_no_branch_fires()
@@ -23,4 +26,27 @@ pub fn cut_tasks_never_start()
     ensures admitted { (wiring : Parts) (history : List Event) → IsLegal wiring history → (task : TaskId) → has_task (cut history) task ≡ true → has_task (let_in history) task ≡ false }
     ensures put { (wiring : Parts) (history : List Event) → IsLegal wiring history → (task : TaskId) → has_task (cut history) task ≡ true → has_task (put history) task ≡ false }
     ensures started { (wiring : Parts) (history : List Event) → IsLegal wiring history → (task : TaskId) → has_task (cut history) task ≡ true → has_task (started history) task ≡ false }
+{}
+
+/// A task of an Interleave that is queued, runs or is suspended has a root that was admitted and isn't over.
+pub fn who_is_at_work_was_admitted()
+    ensures { (wiring : Parts) (history : List Event) → IsLegal wiring history → (interleave : ℕ) (task : TaskId) → is_of_interleave wiring history interleave task ≡ true → is_at_work wiring history task ≡ true → has_task (admitted wiring history interleave) (root_of history task) ≡ true }
+{}
+
+/// Of one root at most one segment is queued, runs or is suspended.
+pub fn a_root_has_one_segment_at_work()
+    ensures { (wiring : Parts) (history : List Event) → IsLegal wiring history → (task other : TaskId) → is_at_work wiring history task ≡ true → is_at_work wiring history other ≡ true → root_of history task ≡ root_of history other → task ≡ other }
+{}
+
+/// From its admission until it is over an exclusive or teardown root is the only root of its Interleave that was admitted and isn't over.
+pub fn an_exclusive_root_is_alone()
+    ensures { (wiring : Parts) (interleave : ℕ) (before since : List Event) (root : TaskId) → IsLegal wiring (before ++ Admit root ∷ since) → is_of_exclusive wiring (before ++ Admit root ∷ since) interleave root ≡ true → is_over (before ++ Admit root ∷ since) root ≡ false → admitted wiring (before ++ Admit root ∷ since) interleave ≡ root ∷ [] }
+{}
+
+/// Beside an exclusive or teardown root no task of another root of its Interleave is at work.
+pub fn beside_an_exclusive_root_no_other_works()
+    // until it is over, only its own segments are at work
+    ensures until_over { (wiring : Parts) (history : List Event) → IsLegal wiring history → (interleave : ℕ) (root other : TaskId) → is_of_exclusive wiring history interleave root ≡ true → has_task (admitted wiring history interleave) root ≡ true → is_of_interleave wiring history interleave other ≡ true → is_at_work wiring history other ≡ true → root_of history other ≡ root }
+    // while one of its segments is queued, runs or is suspended, no other task is
+    ensures meanwhile { (wiring : Parts) (history : List Event) → IsLegal wiring history → (interleave : ℕ) (task other : TaskId) → is_of_exclusive wiring history interleave task ≡ true → is_at_work wiring history task ≡ true → is_of_interleave wiring history interleave other ≡ true → is_at_work wiring history other ≡ true → other ≡ task }
 {}
