@@ -62,7 +62,7 @@ none_has [] t is none = cc
 none_has (x ∷ ts) t is none = grind (arith, nat_tests, none)
 
 -- once a teardown fired, no branch of its Interleave is live
-dead : (w : Parts) → HasGroups w → (i : ℕ) (h : List Event) (t : TaskId) (f : Firing) (s : Spot) → firing_named h t ≡ Some f → tears_down w i f.spot ≡ true → is_live w h s ≡ true → is_branch_where w (is_seat_in i) s ≡ true → ⊥
+pub dead : (w : Parts) → HasGroups w → (i : ℕ) (h : List Event) (t : TaskId) (f : Firing) (s : Spot) → firing_named h t ≡ Some f → tears_down w i f.spot ≡ true → is_live w h s ≡ true → is_branch_where w (is_seat_in i) s ≡ true → ⊥
 dead w groups_fit i h t f s is tears live branch =
     let facts = BranchFacts-where w (is_seat_in i) s branch in
     let parts = both (is_interleave facts.place.kind) (facts.place.arbiter == i) facts.passes in

@@ -8,3 +8,4 @@ pub mod Ending
 pub mod Suspending
 pub mod Roots
 pub mod Exclusion
+pub mod AfterTeardown

@@ -80,7 +80,7 @@ rooted_new w h t (Site b k) ms cs allowed known =
     (root.0, subst (λ r. firing_named (h ++ e ∷ []) r ≡ Some root.0) (sym same) (firing_named-append h (e ∷ []) (root_of h facts.resumes) root.0 root.1), root.2 ∙ ap Branch facts.same_branch)
 
 -- whose firing it is after one more firing
-of_firing : (h : List Event) (x : TaskId) (s : Spot) (ms : List MsgId) (cs : List TaskId) (t : TaskId) (f : Firing) → has_task (fired h) x ≡ false → firing_named (h ++ Fire x s ms cs ∷ []) t ≡ Some f → (firing_named h t ≡ Some f) ⊎ ((t ≡ x) × (f ≡ record { task = x; spot = s; messages = ms; cuts = cs }))
+pub of_firing : (h : List Event) (x : TaskId) (s : Spot) (ms : List MsgId) (cs : List TaskId) (t : TaskId) (f : Firing) → has_task (fired h) x ≡ false → firing_named (h ++ Fire x s ms cs ∷ []) t ≡ Some f → (firing_named h t ≡ Some f) ⊎ ((t ≡ x) × (f ≡ record { task = x; spot = s; messages = ms; cuts = cs }))
 of_firing h x s ms cs t f new is = of_test (same_task x t) refl
   where
     of_test : (b : Bool) → same_task x t ≡ b → (firing_named h t ≡ Some f) ⊎ ((t ≡ x) × (f ≡ record { task = x; spot = s; messages = ms; cuts = cs }))
@@ -92,7 +92,7 @@ of_firing h x s ms cs t f new is = of_test (same_task x t) refl
         let both_so : Some f ≡ Some (record { task = x; spot = s; messages = ms; cuts = cs }) = sym found ∙ named in
         inr (one, cc)
 
-other_firing : (h : List Event) (e : Event) (t : TaskId) (f : Firing) → firing_of e ≡ [] → firing_named (h ++ e ∷ []) t ≡ Some f → firing_named h t ≡ Some f
+pub other_firing : (h : List Event) (e : Event) (t : TaskId) (f : Firing) → firing_of e ≡ [] → firing_named (h ++ e ∷ []) t ≡ Some f → firing_named h t ≡ Some f
 other_firing h e t f none is = rw (firings-other h e none) at is
 
 rooted_other : (h : List Event) (e : Event) → firing_of e ≡ [] → AreRooted h → AreRooted (h ++ e ∷ [])
@@ -181,7 +181,7 @@ pub IsOneEach-legal : (w : Parts) (h : List Event) → IsLegal w h → IsOneEach
 IsOneEach-legal w h legal = along_legal w IsOneEach (IsOneEach_kept w) (λ t u ft fu nt nu same. absurd (cc)) h legal
 
 -- who passes a test that some member passes
-any_named : (p : TaskId → Bool) (ts : List TaskId) → list_any p ts ≡ true → (t : TaskId) × (has_task ts t ≡ true) × (p t ≡ true)
+pub any_named : (p : TaskId → Bool) (ts : List TaskId) → list_any p ts ≡ true → (t : TaskId) × (has_task ts t ≡ true) × (p t ≡ true)
 any_named p [] is = absurd (cc)
 any_named p (x ∷ ts) is = of_test (p x) refl is (any_named p ts)
   where
@@ -189,7 +189,7 @@ any_named p (x ∷ ts) is = of_test (p x) refl is (any_named p ts)
     of_test true e at rest = (x, or_left (same_task x x) (has_task ts x) (same_task-self x), e)
     of_test false e at rest = let r = rest at in (r.0, or_right (same_task r.0 x) (has_task ts r.0) r.1, r.2)
 
-last_fired : (w : Parts) (h : List Event) → IsLegal w h → (t : TaskId) → has_task (last_segments h) t ≡ true → IsFired h t
+pub last_fired : (w : Parts) (h : List Event) → IsLegal w h → (t : TaskId) → has_task (last_segments h) t ≡ true → IsFired h t
 last_fired w h legal t is = of_case ((AreEnded-legal w h legal).last_ends t is)
   where
     of_case : (has_task (ended h) t ≡ true) ⊎ (has_task (dropped h) t ≡ true) → IsFired h t

@@ -8,13 +8,13 @@ ghost use Rattle.ccr_base.specs.Names.{has_task};
 ghost use Rattle.ccr_wiring.specs.declared.parts.Parts.{Parts};
 ghost use Rattle.ccr_wiring.specs.Valid.{HasGroups};
 ghost use Rattle.ccr_model.specs.declared.history.Event.{Event};
-ghost use Rattle.ccr_model.specs.declared.history.Event.TheVariants.{Admit, Fire};
+ghost use Rattle.ccr_model.specs.declared.history.Event.TheVariants.{Admit, Fire, Start};
 ghost use Rattle.ccr_model.specs.Firings.{cut, let_in, put, started};
 ghost use Rattle.ccr_model.specs.Legal.{IsLegal};
 ghost use Rattle.ccr_model.specs.Sites.{root_of};
 ghost use Rattle.ccr_model.specs.Tasks.{admitted, is_over};
 ghost use Rattle.ccr_laws.specs.AtWork.{is_at_work};
-ghost use Rattle.ccr_laws.specs.Interleaves.{fired_in, is_of_exclusive, is_of_interleave, tears_down};
+ghost use Rattle.ccr_laws.specs.Interleaves.{fired_in, is_of_exclusive, is_of_interleave, is_of_teardown, tears_down};
 
 /// After a teardown has fired no branch of its Interleave fires.
 pub fn after_a_teardown_no_branch_fires()
@@ -49,4 +49,9 @@ pub fn beside_an_exclusive_root_no_other_works()
     ensures until_over { (wiring : Parts) (history : List Event) → IsLegal wiring history → (interleave : ℕ) (root other : TaskId) → is_of_exclusive wiring history interleave root ≡ true → has_task (admitted wiring history interleave) root ≡ true → is_of_interleave wiring history interleave other ≡ true → is_at_work wiring history other ≡ true → root_of history other ≡ root }
     // while one of its segments is queued, runs or is suspended, no other task is
     ensures meanwhile { (wiring : Parts) (history : List Event) → IsLegal wiring history → (interleave : ℕ) (task other : TaskId) → is_of_exclusive wiring history interleave task ≡ true → is_at_work wiring history task ≡ true → is_of_interleave wiring history interleave other ≡ true → is_at_work wiring history other ≡ true → other ≡ task }
+{}
+
+/// After a task of a teardown branch has started no task of another root of its Interleave starts.
+pub fn after_a_teardown_task_no_other_starts()
+    ensures { (wiring : Parts) → HasGroups wiring → (interleave : ℕ) (before after : List Event) (task : TaskId) (actor : ℕ) → IsLegal wiring (before ++ Start task actor ∷ after) → is_of_teardown wiring (before ++ Start task actor ∷ after) interleave task ≡ true → (other : TaskId) → is_of_interleave wiring (before ++ Start task actor ∷ after) interleave other ≡ true → has_task (started after) other ≡ true → root_of (before ++ Start task actor ∷ after) other ≡ root_of (before ++ Start task actor ∷ after) task }
 {}
