@@ -1,7 +1,6 @@
 -- After a task of a teardown branch has started, no task of another root of its Interleave starts.
-use Rattle.std.proofs.Common.{◌≡◌, ℕ, Bool, true, false, not, ◌&&◌, ◌||◌, List, [], ◌∷◌, ◌++◌, map, Some, ◌⊎◌, inl, inr, refl, sym, arith, ap, ◌∙◌, subst, append_assoc, append-nil}
+use Rattle.std.proofs.Common.{◌≡◌, ℕ, Bool, true, false, not, ◌&&◌, List, [], ◌∷◌, ◌++◌, map, Some, ◌⊎◌, inl, inr, refl, sym, arith, ap, ◌∙◌, subst, append-nil, append_assoc}
 use Rattle.std.specs.Prelude.{◌==◌, if◌then◌else◌}
-use Rattle.std.specs.List.{list_any}
 use Rattle.std.specs.Option.{option_map_or}
 use Rattle.std.proofs.lemmas.Bool.Decides.{nat_tests}
 use Rattle.ccr_base.specs.declared.names.TaskId.{TaskId}
@@ -24,36 +23,15 @@ use Rattle.ccr_model.specs.Legal.{IsAllowed, IsLegal}
 use Rattle.ccr_model.proofs.PostNames.{both}
 use Rattle.ccr_model.proofs.Quiet.{some_of}
 use Rattle.ccr_model.proofs.Stable.{firing_named-append}
-use Rattle.ccr_model.proofs.Covered.{same_task-is, or_left, or_right}
 use Rattle.ccr_laws.specs.Interleaves.{is_seat_in, is_teardown_in, is_exclusive_in, tears_down, is_of_interleave, is_of_teardown, is_of_exclusive}
 use Rattle.ccr_laws.proofs.LegalParts.{along_legal, onward, Parted-legal}
-use Rattle.ccr_laws.proofs.TaskLists.{has_task-append, has_task-filter, has_task-without, not_true, neither}
-use Rattle.ccr_laws.proofs.TaskPlaces.{IsFired, IsFired-append, AreFired, ArePlaced-legal, StartFacts-allowed, started-push, has_oldest, of_more, of_one, among_left, seat_fired, seat_stays}
-use Rattle.ccr_laws.proofs.FiringFacts.{FiresSo, FiresSo-allowed, BranchFacts, BranchFacts-where}
+use Rattle.ccr_laws.proofs.TaskLists.{has_oldest, of_more, among_left, of_one, out_left, out_right, any_named, any_has}
+use Rattle.ccr_laws.proofs.TaskPlaces.{IsFired, IsFired-append, AreFired, ArePlaced-legal, StartFacts-allowed, started-push, seat_fired, seat_stays, seat_by}
+use Rattle.ccr_laws.proofs.FiringFacts.{FiresSo, FiresSo-allowed, BranchFacts, BranchFacts-where, waits_parts, waits_whole}
 use Rattle.ccr_laws.proofs.Cutting.{fired_by-append, cut-push, let_in-push, dead, AdmitFacts-allowed}
 use Rattle.ccr_laws.proofs.Ending.{last-push}
-use Rattle.ccr_laws.proofs.Roots.{root_stays, of_firing, other_firing, AreRooted-legal, any_named, last_fired, queued_works, at_work_admitted, seat_of_root}
+use Rattle.ccr_laws.proofs.Roots.{root_stays, of_firing, other_firing, AreRooted-legal, last_fired, queued_works, at_work_admitted, seat_of_root, AdmittedFacts-admitted, admitted_whole}
 use Rattle.ccr_laws.proofs.Exclusion.{alone}
-
--- a waiting task is one that fired there, neither admitted nor cut
-waits_parts : (w : Parts) (h : List Event) (i : ℕ) (t : TaskId) → has_task (waiting w h i) t ≡ true → (has_task (fired_by w (is_seat_in i) h) t ≡ true) × (has_task (let_in h) t ≡ false) × (has_task (cut h) t ≡ false)
-waits_parts w h i t is =
-    let parts = both (has_task (fired_by w (is_seat_in i) h) t) (not (has_task (let_in h ++ cut h) t)) (sym (has_task-without (fired_by w (is_seat_in i) h) (let_in h ++ cut h) t) ∙ is) in
-    let outs = neither (has_task (let_in h) t) (has_task (cut h) t) (sym (has_task-append (let_in h) (cut h) t) ∙ not_true (has_task (let_in h ++ cut h) t) parts.1) in
-    (parts.0, outs.0, outs.1)
-
-waits_whole : (w : Parts) (h : List Event) (i : ℕ) (t : TaskId) → has_task (fired_by w (is_seat_in i) h) t ≡ true → has_task (let_in h) t ≡ false → has_task (cut h) t ≡ false → has_task (waiting w h i) t ≡ true
-waits_whole w h i t fired_so not_let_in not_cut = has_task-without (fired_by w (is_seat_in i) h) (let_in h ++ cut h) t ∙ all_three (has_task (let_in h ++ cut h) t) (rw (has_task-append (let_in h) (cut h) t, not_let_in) not_cut)
-  where
-    all_three : (b : Bool) → b ≡ false → has_task (fired_by w (is_seat_in i) h) t && not b ≡ true
-    all_three b is = rw (is, fired_so) refl
-
--- out of a longer list, out of its first part
-out_left : (ts us : List TaskId) (t : TaskId) → has_task (ts ++ us) t ≡ false → has_task ts t ≡ false
-out_left ts us t is = (neither (has_task ts t) (has_task us t) (sym (has_task-append ts us t) ∙ is)).0
-
-out_right : (ts us : List TaskId) (t : TaskId) → has_task (ts ++ us) t ≡ false → has_task us t ≡ false
-out_right ts us t is = (neither (has_task ts t) (has_task us t) (sym (has_task-append ts us t) ∙ is)).1
 
 -- who waits after one more event waited before it, or fired by it; the event didn't cut him
 waits_before : (w : Parts) (h : List Event) (e : Event) (i : ℕ) (t : TaskId) → has_task (waiting w (h ++ e ∷ []) i) t ≡ true → ((has_task (waiting w h i) t ≡ true) ⊎ (has_task (fired_by w (is_seat_in i) (e ∷ [])) t ≡ true)) × (has_task (cut (e ∷ [])) t ≡ false)
@@ -138,15 +116,6 @@ let_in_fired w h legal = along_legal w (λ g. AreFired g (let_in g)) kept (λ t 
     kept : (g : List Event) (e : Event) → IsLegal w g → IsAllowed w g e → AreFired g (let_in g) → AreFired (g ++ e ∷ []) (let_in (g ++ e ∷ []))
     kept g e legal' allowed known t is = IsFired-append g (e ∷ []) t (of_more (let_in g) (admitted_by e) t (IsFired g t) (subst (λ ts. has_task ts t ≡ true) (let_in-push g e) is) (known t) (by_event g e allowed t))
 
--- some member passes the test
-any_has : (p : TaskId → Bool) (ts : List TaskId) (t : TaskId) → has_task ts t ≡ true → p t ≡ true → list_any p ts ≡ true
-any_has p [] t is passes = absurd (cc)
-any_has p (x ∷ ts) t is passes = of_test (same_task t x) refl is (λ rest. any_has p ts t rest passes)
-  where
-    of_test : (b : Bool) → same_task t x ≡ b → b || has_task ts t ≡ true → (has_task ts t ≡ true → list_any p ts ≡ true) → list_any p (x ∷ ts) ≡ true
-    of_test true e at rest = or_left (p x) (list_any p ts) (subst (λ y. p y ≡ true) (same_task-is t x e) passes)
-    of_test false e at rest = or_right (p x) (list_any p ts) (rest at)
-
 -- who is over stays over
 over_stays : (w : Parts) (h : List Event) (e : Event) (t : TaskId) → IsLegal w h → is_over h t ≡ true → is_over (h ++ e ∷ []) t ≡ true
 over_stays w h e t legal is =
@@ -161,24 +130,6 @@ not_over_before w h e t legal is = of_test (is_over h t) refl
     of_test : (b : Bool) → is_over h t ≡ b → b ≡ false
     of_test false e' = refl
     of_test true e' = let over = over_stays w h e t legal e' in absurd (cc)
-
--- an admitted root that isn't over
-record AdmittedFacts (w : Parts) (h : List Event) (i : ℕ) (t : TaskId) : Type 0 where
-  entered : has_task (let_in h) t ≡ true
-  within : is_in_arbiter w h i t ≡ true
-  lasts : is_over h t ≡ false
-
-AdmittedFacts-admitted : (w : Parts) (h : List Event) (i : ℕ) (t : TaskId) → has_task (admitted w h i) t ≡ true → AdmittedFacts w h i t
-AdmittedFacts-admitted w h i t is =
-    let parts = both (has_task (let_in h) t) (is_in_arbiter w h i t && not (is_over h t)) (sym (has_task-filter (λ u. is_in_arbiter w h i u && not (is_over h u)) (let_in h) t) ∙ is) in
-    let tests = both (is_in_arbiter w h i t) (not (is_over h t)) parts.1 in
-    record { entered = parts.0; within = tests.0; lasts = not_true (is_over h t) tests.1 }
-
-admitted_whole : (w : Parts) (h : List Event) (i : ℕ) (t : TaskId) → has_task (let_in h) t ≡ true → is_in_arbiter w h i t ≡ true → is_over h t ≡ false → has_task (admitted w h i) t ≡ true
-admitted_whole w h i t entered within lasts = has_task-filter (λ u. is_in_arbiter w h i u && not (is_over h u)) (let_in h) t ∙ all_three (has_task (let_in h) t) (is_in_arbiter w h i t) (is_over h t) entered within lasts
-  where
-    all_three : (a b c : Bool) → a ≡ true → b ≡ true → c ≡ false → a && (b && not c) ≡ true
-    all_three a b c is_a is_b is_c = rw (is_a, is_b, is_c) refl
 
 -- who is admitted after one more event was so before it, or enters by it
 admitted_before : (w : Parts) (h : List Event) (e : Event) (i : ℕ) (t : TaskId) → IsLegal w h → IsAllowed w h e → has_task (admitted w (h ++ e ∷ []) i) t ≡ true → (has_task (admitted w h i) t ≡ true) ⊎ ((has_task (admitted_by e) t ≡ true) × (is_in_arbiter w (h ++ e ∷ []) i t ≡ true))
@@ -216,12 +167,9 @@ torn_within w h i t is =
 root_tears : (w : Parts) (h : List Event) → IsLegal w h → (i : ℕ) (t : TaskId) → IsFired h t → is_of_teardown w h i t ≡ true → (f : Firing) × (firing_named h (root_of h t) ≡ Some f) × (tears_down w i f.spot ≡ true)
 root_tears w h legal i t fired is =
     let root = AreRooted-legal w h legal t fired.0 fired.1 in
-    let place : seat_of w h t ≡ seat w (branch_of fired.0.spot) = by_firing t fired.0 fired.1 in
+    let place : seat_of w h t ≡ seat w (branch_of fired.0.spot) = seat_by w h t fired.0 fired.1 in
     let passes : option_map_or (is_teardown_in i) (seat w (branch_of fired.0.spot)) false ≡ true = sym (ap (λ o. option_map_or (is_teardown_in i) o false) place) ∙ is in
     (root.0, root.1, subst (λ s. tears_down w i s ≡ true) (sym root.2) passes)
-  where
-    by_firing : (u : TaskId) (f : Firing) → firing_named h u ≡ Some f → seat_of w h u ≡ seat w (branch_of f.spot)
-    by_firing u f is' = rw is' refl
 
 -- of the events that follow a history: none but the root is admitted, and who starts has it as root
 record FollowFacts (w : Parts) (i : ℕ) (r : TaskId) (past done : List Event) : Type 0 where

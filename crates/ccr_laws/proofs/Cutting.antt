@@ -31,8 +31,8 @@ use Rattle.ccr_model.proofs.Stable.{firing_named-append}
 use Rattle.ccr_model.proofs.Allowing.{OneName, OneName-legal}
 use Rattle.ccr_laws.specs.Interleaves.{is_seat_in, is_teardown_in, tears_down, fired_in}
 use Rattle.ccr_laws.proofs.LegalParts.{along_legal, onward, Parted-legal}
-use Rattle.ccr_laws.proofs.TaskLists.{first_rest}
-use Rattle.ccr_laws.proofs.TaskPlaces.{IsFired, ArePlaced, ArePlaced-legal, PutFacts, PutFacts-allowed, put-push, has_oldest, of_more, of_one, not_one, among_left, not_more}
+use Rattle.ccr_laws.proofs.TaskLists.{first_rest, has_oldest, of_more, among_left, not_more, of_one, not_one}
+use Rattle.ccr_laws.proofs.TaskPlaces.{IsFired, ArePlaced, ArePlaced-legal, PutFacts, PutFacts-allowed, put-push}
 use Rattle.ccr_laws.proofs.FiringFacts.{FiresSo-allowed, BranchFacts, BranchFacts-where, WaitingFacts, WaitingFacts-waiting, fired_by_has, firing_named-new}
 
 -- an event later, a list longer

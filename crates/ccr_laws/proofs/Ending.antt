@@ -1,5 +1,5 @@
 -- Who ended, and how, along a legal history.
-use Rattle.std.proofs.Common.{◌≡◌, Bool, true, false, not, List, [], ◌∷◌, ◌++◌, option_to_list, ◌⊎◌, inl, inr, refl, sym, arith, ◌∙◌, append-nil}
+use Rattle.std.proofs.Common.{◌≡◌, Bool, true, false, not, List, [], ◌∷◌, ◌++◌, ◌⊎◌, inl, inr, refl, sym, arith, ◌∙◌, append-nil, option_to_list}
 use Rattle.std.proofs.lemmas.Grind.{common_steps}
 use Rattle.ccr_base.specs.declared.names.TaskId.{TaskId}
 use Rattle.ccr_base.specs.Names.{has_task}
@@ -14,8 +14,8 @@ use Rattle.ccr_model.specs.Legal.{IsAllowed, IsLegal}
 use Rattle.ccr_model.specs.Consequences.{are_distinct_tasks}
 use Rattle.ccr_model.proofs.PostNames.{both, refused_not}
 use Rattle.ccr_laws.proofs.LegalParts.{along_legal}
-use Rattle.ccr_laws.proofs.TaskLists.{has_task-without, not_true, distinct-push}
-use Rattle.ccr_laws.proofs.TaskPlaces.{ArePlaced-legal, PutFacts-allowed, QueuedFacts-queued, started-push, dropped-push, of_more, of_one, not_one, among_left, among_right, not_more}
+use Rattle.ccr_laws.proofs.TaskLists.{has_task-without, not_true, distinct-push, of_more, among_left, among_right, not_more, of_one, not_one, not_within}
+use Rattle.ccr_laws.proofs.TaskPlaces.{ArePlaced-legal, PutFacts-allowed, QueuedFacts-queued, started-push, dropped-push}
 
 pub ended-push : (h : List Event) (e : Event) → ended (h ++ e ∷ []) ≡ ended h ++ ended_by e
 ended-push h e = grind (arith, common_steps)
@@ -46,14 +46,6 @@ pub record EndLists (ss ds es ys ls : List TaskId) : Type 0 where
   pub once : are_distinct_tasks ys ≡ true
   pub last_ends : (t : TaskId) → has_task ls t ≡ true → (has_task es t ≡ true) ⊎ (has_task ds t ≡ true)
   pub not_both : (t : TaskId) → has_task ys t ≡ true → has_task ls t ≡ false
-
--- not in a list whose members would be in another
-not_within : (ts us : List TaskId) (t : TaskId) → (has_task ts t ≡ true → has_task us t ≡ true) → has_task us t ≡ false → has_task ts t ≡ false
-not_within ts us t within out = of_test (has_task ts t) refl
-  where
-    of_test : (b : Bool) → has_task ts t ≡ b → b ≡ false
-    of_test false e = refl
-    of_test true e = let there = within e in absurd (cc)
 
 EndLists-start : (ss ds es ys ls : List TaskId) (t : TaskId) → EndLists ss ds es ys ls → EndLists (ss ++ t ∷ []) ds es ys ls
 EndLists-start ss ds es ys ls t known = record {

@@ -1,5 +1,5 @@
 -- An exclusive or teardown root is alone from its admission until it is over.
-use Rattle.std.proofs.Common.{◌≡◌, ℕ, ◌≤◌, Bool, true, false, not, ◌&&◌, ◌||◌, List, [], ◌∷◌, ◌++◌, length, refl, sym, arith, ap, ◌∙◌, subst}
+use Rattle.std.proofs.Common.{◌≡◌, ℕ, ◌≤◌, Bool, true, false, not, ◌||◌, List, [], ◌∷◌, ◌++◌, length, refl, arith, ap, ◌∙◌, subst}
 use Rattle.std.specs.Prelude.{◌==◌, nat_le}
 use Rattle.std.specs.List.{list_all}
 use Rattle.std.specs.Option.{option_map_or}
@@ -19,30 +19,14 @@ use Rattle.ccr_model.specs.Rules.{is_concurrent_task}
 use Rattle.ccr_model.specs.Legal.{IsLegal}
 use Rattle.ccr_model.proofs.PostNames.{both}
 use Rattle.ccr_model.proofs.Quiet.{some_of}
-use Rattle.ccr_model.proofs.Covered.{same_task-is, or_left, or_right}
+use Rattle.ccr_model.proofs.Covered.{or_left, or_right}
 use Rattle.ccr_model.proofs.Allowing.{same_task-self}
 use Rattle.ccr_model.proofs.Alone.{is_alone-legal}
 use Rattle.ccr_laws.specs.AtWork.{is_at_work}
 use Rattle.ccr_laws.specs.Interleaves.{is_seat_in, is_exclusive_in, is_of_interleave, is_of_exclusive}
-use Rattle.ccr_laws.proofs.TaskLists.{has_task-append, has_task-filter, not_true}
-use Rattle.ccr_laws.proofs.TaskPlaces.{ArePlaced-legal, of_one}
-use Rattle.ccr_laws.proofs.Roots.{IsAtWork, at_work_admitted, one_at_work, work_so, seat_of_root}
-
--- over plain lists: the only one of at most one
-only_one : (ts : List TaskId) (t : TaskId) → has_task ts t ≡ true → length ts ≤ 1 → ts ≡ t ∷ []
-only_one [] t is few = absurd (cc)
-only_one (x ∷ []) t is few = let one : t ≡ x = of_one x t is in ap (λ y. y ∷ []) (sym one)
-only_one (x ∷ y ∷ ts) t is few = absurd (omega arith)
-
-all_pass : (p : TaskId → Bool) (ts : List TaskId) (t : TaskId) → has_task ts t ≡ true → list_all p ts ≡ true → p t ≡ true
-all_pass p [] t is all = absurd (cc)
-all_pass p (x ∷ ts) t is all =
-    let parts = both (p x) (list_all p ts) all in
-    of_test (same_task t x) refl is parts.0 (λ rest. all_pass p ts t rest parts.1)
-  where
-    of_test : (b : Bool) → same_task t x ≡ b → b || has_task ts t ≡ true → p x ≡ true → (has_task ts t ≡ true → p t ≡ true) → p t ≡ true
-    of_test true e at here rest = let one : t ≡ x = same_task-is t x e in rw one here
-    of_test false e at here rest = rest at
+use Rattle.ccr_laws.proofs.TaskLists.{has_task-append, not_true, of_one, only_one, passes_all}
+use Rattle.ccr_laws.proofs.TaskPlaces.{ArePlaced-legal}
+use Rattle.ccr_laws.proofs.Roots.{IsAtWork, at_work_admitted, one_at_work, work_so, seat_of_root, admitted_whole}
 
 -- whether the task's branch is concurrent, where it is an exclusive or teardown one of the Interleave
 not_concurrent : (w : Parts) (h : List Event) (i : ℕ) (t : TaskId) → is_of_exclusive w h i t ≡ true → is_concurrent_task w h t ≡ false
@@ -62,7 +46,7 @@ pub alone : (w : Parts) (h : List Event) → IsLegal w h → (i : ℕ) (t : Task
 alone w h legal i t exclusive is = of_test (list_all (is_concurrent_task w h) (admitted w h i)) refl (is_alone-legal w h legal i)
   where
     of_test : (b : Bool) → list_all (is_concurrent_task w h) (admitted w h i) ≡ b → b || nat_le (length (admitted w h i)) 1 ≡ true → admitted w h i ≡ t ∷ []
-    of_test true e one = let passes = all_pass (is_concurrent_task w h) (admitted w h i) t is e in let fails = not_concurrent w h i t exclusive in absurd (cc)
+    of_test true e one = let passes = passes_all (is_concurrent_task w h) (admitted w h i) t is e in let fails = not_concurrent w h i t exclusive in absurd (cc)
     of_test false e one = let few : length (admitted w h i) ≤ 1 = grind (arith, nat_tests, one) in only_one (admitted w h i) t is few
 
 -- from the admission on until it is over
@@ -74,13 +58,10 @@ alone_since w i before since t legal exclusive lasts =
     let parts = both (is_seat_in i found.0) (not (is_concurrent found.0.branch.group)) found.2 in
     let number = (both (is_interleave found.0.kind) (found.0.arbiter == i) parts.0).1 in
     let there : is_in_arbiter w h i t ≡ true = ap (λ o. option_map_or (λ (s : Seat). s.arbiter == i) o false) found.1 ∙ number in
-    alone w h legal i t exclusive (has_task-filter (λ u. is_in_arbiter w h i u && not (is_over h u)) (let_in h) t ∙ all_three (has_task (let_in h) t) (is_in_arbiter w h i t) (is_over h t) entered there lasts)
+    alone w h legal i t exclusive (admitted_whole w h i t entered there lasts)
   where
     let_in_more : let_in (before ++ Admit t ∷ since) ≡ let_in before ++ t ∷ let_in since
     let_in_more = grind (arith, common_steps)
-
-    all_three : (a b c : Bool) → a ≡ true → b ≡ true → c ≡ false → a && (b && not c) ≡ true
-    all_three a b c is_a is_b is_c = rw (is_a, is_b, is_c) refl
 
 -- only its segments are at work
 pub own_segments : (w : Parts) (h : List Event) → IsLegal w h → (i : ℕ) (t u : TaskId) → is_of_exclusive w h i t ≡ true → has_task (admitted w h i) t ≡ true → is_of_interleave w h i u ≡ true → is_at_work w h u ≡ true → root_of h u ≡ t

@@ -1,5 +1,5 @@
 -- What an allowed firing says, and who fired where.
-use Rattle.std.proofs.Common.{◌≡◌, ℕ, Bool, true, false, not, ◌||◌, List, [], ◌∷◌, ◌++◌, map, filter, Some, None, inl, inr, refl, sym, arith, ap, ◌∙◌, subst, append-nil}
+use Rattle.std.proofs.Common.{◌≡◌, ℕ, Bool, true, false, not, ◌&&◌, ◌||◌, List, [], ◌∷◌, ◌++◌, map, filter, Some, None, inl, inr, refl, sym, arith, ap, ◌∙◌, subst, append-nil}
 use Rattle.std.specs.Prelude.{if◌then◌else◌, find, nat_le}
 use Rattle.std.proofs.lemmas.Bool.Decides.{nat_tests}
 use Rattle.ccr_base.specs.declared.names.TaskId.{TaskId}
@@ -161,6 +161,19 @@ BranchFacts-where w test (Branch b) is =
     record { number = b; is_branch = refl; place = found.0; is_place = found.1; passes = found.2 }
 BranchFacts-where w test (Site b k) is = absurd (cc)
 
+-- a waiting task is one that fired there, neither admitted nor cut
+pub waits_parts : (w : Parts) (h : List Event) (i : ℕ) (t : TaskId) → has_task (waiting w h i) t ≡ true → (has_task (fired_by w (is_seat_in i) h) t ≡ true) × (has_task (let_in h) t ≡ false) × (has_task (cut h) t ≡ false)
+waits_parts w h i t is =
+    let parts = both (has_task (fired_by w (is_seat_in i) h) t) (not (has_task (let_in h ++ cut h) t)) (sym (has_task-without (fired_by w (is_seat_in i) h) (let_in h ++ cut h) t) ∙ is) in
+    let outs = neither (has_task (let_in h) t) (has_task (cut h) t) (sym (has_task-append (let_in h) (cut h) t) ∙ not_true (has_task (let_in h ++ cut h) t) parts.1) in
+    (parts.0, outs.0, outs.1)
+
+pub waits_whole : (w : Parts) (h : List Event) (i : ℕ) (t : TaskId) → has_task (fired_by w (is_seat_in i) h) t ≡ true → has_task (let_in h) t ≡ false → has_task (cut h) t ≡ false → has_task (waiting w h i) t ≡ true
+waits_whole w h i t fired_so not_let_in not_cut = has_task-without (fired_by w (is_seat_in i) h) (let_in h ++ cut h) t ∙ all_three (has_task (let_in h ++ cut h) t) (rw (has_task-append (let_in h) (cut h) t, not_let_in) not_cut)
+  where
+    all_three : (b : Bool) → b ≡ false → has_task (fired_by w (is_seat_in i) h) t && not b ≡ true
+    all_three b is = rw (is, fired_so) refl
+
 -- a waiting task: a branch of the Interleave fired it, and it was neither admitted nor cut
 pub record WaitingFacts (w : Parts) (h : List Event) (i : ℕ) (t : TaskId) : Type 0 where
   pub firing : Firing
@@ -171,7 +184,6 @@ pub record WaitingFacts (w : Parts) (h : List Event) (i : ℕ) (t : TaskId) : Ty
 
 pub WaitingFacts-waiting : (w : Parts) (h : List Event) (i : ℕ) (t : TaskId) → OneName h → has_task (waiting w h i) t ≡ true → WaitingFacts w h i t
 WaitingFacts-waiting w h i t one is =
-    let parts = both (has_task (fired_by w (is_seat_in i) h) t) (not (has_task (let_in h ++ cut h) t)) (sym (has_task-without (fired_by w (is_seat_in i) h) (let_in h ++ cut h) t) ∙ is) in
-    let outs = neither (has_task (let_in h) t) (has_task (cut h) t) (sym (has_task-append (let_in h) (cut h) t) ∙ not_true (has_task (let_in h ++ cut h) t) parts.1) in
+    let parts = waits_parts w h i t is in
     let found = fired_by_named w (is_seat_in i) h t one parts.0 in
-    record { firing = found.0; is_firing = found.1; is_branch = found.2; not_let_in = outs.0; not_cut = outs.1 }
+    record { firing = found.0; is_firing = found.1; is_branch = found.2; not_let_in = parts.1; not_cut = parts.2 }

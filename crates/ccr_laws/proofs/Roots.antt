@@ -1,7 +1,6 @@
 -- The roots of tasks: each has one latest segment, and whoever of an Interleave is at work has an admitted root.
 use Rattle.std.proofs.Common.{◌≡◌, ℕ, suc, Bool, true, false, not, ◌&&◌, ◌||◌, List, [], ◌∷◌, ◌++◌, Some, ◌⊎◌, inl, inr, refl, sym, ap, ◌∙◌, subst}
 use Rattle.std.specs.Prelude.{◌==◌}
-use Rattle.std.specs.List.{list_any}
 use Rattle.std.specs.Option.{option_map_or}
 use Rattle.ccr_base.specs.declared.names.TaskId.{TaskId}
 use Rattle.ccr_base.specs.declared.names.MsgId.{MsgId}
@@ -22,13 +21,13 @@ use Rattle.ccr_model.proofs.PostNames.{both}
 use Rattle.ccr_model.proofs.Quiet.{some_of}
 use Rattle.ccr_model.proofs.TaskSteps.{firing_named-fire}
 use Rattle.ccr_model.proofs.Stable.{firing_named-append, root_at-append}
-use Rattle.ccr_model.proofs.Covered.{same_task-is, or_left, or_right}
+use Rattle.ccr_model.proofs.Covered.{same_task-is}
 use Rattle.ccr_model.proofs.Allowing.{same_task-self}
 use Rattle.ccr_laws.specs.AtWork.{is_queued, is_suspended, is_at_work}
 use Rattle.ccr_laws.specs.Interleaves.{is_seat_in, is_of_interleave}
 use Rattle.ccr_laws.proofs.LegalParts.{along_legal}
-use Rattle.ccr_laws.proofs.TaskLists.{has_task-filter}
-use Rattle.ccr_laws.proofs.TaskPlaces.{IsFired, ArePlaced-legal, QueuedFacts-queued, among_left}
+use Rattle.ccr_laws.proofs.TaskLists.{has_task-filter, among_left, not_within, any_named, not_true}
+use Rattle.ccr_laws.proofs.TaskPlaces.{IsFired, ArePlaced-legal, QueuedFacts-queued, seat_by}
 use Rattle.ccr_laws.proofs.FiringFacts.{FiresSo-allowed, not_new, firing_named-new, before-new, firings-other}
 use Rattle.ccr_laws.proofs.Cutting.{CutFacts-legal, let_in-push}
 use Rattle.ccr_laws.proofs.Ending.{AreEnded-legal, RunningFacts-running}
@@ -180,15 +179,6 @@ IsOneEach_kept w h (End x how) legal allowed known = one_each_other w h (End x h
 pub IsOneEach-legal : (w : Parts) (h : List Event) → IsLegal w h → IsOneEach h
 IsOneEach-legal w h legal = along_legal w IsOneEach (IsOneEach_kept w) (λ t u ft fu nt nu same. absurd (cc)) h legal
 
--- who passes a test that some member passes
-pub any_named : (p : TaskId → Bool) (ts : List TaskId) → list_any p ts ≡ true → (t : TaskId) × (has_task ts t ≡ true) × (p t ≡ true)
-any_named p [] is = absurd (cc)
-any_named p (x ∷ ts) is = of_test (p x) refl is (any_named p ts)
-  where
-    of_test : (b : Bool) → p x ≡ b → b || list_any p ts ≡ true → (list_any p ts ≡ true → (t : TaskId) × (has_task ts t ≡ true) × (p t ≡ true)) → (t : TaskId) × (has_task (x ∷ ts) t ≡ true) × (p t ≡ true)
-    of_test true e at rest = (x, or_left (same_task x x) (has_task ts x) (same_task-self x), e)
-    of_test false e at rest = let r = rest at in (r.0, or_right (same_task r.0 x) (has_task ts r.0) r.1, r.2)
-
 pub last_fired : (w : Parts) (h : List Event) → IsLegal w h → (t : TaskId) → has_task (last_segments h) t ≡ true → IsFired h t
 last_fired w h legal t is = of_case ((AreEnded-legal w h legal).last_ends t is)
   where
@@ -283,11 +273,26 @@ AreLetIn-legal w h legal = along_legal w (AreLetIn w) (AreLetIn_kept w) (λ t f 
 pub seat_of_root : (w : Parts) (h : List Event) → IsLegal w h → (t : TaskId) → IsFired h t → seat_of w h (root_of h t) ≡ seat_of w h t
 seat_of_root w h legal t fired =
     let root = AreRooted-legal w h legal t fired.0 fired.1 in
-    let of_root : seat_of w h (root_of h t) ≡ seat w (branch_of fired.0.spot) = by_firing (root_of h t) root.0 root.1 ∙ ap (λ s. seat w (branch_of s)) root.2 in
-    of_root ∙ sym (by_firing t fired.0 fired.1)
+    let of_root : seat_of w h (root_of h t) ≡ seat w (branch_of fired.0.spot) = seat_by w h (root_of h t) root.0 root.1 ∙ ap (λ s. seat w (branch_of s)) root.2 in
+    of_root ∙ sym (seat_by w h t fired.0 fired.1)
+
+-- an admitted root that isn't over
+pub record AdmittedFacts (w : Parts) (h : List Event) (i : ℕ) (t : TaskId) : Type 0 where
+  pub entered : has_task (let_in h) t ≡ true
+  pub within : is_in_arbiter w h i t ≡ true
+  pub lasts : is_over h t ≡ false
+
+pub AdmittedFacts-admitted : (w : Parts) (h : List Event) (i : ℕ) (t : TaskId) → has_task (admitted w h i) t ≡ true → AdmittedFacts w h i t
+AdmittedFacts-admitted w h i t is =
+    let parts = both (has_task (let_in h) t) (is_in_arbiter w h i t && not (is_over h t)) (sym (has_task-filter (λ u. is_in_arbiter w h i u && not (is_over h u)) (let_in h) t) ∙ is) in
+    let tests = both (is_in_arbiter w h i t) (not (is_over h t)) parts.1 in
+    record { entered = parts.0; within = tests.0; lasts = not_true (is_over h t) tests.1 }
+
+pub admitted_whole : (w : Parts) (h : List Event) (i : ℕ) (t : TaskId) → has_task (let_in h) t ≡ true → is_in_arbiter w h i t ≡ true → is_over h t ≡ false → has_task (admitted w h i) t ≡ true
+admitted_whole w h i t entered within lasts = has_task-filter (λ u. is_in_arbiter w h i u && not (is_over h u)) (let_in h) t ∙ all_three (has_task (let_in h) t) (is_in_arbiter w h i t) (is_over h t) entered within lasts
   where
-    by_firing : (u : TaskId) (f : Firing) → firing_named h u ≡ Some f → seat_of w h u ≡ seat w (branch_of f.spot)
-    by_firing u f is = rw is refl
+    all_three : (a b c : Bool) → a ≡ true → b ≡ true → c ≡ false → a && (b && not c) ≡ true
+    all_three a b c is_a is_b is_c = rw (is_a, is_b, is_c) refl
 
 -- who of an Interleave is at work has a root that was admitted and isn't over
 pub at_work_admitted : (w : Parts) (h : List Event) → IsLegal w h → (i : ℕ) (t : TaskId) → is_of_interleave w h i t ≡ true → IsAtWork h t → has_task (admitted w h i) (root_of h t) ≡ true
@@ -295,26 +300,10 @@ at_work_admitted w h legal i t within work =
     let fired = (ArePlaced-legal w h legal).all_fired t work.put_so in
     let found = some_of (is_seat_in i) (seat_of w h t) within in
     let parts = both (is_interleave found.0.kind) (found.0.arbiter == i) found.2 in
-    let place : seat w (branch_of fired.0.spot) ≡ Some found.0 = seat_by fired.0 fired.1 found.0 found.1 in
+    let place : seat w (branch_of fired.0.spot) ≡ Some found.0 = sym (seat_by w h t fired.0 fired.1) ∙ found.1 in
     let entered = put_let_in w h legal (AreLetIn-legal w h legal) t fired.0 fired.0.spot found.0 work.put_so fired.1 refl place parts.0 in
-    let there : is_in_arbiter w h i (root_of h t) ≡ true = in_arbiter found.0 (seat_of_root w h legal t fired ∙ found.1) parts.1 in
-    has_task-filter (λ u. is_in_arbiter w h i u && not (is_over h u)) (let_in h) (root_of h t) ∙ all_three (has_task (let_in h) (root_of h t)) (is_in_arbiter w h i (root_of h t)) (is_over h (root_of h t)) entered there (not_over w h legal t work)
-  where
-    seat_by : (f : Firing) → firing_named h t ≡ Some f → (z : Seat) → seat_of w h t ≡ Some z → seat w (branch_of f.spot) ≡ Some z
-    seat_by f is z at = rw is at at
-
-    in_arbiter : (z : Seat) → seat_of w h (root_of h t) ≡ Some z → (z.arbiter == i) ≡ true → is_in_arbiter w h i (root_of h t) ≡ true
-    in_arbiter z is same = ap (λ o. option_map_or (λ (s : Seat). s.arbiter == i) o false) is ∙ same
-
-    all_three : (a b c : Bool) → a ≡ true → b ≡ true → c ≡ false → a && (b && not c) ≡ true
-    all_three a b c is_a is_b is_c = rw (is_a, is_b, is_c) refl
-
-not_within : (ts us : List TaskId) (t : TaskId) → (has_task ts t ≡ true → has_task us t ≡ true) → has_task us t ≡ false → has_task ts t ≡ false
-not_within ts us t within out = of_test (has_task ts t) refl
-  where
-    of_test : (b : Bool) → has_task ts t ≡ b → b ≡ false
-    of_test false e = refl
-    of_test true e = let there = within e in absurd (cc)
+    let there : is_in_arbiter w h i (root_of h t) ≡ true = ap (λ o. option_map_or (λ (s : Seat). s.arbiter == i) o false) (seat_of_root w h legal t fired ∙ found.1) ∙ parts.1 in
+    admitted_whole w h i (root_of h t) entered there (not_over w h legal t work)
 
 unfinished_last : (w : Parts) (h : List Event) → IsLegal w h → (t : TaskId) → has_task (ended h) t ≡ false → has_task (dropped h) t ≡ false → has_task (last_segments h) t ≡ false
 unfinished_last w h legal t not_ended not_dropped = not_within (last_segments h) (ended h) t (λ is. of_case ((AreEnded-legal w h legal).last_ends t is)) not_ended

@@ -1,5 +1,5 @@
 -- Who is suspended, and for whom another task goes on.
-use Rattle.std.proofs.Common.{◌≡◌, ℕ, zero, suc, ◌<◌, ◌≤◌, Bool, true, false, not, ◌&&◌, List, [], ◌∷◌, ◌++◌, length, drop, filter, Some, refl, sym, arith, ap, ◌∙◌, subst, append-nil, length-append}
+use Rattle.std.proofs.Common.{◌≡◌, ℕ, suc, ◌≤◌, Bool, true, false, not, ◌&&◌, List, [], ◌∷◌, ◌++◌, length, filter, Some, refl, sym, arith, ap, ◌∙◌, subst, append-nil, length-append}
 use Rattle.std.specs.Prelude.{◌==◌, if◌then◌else◌, option_map}
 use Rattle.std.proofs.lemmas.Grind.{common_steps}
 use Rattle.std.proofs.lemmas.Bool.Decides.{nat_tests}
@@ -26,8 +26,8 @@ use Rattle.ccr_model.proofs.Covered.{some_map, or_left, or_right}
 use Rattle.ccr_model.proofs.Allowing.{same_task-self}
 use Rattle.ccr_laws.specs.AtWork.{is_suspended}
 use Rattle.ccr_laws.proofs.LegalParts.{along_legal}
-use Rattle.ccr_laws.proofs.TaskLists.{has_task-filter, has_task-append, filter_on, filter_append, distinct-filter, not_true}
-use Rattle.ccr_laws.proofs.TaskPlaces.{IsFired, ArePlaced-legal, has_oldest, of_more, of_one}
+use Rattle.ccr_laws.proofs.TaskLists.{has_task-filter, has_task-append, filter_on, filter_append, distinct-filter, not_true, has_oldest, of_more, of_one, has_task-drop, distinct-drop, drop_behind, drop_one_more, drop_some}
+use Rattle.ccr_laws.proofs.TaskPlaces.{IsFired, ArePlaced-legal}
 use Rattle.ccr_laws.proofs.FiringFacts.{FiresSo-allowed, firings-other}
 use Rattle.ccr_laws.proofs.Ending.{AreEnded-legal, RunningFacts-allowed, yielded-push}
 
@@ -51,34 +51,6 @@ fired_at-other h e site none = rw (firings-other h e none) refl
 
 fired_at-fire : (h : List Event) (t : TaskId) (s : Spot) (ms : List MsgId) (cs : List TaskId) (site : Spot) → fired_at (h ++ Fire t s ms cs ∷ []) site ≡ fired_at h site ++ (if same_spot s site then t ∷ [] else [])
 fired_at-fire h t s ms cs site = grind (arith, common_steps)
-
--- over plain lists
-has_task-drop : (n : ℕ) (ts : List TaskId) (t : TaskId) → has_task (drop n ts) t ≡ true → has_task ts t ≡ true
-has_task-drop zero ts t is = is
-has_task-drop (suc n) [] t is = is
-has_task-drop (suc n) (x ∷ ts) t is = or_right (same_task t x) (has_task ts t) (has_task-drop n ts t is)
-
-distinct-drop : (n : ℕ) (ts : List TaskId) → are_distinct_tasks ts ≡ true → are_distinct_tasks (drop n ts) ≡ true
-distinct-drop zero ts is = is
-distinct-drop (suc n) [] is = is
-distinct-drop (suc n) (x ∷ ts) is = distinct-drop n ts (both (not (has_task ts x)) (are_distinct_tasks ts) is).1
-
-drop_behind : (n : ℕ) (ts us : List TaskId) → n ≤ length ts → drop n (ts ++ us) ≡ drop n ts ++ us
-drop_behind zero ts us few = refl
-drop_behind (suc n) [] us few = absurd (omega arith)
-drop_behind (suc n) (x ∷ ts) us few = drop_behind n ts us (omega arith)
-
-drop_one_more : (n : ℕ) (ts us : List TaskId) (t : TaskId) → drop n ts ≡ t ∷ us → drop (suc n) ts ≡ us
-drop_one_more zero [] us t is = absurd (cc)
-drop_one_more zero (x ∷ ts) us t is = cc
-drop_one_more (suc n) [] us t is = absurd (cc)
-drop_one_more (suc n) (x ∷ ts) us t is = drop_one_more n ts us t is
-
-drop_some : (n : ℕ) (ts us : List TaskId) (t : TaskId) → drop n ts ≡ t ∷ us → n < length ts
-drop_some zero [] us t is = absurd (cc)
-drop_some zero (x ∷ ts) us t is = omega arith
-drop_some (suc n) [] us t is = absurd (cc)
-drop_some (suc n) (x ∷ ts) us t is = let less = drop_some n ts us t is in omega arith
 
 -- the first of those suspended where a site is live
 not_empty : (ts : List TaskId) → not (is_none_of ts) ≡ true → (t : TaskId) × (us : List TaskId) × (ts ≡ t ∷ us)

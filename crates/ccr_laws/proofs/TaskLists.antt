@@ -1,6 +1,7 @@
 -- Over plain lists of tasks: who stands in a list, in part of it, and in two lists.
-use Rattle.std.proofs.Common.{◌≡◌, Bool, true, false, not, ◌&&◌, ◌||◌, List, [], ◌∷◌, ◌++◌, filter, refl, arith}
+use Rattle.std.proofs.Common.{◌≡◌, ℕ, zero, suc, ◌<◌, ◌≤◌, Bool, true, false, not, ◌&&◌, ◌||◌, List, [], ◌∷◌, ◌++◌, length, drop, filter, refl, sym, arith, ap, ◌∙◌, subst}
 use Rattle.std.specs.Prelude.{if◌then◌else◌}
+use Rattle.std.specs.List.{list_any, list_all}
 use Rattle.std.proofs.lemmas.Grind.{common_steps}
 use Rattle.std.proofs.lemmas.Bool.Decides.{nat_tests}
 use Rattle.ccr_base.specs.declared.names.TaskId.{TaskId}
@@ -123,3 +124,119 @@ pub without_first : (ts : List TaskId) (t : TaskId) → are_distinct_tasks (t �
 without_first ts t is =
     let out = not_true (has_task ts t) (both (not (has_task ts t)) (are_distinct_tasks ts) is).0 in
     rw same_task-self (without_other ts t out)
+
+-- an oldest task is one of its list
+pub has_oldest : (ts us : List TaskId) (t : TaskId) → ts ≡ t ∷ us → has_task ts t ≡ true
+has_oldest ts us t is = rw (is, same_task-self) refl
+
+-- one or the other
+pub either : (a b : Bool) → a || b ≡ true → (C : Type 0) → (a ≡ true → C) → (b ≡ true → C) → C
+either true b is C one other = one refl
+either false b is C one other = other is
+
+-- one of a longer list is one of the first or one of those behind
+pub of_more : (ts us : List TaskId) (t : TaskId) (C : Type 0) → has_task (ts ++ us) t ≡ true → (has_task ts t ≡ true → C) → (has_task us t ≡ true → C) → C
+of_more ts us t C is one other = either (has_task ts t) (has_task us t) (sym (has_task-append ts us t) ∙ is) C one other
+
+pub among_left : (ts us : List TaskId) (t : TaskId) → has_task ts t ≡ true → has_task (ts ++ us) t ≡ true
+among_left ts us t is = rw has_task-append (or_left (has_task ts t) (has_task us t) is)
+
+pub among_right : (ts us : List TaskId) (t : TaskId) → has_task us t ≡ true → has_task (ts ++ us) t ≡ true
+among_right ts us t is = rw has_task-append (or_right (has_task ts t) (has_task us t) is)
+
+pub not_more : (ts us : List TaskId) (t : TaskId) → has_task ts t ≡ false → has_task us t ≡ false → has_task (ts ++ us) t ≡ false
+not_more ts us t one other = rw (has_task-append ts us t, one) other
+
+-- one of one
+pub of_one : (t u : TaskId) → has_task (t ∷ []) u ≡ true → u ≡ t
+of_one t u is = of_test (same_task u t) refl is
+  where
+    of_test : (b : Bool) → same_task u t ≡ b → b || false ≡ true → u ≡ t
+    of_test true e f = same_task-is u t e
+    of_test false e f = absurd (cc)
+
+-- not in a list of one
+pub not_one : (t u : TaskId) (ts : List TaskId) → has_task ts t ≡ false → has_task ts u ≡ true → has_task (t ∷ []) u ≡ false
+not_one t u ts out within = of_test (has_task (t ∷ []) u) refl
+  where
+    of_test : (b : Bool) → has_task (t ∷ []) u ≡ b → b ≡ false
+    of_test false e = refl
+    of_test true e = let one : u ≡ t = of_one t u e in absurd (cc)
+
+-- not in a list whose members would be in another
+pub not_within : (ts us : List TaskId) (t : TaskId) → (has_task ts t ≡ true → has_task us t ≡ true) → has_task us t ≡ false → has_task ts t ≡ false
+not_within ts us t within out = of_test (has_task ts t) refl
+  where
+    of_test : (b : Bool) → has_task ts t ≡ b → b ≡ false
+    of_test false e = refl
+    of_test true e = let there = within e in absurd (cc)
+
+-- out of a longer list, out of its first part
+pub out_left : (ts us : List TaskId) (t : TaskId) → has_task (ts ++ us) t ≡ false → has_task ts t ≡ false
+out_left ts us t is = (neither (has_task ts t) (has_task us t) (sym (has_task-append ts us t) ∙ is)).0
+
+pub out_right : (ts us : List TaskId) (t : TaskId) → has_task (ts ++ us) t ≡ false → has_task us t ≡ false
+out_right ts us t is = (neither (has_task ts t) (has_task us t) (sym (has_task-append ts us t) ∙ is)).1
+
+-- who passes a test that some member passes
+pub any_named : (p : TaskId → Bool) (ts : List TaskId) → list_any p ts ≡ true → (t : TaskId) × (has_task ts t ≡ true) × (p t ≡ true)
+any_named p [] is = absurd (cc)
+any_named p (x ∷ ts) is = of_test (p x) refl is (any_named p ts)
+  where
+    of_test : (b : Bool) → p x ≡ b → b || list_any p ts ≡ true → (list_any p ts ≡ true → (t : TaskId) × (has_task ts t ≡ true) × (p t ≡ true)) → (t : TaskId) × (has_task (x ∷ ts) t ≡ true) × (p t ≡ true)
+    of_test true e at rest = (x, or_left (same_task x x) (has_task ts x) (same_task-self x), e)
+    of_test false e at rest = let r = rest at in (r.0, or_right (same_task r.0 x) (has_task ts r.0) r.1, r.2)
+
+-- some member passes the test
+pub any_has : (p : TaskId → Bool) (ts : List TaskId) (t : TaskId) → has_task ts t ≡ true → p t ≡ true → list_any p ts ≡ true
+any_has p [] t is passes = absurd (cc)
+any_has p (x ∷ ts) t is passes = of_test (same_task t x) refl is (λ rest. any_has p ts t rest passes)
+  where
+    of_test : (b : Bool) → same_task t x ≡ b → b || has_task ts t ≡ true → (has_task ts t ≡ true → list_any p ts ≡ true) → list_any p (x ∷ ts) ≡ true
+    of_test true e at rest = or_left (p x) (list_any p ts) (subst (λ y. p y ≡ true) (same_task-is t x e) passes)
+    of_test false e at rest = or_right (p x) (list_any p ts) (rest at)
+
+-- the only one of at most one
+pub only_one : (ts : List TaskId) (t : TaskId) → has_task ts t ≡ true → length ts ≤ 1 → ts ≡ t ∷ []
+only_one [] t is few = absurd (cc)
+only_one (x ∷ []) t is few = let one : t ≡ x = of_one x t is in ap (λ y. y ∷ []) (sym one)
+only_one (x ∷ y ∷ ts) t is few = absurd (omega arith)
+
+-- one of whom all pass
+pub passes_all : (p : TaskId → Bool) (ts : List TaskId) (t : TaskId) → has_task ts t ≡ true → list_all p ts ≡ true → p t ≡ true
+passes_all p [] t is all = absurd (cc)
+passes_all p (x ∷ ts) t is all =
+    let parts = both (p x) (list_all p ts) all in
+    of_test (same_task t x) refl is parts.0 (λ rest. passes_all p ts t rest parts.1)
+  where
+    of_test : (b : Bool) → same_task t x ≡ b → b || has_task ts t ≡ true → p x ≡ true → (has_task ts t ≡ true → p t ≡ true) → p t ≡ true
+    of_test true e at here rest = let one : t ≡ x = same_task-is t x e in rw one here
+    of_test false e at here rest = rest at
+
+-- without the first ones
+pub has_task-drop : (n : ℕ) (ts : List TaskId) (t : TaskId) → has_task (drop n ts) t ≡ true → has_task ts t ≡ true
+has_task-drop zero ts t is = is
+has_task-drop (suc n) [] t is = is
+has_task-drop (suc n) (x ∷ ts) t is = or_right (same_task t x) (has_task ts t) (has_task-drop n ts t is)
+
+pub distinct-drop : (n : ℕ) (ts : List TaskId) → are_distinct_tasks ts ≡ true → are_distinct_tasks (drop n ts) ≡ true
+distinct-drop zero ts is = is
+distinct-drop (suc n) [] is = is
+distinct-drop (suc n) (x ∷ ts) is = distinct-drop n ts (both (not (has_task ts x)) (are_distinct_tasks ts) is).1
+
+pub drop_behind : (n : ℕ) (ts us : List TaskId) → n ≤ length ts → drop n (ts ++ us) ≡ drop n ts ++ us
+drop_behind zero ts us few = refl
+drop_behind (suc n) [] us few = absurd (omega arith)
+drop_behind (suc n) (x ∷ ts) us few = drop_behind n ts us (omega arith)
+
+pub drop_one_more : (n : ℕ) (ts us : List TaskId) (t : TaskId) → drop n ts ≡ t ∷ us → drop (suc n) ts ≡ us
+drop_one_more zero [] us t is = absurd (cc)
+drop_one_more zero (x ∷ ts) us t is = cc
+drop_one_more (suc n) [] us t is = absurd (cc)
+drop_one_more (suc n) (x ∷ ts) us t is = drop_one_more n ts us t is
+
+pub drop_some : (n : ℕ) (ts us : List TaskId) (t : TaskId) → drop n ts ≡ t ∷ us → n < length ts
+drop_some zero [] us t is = absurd (cc)
+drop_some zero (x ∷ ts) us t is = omega arith
+drop_some (suc n) [] us t is = absurd (cc)
+drop_some (suc n) (x ∷ ts) us t is = let less = drop_some n ts us t is in omega arith

@@ -1,5 +1,5 @@
 -- Who was put, who started and who was dropped, along a legal history.
-use Rattle.std.proofs.Common.{◌≡◌, ℕ, Bool, true, false, not, ◌&&◌, ◌||◌, List, [], ◌∷◌, ◌++◌, Option, Some, None, option_to_list, refl, sym, arith, ap, ◌∙◌, subst, append-nil}
+use Rattle.std.proofs.Common.{◌≡◌, ℕ, Bool, true, false, not, ◌&&◌, ◌||◌, List, [], ◌∷◌, ◌++◌, Option, Some, None, refl, sym, arith, ap, ◌∙◌, subst, append-nil, option_to_list}
 use Rattle.std.specs.Prelude.{if◌then◌else◌, nat_le, option_map}
 use Rattle.std.specs.Option.{option_map_or}
 use Rattle.std.proofs.lemmas.Grind.{common_steps}
@@ -20,9 +20,9 @@ use Rattle.ccr_model.specs.Consequences.{are_distinct_tasks}
 use Rattle.ccr_model.proofs.PostNames.{along, both, refused_not}
 use Rattle.ccr_model.proofs.Quiet.{some_of, some_then}
 use Rattle.ccr_model.proofs.Stable.{firing_named-append}
-use Rattle.ccr_model.proofs.Covered.{same_task-is, some_map, or_left, or_right}
+use Rattle.ccr_model.proofs.Covered.{same_task-is, some_map, or_left}
 use Rattle.ccr_model.proofs.Allowing.{same_task-self}
-use Rattle.ccr_laws.proofs.TaskLists.{has_task-append, has_task-filter, has_task-without, not_true, neither, first_rest, distinct-push}
+use Rattle.ccr_laws.proofs.TaskLists.{has_task-append, has_task-filter, has_task-without, not_true, neither, first_rest, distinct-push, has_oldest, of_more, among_left, not_more, of_one}
 
 -- the task fired
 abbrev pub IsFired : List Event → TaskId → Type 0
@@ -40,6 +40,10 @@ pub seat_fired : (w : Parts) (h : List Event) (t : TaskId) (s : Seat) → seat_o
 seat_fired w h t s is =
     let placed = some_then (λ spot. seat w (branch_of spot)) (spot_of h t) s is in
     some_map (λ (f : Firing). f.spot) (firing_named h t) placed.0 placed.1
+
+-- the seat of a task that fired
+pub seat_by : (w : Parts) (h : List Event) (t : TaskId) (f : Firing) → firing_named h t ≡ Some f → seat_of w h t ≡ seat w (branch_of f.spot)
+seat_by w h t f is = rw is refl
 
 -- its seat stays
 pub seat_stays : (w : Parts) (h es : List Event) (t : TaskId) → IsFired h t → seat_of w (h ++ es) t ≡ seat_of w h t
@@ -81,10 +85,6 @@ StartFacts-allowed w h t a allowed =
     let found = some_of (λ (s : Seat). is_first (queued w h s.branch.queue) t) (seat_of w h t) first in
     let head = first_rest (queued w h found.0.branch.queue) t found.2 in
     record { place = found.0; is_place = found.1; others = head.0; is_oldest = head.1 }
-
--- an oldest task is one of its list
-pub has_oldest : (ts us : List TaskId) (t : TaskId) → ts ≡ t ∷ us → has_task ts t ≡ true
-has_oldest ts us t is = rw (is, same_task-self) refl
 
 pub StartFacts-queued : (w : Parts) (h : List Event) (t : TaskId) → (s : StartFacts w h t) → QueuedFacts w h s.place.branch.queue t
 StartFacts-queued w h t s = QueuedFacts-queued w h s.place.branch.queue t (has_oldest (queued w h s.place.branch.queue) s.others t s.is_oldest)
@@ -152,39 +152,6 @@ pub record AreApart (ps ss ds : List TaskId) : Type 0 where
   pub put_started : (t : TaskId) → has_task ss t ≡ true → has_task ps t ≡ true
   pub put_dropped : (t : TaskId) → has_task ds t ≡ true → has_task ps t ≡ true
   pub not_both : (t : TaskId) → has_task ss t ≡ true → has_task ds t ≡ false
-
-either : (a b : Bool) → a || b ≡ true → (C : Type 0) → (a ≡ true → C) → (b ≡ true → C) → C
-either true b is C one other = one refl
-either false b is C one other = other is
-
--- one of a longer list is one of the first or one of those behind
-pub of_more : (ts us : List TaskId) (t : TaskId) (C : Type 0) → has_task (ts ++ us) t ≡ true → (has_task ts t ≡ true → C) → (has_task us t ≡ true → C) → C
-of_more ts us t C is one other = either (has_task ts t) (has_task us t) (sym (has_task-append ts us t) ∙ is) C one other
-
-pub among_left : (ts us : List TaskId) (t : TaskId) → has_task ts t ≡ true → has_task (ts ++ us) t ≡ true
-among_left ts us t is = rw has_task-append (or_left (has_task ts t) (has_task us t) is)
-
-pub among_right : (ts us : List TaskId) (t : TaskId) → has_task us t ≡ true → has_task (ts ++ us) t ≡ true
-among_right ts us t is = rw has_task-append (or_right (has_task ts t) (has_task us t) is)
-
-pub not_more : (ts us : List TaskId) (t : TaskId) → has_task ts t ≡ false → has_task us t ≡ false → has_task (ts ++ us) t ≡ false
-not_more ts us t one other = rw (has_task-append ts us t, one) other
-
--- one of one
-pub of_one : (t u : TaskId) → has_task (t ∷ []) u ≡ true → u ≡ t
-of_one t u is = of_test (same_task u t) refl is
-  where
-    of_test : (b : Bool) → same_task u t ≡ b → b || false ≡ true → u ≡ t
-    of_test true e f = same_task-is u t e
-    of_test false e f = absurd (cc)
-
--- not in a list of one
-pub not_one : (t u : TaskId) (ts : List TaskId) → has_task ts t ≡ false → has_task ts u ≡ true → has_task (t ∷ []) u ≡ false
-not_one t u ts out within = of_test (has_task (t ∷ []) u) refl
-  where
-    of_test : (b : Bool) → has_task (t ∷ []) u ≡ b → b ≡ false
-    of_test false e = refl
-    of_test true e = let one : u ≡ t = of_one t u e in absurd (cc)
 
 AreApart-start : (ps ss ds : List TaskId) (t : TaskId) → AreApart ps ss ds → has_task ps t ≡ true → has_task ds t ≡ false → AreApart ps (ss ++ t ∷ []) ds
 AreApart-start ps ss ds t known is out = record {
