@@ -29,14 +29,14 @@ tears_down wiring interleave spot = is_branch_where wiring (is_teardown_in inter
 abbrev pub fired_in : Parts → List Event → ℕ → List TaskId
 fired_in wiring history interleave = fired_by wiring (is_seat_in interleave) history
 
--- whether a branch of the Interleave fired the task's root
+-- whether the task fired at a branch of the Interleave or at one of its sites
 abbrev pub is_of_interleave : Parts → List Event → ℕ → TaskId → Bool
 is_of_interleave wiring history interleave task = option_map_or (is_seat_in interleave) (seat_of wiring history task) false
 
--- whether a teardown branch of the Interleave fired the task's root
+-- whether it fired at a teardown branch of the Interleave or at one of its sites
 abbrev pub is_of_teardown : Parts → List Event → ℕ → TaskId → Bool
 is_of_teardown wiring history interleave task = option_map_or (is_teardown_in interleave) (seat_of wiring history task) false
 
--- whether an exclusive or teardown branch of the Interleave fired the task's root
+-- whether it fired at an exclusive or teardown branch of the Interleave or at one of its sites
 abbrev pub is_of_exclusive : Parts → List Event → ℕ → TaskId → Bool
 is_of_exclusive wiring history interleave task = option_map_or (is_exclusive_in interleave) (seat_of wiring history task) false

@@ -1,4 +1,4 @@
-//! Laws of the queues.
+//! What every legal history says of queues. Each law is the contract of a function that does nothing.
 
 ghost use Rattle.std.specs.Prelude.{◌≡◌, ◌++◌, ◌⊎◌, ℕ, List, true};
 ghost use Rattle.ccr_base.specs.declared.names.TaskId.{TaskId};

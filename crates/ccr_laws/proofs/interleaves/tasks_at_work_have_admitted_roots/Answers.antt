@@ -1,5 +1,5 @@
 use Rattle.ccr_laws.proofs.Exclusion.{admitted_works}
-use Rattle.ccr_laws.proofs.interleaves.who_is_at_work_was_admitted.Goals as goal
+use Rattle.ccr_laws.proofs.interleaves.tasks_at_work_have_admitted_roots.Goals as goal
 
 pub returns : goal.returns
 returns c = admitted_works

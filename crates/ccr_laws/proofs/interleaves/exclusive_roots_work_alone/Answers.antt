@@ -1,5 +1,5 @@
 use Rattle.ccr_laws.proofs.Exclusion.{no_other_works, own_segments}
-use Rattle.ccr_laws.proofs.interleaves.beside_an_exclusive_root_no_other_works.Goals as goal
+use Rattle.ccr_laws.proofs.interleaves.exclusive_roots_work_alone.Goals as goal
 
 pub returns : goal.returns
 returns c = record { until_over = own_segments; meanwhile = no_other_works }
