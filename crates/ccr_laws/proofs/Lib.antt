@@ -1,3 +1,4 @@
+mod WorkedInterleave
 pub mod TaskLists
 pub mod TaskPlaces
 pub mod StartOrder

@@ -15,7 +15,7 @@ put_into wiring history queue = filter (is_for_queue wiring history queue) (put 
 abbrev pub started_from : Parts → List Event → ℕ → List TaskId
 started_from wiring history queue = filter (is_for_queue wiring history queue) (started history)
 
--- whether both stand in the list, one before the other
+-- whether the first stands in the list, and the second somewhere behind it
 abbrev pub stands_before : TaskId → TaskId → List TaskId → Bool
 stands_before first second [] = false
 stands_before first second (task ∷ tasks) = (same_task first task && has_task tasks second) || stands_before first second tasks

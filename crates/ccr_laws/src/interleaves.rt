@@ -26,13 +26,14 @@ pub fn roots_have_one_segment_at_work()
     ensures { (wiring : Parts) (history : List Event) → IsLegal wiring history → (task other : TaskId) → is_at_work wiring history task ≡ true → is_at_work wiring history other ≡ true → root_of history task ≡ root_of history other → task ≡ other }
 {}
 
-/// From its admission until it is over an exclusive or teardown root is the only root of its Interleave that was admitted and isn't over.
+/// From its admission until it is over, an exclusive or teardown root is the only root of its Interleave that was admitted and
+/// isn't over.
 pub fn exclusive_roots_stay_alone()
     ensures { (wiring : Parts) (interleave : ℕ) (before since : List Event) (root : TaskId) → let history = before ++ Admit root ∷ since in IsLegal wiring history → is_of_exclusive wiring history interleave root ≡ true → is_over history root ≡ false → admitted wiring history interleave ≡ root ∷ [] }
 {}
 
-/// Until an exclusive or teardown root is over, only its own segments are queued, run or are suspended in its Interleave; while one
-/// of them is or does, nothing else.
+/// From its admission until an exclusive or teardown root is over, no task of another root of its Interleave is queued, runs or is
+/// suspended. While one of its segments is queued, runs or is suspended, no other task of the Interleave is.
 pub fn exclusive_roots_work_alone()
     ensures until_over { (wiring : Parts) (history : List Event) → IsLegal wiring history → (interleave : ℕ) (root other : TaskId) → is_of_exclusive wiring history interleave root ≡ true → has_task (admitted wiring history interleave) root ≡ true → is_of_interleave wiring history interleave other ≡ true → is_at_work wiring history other ≡ true → root_of history other ≡ root }
     ensures meanwhile { (wiring : Parts) (history : List Event) → IsLegal wiring history → (interleave : ℕ) (task other : TaskId) → is_of_exclusive wiring history interleave task ≡ true → is_at_work wiring history task ≡ true → is_of_interleave wiring history interleave other ≡ true → is_at_work wiring history other ≡ true → other ≡ task }
