@@ -3,3 +3,6 @@ pub mod WholePattern
 pub mod Times
 pub mod OneFate
 pub mod Drops
+pub mod Queues
+pub mod Interleaves
+pub mod AtWork
