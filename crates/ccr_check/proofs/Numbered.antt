@@ -1,5 +1,5 @@
 -- How a test over numbered posters, Interleaves and queues goes on behind one of them.
-use Rattle.std.proofs.Common.{◌≡◌, ℕ, zero, suc, ◌+◌, ◌<◌, Bool, not, ◌&&◌, ◌||◌, List, [], ◌∷◌, length, drop, Some, refl, arith}
+use Rattle.std.proofs.Common.{◌≡◌, ℕ, zero, suc, ◌+◌, ◌<◌, not, ◌&&◌, ◌||◌, List, [], ◌∷◌, length, drop, Some, refl, arith}
 use Rattle.std.specs.Prelude.{◌==◌, nat_lt}
 use Rattle.std.specs.List.{slice_get}
 use Rattle.ccr_wiring.specs.declared.parts.Parts.{Parts}

@@ -1,5 +1,5 @@
 -- Something is left exactly where an event comes first.
-use Rattle.std.proofs.Common.{◌≡◌, ℕ, zero, suc, ◌+◌, ◌≤◌, Bool, true, false, not, ◌&&◌, ◌||◌, List, [], ◌∷◌, length, Option, Some, None, refl, sym, arith, ap, ◌∙◌}
+use Rattle.std.proofs.Common.{◌≡◌, ℕ, zero, suc, ◌+◌, Bool, true, false, not, ◌&&◌, ◌||◌, List, [], ◌∷◌, length, Option, Some, None, refl, sym, arith, ◌∙◌}
 use Rattle.std.specs.Prelude.{if◌then◌else◌, find, nat_lt, nat_le, is_some, option_map, option_and_then}
 use Rattle.std.specs.List.{slice_get, list_any, list_all}
 use Rattle.std.specs.Option.{option_map_or, option_or}
@@ -18,14 +18,14 @@ use Rattle.ccr_wiring.specs.declared.parts.ArbiterPart.{ArbiterPart}
 use Rattle.ccr_wiring.specs.declared.parts.QueuePart.{QueuePart}
 use Rattle.ccr_wiring.specs.Wirings.{Seat, seat, site_port, spots}
 use Rattle.ccr_model.specs.declared.history.Event.{Event}
-use Rattle.ccr_model.specs.declared.history.Event.TheVariants.{Admit, Put, Start}
-use Rattle.ccr_model.specs.Posts.{posts_of_poster, held}
+use Rattle.ccr_model.specs.declared.history.Event.TheVariants.{Admit}
+use Rattle.ccr_model.specs.Posts.{held}
 use Rattle.ccr_model.specs.Firings.{fired}
 use Rattle.ccr_model.specs.Tasks.{waiting, queued, running}
-use Rattle.ccr_model.specs.Live.{is_none_of, is_live, has_room}
+use Rattle.ccr_model.specs.Live.{is_none_of}
 use Rattle.ccr_model.specs.Choice.{joined, choice_of_slots, engine_gather, engine_choice_of, oldest, engine_choice}
-use Rattle.ccr_model.specs.Rules.{may_enter, may_put, drop_at}
-use Rattle.ccr_model.specs.Order.{first, script_post, post_from, fire_at, fire_from, admit_first, admit_from, put_first, run_task, start_from}
+use Rattle.ccr_model.specs.Rules.{may_enter, may_put}
+use Rattle.ccr_model.specs.Order.{first, post_from, fire_at, fire_from, admit_first, admit_from, put_first, start_from}
 use Rattle.ccr_model.specs.Legal.{IsQuiet}
 use Rattle.ccr_check.specs.Verdicts.{AllowsSome, MeansQuiet}
 use Rattle.ccr_check.specs.Left.{has_line_left, has_enough, can_take, can_fire, can_admit, has_admission, has_queued, is_still}

@@ -1,5 +1,5 @@
 -- What is left to do after a history, and when nothing is.
-use Rattle.std.specs.Prelude.{ℕ, ◌+◌, Bool, false, not, ◌&&◌, ◌||◌, nat_lt, nat_le, List, [], ◌∷◌, length, option_map}
+use Rattle.std.specs.Prelude.{ℕ, ◌+◌, Bool, false, not, ◌&&◌, ◌||◌, nat_lt, nat_le, List, [], ◌∷◌, length}
 use Rattle.std.specs.List.{slice_get, list_any, list_all}
 use Rattle.std.specs.Option.{option_map_or}
 use Rattle.ccr_base.specs.declared.messages.Msg.{Msg}

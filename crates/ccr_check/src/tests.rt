@@ -154,7 +154,7 @@ fn never_fired(alloc: Global) -> Result<Verdict, Fail> {
 }
 
 fn told(alloc: Global, history: &History) -> Result<Verdict, Fail> {
-    if history.events().len() > 9 {
+    if history.events().len() > u32::MAX as usize {
         return Err(Fail::from("long"));
     }
     Ok(
