@@ -1,97 +1,64 @@
 //! The text that is due for words and an input, whole before a byte of it is written.
 
-ghost use Rattle.std.specs.Prelude.{◌≡◌, ◌≤◌, None, true, IfOk, IsErrOf, IsSome, length};
+ghost use Rattle.std.specs.Prelude.{◌≡◌, ◌≤◌, None, Some, true, false, IfOk, IsErrOf, IsSome, length};
 ghost use Rattle.ccr_io.specs.Faults.{Rose};
+ghost use Rattle.ccr_wiretext.specs.Answers.{IsReading};
 ghost use Rattle.ccr_cli.specs.Words.{said};
-ghost use Rattle.ccr_cli.specs.Answers.{usage_text, refused_text, too_long_text, check_text, is_over, Answers, AnswersText, IsDue, IsExhausted, IsAccepted, IsDeclined, IsExcessive};
+ghost use Rattle.ccr_cli.specs.Inputs.{limit_of};
+ghost use Rattle.ccr_cli.specs.Runs.{RunGives};
+ghost use Rattle.ccr_cli.specs.Answers.{AnswersText, CheckGives, RefusedGives, IsDue, IsExhausted, IsAccepted, IsDeclined, IsExcessive, IsVerified, may_end};
+ghost use Rattle.ccr_cli.specs.declared.words.Word.{Word as Words};
+ghost use Rattle.ccr_cli.specs.declared.words.Word.TheVariants.{Check, Run, Verify};
 
+use crate::due::{Due, check, refused, too_long, usage};
 use crate::run::run;
 use crate::status::{Silence, Status};
+use crate::verify::verify;
 use crate::words::{Word, said};
-use ccr_base::{List, Name, OutOfMemory};
+use ccr_base::{Name, OutOfMemory};
 use ccr_io::{ReadEnd, Source, read_all};
-use ccr_text::{put_bytes, put_number};
-use ccr_wiretext::{ReadRefused, read_wiring, write_wiring};
-use ccr_wiring::Wiring;
+use ccr_wiretext::read_wiring;
 use std::alloc::Global;
 
 /// The most bytes that an input may have.
-const LIMIT: usize = 1_048_576;
-
-/// A text that is to be written, and what for.
-#[derive(Debug, Drop)]
-pub struct Due {
-    pub status: Status,
-    pub text: List<u8>,
-}
-
-fn usage(alloc: Global) -> Result<Due, OutOfMemory>
-    ensures status { IfOk result (λ due. due.status ≡ Status.Usage) }
-    ensures text { IfOk result (λ due. due.text ≡ usage_text) }
-{
-    let text =
-        b"usage: ccr check|run|verify|load [--workers N] [--schedule] [--json] [--size N]\ndone 1\n";
-    Ok(Due {
-        status: Status::Usage,
-        text: List::from_vec(Vec::from_slice(alloc, text)?),
-    })
-}
-
-fn too_long(alloc: Global) -> Result<Due, OutOfMemory>
-    ensures status { IfOk result (λ due. due.status ≡ Status.TooLong) }
-    ensures text { IfOk result (λ due. due.text ≡ too_long_text) }
-{
-    Ok(Due {
-        status: Status::TooLong,
-        text: List::from_vec(Vec::from_slice(alloc, b"too long\ndone 8\n")?),
-    })
-}
-
-fn refusal(alloc: Global, line: u32, code: u8) -> Result<Due, OutOfMemory>
-    ensures status { IfOk result (λ due. due.status ≡ Status.Refused) }
-    ensures text { IfOk result (λ due. due.text ≡ refused_text line code) }
-{
-    let mut text = List::from_vec(Vec::from_slice(alloc, b"refused ")?);
-    put_number(&mut text, u64::from(line))?;
-    put_bytes(&mut text, b" ")?;
-    put_number(&mut text, u64::from(code))?;
-    put_bytes(&mut text, b"\ndone 2\n")?;
-    Ok(Due {
-        status: Status::Refused,
-        text,
-    })
-}
-
-/// The wiring in its canonical form.
-fn check(alloc: Global, wiring: &Wiring) -> Result<Due, OutOfMemory>
-    ensures status { IfOk result (λ due. due.status ≡ Status.Done) }
-    ensures text { IfOk result (λ due. due.text ≡ check_text wiring.now) }
-{
-    let mut text = write_wiring(alloc, wiring)?;
-    put_bytes(&mut text, b"done 0\n")?;
-    Ok(Due {
-        status: Status::Done,
-        text,
-    })
-}
-
-fn answer_wiring(alloc: Global, word: Word, wiring: &Wiring) -> Result<Due, OutOfMemory>
-    ensures { IfOk result (λ due. Answers word wiring.now due.status due.text) }
+fn limit_of(word: Word) -> usize
+    ensures limit { result ≡ limit_of word }
+    ensures most { result ≤ 33554432 }
 {
     match word {
-        Word::Check => check(alloc, wiring),
-        Word::Run => run(alloc, wiring),
+        Word::Check | Word::Run => 1_048_576,
+        Word::Verify => 33_554_432,
+    }
+}
+
+fn answer_check(alloc: Global, text: &[u8]) -> Result<Due, OutOfMemory>
+    requires { length text.now ≤ 1048576 }
+    ensures { IfOk result (λ due. AnswersText Check text.now due.status due.text) }
+{
+    match read_wiring(alloc, text) {
+        Ok(wiring) => check(alloc, &wiring),
+        Err(why) => refused(alloc, why),
+    }
+}
+
+fn answer_run(alloc: Global, text: &[u8]) -> Result<Due, OutOfMemory>
+    requires { length text.now ≤ 1048576 }
+    ensures { IfOk result (λ due. AnswersText Run text.now due.status due.text) }
+{
+    match read_wiring(alloc, text) {
+        Ok(wiring) => run(alloc, &wiring),
+        Err(why) => refused(alloc, why),
     }
 }
 
 fn answer_text(alloc: Global, word: Word, text: &[u8]) -> Result<Due, OutOfMemory>
-    requires { length text.now ≤ 1048576 }
+    requires { length text.now ≤ limit_of word }
     ensures { IfOk result (λ due. AnswersText word text.now due.status due.text) }
 {
-    match read_wiring(alloc, text) {
-        Ok(wiring) => answer_wiring(alloc, word, &wiring),
-        Err(ReadRefused::At { line, code }) => refusal(alloc, line, code),
-        Err(ReadRefused::Memory) => Err(OutOfMemory),
+    match word {
+        Word::Check => answer_check(alloc, text),
+        Word::Run => answer_run(alloc, text),
+        Word::Verify => verify(alloc, text),
     }
 }
 
@@ -99,9 +66,10 @@ fn answer_text(alloc: Global, word: Word, text: &[u8]) -> Result<Due, OutOfMemor
 pub fn answer<S: Source>(alloc: Global, words: &[Name], source: &mut S) -> Result<Due, Silence>
     ensures due { IfOk result (λ due. IsDue due.status words.now (S.rest source.old) due.text) }
     ensures usage { said words.now ≡ None → IfOk result (λ due. due.status ≡ Status.Usage) }
-    ensures refused { IsSome (said words.now) → IsDeclined (S.rest source.old) → IfOk result (λ due. due.status ≡ Status.Refused) }
-    ensures excessive { IsSome (said words.now) → IsExcessive (S.rest source.old) → IfOk result (λ due. due.status ≡ Status.TooLong) }
-    ensures accepted { IsSome (said words.now) → IsAccepted (S.rest source.old) → IfOk result (λ due. is_over due.status ≡ true) }
+    ensures refused { (word : Words) → said words.now ≡ Some word → IsDeclined word (S.rest source.old) → IfOk result (λ due. due.status ≡ Status.Refused) }
+    ensures excessive { (word : Words) → said words.now ≡ Some word → IsExcessive word (S.rest source.old) → IfOk result (λ due. due.status ≡ Status.TooLong) }
+    ensures accepted { (word : Words) → said words.now ≡ Some word → IsAccepted word (S.rest source.old) → IfOk result (λ due. may_end word due.status ≡ true) }
+    ensures faulty { said words.now ≡ Some Verify → IsVerified true (S.rest source.old) → IfOk result (λ due. due.status ≡ Status.Illegal) }
     ensures exhausted { IfOk result (λ due. IsExhausted due.status (S.rest source.old) (S.rest source.new)) }
     ensures fault { IsErrOf result Silence.ReadFault → Rose (S.faults source.old) (S.faults source.new) }
     ensures reads { IsErrOf result Silence.ReadFault → IsSome (said words.now) }
@@ -110,7 +78,7 @@ pub fn answer<S: Source>(alloc: Global, words: &[Name], source: &mut S) -> Resul
     let Some(word) = said(words) else {
         return Ok(usage(alloc)?);
     };
-    match read_all(alloc, source, LIMIT) {
+    match read_all(alloc, source, limit_of(word)) {
         Ok(bytes) => Ok(answer_text(alloc, word, bytes.as_slice())?),
         Err(ReadEnd::TooLong) => Ok(too_long(alloc)?),
         Err(ReadEnd::Fault) => Err(Silence::ReadFault),

@@ -5,10 +5,9 @@ ghost use Rattle.ccr_model.specs.Legal.{IsLegal, IsQuiet, has_shed, is_shed_end,
 ghost use Rattle.ccr_model.specs.Order.{IsFinished};
 ghost use Rattle.ccr_trace.specs.HistoryText.{history_text};
 ghost use Rattle.ccr_report.specs.Report.{report_text};
-ghost use Rattle.ccr_cli.specs.Answers.{Answers};
-ghost use Rattle.ccr_cli.specs.declared.words.Word.TheVariants.{Run};
+ghost use Rattle.ccr_cli.specs.Runs.{RunGives};
 
-use crate::answer::Due;
+use crate::due::Due;
 use crate::status::Status;
 use ccr_base::{ActorNo, List, OutOfMemory};
 use ccr_model::{EndHow, Event, History};
@@ -52,7 +51,7 @@ fn is_shed_end(event: &Event) -> bool
 }
 
 /// Whether a task was shed.
-fn has_shed(events: &[Event]) -> bool
+pub fn has_shed(events: &[Event]) -> bool
     ensures { result ≡ has_shed events.now }
 {
     events.iter().any(is_shed_end)
@@ -76,7 +75,7 @@ fn run_text(
 
 /// What a run of the wiring writes.
 pub fn run(alloc: Global, wiring: &Wiring) -> Result<Due, OutOfMemory>
-    ensures { IfOk result (λ due. Answers Run wiring.now due.status due.text) }
+    ensures { IfOk result (λ due. RunGives wiring.now due.status due.text) }
 {
     let history = run_history(alloc, wiring)?;
     if has_shed(history.events()) {

@@ -2,6 +2,7 @@
 
 mod checks;
 mod runs;
+mod verifies;
 
 use super::*;
 use ccr_base::{List, Name, OpenGate};
@@ -77,7 +78,9 @@ fn refuses_words(rt: HostRuntime) -> Result<(), Fail> {
     assert!(rt; further);
     let twice = is_refused(&rt, &["check", "check"])?;
     assert!(rt; twice);
-    let unknown = is_refused(&rt, &["verify"])?;
+    let option = is_refused(&rt, &["verify", "--json"])?;
+    assert!(rt; option);
+    let unknown = is_refused(&rt, &["judge"])?;
     assert!(rt; unknown);
     Ok(())
 }

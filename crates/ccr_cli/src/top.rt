@@ -1,10 +1,12 @@
 //! The top call.
 
-ghost use Rattle.std.specs.Prelude.{◌≡◌, [], ◌∷◌, None, IsSome, Contains};
+ghost use Rattle.std.specs.Prelude.{◌≡◌, [], ◌∷◌, true, Some, None, IsSome, Contains};
 ghost use Rattle.ccr_io.specs.Faults.{Rose};
 ghost use Rattle.ccr_cli.specs.Words.{said};
-ghost use Rattle.ccr_cli.specs.Answers.{IsAccepted, IsDeclined, IsExcessive, IsExhausted, IsAnswered, IsBegun};
-ghost use Rattle.ccr_cli.specs.declared.status.Status.TheVariants.{Done, Usage, Refused, Shed, TooLong};
+ghost use Rattle.ccr_cli.specs.Answers.{IsAccepted, IsDeclined, IsExcessive, IsVerified, IsExhausted, IsAnswered, IsBegun, statuses_of};
+ghost use Rattle.ccr_cli.specs.declared.words.Word.{Word};
+ghost use Rattle.ccr_cli.specs.declared.words.Word.TheVariants.{Verify};
+ghost use Rattle.ccr_cli.specs.declared.status.Status.TheVariants.{Done, Usage, Refused, Shed, Illegal, TooLong};
 
 use crate::answer::answer;
 use crate::status::WRITE_FAULT;
@@ -29,10 +31,14 @@ pub fn run_ccr<R: AllocGlobal, S: Source, K: Sink, G: Gate + Sync>(
     ensures usage_source { said words.now ≡ None → source.new ≡ source.old }
 
     ensures refused { result ≡ 2 → IsAnswered Refused words.now (S.rest source.old) (K.written sink.old) (K.written sink.new) }
-    ensures refused_due { IsSome (said words.now) → IsDeclined (S.rest source.old) → Contains (2 ∷ 3 ∷ 4 ∷ 5 ∷ []) result }
+    ensures refused_due { (word : Word) → said words.now ≡ Some word → IsDeclined word (S.rest source.old) → Contains (2 ∷ 3 ∷ 4 ∷ 5 ∷ []) result }
+
+    ensures illegal { result ≡ 7 → IsAnswered Illegal words.now (S.rest source.old) (K.written sink.old) (K.written sink.new) }
+    ensures illegal_input { result ≡ 7 → IsExhausted Illegal (S.rest source.old) (S.rest source.new) }
+    ensures illegal_due { said words.now ≡ Some Verify → IsVerified true (S.rest source.old) → Contains (3 ∷ 4 ∷ 5 ∷ 7 ∷ []) result }
 
     ensures too_long { result ≡ 8 → IsAnswered TooLong words.now (S.rest source.old) (K.written sink.old) (K.written sink.new) }
-    ensures too_long_due { IsSome (said words.now) → IsExcessive (S.rest source.old) → Contains (3 ∷ 4 ∷ 5 ∷ 8 ∷ []) result }
+    ensures too_long_due { (word : Word) → said words.now ≡ Some word → IsExcessive word (S.rest source.old) → Contains (3 ∷ 4 ∷ 5 ∷ 8 ∷ []) result }
 
     ensures read_fault { result ≡ 3 → Rose (S.faults source.old) (S.faults source.new) }
     ensures read_words { result ≡ 3 → IsSome (said words.now) }
@@ -42,12 +48,12 @@ pub fn run_ccr<R: AllocGlobal, S: Source, K: Sink, G: Gate + Sync>(
     ensures write_begun { result ≡ 4 → IsBegun words.now (S.rest source.old) (K.written sink.old) (K.written sink.new) }
 
     ensures memory { result ≡ 5 → sink.new ≡ sink.old }
-    ensures statuses { Contains (0 ∷ 1 ∷ 2 ∷ 3 ∷ 4 ∷ 5 ∷ 6 ∷ 8 ∷ []) result }
+    ensures statuses { Contains (0 ∷ 1 ∷ 2 ∷ 3 ∷ 4 ∷ 5 ∷ 6 ∷ 7 ∷ 8 ∷ []) result }
 
     // Words and input of their forms, and no fault in this call.
-    ensures complete { IsSome (said words.now) → IsAccepted (S.rest source.old) →
+    ensures complete { (word : Word) → said words.now ≡ Some word → IsAccepted word (S.rest source.old) →
         (Rose (S.faults source.old) (S.faults source.new) → ⊥) → (Rose (K.faults sink.old) (K.faults sink.new) → ⊥) →
-        Contains (0 ∷ 5 ∷ 6 ∷ []) result }
+        Contains (statuses_of word) result }
 {
     match answer(rt.alloc(), words, source) {
         Ok(due) => match write_all(sink, due.text.as_slice()) {

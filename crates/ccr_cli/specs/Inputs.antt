@@ -1,0 +1,46 @@
+-- What stands where in an input.
+use Rattle.std.specs.Prelude.{ℕ, ◌+◌, ◌==◌, nat_lt, List, [], ◌∷◌, length, take, drop, filter, codes, Option, Some, None, Result, Err, if◌then◌else◌}
+use Rattle.ccr_text.specs.Lines.{line_of}
+use Rattle.ccr_wiring.specs.declared.parts.Parts.{Parts}
+use Rattle.ccr_wiretext.specs.Reading.{reading_text}
+use Rattle.ccr_cli.specs.declared.words.Word.{Word}
+use Rattle.ccr_cli.specs.declared.words.Word.TheVariants.{Check, Run, Verify}
+
+-- the most bytes that an input may have
+abbrev pub limit_of : Word → ℕ
+limit_of Check = 1048576
+limit_of Run = 1048576
+limit_of Verify = 33554432
+
+-- the number of the line at which the byte of this place stands
+abbrev pub line_at : ℕ → List ℕ → ℕ
+line_at place text = length (filter (λ b. b == 10) (take place text)) + 1
+
+-- where the first line begins whose first word is `history`, and how many lines stand before it
+abbrev pub history_place : List ℕ → ℕ × ℕ
+history_place bytes = line_of bytes (codes "history")
+
+-- what stands before that line
+abbrev pub wiring_part : List ℕ → List ℕ
+wiring_part bytes = take (history_place bytes).0 bytes
+
+-- that line and all behind it
+abbrev pub output_part : List ℕ → List ℕ
+output_part bytes = drop (history_place bytes).0 bytes
+
+-- the wiring that the part says, or the first offending line and its code: of a longer part than a wiring text may be, that of the first byte too many
+abbrev pub reading_part : List ℕ → Result Parts (ℕ × ℕ)
+reading_part part = if nat_lt 1048576 (length part) then Err (line_at 1048576 part, 10) else reading_text part
+
+-- the wiring of an input, or the first offending line and its code
+abbrev pub reading_input : Word → List ℕ → Result Parts (ℕ × ℕ)
+reading_input Check bytes = reading_text bytes
+reading_input Run bytes = reading_text bytes
+reading_input Verify bytes = reading_part (wiring_part bytes)
+
+-- the line at which a text first differs from the one that is due, of lines of which the first has this number; none where they are the same
+abbrev pub first_difference : ℕ → List ℕ → List ℕ → Option ℕ
+first_difference line [] [] = None
+first_difference line [] (b ∷ due) = Some line
+first_difference line (a ∷ text) [] = Some line
+first_difference line (a ∷ text) (b ∷ due) = if a == b then first_difference (if a == 10 then line + 1 else line) text due else Some line

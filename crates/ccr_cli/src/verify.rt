@@ -1,0 +1,72 @@
+//! An input that is a wiring with an output behind it.
+
+ghost use Rattle.std.specs.Prelude.{◌≡◌, ◌≤◌, ◌<◌, IfOk, length};
+ghost use Rattle.ccr_wiretext.specs.Answers.{IsReading};
+ghost use Rattle.ccr_cli.specs.Inputs.{line_at, reading_part};
+ghost use Rattle.ccr_cli.specs.Findings.{IsFound, VerifyGives, status_of};
+ghost use Rattle.ccr_cli.specs.Answers.{AnswersText, RefusedGives};
+ghost use Rattle.ccr_cli.specs.declared.words.Word.TheVariants.{Verify};
+
+use crate::comparing::line_at;
+use crate::due::{Due, refused};
+use crate::findings::{Finding, finding_text};
+use crate::judging::find;
+use crate::status::Status;
+use ccr_base::OutOfMemory;
+use ccr_text::line_of;
+use ccr_wiretext::{ReadRefused, read_wiring};
+use ccr_wiring::Wiring;
+use std::alloc::Global;
+
+/// The most bytes that a wiring text may have.
+const LIMIT: usize = 1_048_576;
+
+/// The wiring that the text says. A text that is too long is refused at the line of the first byte too many.
+fn read_part(alloc: Global, part: &[u8]) -> Result<Wiring, ReadRefused>
+    ensures { IsReading result (reading_part part.now) }
+{
+    if part.len() > LIMIT {
+        return Err(ReadRefused::At {
+            line: line_at(LIMIT, part),
+            code: 10,
+        });
+    }
+    read_wiring(alloc, part)
+}
+
+/// With what the program ends where this is found.
+fn status_of(finding: Finding) -> Status
+    ensures { result ≡ status_of finding }
+{
+    match finding {
+        Finding::Legal { .. } => Status::Done,
+        Finding::Malformed { .. } | Finding::Illegal { .. } | Finding::Misreported { .. } => {
+            Status::Illegal
+        }
+    }
+}
+
+/// What is found of an output behind so many lines.
+fn judgement(alloc: Global, wiring: &Wiring, before: u32, output: &[u8]) -> Result<Due, OutOfMemory>
+    requires before { before ≤ 33554432 }
+    requires length { length output.now ≤ 33554432 }
+    ensures { IfOk result (λ due. VerifyGives wiring.now before output.now due.status due.text) }
+{
+    let finding = find(alloc, wiring, before, output)?;
+    Ok(Due {
+        status: status_of(finding),
+        text: finding_text(alloc, finding)?,
+    })
+}
+
+/// What `verify` writes. The wiring is what stands before the first line whose first word is `history`.
+pub fn verify(alloc: Global, text: &[u8]) -> Result<Due, OutOfMemory>
+    requires { length text.now ≤ 33554432 }
+    ensures { IfOk result (λ due. AnswersText Verify text.now due.status due.text) }
+{
+    let (place, before) = line_of(text, b"history");
+    match read_part(alloc, &text[..place]) {
+        Ok(wiring) => judgement(alloc, &wiring, before, &text[place..]),
+        Err(why) => refused(alloc, why),
+    }
+}
