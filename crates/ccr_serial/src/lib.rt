@@ -11,3 +11,6 @@ pub use laws::{
     the_end_comes_nearer, the_order_ends, valid_histories_are_short,
 };
 pub use serial::{Serial, Stepped};
+
+#[cfg(test)]
+mod tests;

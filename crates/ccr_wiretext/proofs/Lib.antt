@@ -18,3 +18,4 @@ pub mod Told
 pub mod SoundLines
 pub mod NoCode
 pub mod Answered
+pub mod Round

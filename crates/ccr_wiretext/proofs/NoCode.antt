@@ -1,6 +1,6 @@
 -- What a text says has no code of refusal.
-use Rattle.std.proofs.Common.{◌≡◌, ℕ, ◌+◌, ◌<◌, ◌≤◌, Bool, true, false, List, [], ◌∷◌, ◌++◌, length, Some, None, ◌⊎◌, inl, inr, refl, sym, ap, subst, ◌∙◌, arith, append-nil}
-use Rattle.std.specs.Prelude.{◌==◌, ◌&&◌, ◌||◌, not, nat_lt, nat_le}
+use Rattle.std.proofs.Common.{◌≡◌, ℕ, ◌<◌, ◌≤◌, true, false, List, [], ◌∷◌, ◌++◌, length, None, inl, inr, refl, ap, subst, ◌∙◌, arith, append-nil}
+use Rattle.std.specs.Prelude.{◌==◌, not, nat_lt}
 use Rattle.std.specs.List.{list_any}
 use Rattle.std.proofs.lemmas.Bool.Decides.{nat_tests}
 use Rattle.ccr_base.specs.declared.policies.Policy.{Policy}
@@ -15,13 +15,9 @@ use Rattle.ccr_base.specs.declared.patterns.Pattern.{Pattern}
 use Rattle.ccr_base.specs.declared.patterns.Pattern.TheVariants as patterns
 use Rattle.ccr_wiring.specs.declared.parts.Parts.{Parts}
 use Rattle.ccr_wiring.specs.declared.parts.QueuePart.{QueuePart}
-use Rattle.ccr_wiring.specs.declared.parts.SetPart.{SetPart}
-use Rattle.ccr_wiring.specs.declared.parts.CausePart.{CausePart}
-use Rattle.ccr_wiring.specs.declared.parts.HandlerPart.{HandlerPart}
 use Rattle.ccr_wiring.specs.declared.parts.BranchPart.{BranchPart}
 use Rattle.ccr_wiring.specs.declared.parts.ArbiterPart.{ArbiterPart}
-use Rattle.ccr_wiring.specs.declared.parts.PosterPart.{PosterPart}
-use Rattle.ccr_wiring.specs.Groups.{may_have, is_receive, is_misgrouped, has_strange_group, has_misgrouped, is_branchless, has_branchless}
+use Rattle.ccr_wiring.specs.Groups.{may_have, is_misgrouped, has_strange_group, has_misgrouped, is_branchless, has_branchless}
 use Rattle.ccr_wiring.specs.Names.{declared_names, has_repeated_name, has_malformed_name}
 use Rattle.ccr_wiring.specs.References.{is_beyond, action_is_dangling, pattern_is_dangling, branch_is_dangling, post_is_dangling, set_is_dangling, cause_is_dangling, handler_is_dangling, arbiter_is_dangling, poster_is_dangling, has_dangling}
 use Rattle.ccr_wiring.specs.Repeats.{branch_repeats, arbiter_repeats, set_repeats, post_repeats, poster_repeats, has_repeat}
@@ -36,8 +32,8 @@ use Rattle.ccr_wiretext.specs.Names.{Naming}
 use Rattle.ccr_wiretext.specs.Keywords.{keyword}
 use Rattle.ccr_wiretext.specs.Drafts.{Declared, nothing}
 use Rattle.ccr_wiretext.specs.Lines.{AreLines, AreHeadedLines, IsText}
-use Rattle.ccr_wiretext.proofs.Each.{Each, each_false}
-use Rattle.ccr_wiretext.proofs.Fit.{PolicyFit, ExprFit, ActionFit, SlotFit, PatternFit, BranchFit, BranchesFit, ArbiterFit, Shaped, SetFit, HandlerFit, PostFit, PosterFit}
+use Rattle.ccr_wiretext.proofs.Each.{Each, each_false, none_passes}
+use Rattle.ccr_wiretext.proofs.Fit.{PolicyFit, ExprFit, ActionFit, SlotFit, PatternFit, BranchFit, ArbiterFit, Shaped, SetFit, HandlerFit, PostFit, PosterFit}
 use Rattle.ccr_wiretext.proofs.Spotted.{Uncrowded}
 use Rattle.ccr_wiretext.proofs.Sound.{Counts, Fits, Sound, is_cause_fit}
 use Rattle.ccr_wiretext.proofs.SoundLines.{SoundDraft, line_sound}
@@ -164,10 +160,6 @@ arbiter_branched queues handlers ports part (branches, inl (kind, one)) = rw kin
 arbiter_branched queues handlers ports part (branches, inr (kind, some)) = rw (kind, some) refl
 
 -- ---- all codes
-
-none_passes : (f : ℕ → Bool) → ((n : ℕ) → f n ≡ false) → (numbers : List ℕ) → list_any f numbers ≡ false
-none_passes f none [] = refl
-none_passes f none (n ∷ numbers) = rw (none n, none_passes f none numbers) refl
 
 uncrowded_parts : (parts : Parts) (spotted : List ℕ) → spotted ≡ named_ports parts ++ [] → Uncrowded spotted → has_crowded_port parts ≡ false
 uncrowded_parts parts spotted spots uncrowded =

@@ -1,5 +1,5 @@
 -- Patterns, members of a set and causes of a post: what is read is in the grammar, and what is in the grammar is read.
-use Rattle.std.proofs.Common.{◌≡◌, ℕ, zero, suc, ◌+◌, ◌≤◌, Bool, true, false, List, [], ◌∷◌, ◌++◌, length, Some, Result, Ok, Err, inl, inr, refl, sym, ap, subst, ◌∙◌, append_assoc, append-nil, arith, length-append}
+use Rattle.std.proofs.Common.{◌≡◌, ℕ, zero, suc, ◌≤◌, Bool, true, false, List, [], ◌∷◌, ◌++◌, length, Result, Ok, Err, inl, inr, refl, sym, ap, subst, ◌∙◌, append_assoc, append-nil, arith}
 use Rattle.std.specs.Prelude.{◌==◌, not, codes}
 use Rattle.std.specs.Str.{bytes_eq}
 use Rattle.std.specs.Option.{option_and_then}
@@ -14,7 +14,7 @@ use Rattle.ccr_wiretext.specs.Names.{Naming, named, as_cause}
 use Rattle.ccr_wiretext.specs.Drafts.{Declared}
 use Rattle.ccr_wiretext.specs.Places.{Words, ◌>>=◌, unless, or_code, no_more, port, number, number_within}
 use Rattle.ccr_wiretext.specs.Patterns.{pred, new_port, slot, slots, taken, gathered, pattern, members, all_members, causes}
-use Rattle.ccr_wiretext.specs.Grammar.{Refers, IsPort, IsNumber, IsWithin, IsPred, IsSlot, IsSlots, IsGather, IsPattern, ArePorts, AreCauses}
+use Rattle.ccr_wiretext.specs.Grammar.{IsPort, IsPred, IsSlot, IsSlots, IsGather, IsPattern, ArePorts, AreCauses}
 use Rattle.ccr_wiretext.proofs.Steps.{bind_ok, ok_is, unless_ok, or_code_ok, no_more_ok, chosen, not_true, same_word}
 use Rattle.ccr_wiretext.proofs.Placed.{within_said, within_read, number_read, limit_as, numbered_said, keyed}
 use Rattle.ccr_wiretext.proofs.Slashed.{port_said, port_read}

@@ -1,14 +1,14 @@
 -- A port that is referred to: what is read is in the grammar, and what is in the grammar is read.
-use Rattle.std.proofs.Common.{◌≡◌, ℕ, suc, ◌+◌, ◌<◌, Bool, true, false, cond, List, [], ◌∷◌, ◌++◌, length, take, drop, Option, Some, None, Result, Ok, Err, ◌⊎◌, inl, inr, refl, sym, ap, subst, ◌∙◌, arith, length-append, add-one}
-use Rattle.std.specs.Prelude.{nat_lt, ◌==◌, ◌||◌, not}
+use Rattle.std.proofs.Common.{◌≡◌, ℕ, suc, ◌+◌, ◌<◌, Bool, true, false, List, [], ◌∷◌, ◌++◌, length, take, drop, Option, Some, None, Ok, ◌⊎◌, inl, inr, refl, sym, ap, subst, ◌∙◌, arith, length-append, add-one}
+use Rattle.std.specs.Prelude.{nat_lt, ◌==◌, ◌||◌}
 use Rattle.std.specs.Option.{option_and_then}
-use Rattle.std.specs.List.{list_any, position_or_len, prefix_len}
+use Rattle.std.specs.List.{list_any, position_or_len}
 use Rattle.std.proofs.lemmas.Bool.Decides.{nat_tests}
 use Rattle.ccr_wiring.specs.Repeats.{has_port}
-use Rattle.ccr_wiretext.specs.Names.{Naming, named, as_port, as_set}
+use Rattle.ccr_wiretext.specs.Names.{named, as_port, as_set}
 use Rattle.ccr_wiretext.specs.Drafts.{Declared, members_of}
-use Rattle.ccr_wiretext.specs.Places.{Words, ◌>>=◌, or_code, word, slash_place, member, set_port, port_at, port_of, port}
-use Rattle.ccr_wiretext.specs.Grammar.{IsPlain, IsMember, IsPort}
+use Rattle.ccr_wiretext.specs.Places.{Words, or_code, word, slash_place, member, set_port, port_at, port_of, port}
+use Rattle.ccr_wiretext.specs.Grammar.{IsPlain, IsPort}
 use Rattle.ccr_wiretext.proofs.Steps.{bind_ok, ok_is, or_code_ok, chosen, then_some}
 
 abbrev is_slash : ℕ → Bool

@@ -1,27 +1,21 @@
 -- What the lines so far declare has no code of refusal, but for a branch that an open block may still get.
-use Rattle.std.proofs.Common.{◌≡◌, ℕ, ◌+◌, ◌<◌, ◌≤◌, Bool, true, false, List, [], ◌∷◌, ◌++◌, length, map, Some, None, ◌⊎◌, inl, inr, refl, sym, ap, subst, ◌∙◌, arith, append_assoc, append-nil, length-append}
-use Rattle.std.specs.Prelude.{◌==◌, sum, flat_map}
-use Rattle.std.specs.List.{list_any}
-use Rattle.std.specs.Option.{option_and_then}
-use Rattle.ccr_base.specs.declared.messages.Sent.{Sent}
-use Rattle.ccr_base.specs.declared.handlers.Action.{Action}
+use Rattle.std.proofs.Common.{◌≡◌, ℕ, ◌+◌, ◌<◌, ◌≤◌, false, List, [], ◌∷◌, ◌++◌, length, arith, length-append}
 use Rattle.ccr_wiring.specs.declared.parts.Parts.{Parts}
 use Rattle.ccr_wiring.specs.declared.parts.SetPart.{SetPart}
 use Rattle.ccr_wiring.specs.declared.parts.CausePart.{CausePart}
 use Rattle.ccr_wiring.specs.declared.parts.QueuePart.{QueuePart}
 use Rattle.ccr_wiring.specs.declared.parts.HandlerPart.{HandlerPart}
-use Rattle.ccr_wiring.specs.declared.parts.BranchPart.{BranchPart}
 use Rattle.ccr_wiring.specs.declared.parts.ArbiterPart.{ArbiterPart}
 use Rattle.ccr_wiring.specs.declared.parts.PosterPart.{PosterPart}
 use Rattle.ccr_wiring.specs.Groups.{is_receive}
-use Rattle.ccr_wiring.specs.Names.{arbiter_names, declared_names}
+use Rattle.ccr_wiring.specs.Names.{declared_names}
 use Rattle.ccr_wiring.specs.Spots.{branches_named, named_ports}
 use Rattle.ccr_wiretext.specs.declared.named.Named.{Named}
 use Rattle.ccr_wiretext.specs.declared.named.Named.TheVariants as kinds
 use Rattle.ccr_wiretext.specs.declared.draft.Block.{Block}
 use Rattle.ccr_wiretext.specs.declared.draft.Block.TheVariants as blocks
 use Rattle.ccr_wiretext.specs.Names.{Naming}
-use Rattle.ccr_wiretext.specs.Drafts.{Declared, branch_count, script_count}
+use Rattle.ccr_wiretext.specs.Drafts.{branch_count, script_count}
 use Rattle.ccr_wiretext.proofs.Each.{Each, each_push, each_more}
 use Rattle.ccr_wiretext.proofs.Fit.{PolicyFit, SetFit, HandlerFit, BranchesFit, ArbiterFit, PosterFit, set_more, handler_more, arbiter_more, poster_more}
 use Rattle.ccr_wiretext.proofs.NamesApart.{NamesApart}

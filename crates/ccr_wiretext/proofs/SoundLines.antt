@@ -1,8 +1,6 @@
 -- A line leaves what is declared sound.
-use Rattle.std.proofs.Common.{◌≡◌, ℕ, ◌+◌, ◌<◌, ◌≤◌, Bool, true, false, List, [], ◌∷◌, ◌++◌, length, map, Some, ◌⊎◌, inl, inr, refl, sym, ap, subst, ◌∙◌, arith, append_assoc, append-nil, length-append}
+use Rattle.std.proofs.Common.{◌≡◌, ℕ, ◌+◌, ◌<◌, ◌≤◌, true, false, List, [], ◌∷◌, ◌++◌, length, map, Some, inl, inr, refl, sym, ap, subst, ◌∙◌, arith, append_assoc, append-nil}
 use Rattle.std.specs.Prelude.{◌==◌, sum, flat_map}
-use Rattle.std.specs.Str.{bytes_eq}
-use Rattle.std.proofs.lemmas.Slice.Eq.{bytes_eq-Decides}
 use Rattle.std.proofs.lemmas.List.Sums.{sum_by-append}
 use Rattle.ccr_base.specs.declared.policies.Group.{Group}
 use Rattle.ccr_base.specs.declared.policies.Group.TheVariants as groups
@@ -28,16 +26,17 @@ use Rattle.ccr_wiretext.specs.declared.named.Named.TheVariants as kinds
 use Rattle.ccr_wiretext.specs.declared.draft.Block.{Block}
 use Rattle.ccr_wiretext.specs.declared.draft.Block.TheVariants as blocks
 use Rattle.ccr_wiretext.specs.Names.{Naming}
-use Rattle.ccr_wiretext.specs.Drafts.{Declared, branch_count, script_count, receiver}
+use Rattle.ccr_wiretext.specs.Drafts.{Declared, receiver}
 use Rattle.ccr_wiretext.specs.Places.{Words}
 use Rattle.ccr_wiretext.specs.Grammar.{IsNew, IsGroup}
 use Rattle.ccr_wiretext.specs.Blocks.{group_of, apart}
 use Rattle.ccr_wiretext.specs.Lines.{IsBudget, IsQueue, IsName, IsSet, IsCause, IsReceive, IsBranch, IsAction, IsPost, SaysOutside, SaysInPoster, Says}
-use Rattle.ccr_wiretext.proofs.Each.{Each, each_push, each_more}
+use Rattle.ccr_wiretext.proofs.Steps.{same_name}
+use Rattle.ccr_wiretext.proofs.Each.{each_push, each_more}
 use Rattle.ccr_wiretext.proofs.Fit.{ActionFit, BranchFit, PostFit}
 use Rattle.ccr_wiretext.proofs.NamesApart.{NamesApart, name_added}
-use Rattle.ccr_wiretext.proofs.Spotted.{Uncrowded, uncrowded_more, arbiters_same}
-use Rattle.ccr_wiretext.proofs.Sound.{whole, KindFit, Counts, Fits, Sound, queue_fits, port_fits, set_fits, cause_fits, handler_fits, arbiter_fits, poster_fits}
+use Rattle.ccr_wiretext.proofs.Spotted.{uncrowded_more, arbiters_same}
+use Rattle.ccr_wiretext.proofs.Sound.{whole, KindFit, Sound, queue_fits, port_fits, set_fits, cause_fits, handler_fits, arbiter_fits, poster_fits}
 use Rattle.ccr_wiretext.proofs.Told.{Known, policy_fit, members_fit, causes_fit, branch_fit, action_fit, port_there}
 
 -- the ports that an arbiter's spots name
@@ -339,9 +338,6 @@ receive_group word groups.Choice said = absurd said
 receive_group word groups.Teardown said = absurd said
 receive_group word groups.Exclusive said = absurd said
 receive_group word groups.Concurrent said = absurd said
-
-same_name : (name : List ℕ) → bytes_eq name name ≡ true
-same_name name = (bytes_eq-Decides name name).1 refl
 
 receive_sound : (draft : Declared) (words : Words) (branch : BranchPart) → Sound draft.parts draft.names draft.spotted blocks.Outside → IsReceive draft words branch
     → Sound (record draft.parts { arbiters = draft.parts.arbiters ++ receiver branch ∷ [] }) (draft.names ++ (branch.name, kinds.Branch) ∷ []) (draft.spotted ++ branch_named draft.parts branch) blocks.Outside

@@ -1,23 +1,20 @@
 -- The ports that the spots name.
-use Rattle.std.proofs.Common.{◌≡◌, ℕ, zero, suc, ◌+◌, ◌<◌, ◌≤◌, Bool, true, false, List, [], ◌∷◌, ◌++◌, length, Some, refl, sym, ap, ◌∙◌, arith, append_assoc, append-nil}
-use Rattle.std.specs.Prelude.{◌==◌, ◌||◌, nat_lt, flat_map, count_by}
+use Rattle.std.proofs.Common.{◌≡◌, ℕ, zero, suc, ◌+◌, ◌<◌, ◌≤◌, Bool, true, false, List, [], ◌∷◌, ◌++◌, length, refl, sym, ap, ◌∙◌, arith}
+use Rattle.std.specs.Prelude.{◌==◌, ◌||◌, nat_lt}
 use Rattle.std.specs.List.{list_any, slice_get}
-use Rattle.std.specs.Option.{option_map_or}
 use Rattle.std.proofs.lemmas.Bool.Decides.{nat_tests}
 use Rattle.std.proofs.lemmas.List.Sums.{sum_by-append}
-use Rattle.ccr_base.specs.declared.handlers.Action.{Action}
 use Rattle.ccr_wiring.specs.declared.parts.Parts.{Parts}
 use Rattle.ccr_wiring.specs.declared.parts.HandlerPart.{HandlerPart}
 use Rattle.ccr_wiring.specs.declared.parts.BranchPart.{BranchPart}
 use Rattle.ccr_wiring.specs.declared.parts.ArbiterPart.{ArbiterPart}
 use Rattle.ccr_wiring.specs.declared.parts.Kind.{Kind}
 use Rattle.ccr_wiring.specs.Groups.{may_have}
-use Rattle.ccr_wiring.specs.Wirings.{actions_of, awaited}
-use Rattle.ccr_wiring.specs.Spots.{pattern_ports, branch_named, branches_named, arbiters_named, named_ports, times}
+use Rattle.ccr_wiring.specs.Spots.{branch_named, branches_named, arbiters_named, times}
 use Rattle.ccr_wiretext.specs.Drafts.{Declared}
 use Rattle.ccr_wiretext.specs.Forms.{crowds}
 use Rattle.ccr_wiretext.proofs.Each.{Each, neither}
-use Rattle.ccr_wiretext.proofs.Fit.{BranchFit, BranchesFit, ArbiterFit}
+use Rattle.ccr_wiretext.proofs.Fit.{BranchFit, ArbiterFit}
 
 -- ---- handlers behind those that a branch refers to change nothing
 
@@ -51,10 +48,10 @@ arbiters_same queues ports parts part (arbiter ∷ arbiters) fit =
 abbrev pub Uncrowded : List ℕ → Type 0
 Uncrowded ports = (port : ℕ) → times port ports ≤ 16
 
-times_append : (port : ℕ) (xs ys : List ℕ) → times port (xs ++ ys) ≡ times port xs + times port ys
+pub times_append : (port : ℕ) (xs ys : List ℕ) → times port (xs ++ ys) ≡ times port xs + times port ys
 times_append port xs ys = sum_by-append _ xs ys
 
-times_none : (port : ℕ) (ports : List ℕ) → list_any (λ other. other == port) ports ≡ false → times port ports ≡ 0
+pub times_none : (port : ℕ) (ports : List ℕ) → list_any (λ other. other == port) ports ≡ false → times port ports ≡ 0
 times_none port [] none = refl
 times_none port (x ∷ xs) none =
     let parts = neither (x == port) (list_any (λ other. other == port) xs) none in
@@ -63,7 +60,7 @@ times_none port (x ∷ xs) none =
     let rest : times port xs ≡ 0 = times_none port xs parts.1 in
     omega (arith, split, one, rest)
 
-among : (f : ℕ → Bool) (port : ℕ) (ports : List ℕ) → list_any f ports ≡ false → list_any (λ other. other == port) ports ≡ true → f port ≡ false
+pub among : (f : ℕ → Bool) (port : ℕ) (ports : List ℕ) → list_any f ports ≡ false → list_any (λ other. other == port) ports ≡ true → f port ≡ false
 among f port [] none is = absurd cc
 among f port (x ∷ xs) none is = by (x == port) refl is (neither (f x) (list_any f xs) none) (among f port xs)
   where

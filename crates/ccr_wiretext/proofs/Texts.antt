@@ -1,6 +1,6 @@
 -- Whole texts: what is read is in the grammar, and what is in the grammar is read.
-use Rattle.std.proofs.Common.{◌≡◌, ℕ, Bool, true, false, List, [], ◌∷◌, Some, None, Result, Ok, Err, ◌⊎◌, inl, inr, refl, sym, ap, subst, ◌∙◌}
-use Rattle.std.specs.Prelude.{◌&&◌, max, codes}
+use Rattle.std.proofs.Common.{◌≡◌, ℕ, true, false, List, [], ◌∷◌, Some, None, Result, Ok, Err, ◌⊎◌, inl, inr, refl, sym, subst, ◌∙◌}
+use Rattle.std.specs.Prelude.{max, codes}
 use Rattle.std.specs.Str.{bytes_eq}
 use Rattle.ccr_text.specs.declared.lines.Line.{Line}
 use Rattle.ccr_text.specs.Lines.{lines_of}
@@ -9,10 +9,11 @@ use Rattle.ccr_wiretext.specs.declared.draft.Block.{Block}
 use Rattle.ccr_wiretext.specs.declared.draft.Block.TheVariants as blocks
 use Rattle.ccr_wiretext.specs.Keywords.{keyword}
 use Rattle.ccr_wiretext.specs.Drafts.{Declared, nothing}
-use Rattle.ccr_wiretext.specs.Places.{Words, ◌>>=◌, unless}
+use Rattle.ccr_wiretext.specs.Places.{Words, unless}
 use Rattle.ccr_wiretext.specs.Blocks.{line_in}
 use Rattle.ccr_wiretext.specs.Reading.{So, is_comment, is_head, after_words, after_all, after_line, closed, at_end, at_line, reading_after, reading_text}
 use Rattle.ccr_wiretext.specs.Lines.{Says, IsBlank, AreLines, AreHeadedLines, IsText}
+use Rattle.ccr_wiretext.proofs.Each.{both}
 use Rattle.ccr_wiretext.proofs.Steps.{bind_ok, ok_is, unless_ok, chosen, same_word}
 use Rattle.ccr_wiretext.proofs.Blocked.{line_said, line_read}
 
@@ -47,10 +48,6 @@ words_blank so (first ∷ words) blank = rw blank refl
 blank_after : (so : So) (line : Line) → line.clean ≡ true → IsBlank line.words → after_line so line ≡ Ok so
 unfolding after_line
 blank_after so line clean blank = rw clean (words_blank so line.words blank)
-
-both : (a b : Bool) → (a && b) ≡ true → (a ≡ true) × (b ≡ true)
-both true b e = (refl, e)
-both false b e = absurd cc
 
 head_words : (words : Words) → is_head words ≡ true → after_all None words ≡ Ok (Some nothing)
 unfolding after_all after_words

@@ -1,8 +1,7 @@
 -- Facts that a line of the grammar tells.
-use Rattle.std.proofs.Common.{◌≡◌, ℕ, ◌+◌, ◌<◌, ◌≤◌, Bool, true, false, List, [], ◌∷◌, ◌++◌, length, map, Option, Some, ◌⊎◌, inl, inr, refl, sym, ap, subst, ◌∙◌, arith, append_assoc, append-nil, length-append}
-use Rattle.std.specs.Prelude.{◌==◌, ◌&&◌, ◌||◌, not, sum, flat_map}
+use Rattle.std.proofs.Common.{◌≡◌, ℕ, ◌<◌, Bool, true, false, List, [], ◌∷◌, ◌++◌, length, Option, Some, inl, inr, refl, sym, ap, subst, ◌∙◌, arith, append_assoc, append-nil}
+use Rattle.std.specs.Prelude.{◌==◌, ◌&&◌, ◌||◌, not}
 use Rattle.std.specs.List.{list_any}
-use Rattle.std.specs.Option.{option_and_then}
 use Rattle.std.proofs.lemmas.Bool.Decides.{nat_tests}
 use Rattle.ccr_base.specs.declared.handlers.Action.{Action}
 use Rattle.ccr_base.specs.declared.handlers.Action.TheVariants as actions
@@ -23,7 +22,7 @@ use Rattle.ccr_wiretext.specs.declared.named.Named.TheVariants as kinds
 use Rattle.ccr_wiretext.specs.Names.{Naming, named, as_port, as_queue, as_cause, as_handler}
 use Rattle.ccr_wiretext.specs.Drafts.{Declared}
 use Rattle.ccr_wiretext.specs.Places.{Words}
-use Rattle.ccr_wiretext.specs.Grammar.{Refers, IsPort, IsPolicy, IsExpr, IsSlot, IsSlots, IsPattern, ArePorts, AreCauses}
+use Rattle.ccr_wiretext.specs.Grammar.{Refers, IsPort, IsPolicy, IsExpr, IsSlots, IsPattern, ArePorts, AreCauses}
 use Rattle.ccr_wiretext.specs.Lines.{IsAction, IsBranchTail}
 use Rattle.ccr_wiretext.proofs.Steps.{then_some}
 use Rattle.ccr_wiretext.proofs.Each.{Each, neither}
@@ -146,7 +145,7 @@ pub causes_fit : (draft : Declared) (handlers : ℕ) → Known draft.parts handl
     → PortsFit (length draft.parts.causes) causes × (are_apart causes ≡ true)
 causes_fit draft handlers known causes words said = causes_go draft handlers known [] causes words refl said
 
-same_ports : (found : List Slot) (port : ℕ) → list_any (λ other. other.port == port) found ≡ has_port (slot_ports found) port
+pub same_ports : (found : List Slot) (port : ℕ) → list_any (λ other. other.port == port) found ≡ has_port (slot_ports found) port
 same_ports [] port = refl
 same_ports (slot ∷ found) port = ap (λ t. (slot.port == port) || t) (same_ports found port)
 

@@ -1,5 +1,5 @@
 -- Which first words may stand in which block, and what is declared after such a line. Another first word is code 3.
-use Rattle.std.specs.Prelude.{ℕ, List, [], length, Option, Some, None, Result, Ok, Err}
+use Rattle.std.specs.Prelude.{ℕ, length, Option, Some, None, Result, Ok, Err}
 use Rattle.ccr_base.specs.declared.policies.Group.{Group}
 use Rattle.ccr_base.specs.declared.policies.Group.TheVariants as groups
 use Rattle.ccr_base.specs.declared.handlers.Action.TheVariants as actions

@@ -10,3 +10,4 @@ pub mod Answers
 pub mod Spelling
 pub mod Grammar
 pub mod Lines
+pub mod Values

@@ -1,8 +1,7 @@
 -- The grammar of the lines: which words say what is declared next, line form by line form, and of a whole text.
-use Rattle.std.specs.Prelude.{◌≡◌, ℕ, ◌+◌, ◌<◌, ◌≤◌, ◌==◌, true, false, List, [], ◌∷◌, ◌++◌, length, Option, Some, None, ◌⊎◌}
+use Rattle.std.specs.Prelude.{◌≡◌, ℕ, ◌+◌, ◌<◌, ◌≤◌, ◌==◌, true, false, List, [], ◌∷◌, length, Some, ◌⊎◌}
 use Rattle.ccr_base.specs.declared.handlers.Action.{Action}
 use Rattle.ccr_base.specs.declared.handlers.Action.TheVariants as actions
-use Rattle.ccr_base.specs.declared.handlers.Expr.{Expr}
 use Rattle.ccr_base.specs.declared.messages.Sent.{Sent}
 use Rattle.ccr_base.specs.declared.policies.Group.{Group}
 use Rattle.ccr_wiring.specs.declared.parts.Parts.{Parts}

@@ -1,5 +1,5 @@
 -- The canonical text of the parts: which lines it has, and which words stand on each.
-use Rattle.std.specs.Prelude.{ℕ, List, [], ◌∷◌, ◌++◌, map, flat_map, codes, decimal, unwrap_or, option_map}
+use Rattle.std.specs.Prelude.{ℕ, List, [], ◌∷◌, ◌++◌, map, flat_map, codes, decimal, unwrap_or}
 use Rattle.std.specs.List.{slice_get}
 use Rattle.std.specs.Option.{option_map_or}
 use Rattle.ccr_base.specs.declared.policies.Policy.{Policy}
@@ -24,7 +24,6 @@ use Rattle.ccr_wiring.specs.declared.parts.HandlerPart.{HandlerPart}
 use Rattle.ccr_wiring.specs.declared.parts.BranchPart.{BranchPart}
 use Rattle.ccr_wiring.specs.declared.parts.ArbiterPart.{ArbiterPart}
 use Rattle.ccr_wiring.specs.declared.parts.PosterPart.{PosterPart}
-use Rattle.ccr_wiring.specs.declared.parts.Kind.{Kind}
 use Rattle.ccr_wiring.specs.declared.parts.Kind.TheVariants as arbiters
 use Rattle.ccr_text.specs.Spelling.{text_of}
 use Rattle.ccr_wiretext.specs.Places.{Words}

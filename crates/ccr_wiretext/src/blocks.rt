@@ -28,6 +28,56 @@ fn group_of(kind: Kind, first: Keyword) -> Option<Group>
 
 impl Draft {
     #[tactic(auto, unfolding(crate::specs::Blocks::outside_line))]
+    fn port_line(&mut self, words: Cursor<'_>) -> Result<(), Stop>
+        ensures { GivesState self.new result (outside_line self.old Keyword.Port words.entry) }
+    {
+        let count = self.parts.ports.as_slice().len();
+        let name = self.name_form(256, count, words)?;
+        self.add_port(name)?;
+        Ok(())
+    }
+
+    #[tactic(auto, unfolding(crate::specs::Blocks::outside_line))]
+    fn open_handler(&mut self, words: Cursor<'_>) -> Result<(), Stop>
+        ensures { GivesState self.new result (outside_line self.old Keyword.Handler words.entry) }
+    {
+        let count = self.parts.handlers.as_slice().len();
+        let name = self.name_form(256, count, words)?;
+        self.begin_handler(name)?;
+        Ok(())
+    }
+
+    #[tactic(auto, unfolding(crate::specs::Blocks::outside_line))]
+    fn open_choice(&mut self, words: Cursor<'_>) -> Result<(), Stop>
+        ensures { GivesState self.new result (outside_line self.old Keyword.Choice words.entry) }
+    {
+        let count = self.parts.arbiters.as_slice().len();
+        let name = self.name_form(256, count, words)?;
+        self.begin_arbiter(Kind::Choice, name)?;
+        Ok(())
+    }
+
+    #[tactic(auto, unfolding(crate::specs::Blocks::outside_line))]
+    fn open_interleave(&mut self, words: Cursor<'_>) -> Result<(), Stop>
+        ensures { GivesState self.new result (outside_line self.old Keyword.Interleave words.entry) }
+    {
+        let count = self.parts.arbiters.as_slice().len();
+        let name = self.name_form(256, count, words)?;
+        self.begin_arbiter(Kind::Interleave, name)?;
+        Ok(())
+    }
+
+    #[tactic(auto, unfolding(crate::specs::Blocks::outside_line))]
+    fn open_poster(&mut self, words: Cursor<'_>) -> Result<(), Stop>
+        ensures { GivesState self.new result (outside_line self.old Keyword.Poster words.entry) }
+    {
+        let count = self.parts.posters.as_slice().len();
+        let name = self.name_form(16, count, words)?;
+        self.begin_poster(name)?;
+        Ok(())
+    }
+
+    #[tactic(auto, unfolding(crate::specs::Blocks::outside_line))]
     fn outside_line(&mut self, first: Keyword, words: Cursor<'_>) -> Result<(), Stop>
         ensures { GivesState self.new result (outside_line self.old first words.entry) }
     {
@@ -40,11 +90,7 @@ impl Draft {
                 let part = self.queue_form(words)?;
                 self.add_queue(part)?;
             }
-            Keyword::Port => {
-                let count = self.parts.ports.as_slice().len();
-                let name = self.name_form(256, count, words)?;
-                self.add_port(name)?;
-            }
+            Keyword::Port => self.port_line(words)?,
             Keyword::Portset => {
                 let part = self.set_form(words)?;
                 self.add_set(part)?;
@@ -53,30 +99,14 @@ impl Draft {
                 let part = self.cause_form(words)?;
                 self.add_cause(part)?;
             }
-            Keyword::Handler => {
-                let count = self.parts.handlers.as_slice().len();
-                let name = self.name_form(256, count, words)?;
-                self.begin_handler(name)?;
-            }
+            Keyword::Handler => self.open_handler(words)?,
             Keyword::Receive => {
                 let branch = self.receive_form(words)?;
                 self.add_receive(branch)?;
             }
-            Keyword::Choice => {
-                let count = self.parts.arbiters.as_slice().len();
-                let name = self.name_form(256, count, words)?;
-                self.begin_arbiter(Kind::Choice, name)?;
-            }
-            Keyword::Interleave => {
-                let count = self.parts.arbiters.as_slice().len();
-                let name = self.name_form(256, count, words)?;
-                self.begin_arbiter(Kind::Interleave, name)?;
-            }
-            Keyword::Poster => {
-                let count = self.parts.posters.as_slice().len();
-                let name = self.name_form(16, count, words)?;
-                self.begin_poster(name)?;
-            }
+            Keyword::Choice => self.open_choice(words)?,
+            Keyword::Interleave => self.open_interleave(words)?,
+            Keyword::Poster => self.open_poster(words)?,
             _ => return Err(Stop::Code(3)),
         }
         Ok(())

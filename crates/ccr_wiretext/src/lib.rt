@@ -16,7 +16,7 @@ mod stop;
 mod words;
 mod writing;
 
-pub use laws::reading_is_exact;
+pub use laws::{reading_is_exact, what_is_written_is_read};
 pub use reading::{read_parts, read_wiring};
 pub use refused::ReadRefused;
 pub use writing::write_wiring;

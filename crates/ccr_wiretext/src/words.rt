@@ -2,6 +2,8 @@
 
 ghost use Rattle.std.specs.Prelude.{◌≡◌, [], ◌∷◌, ◌++◌, OnOk, IfOk, map, flat_map, decimal};
 ghost use Rattle.ccr_wiretext.specs.Spelling.{port_name, queue_name, cause_name, handler_name, budget_words, policy_words, queue_words, port_words, set_words, cause_words, expr_words, action_words, end_words, pred_words, slot_words, pattern_words, group_words, branch_words, post_words};
+ghost use Rattle.std.specs.List.{All};
+ghost use Rattle.ccr_wiretext.specs.Values.{IsValue, IsExprValued, IsActionValued, IsPredValued, IsPatternValued};
 
 use crate::draft::copy_of;
 use ccr_base::{
@@ -95,14 +97,16 @@ impl LineWords {
     }
 
     fn number(&mut self, number: u64) -> Result<(), OutOfMemory>
-        ensures { OnOk result (self.new ≡ self.old ++ decimal number ∷ []) }
+        ensures words { OnOk result (self.new ≡ self.old ++ decimal number ∷ []) }
+        ensures valued { OnOk result (IsValue number) }
     {
         let digits = number.to_string(self.alloc)?;
         self.word(digits.as_bytes())
     }
 
     fn keyed(&mut self, word: &str, number: u64) -> Result<(), OutOfMemory>
-        ensures { OnOk result (self.new ≡ self.old ++ word.now ∷ decimal number ∷ []) }
+        ensures words { OnOk result (self.new ≡ self.old ++ word.now ∷ decimal number ∷ []) }
+        ensures valued { OnOk result (IsValue number) }
     {
         self.text(word)?;
         self.number(number)
@@ -119,7 +123,8 @@ impl LineWords {
     }
 
     fn expr(&mut self, expr: Expr) -> Result<(), OutOfMemory>
-        ensures { OnOk result (self.new ≡ self.old ++ expr_words expr) }
+        ensures words { OnOk result (self.new ≡ self.old ++ expr_words expr) }
+        ensures valued { OnOk result (IsExprValued expr) }
     {
         match expr {
             Expr::Number(value) => self.number(value),
@@ -130,7 +135,8 @@ impl LineWords {
     }
 
     fn pred(&mut self, pred: Pred) -> Result<(), OutOfMemory>
-        ensures { OnOk result (self.new ≡ self.old ++ pred_words pred) }
+        ensures words { OnOk result (self.new ≡ self.old ++ pred_words pred) }
+        ensures valued { OnOk result (IsPredValued pred) }
     {
         match pred {
             Pred::Any => self.text("any"),
@@ -159,7 +165,8 @@ impl LineWords {
     }
 
     fn slot(&mut self, parts: &Parts, slot: Slot) -> Result<(), OutOfMemory>
-        ensures { OnOk result (self.new ≡ self.old ++ slot_words parts.now slot) }
+        ensures words { OnOk result (self.new ≡ self.old ++ slot_words parts.now slot) }
+        ensures valued { OnOk result (IsPredValued slot.pred) }
     {
         self.word(port_name(parts, slot.port))?;
         self.number(u64::from(slot.least))?;
@@ -167,7 +174,8 @@ impl LineWords {
     }
 
     fn slots(&mut self, parts: &Parts, slots: &[Slot]) -> Result<(), OutOfMemory>
-        ensures { OnOk result (self.new ≡ self.old ++ flat_map (slot_words parts.now) slots.now) }
+        ensures words { OnOk result (self.new ≡ self.old ++ flat_map (slot_words parts.now) slots.now) }
+        ensures valued { OnOk result (All (λ slot. IsPredValued slot.pred) slots.now) }
     {
         for slot in slots {
             self.slot(parts, *slot)?;
@@ -176,7 +184,8 @@ impl LineWords {
     }
 
     fn pattern(&mut self, parts: &Parts, pattern: &Pattern) -> Result<(), OutOfMemory>
-        ensures { OnOk result (self.new ≡ self.old ++ pattern_words parts.now pattern.now) }
+        ensures words { OnOk result (self.new ≡ self.old ++ pattern_words parts.now pattern.now) }
+        ensures valued { OnOk result (IsPatternValued pattern.now) }
     {
         match pattern {
             Pattern::Slots(slots) => {
@@ -250,7 +259,8 @@ impl LineWords {
     }
 
     pub fn action(&mut self, parts: &Parts, action: Action) -> Result<(), OutOfMemory>
-        ensures { OnOk result (self.new ≡ self.old ++ action_words parts.now action) }
+        ensures words { OnOk result (self.new ≡ self.old ++ action_words parts.now action) }
+        ensures valued { OnOk result (IsActionValued action) }
     {
         match action {
             Action::Post(port, value) => {
@@ -268,7 +278,8 @@ impl LineWords {
     }
 
     pub fn branch(&mut self, parts: &Parts, branch: &BranchPart) -> Result<(), OutOfMemory>
-        ensures { OnOk result (self.new ≡ self.old ++ branch_words parts.now branch.now) }
+        ensures words { OnOk result (self.new ≡ self.old ++ branch_words parts.now branch.now) }
+        ensures valued { OnOk result (IsPatternValued branch.now.pattern) }
     {
         self.group(branch.name.as_slice(), branch.group)?;
         self.word(queue_name(parts, branch.queue))?;
@@ -277,7 +288,8 @@ impl LineWords {
     }
 
     pub fn post(&mut self, parts: &Parts, post: &Sent) -> Result<(), OutOfMemory>
-        ensures { OnOk result (self.new ≡ self.old ++ post_words parts.now post.now) }
+        ensures words { OnOk result (self.new ≡ self.old ++ post_words parts.now post.now) }
+        ensures valued { OnOk result (IsValue post.now.value) }
     {
         self.named("post", port_name(parts, post.port))?;
         self.number(post.value)?;

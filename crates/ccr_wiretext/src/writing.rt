@@ -2,8 +2,12 @@
 
 ghost use Rattle.std.specs.Prelude.{◌≡◌, ◌++◌, [], ◌∷◌, OnOk, IfOk, map, flat_map, codes};
 ghost use Rattle.ccr_text.specs.Spelling.{line_text, text_of};
+ghost use Rattle.std.specs.List.{All};
+ghost use Rattle.ccr_wiretext.specs.Reading.{reading_text};
+ghost use Rattle.ccr_wiretext.specs.Values.{IsValue, IsActionValued, IsHandlerValued, IsPatternValued, IsArbiterValued, IsPosterValued, IsValued};
 ghost use Rattle.ccr_wiretext.specs.Spelling.{budget_words, queue_words, port_words, set_words, cause_words, action_words, end_words, handler_lines, branch_words, block_lines, arbiter_lines, post_words, poster_lines, queue_lines, port_lines, acting_lines, canonical_lines, spelling};
 
+use crate::laws::what_is_written_is_read;
 use crate::words::LineWords;
 use ccr_base::{Action, List, Name, OutOfMemory, Sent};
 use ccr_wiring::{
@@ -131,7 +135,8 @@ fn put_actions(
     parts: &Parts,
     actions: &[Action],
 ) -> Result<(), OutOfMemory>
-    ensures { OnOk result (out.new.items ≡ out.old.items ++ text_of (map (action_words parts.now) actions.now)) }
+    ensures text { OnOk result (out.new.items ≡ out.old.items ++ text_of (map (action_words parts.now) actions.now)) }
+    ensures valued { OnOk result (All IsActionValued actions.now) }
 {
     for action in actions {
         let mut line = LineWords::new(alloc);
@@ -147,7 +152,8 @@ fn put_handler(
     parts: &Parts,
     part: &HandlerPart,
 ) -> Result<(), OutOfMemory>
-    ensures { OnOk result (out.new.items ≡ out.old.items ++ text_of (handler_lines parts.now part.now)) }
+    ensures text { OnOk result (out.new.items ≡ out.old.items ++ text_of (handler_lines parts.now part.now)) }
+    ensures valued { OnOk result (IsHandlerValued part.now) }
 {
     put_named(alloc, out, "handler", &part.name)?;
     put_actions(alloc, out, parts, part.handler.actions.as_slice())?;
@@ -160,7 +166,8 @@ fn put_handlers(
     parts: &Parts,
     handlers: &[HandlerPart],
 ) -> Result<(), OutOfMemory>
-    ensures { OnOk result (out.new.items ≡ out.old.items ++ text_of (flat_map (handler_lines parts.now) handlers.now)) }
+    ensures text { OnOk result (out.new.items ≡ out.old.items ++ text_of (flat_map (handler_lines parts.now) handlers.now)) }
+    ensures valued { OnOk result (All IsHandlerValued handlers.now) }
 {
     for part in handlers {
         put_handler(alloc, out, parts, part)?;
@@ -174,7 +181,8 @@ fn put_branches(
     parts: &Parts,
     branches: &[BranchPart],
 ) -> Result<(), OutOfMemory>
-    ensures { OnOk result (out.new.items ≡ out.old.items ++ text_of (map (branch_words parts.now) branches.now)) }
+    ensures text { OnOk result (out.new.items ≡ out.old.items ++ text_of (map (branch_words parts.now) branches.now)) }
+    ensures valued { OnOk result (All (λ branch. IsPatternValued branch.pattern) branches.now) }
 {
     for branch in branches {
         let mut line = LineWords::new(alloc);
@@ -192,7 +200,8 @@ fn put_block(
     first: &str,
     part: &ArbiterPart,
 ) -> Result<(), OutOfMemory>
-    ensures { OnOk result (out.new.items ≡ out.old.items ++ text_of (block_lines parts.now first.now part.now)) }
+    ensures text { OnOk result (out.new.items ≡ out.old.items ++ text_of (block_lines parts.now first.now part.now)) }
+    ensures valued { OnOk result (IsArbiterValued part.now) }
 {
     put_named(alloc, out, first, &part.name)?;
     put_branches(alloc, out, parts, part.branches.as_slice())?;
@@ -205,7 +214,8 @@ fn put_arbiter(
     parts: &Parts,
     part: &ArbiterPart,
 ) -> Result<(), OutOfMemory>
-    ensures { OnOk result (out.new.items ≡ out.old.items ++ text_of (arbiter_lines parts.now part.now)) }
+    ensures text { OnOk result (out.new.items ≡ out.old.items ++ text_of (arbiter_lines parts.now part.now)) }
+    ensures valued { OnOk result (IsArbiterValued part.now) }
 {
     match part.kind {
         Kind::Receive => put_branches(alloc, out, parts, part.branches.as_slice()),
@@ -220,7 +230,8 @@ fn put_arbiters(
     parts: &Parts,
     arbiters: &[ArbiterPart],
 ) -> Result<(), OutOfMemory>
-    ensures { OnOk result (out.new.items ≡ out.old.items ++ text_of (flat_map (arbiter_lines parts.now) arbiters.now)) }
+    ensures text { OnOk result (out.new.items ≡ out.old.items ++ text_of (flat_map (arbiter_lines parts.now) arbiters.now)) }
+    ensures valued { OnOk result (All IsArbiterValued arbiters.now) }
 {
     for part in arbiters {
         put_arbiter(alloc, out, parts, part)?;
@@ -234,7 +245,8 @@ fn put_posts(
     parts: &Parts,
     posts: &[Sent],
 ) -> Result<(), OutOfMemory>
-    ensures { OnOk result (out.new.items ≡ out.old.items ++ text_of (map (post_words parts.now) posts.now)) }
+    ensures text { OnOk result (out.new.items ≡ out.old.items ++ text_of (map (post_words parts.now) posts.now)) }
+    ensures valued { OnOk result (All (λ post. IsValue post.value) posts.now) }
 {
     for post in posts {
         let mut line = LineWords::new(alloc);
@@ -250,7 +262,8 @@ fn put_poster(
     parts: &Parts,
     part: &PosterPart,
 ) -> Result<(), OutOfMemory>
-    ensures { OnOk result (out.new.items ≡ out.old.items ++ text_of (poster_lines parts.now part.now)) }
+    ensures text { OnOk result (out.new.items ≡ out.old.items ++ text_of (poster_lines parts.now part.now)) }
+    ensures valued { OnOk result (IsPosterValued part.now) }
 {
     put_named(alloc, out, "poster", &part.name)?;
     put_posts(alloc, out, parts, part.posts.as_slice())?;
@@ -263,7 +276,8 @@ fn put_posters(
     parts: &Parts,
     posters: &[PosterPart],
 ) -> Result<(), OutOfMemory>
-    ensures { OnOk result (out.new.items ≡ out.old.items ++ text_of (flat_map (poster_lines parts.now) posters.now)) }
+    ensures text { OnOk result (out.new.items ≡ out.old.items ++ text_of (flat_map (poster_lines parts.now) posters.now)) }
+    ensures valued { OnOk result (All IsPosterValued posters.now) }
 {
     for part in posters {
         put_poster(alloc, out, parts, part)?;
@@ -301,7 +315,8 @@ fn put_port_lines(alloc: Global, out: &mut Text, parts: &Parts) -> Result<(), Ou
 /// The handlers, the arbiters and the posters.
 #[tactic(auto, unfolding(crate::specs::Spelling::acting_lines))]
 fn put_acting_lines(alloc: Global, out: &mut Text, parts: &Parts) -> Result<(), OutOfMemory>
-    ensures { OnOk result (out.new.items ≡ out.old.items ++ text_of (acting_lines parts.now)) }
+    ensures text { OnOk result (out.new.items ≡ out.old.items ++ text_of (acting_lines parts.now)) }
+    ensures valued { OnOk result (IsValued parts.now) }
 {
     put_handlers(alloc, out, parts, parts.handlers.as_slice())?;
     put_arbiters(alloc, out, parts, parts.arbiters.as_slice())?;
@@ -309,7 +324,8 @@ fn put_acting_lines(alloc: Global, out: &mut Text, parts: &Parts) -> Result<(), 
 }
 
 fn put_parts(alloc: Global, out: &mut Text, parts: &Parts) -> Result<(), OutOfMemory>
-    ensures { OnOk result (out.new.items ≡ out.old.items ++ spelling parts.now) }
+    ensures text { OnOk result (out.new.items ≡ out.old.items ++ spelling parts.now) }
+    ensures valued { OnOk result (IsValued parts.now) }
 {
     put_queue_lines(alloc, out, parts)?;
     put_port_lines(alloc, out, parts)?;
@@ -319,8 +335,10 @@ fn put_parts(alloc: Global, out: &mut Text, parts: &Parts) -> Result<(), OutOfMe
 /// The canonical text of a wiring: single spaces, LF after each line, no line that a reader skips, numbers without
 /// leading zeros, plain port names, and the kinds in one order.
 pub fn write_wiring(alloc: Global, w: &Wiring) -> Result<List<u8>, OutOfMemory>
-    ensures { IfOk result (λ text. text ≡ spelling w.now) }
+    ensures spelling { IfOk result (λ text. text ≡ spelling w.now) }
+    ensures read { IfOk result (λ text. reading_text text ≡ Ok w.now) }
 {
+    what_is_written_is_read();
     let mut out = Vec::new(alloc);
     put_parts(alloc, &mut out, w.parts())?;
     Ok(List::from_vec(out))

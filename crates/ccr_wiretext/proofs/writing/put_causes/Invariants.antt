@@ -1,5 +1,4 @@
-use Rattle.std.proofs.Common.{◌≡◌, ◌++◌, ◌∷◌, map, take}
-use Rattle.std.specs.Prelude.{flat_map}
+use Rattle.std.proofs.Common.{◌≡◌, ◌++◌, map, take}
 use Rattle.ccr_text.specs.Spelling.{text_of}
 use Rattle.ccr_wiretext.specs.Spelling.{cause_words}
 use Rattle.ccr_wiretext.proofs.writing.put_causes.Given as goal

@@ -1,8 +1,10 @@
-use Rattle.std.proofs.Common.{◌≡◌, ◌++◌, ◌∷◌, map, take}
+use Rattle.std.proofs.Common.{◌≡◌, ◌++◌, take}
 use Rattle.std.specs.Prelude.{flat_map}
 use Rattle.ccr_text.specs.Spelling.{text_of}
 use Rattle.ccr_wiretext.specs.Spelling.{handler_lines}
+use Rattle.std.specs.List.{AllWithin}
+use Rattle.ccr_wiretext.specs.Values.{IsHandlerValued}
 use Rattle.ccr_wiretext.proofs.writing.put_handlers.Given as goal
 
 abbrev pub invariant-loop-part : goal.invariant-loop-part
-invariant-loop-part l = l.out.items ≡ l.fn.out.items ++ text_of (flat_map (handler_lines l.parts) (take l.part-index l.handlers))
+invariant-loop-part l = record { text : l.out.items ≡ l.fn.out.items ++ text_of (flat_map (handler_lines l.parts) (take l.part-index l.handlers)); valued : AllWithin IsHandlerValued l.handlers 0 l.part-index }

@@ -1,4 +1,4 @@
-use Rattle.std.proofs.Common.{arith, sym, ap, ◌∙◌, Ok, length}
+use Rattle.std.proofs.Common.{arith, sym, ap, ◌∙◌, Ok}
 use Rattle.ccr_base.specs.declared.patterns.Pattern.TheVariants as patterns
 use Rattle.ccr_wiretext.specs.Places.{◌>>=◌}
 use Rattle.ccr_wiretext.proofs.Slots.{slots_step}

@@ -1,5 +1,4 @@
-use Rattle.std.proofs.Common.{◌≡◌, ◌++◌, ◌∷◌, map, take}
-use Rattle.std.specs.Prelude.{flat_map}
+use Rattle.std.proofs.Common.{◌≡◌, ◌++◌, map, take}
 use Rattle.ccr_wiretext.specs.Spelling.{cause_name}
 use Rattle.ccr_wiretext.proofs.words.LineWords.causes.Given as goal
 

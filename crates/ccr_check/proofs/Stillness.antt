@@ -1,0 +1,167 @@
+-- Something is left exactly where an event comes first.
+use Rattle.std.proofs.Common.{◌≡◌, ℕ, zero, suc, ◌+◌, Bool, true, false, not, ◌&&◌, ◌||◌, List, [], ◌∷◌, length, Option, Some, None, refl, sym, arith, ◌∙◌}
+use Rattle.std.specs.Prelude.{if◌then◌else◌, find, nat_lt, nat_le, is_some, option_map, option_and_then}
+use Rattle.std.specs.List.{slice_get, list_any, list_all}
+use Rattle.std.specs.Option.{option_map_or, option_or}
+use Rattle.std.proofs.lemmas.Bool.Decides.{nat_tests}
+use Rattle.ccr_base.specs.declared.names.TaskId.{TaskId}
+use Rattle.ccr_base.specs.declared.messages.Msg.{Msg}
+use Rattle.ccr_base.specs.declared.patterns.Slot.{Slot}
+use Rattle.ccr_base.specs.declared.patterns.Pattern.{Pattern}
+use Rattle.ccr_base.specs.declared.patterns.Pattern.TheVariants.{Slots, Gather}
+use Rattle.ccr_base.specs.declared.names.Spot.{Spot}
+use Rattle.ccr_base.specs.declared.names.Spot.TheVariants.{Branch, Site}
+use Rattle.ccr_base.specs.Choice.{choice, is_choosable}
+use Rattle.ccr_wiring.specs.declared.parts.Parts.{Parts}
+use Rattle.ccr_wiring.specs.declared.parts.PosterPart.{PosterPart}
+use Rattle.ccr_wiring.specs.declared.parts.ArbiterPart.{ArbiterPart}
+use Rattle.ccr_wiring.specs.declared.parts.QueuePart.{QueuePart}
+use Rattle.ccr_wiring.specs.Wirings.{Seat, seat, site_port, spots}
+use Rattle.ccr_model.specs.declared.history.Event.{Event}
+use Rattle.ccr_model.specs.declared.history.Event.TheVariants.{Admit}
+use Rattle.ccr_model.specs.Posts.{held}
+use Rattle.ccr_model.specs.Firings.{fired}
+use Rattle.ccr_model.specs.Tasks.{waiting, queued, running}
+use Rattle.ccr_model.specs.Live.{is_none_of}
+use Rattle.ccr_model.specs.Choice.{joined, choice_of_slots, engine_gather, engine_choice_of, oldest, engine_choice}
+use Rattle.ccr_model.specs.Rules.{may_enter, may_put}
+use Rattle.ccr_model.specs.Order.{first, post_from, fire_at, fire_from, admit_first, admit_from, put_first, start_from}
+use Rattle.ccr_model.specs.Legal.{IsQuiet}
+use Rattle.ccr_check.specs.Verdicts.{AllowsSome, MeansQuiet}
+use Rattle.ccr_check.specs.Left.{has_line_left, has_enough, can_take, can_fire, can_admit, has_admission, has_queued, is_still}
+
+is_some-or : {X : Type 0} (a b : Option X) → is_some (option_or a b) ≡ is_some a || is_some b
+is_some-or None b = refl
+is_some-or (Some x) b = refl
+
+is_some-map : {X Y : Type 0} (f : X → Y) (o : Option X) → is_some (option_map f o) ≡ is_some o
+is_some-map f None = refl
+is_some-map f (Some x) = refl
+
+is_some-if : {X : Type 0} (b : Bool) (o : Option X) → is_some (if b then o else None) ≡ b && is_some o
+is_some-if true o = refl
+is_some-if false o = refl
+
+is_some-get : {X : Type 0} (xs : List X) (k : ℕ) → is_some (slice_get xs k) ≡ nat_lt k (length xs)
+is_some-get [] k = grind (arith, nat_tests)
+is_some-get (x ∷ xs) zero = grind (arith, nat_tests)
+is_some-get (x ∷ xs) (suc k) = grind (arith, nat_tests, is_some-get xs k)
+
+is_some-find : {X : Type 0} (p : X → Bool) (xs : List X) → is_some (find p xs) ≡ list_any p xs
+is_some-find p [] = refl
+is_some-find p (x ∷ xs) = of_test (p x) (is_some-find p xs)
+  where
+    of_test : (b : Bool) → is_some (find p xs) ≡ list_any p xs → is_some (if b then Some x else find p xs) ≡ b || list_any p xs
+    of_test true rest = refl
+    of_test false rest = rest
+
+-- a line of a script
+some_post : (h : List Event) (n : ℕ) (ps : List PosterPart) → is_some (post_from h n ps) ≡ has_line_left h n ps
+some_post h n [] = refl
+some_post h n (p ∷ ps) = rw (is_some-or, is_some-map, is_some-get, some_post h (n + 1) ps) refl
+
+-- a firing
+is_some-joined : (a b : Option (List Msg)) → is_some (joined a b) ≡ is_some a && is_some b
+is_some-joined None b = refl
+is_some-joined (Some x) None = refl
+is_some-joined (Some x) (Some y) = refl
+
+some_choice : (slot : Slot) (ms : List Msg) → is_some (choice slot ms) ≡ is_choosable slot ms
+some_choice slot ms = of_test (is_choosable slot ms) _
+  where
+    of_test : {X : Type 0} (b : Bool) (x : X) → is_some (if b then Some x else None) ≡ b
+    of_test true x = refl
+    of_test false x = refl
+
+some_choice_of_slots : (f : ℕ → List Msg) (slots : List Slot) → is_some (choice_of_slots f slots) ≡ list_all (λ (slot : Slot). is_choosable slot (f slot.port)) slots
+some_choice_of_slots f [] = refl
+some_choice_of_slots f (s ∷ slots) = rw (is_some-joined, some_choice s (f s.port), some_choice_of_slots f slots) refl
+
+some_gather : (n p q : ℕ) (a b : List Msg) → is_some (engine_gather n p q a b) ≡ nat_le n (length a + length b)
+some_gather n p q a b = of_tests (nat_lt (length a + length b) n) (nat_lt p q) _ _ ∙ grind (arith, nat_tests)
+  where
+    of_tests : {X : Type 0} (x y : Bool) (one other : X) → is_some (if x then None else if y then Some one else Some other) ≡ not x
+    of_tests true y one other = refl
+    of_tests false true one other = refl
+    of_tests false false one other = refl
+
+some_choice_of : (f : ℕ → List Msg) (p : Pattern) → is_some (engine_choice_of f p) ≡ has_enough f p
+some_choice_of f (Slots slots) = some_choice_of_slots f slots
+some_choice_of f (Gather total p q) = some_gather total p q (f p) (f q)
+
+some_oldest : (ms : List Msg) → is_some (oldest ms) ≡ nat_lt 0 (length ms)
+some_oldest [] = refl
+some_oldest (m ∷ ms) = grind (arith, nat_tests)
+
+some_choice_at : (w : Parts) (h : List Event) (s : Spot) → is_some (engine_choice w h s) ≡ can_take w h s
+some_choice_at w h (Branch b) = of_seat (seat w b)
+  where
+    of_seat : (o : Option Seat) → is_some (option_and_then (λ (s : Seat). engine_choice_of (held h) s.branch.pattern) o) ≡ option_map_or (λ (s : Seat). has_enough (held h) s.branch.pattern) o false
+    of_seat None = refl
+    of_seat (Some s) = some_choice_of (held h) s.branch.pattern
+some_choice_at w h (Site b k) = of_port (site_port w b k)
+  where
+    of_port : (o : Option ℕ) → is_some (option_and_then (λ port. oldest (held h port)) o) ≡ option_map_or (λ port. nat_lt 0 (length (held h port))) o false
+    of_port None = refl
+    of_port (Some port) = some_oldest (held h port)
+
+some_fire_at : (w : Parts) (c : ℕ) (h : List Event) (s : Spot) → is_some (fire_at w c h s) ≡ can_fire w h s
+some_fire_at w c h s = rw (is_some-if, is_some-map, some_choice_at w h s) refl
+
+some_fire : (w : Parts) (c : ℕ) (h : List Event) (ss : List Spot) → is_some (fire_from w c h ss) ≡ list_any (can_fire w h) ss
+some_fire w c h [] = refl
+some_fire w c h (s ∷ ss) = rw (is_some-or, some_fire_at w c h s, some_fire w c h ss) refl
+
+-- an admission
+some_admit_first : (w : Parts) (h : List Event) (ts : List TaskId) → is_some (admit_first w h ts) ≡ can_admit w h ts
+some_admit_first w h [] = refl
+some_admit_first w h (t ∷ ts) = of_test (may_enter w h t)
+  where
+    of_test : (b : Bool) → is_some (if b then Some (Admit t) else None) ≡ b
+    of_test true = refl
+    of_test false = refl
+
+some_admit : (w : Parts) (h : List Event) (n : ℕ) (xs : List ArbiterPart) → is_some (admit_from w h n xs) ≡ has_admission w h n xs
+some_admit w h n [] = refl
+some_admit w h n (x ∷ xs) = rw (is_some-or, some_admit_first w h (waiting w h n), some_admit w h (n + 1) xs) refl
+
+-- a put
+some_put : (w : Parts) (h : List Event) → is_some (put_first w h) ≡ list_any (may_put w h) (fired h)
+some_put w h = rw (is_some-map, is_some-find) refl
+
+-- a start
+some_head : (ts : List TaskId) → is_some (slice_get ts 0) ≡ not (is_none_of ts)
+some_head [] = refl
+some_head (t ∷ ts) = grind (arith, nat_tests)
+
+some_start : (w : Parts) (c : ℕ) (h : List Event) (n : ℕ) (qs : List QueuePart) → is_some (start_from w c h n qs) ≡ has_queued w h n qs
+some_start w c h n [] = refl
+some_start w c h n (q ∷ qs) = rw (is_some-or, is_some-map, some_head (queued w h n), some_start w c h (n + 1) qs) refl
+
+none_of_six : (a b c d e f : Bool) → not (a || (b || (c || (d || (not e || f))))) ≡ not a && not b && not c && not d && e && not f
+none_of_six true b c d e f = refl
+none_of_six false true c d e f = refl
+none_of_six false false true d e f = refl
+none_of_six false false false true e f = refl
+none_of_six false false false false true f = refl
+none_of_six false false false false false f = refl
+
+-- nothing is left exactly where nothing comes first
+pub is_still-first : (w : Parts) (c : ℕ) (h : List Event) → not (is_some (first w c h)) ≡ is_still w h
+unfolding is_still
+is_still-first w c h =
+    rw (is_some-or, some_post h 0 w.posters, is_some-or, some_fire w c h (spots w), is_some-or, some_admit w h 0 w.arbiters, is_some-or, some_put w h, is_some-or, is_some-map, some_head (running h), some_start w c h 0 w.queues)
+    (none_of_six (has_line_left h 0 w.posters) (list_any (can_fire w h) (spots w)) (has_admission w h 0 w.arbiters) (list_any (may_put w h) (fired h)) (is_none_of (running h)) (has_queued w h 0 w.queues))
+
+pub none_where_not : {X : Type 0} (o : Option X) (b : Bool) → not (is_some o) ≡ b → b ≡ true → o ≡ None
+none_where_not None b is holds = refl
+none_where_not (Some x) b is holds = absurd (cc)
+
+pub some_where_not : {X : Type 0} (o : Option X) (b : Bool) → not (is_some o) ≡ b → b ≡ false → (x : X) × (o ≡ Some x)
+some_where_not None b is fails = absurd (cc)
+some_where_not (Some x) b is fails = (x, refl)
+
+-- whether nothing is left is whether the history is quiet
+pub MeansQuiet-still : (w : Parts) (h : List Event) (b : Bool) → b ≡ is_still w h → (is_still w h ≡ true → IsQuiet w h) → (is_still w h ≡ false → AllowsSome w h) → MeansQuiet w h b
+MeansQuiet-still w h true is quiet moves = quiet (sym is)
+MeansQuiet-still w h false is quiet moves = moves (sym is)

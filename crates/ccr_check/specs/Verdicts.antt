@@ -1,0 +1,36 @@
+-- What a verdict says of the history.
+use Rattle.std.specs.Prelude.{◌≡◌, ℕ, Bool, true, false, List, Option, Some, None}
+use Rattle.ccr_wiring.specs.declared.parts.Parts.{Parts}
+use Rattle.ccr_model.specs.declared.history.Event.{Event}
+use Rattle.ccr_model.specs.Legal.{IsAllowed, IsLegal, IsQuiet, is_complete}
+use Rattle.ccr_check.specs.declared.verdicts.Verdict.{Verdict}
+use Rattle.ccr_check.specs.declared.verdicts.Verdict.TheVariants.{Legal, Illegal}
+
+-- the place and the rule of an illegal verdict
+abbrev pub refusal_told : Verdict → Option (ℕ × ℕ)
+refusal_told (Legal complete quiet) = None
+refusal_told (Illegal at rule) = Some (at, rule)
+
+-- Legal is told of a legal history, Illegal of one that isn't
+abbrev pub TellsLegal : Parts → List Event → Verdict → Type 0
+TellsLegal wiring history (Legal complete quiet) = IsLegal wiring history
+TellsLegal wiring history (Illegal at rule) = IsLegal wiring history → ⊥
+
+-- whether a legal verdict says complete is whether the history is
+abbrev pub TellsComplete : Parts → List Event → Verdict → Type 0
+TellsComplete wiring history (Legal complete quiet) = complete ≡ is_complete wiring history
+TellsComplete wiring history (Illegal at rule) = Unit {0}
+
+-- some event is allowed after the history
+abbrev pub AllowsSome : Parts → List Event → Type 0
+AllowsSome wiring history = (event : Event) × IsAllowed wiring history event
+
+-- true means that no event is allowed after the history, false that some event is
+abbrev pub MeansQuiet : Parts → List Event → Bool → Type 0
+MeansQuiet wiring history true = IsQuiet wiring history
+MeansQuiet wiring history false = AllowsSome wiring history
+
+-- whether a legal verdict says quiet is whether the history is
+abbrev pub TellsQuiet : Parts → List Event → Verdict → Type 0
+TellsQuiet wiring history (Legal complete quiet) = MeansQuiet wiring history quiet
+TellsQuiet wiring history (Illegal at rule) = Unit {0}

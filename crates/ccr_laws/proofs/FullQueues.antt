@@ -1,0 +1,137 @@
+-- A `discard n` queue never holds more than n tasks, so a put that drops finds exactly n.
+use Rattle.std.proofs.Common.{◌≡◌, ℕ, suc, ◌<◌, ◌≤◌, Bool, true, false, not, List, [], ◌∷◌, ◌++◌, length, map, filter, Option, Some, None, option_to_list, refl, sym, ap, ◌∙◌, arith, subst, append-nil, length-append}
+use Rattle.std.specs.Prelude.{◌==◌, if◌then◌else◌, nat_le, find, option_and_then}
+use Rattle.std.specs.List.{slice_get}
+use Rattle.std.specs.Option.{option_map_or}
+use Rattle.std.proofs.lemmas.List.Elements.{filter_agree}
+use Rattle.std.proofs.lemmas.Bool.Decides.{nat_tests}
+use Rattle.ccr_base.specs.declared.names.TaskId.{TaskId}
+use Rattle.ccr_base.specs.declared.policies.Policy.TheVariants.{Unbounded, Discard}
+use Rattle.ccr_wiring.specs.declared.parts.Parts.{Parts}
+use Rattle.ccr_wiring.specs.declared.parts.QueuePart.{QueuePart}
+use Rattle.ccr_wiring.specs.Wirings.{Seat, policy_of}
+use Rattle.ccr_wiring.specs.Limits.{policy_is_outside, queue_is_outside}
+use Rattle.ccr_wiring.specs.Valid.{IsValid}
+use Rattle.ccr_wiring.proofs.Lists.{none_at}
+use Rattle.ccr_wiring.proofs.Validity.{no_codes, within}
+use Rattle.ccr_model.specs.declared.history.Event.{Event}
+use Rattle.ccr_model.specs.declared.history.Event.TheVariants.{Post, Fire, Admit, Put, Start, End}
+use Rattle.ccr_base.specs.Names.{same_task, has_task, without}
+use Rattle.ccr_model.specs.Firings.{Firing, firings, firing_of, fired, put, put_by, dropped, dropped_by, started, started_by}
+use Rattle.ccr_model.specs.TaskData.{seat_of}
+use Rattle.ccr_model.specs.Tasks.{is_for_queue, queued}
+use Rattle.ccr_model.specs.Rules.{is_new, drop_at, drop_by}
+use Rattle.ccr_model.specs.Legal.{IsAllowed, IsLegal}
+use Rattle.ccr_model.proofs.PostNames.{refused_not}
+use Rattle.ccr_model.proofs.Quiet.{some_of}
+use Rattle.ccr_model.proofs.Allowing.{same_task-self}
+use Rattle.ccr_model.proofs.Covered.{same_task-is, or_left, or_right}
+use Rattle.ccr_model.proofs.TaskSteps.{firings-push, queued-start, queued-put, queued-fire}
+use Rattle.ccr_laws.specs.Standing.{Stands}
+use Rattle.ccr_laws.specs.Drops.{DropsOldest}
+use Rattle.ccr_laws.proofs.Allowed.{allowed_at, legal_past}
+use Rattle.ccr_laws.proofs.Steps.{along_legal, out_of_both, new_drop, put_allowed, drop_allowed}
+use Rattle.ccr_laws.proofs.TaskLife.{refuted, no_both, put-push, started-push, dropped-push, started_put, dropped_put, put_might_go, may_put-facts}
+
+-- a policy's number is at least 1
+some_most : (w : Parts) → IsValid w → (q n : ℕ) → policy_of w q ≡ Discard n → 1 ≤ n
+some_most w valid q n is = of_option (slice_get w.queues q) refl is
+  where
+    of_option : (o : Option QueuePart) → slice_get w.queues q ≡ o → option_map_or (λ (part : QueuePart). part.policy) o Unbounded ≡ Discard n → 1 ≤ n
+    of_option None at policy = absurd (cc)
+    of_option (Some part) at policy =
+        let inside : queue_is_outside part ≡ false = none_at queue_is_outside w.queues q part (within w (no_codes w valid).limits).queues at in
+        let known : policy_is_outside (Discard n) ≡ false = subst (λ p. policy_is_outside p ≡ false) policy inside in
+        grind (arith, nat_tests, known)
+
+few_left : (p : TaskId → Bool) (ts : List TaskId) → length (filter p ts) ≤ length ts
+few_left p [] = omega arith
+few_left p (t ∷ ts) = grind (arith, few_left p ts)
+
+queued_other : (w : Parts) (h : List Event) (q : ℕ) (e : Event) → firing_of e ≡ [] → put_by e ≡ [] → started_by e ≡ [] → dropped_by e ≡ [] → queued w (h ++ e ∷ []) q ≡ queued w h q
+queued_other w h q e fires puts starts drops =
+    let fs : firings (h ++ e ∷ []) ≡ firings h = firings-push h e ∙ ap (λ xs. firings h ++ xs) fires ∙ append-nil (firings h) in
+    let ps : put (h ++ e ∷ []) ≡ put h = put-push h e ∙ ap (λ xs. put h ++ xs) puts ∙ append-nil (put h) in
+    let ss : started (h ++ e ∷ []) ≡ started h = started-push h e ∙ ap (λ xs. started h ++ xs) starts ∙ append-nil (started h) in
+    let ds : dropped (h ++ e ∷ []) ≡ dropped h = dropped-push h e ∙ ap (λ xs. dropped h ++ xs) drops ∙ append-nil (dropped h) in
+    filter_agree (is_for_queue w (h ++ e ∷ []) q) (is_for_queue w h q) (λ u. rw fs refl) (without (put (h ++ e ∷ [])) (started (h ++ e ∷ []) ++ dropped (h ++ e ∷ []))) ∙ rw (ps, ss, ds) refl
+
+-- the task of a firing fired
+named_fired : (fs : List Firing) (t : TaskId) (f : Firing) → find (λ (g : Firing). same_task g.task t) fs ≡ Some f → has_task (map (λ (g : Firing). g.task) fs) t ≡ true
+named_fired [] t f is = absurd (cc)
+named_fired (g ∷ fs) t f is = of_test (same_task g.task t) refl is (named_fired fs t f)
+  where
+    of_test : (b : Bool) → same_task g.task t ≡ b → (if b then Some g else find (λ (x : Firing). same_task x.task t) fs) ≡ Some f → (find (λ (x : Firing). same_task x.task t) fs ≡ Some f → has_task (map (λ (x : Firing). x.task) fs) t ≡ true) → has_task (map (λ (x : Firing). x.task) (g ∷ fs)) t ≡ true
+    of_test true same at rest = let one : g.task ≡ t = same_task-is g.task t same in rw one (or_left (same_task t t) (has_task (map (λ (x : Firing). x.task) fs) t) (same_task-self t))
+    of_test false same at rest = or_right (same_task t g.task) (has_task (map (λ (x : Firing). x.task) fs) t) (rest at)
+
+-- a new task wasn't put
+new_unput : (w : Parts) (h : List Event) (t : TaskId) → IsLegal w h → is_new h t ≡ true → has_task (put h) t ≡ false
+new_unput w h t legal new = refuted (has_task (put h) t) (λ is. (let go = put_might_go w h legal t is in contrary (named_fired (firings h) t go.its go.found)))
+  where
+    contrary : has_task (fired h) t ≡ true → ⊥
+    contrary before = let out : is_new h t ≡ false = rw before refl in no_both new out
+
+-- a task that may be put neither started nor was dropped, and isn't the one that is dropped
+put_fresh : (w : Parts) (h : List Event) (t : TaskId) (d : Option TaskId) → IsLegal w h → IsAllowed w h (Put t d) → has_task (started h ++ (dropped h ++ option_to_list d)) t ≡ false
+put_fresh w h t d legal allowed =
+    let facts = may_put-facts w h t (put_allowed w h t d allowed).0 in
+    out_of_both (started h) (dropped h ++ option_to_list d) t
+    (refuted (has_task (started h) t) (λ is. no_both (started_put w h legal t is) facts.unput))
+    (out_of_both (dropped h) (option_to_list d) t
+    (refuted (has_task (dropped h) t) (λ is. no_both (dropped_put w h legal t is) facts.unput))
+    (refuted (has_task (option_to_list d) t) (λ is. no_both (new_drop w h (Put t d) t allowed is).was_put facts.unput)))
+
+-- over plain lists: one comes, and where there are as many as there may be, the oldest goes
+one_comes : (n : ℕ) (ts : List TaskId) (t : TaskId) (d : Option TaskId) → 1 ≤ n → length ts ≤ n → d ≡ (if nat_le n (length ts) then slice_get ts 0 else None) → length (without ts (option_to_list d) ++ t ∷ []) ≤ n
+one_comes n ts t d some few is = of_test (nat_le n (length ts)) refl is
+  where
+    goes : (xs : List TaskId) → ts ≡ xs → n ≤ length xs → d ≡ slice_get xs 0 → length (without ts (option_to_list d) ++ t ∷ []) ≤ n
+    goes [] same full head = absurd (omega arith)
+    goes (x ∷ xs) same full head =
+        let long : length ts ≡ suc (length xs) = rw same refl in
+        let first : without (x ∷ xs) (x ∷ []) ≡ without xs (x ∷ []) = rw (same_task-self x) refl in
+        let left : without ts (option_to_list d) ≡ without xs (x ∷ []) = ap (λ o. without ts (option_to_list o)) head ∙ ap (λ us. without us (x ∷ [])) same ∙ first in
+        rw left (omega (arith, length-append (without xs (x ∷ [])) (t ∷ []), few_left (λ u. not (has_task (x ∷ []) u)) xs, few, long))
+
+    of_test : (b : Bool) → nat_le n (length ts) ≡ b → d ≡ (if b then slice_get ts 0 else None) → length (without ts (option_to_list d) ++ t ∷ []) ≤ n
+    of_test true e same = let full : n ≤ length ts = grind (arith, nat_tests, e) in goes ts refl full same
+    of_test false e same =
+        let room : length ts < n = grind (arith, nat_tests, e) in
+        omega (arith, length-append (without ts (option_to_list d)) (t ∷ []), few_left (λ u. not (has_task (option_to_list d) u)) ts, room)
+
+-- the queue of a put
+drop_on : (w : Parts) (h : List Event) (q n : ℕ) (t : TaskId) → policy_of w q ≡ Discard n → is_for_queue w h q t ≡ true → drop_at w h t ≡ drop_by (Discard n) (queued w h q)
+drop_on w h q n t policy is =
+    let found = some_of (λ (s : Seat). s.branch.queue == q) (seat_of w h t) is in
+    let same : found.0.branch.queue ≡ q = grind (arith, nat_tests, found.2) in
+    ap (λ o. option_and_then (λ (s : Seat). drop_by (policy_of w s.branch.queue) (queued w h s.branch.queue)) o) found.1 ∙ ap (λ k. drop_by (policy_of w k) (queued w h k)) same ∙ ap (λ p. drop_by p (queued w h q)) policy
+
+put_within : (w : Parts) (q n : ℕ) → 1 ≤ n → policy_of w q ≡ Discard n → (h : List Event) (t : TaskId) (d : Option TaskId) → IsLegal w h → IsAllowed w h (Put t d) → length (queued w h q) ≤ n → length (queued w (h ++ Put t d ∷ []) q) ≤ n
+put_within w q n some policy h t d legal allowed few = subst (λ ts. length ts ≤ n) (sym (queued-put w h q t d (put_fresh w h t d legal allowed))) (of_test (is_for_queue w h q t) refl)
+  where
+    of_test : (b : Bool) → is_for_queue w h q t ≡ b → length (without (queued w h q) (option_to_list d) ++ (if b then t ∷ [] else [])) ≤ n
+    of_test true here = one_comes n (queued w h q) t d some few ((put_allowed w h t d allowed).1 ∙ drop_on w h q n t policy here)
+    of_test false there = rw append-nil (omega (arith, few_left (λ u. not (has_task (option_to_list d) u)) (queued w h q), few))
+
+-- a `discard n` queue holds at most n tasks
+pub few_queued : (w : Parts) → IsValid w → (q n : ℕ) → policy_of w q ≡ Discard n → (h : List Event) → IsLegal w h → length (queued w h q) ≤ n
+few_queued w valid q n policy = along_legal w (λ g. length (queued w g q) ≤ n) kept (omega arith)
+  where
+    same : (h : List Event) (e : Event) → queued w (h ++ e ∷ []) q ≡ queued w h q → length (queued w h q) ≤ n → length (queued w (h ++ e ∷ []) q) ≤ n
+    same h e is few = subst (λ ts. length ts ≤ n) (sym is) few
+
+    kept : (h : List Event) (e : Event) → IsLegal w h → length (queued w h q) ≤ n → IsAllowed w h e → length (queued w (h ++ e ∷ []) q) ≤ n
+    kept h (Post m) legal few allowed = same h (Post m) (queued_other w h q (Post m) refl refl refl refl) few
+    kept h (Admit t) legal few allowed = same h (Admit t) (queued_other w h q (Admit t) refl refl refl refl) few
+    kept h (End t how) legal few allowed = same h (End t how) (queued_other w h q (End t how) refl refl refl refl) few
+    kept h (Fire t s ms cs) legal few allowed = same h (Fire t s ms cs) (queued-fire w h q t s ms cs (new_unput w h t legal (refused_not (is_new h t) 4 _ allowed).0)) few
+    kept h (Put t d) legal few allowed = put_within w q n (some_most w valid q n policy) policy h t d legal allowed few
+    kept h (Start t a) legal few allowed = subst (λ ts. length ts ≤ n) (sym (queued-start w h q t a)) (omega (arith, few_left (λ u. not (has_task (t ∷ []) u)) (queued w h q), few))
+
+-- a put drops the oldest of as many tasks as its queue's policy says
+pub drops_oldest : (w : Parts) → IsValid w → (h : List Event) → IsLegal w h → (past : List Event) (t x : TaskId) → Stands h past (Put t (Some x)) → DropsOldest w past t x
+drops_oldest w valid h legal past t x stands =
+    let facts = drop_allowed w past t x (allowed_at w h past (Put t (Some x)) legal stands) in
+    let few = few_queued w valid facts.its.branch.queue facts.most facts.policy past (legal_past w h past (Put t (Some x)) legal stands) in
+    record { its = facts.its; seated = facts.seated; most = facts.most; policy = facts.policy; full = omega (arith, few, facts.full); oldest = facts.oldest }

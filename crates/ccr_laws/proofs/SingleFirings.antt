@@ -1,0 +1,172 @@
+-- A choice, a once receiver and the teardowns of an Interleave fire at most once.
+use Rattle.std.proofs.Common.{◌≡◌, ℕ, zero, suc, ◌+◌, ◌≤◌, ◌⊎◌, inl, inr, Bool, true, false, ◌&&◌, List, [], ◌∷◌, ◌++◌, length, map, filter, Option, Some, None, refl, sym, ap, ◌∙◌, arith, subst, append-nil}
+use Rattle.std.specs.Prelude.{◌==◌, if◌then◌else◌}
+use Rattle.std.specs.List.{slice_get}
+use Rattle.std.specs.Option.{option_map, option_map_or}
+use Rattle.std.proofs.lemmas.Option.{slice_get-map}
+use Rattle.std.proofs.lemmas.Bool.Decides.{nat_tests}
+use Rattle.ccr_base.specs.declared.names.MsgId.{MsgId}
+use Rattle.ccr_base.specs.declared.names.TaskId.{TaskId}
+use Rattle.ccr_base.specs.declared.names.Spot.{Spot}
+use Rattle.ccr_base.specs.declared.names.Spot.TheVariants.{Branch, Site}
+use Rattle.ccr_base.specs.declared.policies.Group.{Group}
+use Rattle.ccr_base.specs.declared.policies.Group.TheVariants as groups
+use Rattle.ccr_wiring.specs.declared.parts.Parts.{Parts}
+use Rattle.ccr_wiring.specs.declared.parts.ArbiterPart.{ArbiterPart}
+use Rattle.ccr_wiring.specs.declared.parts.BranchPart.{BranchPart}
+use Rattle.ccr_wiring.specs.declared.parts.Kind.{Kind}
+use Rattle.ccr_wiring.specs.declared.parts.Kind.TheVariants as kinds
+use Rattle.ccr_base.specs.Names.{same_spot}
+use Rattle.ccr_wiring.specs.Groups.{may_have}
+use Rattle.ccr_wiring.specs.Wirings.{Seat, seat, seats_of, seats_from}
+use Rattle.ccr_wiring.specs.Valid.{IsValid}
+use Rattle.ccr_wiring.proofs.Soundness.{sound}
+use Rattle.ccr_model.specs.declared.history.Event.{Event}
+use Rattle.ccr_model.specs.declared.history.Event.TheVariants.{Post, Fire, Admit, Put, Start, End}
+use Rattle.ccr_model.specs.Firings.{Firing, firings, firing_of, fired_where, fired_at}
+use Rattle.ccr_model.specs.Tasks.{fired_by, is_branch_where, is_teardown}
+use Rattle.ccr_model.specs.Live.{is_live, is_live_in, is_none_of}
+use Rattle.ccr_model.specs.Legal.{IsAllowed, IsLegal}
+use Rattle.ccr_model.proofs.PostNames.{along, both}
+use Rattle.ccr_model.proofs.Quiet.{some_of}
+use Rattle.ccr_model.proofs.TaskSteps.{firings-push}
+use Rattle.ccr_model.proofs.TakenOnce.{FireFacts-allowed}
+use Rattle.ccr_laws.specs.Times.{times_fired, times_any_fired, times_torn_down}
+
+-- the tasks that fired at spots that pass the test
+abbrev fired_on : (Spot → Bool) → List Event → List TaskId
+fired_on test h = fired_where (λ (f : Firing). test f.spot) h
+
+-- over plain lists: one more firing
+one_more : (test : Spot → Bool) (fs : List Firing) (f : Firing) → length (map (λ (g : Firing). g.task) (filter (λ (g : Firing). test g.spot) (fs ++ f ∷ []))) ≡ length (map (λ (g : Firing). g.task) (filter (λ (g : Firing). test g.spot) fs)) + (if test f.spot then 1 else 0)
+one_more test [] f = grind arith
+one_more test (g ∷ fs) f = grind (arith, one_more test fs f)
+
+same_firings : (test : Spot → Bool) (h : List Event) (e : Event) → firing_of e ≡ [] → length (fired_on test h) ≤ 1 → length (fired_on test (h ++ e ∷ [])) ≤ 1
+same_firings test h e none few = rw (firings-push h e, none, append-nil) few
+
+more_firings : (test : Spot → Bool) (h : List Event) (t : TaskId) (s : Spot) (ms : List MsgId) (cs : List TaskId) → (test s ≡ true → length (fired_on test h) ≡ 0) → length (fired_on test h) ≤ 1 → length (fired_on test (h ++ Fire t s ms cs ∷ [])) ≤ 1
+more_firings test h t s ms cs first few =
+    rw (firings-push h (Fire t s ms cs)) (by_test (test s) refl _ (one_more test (firings h) (record { task = t; spot = s; messages = ms; cuts = cs })))
+  where
+    by_test : (b : Bool) → test s ≡ b → (n : ℕ) → n ≡ length (fired_on test h) + (if test s then 1 else 0) → n ≤ 1
+    by_test true e n long =
+        let none = first e in
+        let one : n ≡ length (fired_on test h) + 1 = rw e at long in
+        omega (arith, one, none)
+    by_test false e n long =
+        let same : n ≡ length (fired_on test h) + 0 = rw e at long in
+        omega (arith, same, few)
+
+-- where such a spot is live only before the first of these firings, there is one at most
+at_most_once : (w : Parts) (test : Spot → Bool) → ((h : List Event) (s : Spot) → is_live w h s ≡ true → test s ≡ true → length (fired_on test h) ≡ 0) → (h : List Event) → IsLegal w h → length (fired_on test h) ≤ 1
+at_most_once w test first = along w (λ g. length (fired_on test g) ≤ 1) kept (omega arith)
+  where
+    kept : (h : List Event) (e : Event) → length (fired_on test h) ≤ 1 → IsAllowed w h e → length (fired_on test (h ++ e ∷ [])) ≤ 1
+    kept h (Fire t s ms cs) few allowed = more_firings test h t s ms cs (first h s (FireFacts-allowed w h t s ms cs allowed).live) few
+    kept h (Post m) few allowed = same_firings test h (Post m) refl few
+    kept h (Admit t) few allowed = same_firings test h (Admit t) refl few
+    kept h (Put t d) few allowed = same_firings test h (Put t d) refl few
+    kept h (Start t a) few allowed = same_firings test h (Start t a) refl few
+    kept h (End t how) few allowed = same_firings test h (End t how) refl few
+
+none_there : (ts : List TaskId) → is_none_of ts ≡ true → length ts ≡ 0
+none_there ts is = grind (arith, nat_tests, is)
+
+-- a live branch whose seat passes the test
+live_branch : (w : Parts) (h : List Event) (test : Seat → Bool) (s : Spot) → is_live w h s ≡ true → is_branch_where w test s ≡ true → (b : ℕ) × (its : Seat) × (seat w b ≡ Some its) × (is_live_in w h b its.arbiter its.branch.group ≡ true) × (test its ≡ true)
+live_branch w h test (Site b k) live is = absurd (cc)
+live_branch w h test (Branch b) live is =
+    let found = some_of test (seat w b) is in
+    let at : option_map_or (λ (s : Seat). is_live_in w h b s.arbiter s.branch.group) (Some found.0) false ≡ true = subst (λ o. option_map_or (λ (s : Seat). is_live_in w h b s.arbiter s.branch.group) o false ≡ true) found.1 live in
+    (b, found.0, found.1, at, found.2)
+
+-- the branch of a choice or a receiver stands with an arbiter of its kind
+at_either : {X : Type 0} (xs ys : List X) (i : ℕ) (x : X) → slice_get (xs ++ ys) i ≡ Some x → (slice_get xs i ≡ Some x) ⊎ ((j : ℕ) × (slice_get ys j ≡ Some x))
+at_either [] ys i x at = inr (i, at)
+at_either (y ∷ xs) ys zero x at = inl at
+at_either (y ∷ xs) ys (suc i) x at = at_either xs ys i x at
+
+seat_in : (number : ℕ) (arbiter : ArbiterPart) (branch : ℕ) (s : Seat) → slice_get (seats_of number arbiter) branch ≡ Some s → (s.arbiter ≡ number) × (s.kind ≡ arbiter.kind)
+seat_in number arbiter branch s at = of_option (slice_get arbiter.branches branch) (sym (slice_get-map _ arbiter.branches branch) ∙ at)
+  where
+    of_option : (o : Option BranchPart) → option_map (λ (part : BranchPart). let its : Seat = record { arbiter = number; kind = arbiter.kind; branch = part } in its) o ≡ Some s → (s.arbiter ≡ number) × (s.kind ≡ arbiter.kind)
+    of_option None is = absurd (cc)
+    of_option (Some part) is = (cc, cc)
+
+arbiter_of : (number : ℕ) (arbiters : List ArbiterPart) (branch : ℕ) (s : Seat) → slice_get (seats_from number arbiters) branch ≡ Some s → (k : ℕ) × (arbiter : ArbiterPart) × (slice_get arbiters k ≡ Some arbiter) × (s.arbiter ≡ number + k) × (s.kind ≡ arbiter.kind)
+arbiter_of number [] branch s at = absurd (cc)
+arbiter_of number (arbiter ∷ arbiters) branch s at = here_or_later (at_either (seats_of number arbiter) (seats_from (number + 1) arbiters) branch s at) (arbiter_of (number + 1) arbiters)
+  where
+    here_or_later : (slice_get (seats_of number arbiter) branch ≡ Some s) ⊎ ((j : ℕ) × (slice_get (seats_from (number + 1) arbiters) j ≡ Some s)) → ((branch : ℕ) (s : Seat) → slice_get (seats_from (number + 1) arbiters) branch ≡ Some s → (k : ℕ) × (arbiter : ArbiterPart) × (slice_get arbiters k ≡ Some arbiter) × (s.arbiter ≡ (number + 1) + k) × (s.kind ≡ arbiter.kind)) → (k : ℕ) × (its : ArbiterPart) × (slice_get (arbiter ∷ arbiters) k ≡ Some its) × (s.arbiter ≡ number + k) × (s.kind ≡ its.kind)
+    here_or_later (inl here) rest = let known = seat_in number arbiter branch s here in (0, arbiter, refl, omega (arith, known.0), known.1)
+    here_or_later (inr later) rest = let found = rest later.0 s later.1 in (suc found.0, found.1, found.2, omega (arith, found.3), found.4)
+
+-- a branch of an arbiter has its kind
+kind_of : (w : Parts) (number : ℕ) (arbiter : ArbiterPart) (branch : ℕ) (s : Seat) → slice_get w.arbiters number ≡ Some arbiter → seat w branch ≡ Some s → s.arbiter ≡ number → s.kind ≡ arbiter.kind
+kind_of w number arbiter branch s at known is =
+    let found = arbiter_of 0 w.arbiters branch s known in
+    let place : found.0 ≡ number = omega (arith, found.3, is) in
+    let there : slice_get w.arbiters number ≡ Some found.1 = subst (λ n. slice_get w.arbiters n ≡ Some found.1) place found.2 in
+    let same : found.1 ≡ arbiter = cc in
+    found.4 ∙ ap (λ (a : ArbiterPart). a.kind) same
+
+choice_group : (kind : Kind) (group : Group) → kind ≡ kinds.Choice → may_have kind group ≡ true → group ≡ groups.Choice
+choice_group kinds.Receive group is may = absurd (cc)
+choice_group kinds.Interleave group is may = absurd (cc)
+choice_group kinds.Choice groups.Choice is may = refl
+choice_group kinds.Choice groups.Once is may = absurd (cc)
+choice_group kinds.Choice groups.Always is may = absurd (cc)
+choice_group kinds.Choice groups.Teardown is may = absurd (cc)
+choice_group kinds.Choice groups.Exclusive is may = absurd (cc)
+choice_group kinds.Choice groups.Concurrent is may = absurd (cc)
+
+same_number : (a b : ℕ) → (a == b) ≡ true → a ≡ b
+same_number a b is = grind (arith, nat_tests, is)
+
+choice_first : (w : Parts) → IsValid w → (number : ℕ) (arbiter : ArbiterPart) → slice_get w.arbiters number ≡ Some arbiter → arbiter.kind ≡ kinds.Choice → (h : List Event) (s : Spot) → is_live w h s ≡ true → is_branch_where w (λ (s : Seat). s.arbiter == number) s ≡ true → length (fired_by w (λ (s : Seat). s.arbiter == number) h) ≡ 0
+choice_first w valid number arbiter at kind h s live is =
+    let found = live_branch w h (λ (s : Seat). s.arbiter == number) s live is in
+    let its = found.1 in
+    let same : its.arbiter ≡ number = same_number its.arbiter number found.4 in
+    let group : its.branch.group ≡ groups.Choice = choice_group its.kind its.branch.group (kind_of w number arbiter found.0 its at found.2 same ∙ kind) ((sound w valid).groups found.0 its found.2) in
+    let none : is_live_in w h found.0 number groups.Choice ≡ true = subst (λ n. is_live_in w h found.0 n groups.Choice ≡ true) same (subst (λ g. is_live_in w h found.0 its.arbiter g ≡ true) group found.3) in
+    none_there (fired_by w (λ (s : Seat). s.arbiter == number) h) none
+
+pub choice_once : (w : Parts) → IsValid w → (h : List Event) → IsLegal w h → (number : ℕ) (arbiter : ArbiterPart) → slice_get w.arbiters number ≡ Some arbiter → arbiter.kind ≡ kinds.Choice → times_any_fired w h number ≤ 1
+choice_once w valid h legal number arbiter at kind = at_most_once w (is_branch_where w (λ (s : Seat). s.arbiter == number)) (choice_first w valid number arbiter at kind) h legal
+
+same_branch : (b : ℕ) (s : Spot) → same_spot s (Branch b) ≡ true → s ≡ Branch b
+same_branch b (Branch c) is = ap (λ n. Branch n) (same_number c b is)
+same_branch b (Site c k) is = absurd (cc)
+
+once_first : (w : Parts) (b : ℕ) (its : Seat) → seat w b ≡ Some its → its.branch.group ≡ groups.Once → (h : List Event) (s : Spot) → is_live w h s ≡ true → same_spot s (Branch b) ≡ true → length (fired_at h (Branch b)) ≡ 0
+once_first w b its at group h s live is =
+    let there : is_live w h (Branch b) ≡ true = subst (λ r. is_live w h r ≡ true) (same_branch b s is) live in
+    let known : is_live_in w h b its.arbiter its.branch.group ≡ true = subst (λ o. option_map_or (λ (s : Seat). is_live_in w h b s.arbiter s.branch.group) o false ≡ true) at there in
+    let none : is_live_in w h b its.arbiter groups.Once ≡ true = subst (λ g. is_live_in w h b its.arbiter g ≡ true) group known in
+    none_there (fired_at h (Branch b)) none
+
+pub receiver_once : (w : Parts) (h : List Event) → IsLegal w h → (b : ℕ) (its : Seat) → seat w b ≡ Some its → its.branch.group ≡ groups.Once → times_fired h b ≤ 1
+receiver_once w h legal b its at group = at_most_once w (λ s. same_spot s (Branch b)) (once_first w b its at group) h legal
+
+teardown_group : (group : Group) → is_teardown group ≡ true → group ≡ groups.Teardown
+teardown_group groups.Teardown is = refl
+teardown_group groups.Once is = absurd (cc)
+teardown_group groups.Always is = absurd (cc)
+teardown_group groups.Choice is = absurd (cc)
+teardown_group groups.Exclusive is = absurd (cc)
+teardown_group groups.Concurrent is = absurd (cc)
+
+teardown_first : (w : Parts) (i : ℕ) (h : List Event) (s : Spot) → is_live w h s ≡ true → is_branch_where w (λ (s : Seat). (s.arbiter == i) && is_teardown s.branch.group) s ≡ true → length (fired_by w (λ (s : Seat). (s.arbiter == i) && is_teardown s.branch.group) h) ≡ 0
+teardown_first w i h s live is =
+    let found = live_branch w h (λ (s : Seat). (s.arbiter == i) && is_teardown s.branch.group) s live is in
+    let its = found.1 in
+    let parts = both (its.arbiter == i) (is_teardown its.branch.group) found.4 in
+    let same : its.arbiter ≡ i = same_number its.arbiter i parts.0 in
+    let group : its.branch.group ≡ groups.Teardown = teardown_group its.branch.group parts.1 in
+    let none : is_live_in w h found.0 i groups.Teardown ≡ true = subst (λ n. is_live_in w h found.0 n groups.Teardown ≡ true) same (subst (λ g. is_live_in w h found.0 its.arbiter g ≡ true) group found.3) in
+    none_there (fired_by w (λ (s : Seat). (s.arbiter == i) && is_teardown s.branch.group) h) none
+
+pub teardown_once : (w : Parts) (h : List Event) → IsLegal w h → (i : ℕ) → times_torn_down w h i ≤ 1
+teardown_once w h legal i = at_most_once w (is_branch_where w (λ (s : Seat). (s.arbiter == i) && is_teardown s.branch.group)) (teardown_first w i) h legal

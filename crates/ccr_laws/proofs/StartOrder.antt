@@ -1,0 +1,183 @@
+-- Tasks of one queue start in the order of their puts.
+use Rattle.std.proofs.Common.{◌≡◌, ℕ, Bool, true, false, not, ◌&&◌, ◌||◌, List, [], ◌∷◌, ◌++◌, filter, Option, option_to_list, ◌⊎◌, inl, inr, refl, sym, arith, ap, ◌∙◌, subst, append_assoc, append-nil}
+use Rattle.std.specs.Prelude.{◌==◌, if◌then◌else◌}
+use Rattle.std.proofs.lemmas.Grind.{common_steps}
+use Rattle.std.proofs.lemmas.Bool.Decides.{nat_tests}
+use Rattle.ccr_base.specs.declared.names.TaskId.{TaskId}
+use Rattle.ccr_wiring.specs.declared.parts.Parts.{Parts}
+use Rattle.ccr_model.specs.declared.history.Event.{Event}
+use Rattle.ccr_model.specs.declared.history.Event.TheVariants.{Post, Fire, Admit, Put, Start, End}
+use Rattle.ccr_base.specs.Names.{same_task, has_task, without}
+use Rattle.ccr_model.specs.Firings.{put, put_by, started, started_by, dropped, dropped_by}
+use Rattle.ccr_model.specs.Tasks.{is_for_queue, queued}
+use Rattle.ccr_model.specs.Legal.{IsAllowed, IsLegal}
+use Rattle.ccr_model.specs.Consequences.{are_distinct_tasks}
+use Rattle.ccr_model.proofs.PostNames.{along, both}
+use Rattle.ccr_model.proofs.Covered.{same_task-is, or_left, or_right}
+use Rattle.ccr_laws.specs.Queues.{put_into, started_from, stands_before}
+use Rattle.ccr_laws.proofs.TaskLists.{has_task-filter, has_task-without, filter_append, filter_swap, filter_on, without-append, without_both, without_none, without_other, without_first, distinct-filter, of_more, not_more}
+use Rattle.ccr_laws.proofs.TaskPlaces.{IsFired, AreApart, ArePlaced, ArePlaced_kept, ArePlaced-none, ArePlaced-legal, StartFacts, StartFacts-allowed, PutFacts-allowed, QueuedFacts-queued, put_fired, seat_stays, put-push, started-push, dropped-push}
+
+-- who of the tested ones started, then who is queued: who was put and not dropped
+abbrev IsOrder : (TaskId → Bool) → List TaskId → List TaskId → List TaskId → Type 0
+IsOrder p ps ss ds = filter p ss ++ filter p (without ps (ss ++ ds)) ≡ filter p (without ps ds)
+
+lists_start : (p : TaskId → Bool) (ps ss ds : List TaskId) (t : TaskId) → filter p (without ps ((ss ++ t ∷ []) ++ ds)) ≡ without (filter p (without ps (ss ++ ds))) (t ∷ [])
+lists_start p [] ss ds t = refl
+lists_start p (x ∷ ps) ss ds t = grind (arith, common_steps, lists_start p ps ss ds t)
+
+-- one more started: the oldest of the queued ones, where it is one of them
+IsOrder-start : (p : TaskId → Bool) (ps ss ds : List TaskId) (t : TaskId) → AreApart ps ss ds → (p t ≡ true → (rest : List TaskId) × (filter p (without ps (ss ++ ds)) ≡ t ∷ rest)) → IsOrder p ps ss ds → IsOrder p ps (ss ++ t ∷ []) ds
+IsOrder-start p ps ss ds t known oldest is = rw (lists_start p ps ss ds t, filter_append p ss (t ∷ [])) (of_test (p t) refl oldest)
+  where
+    waits : List TaskId
+    waits = filter p (without ps (ss ++ ds))
+
+    of_test : (b : Bool) → p t ≡ b → (p t ≡ true → (rest : List TaskId) × (filter p (without ps (ss ++ ds)) ≡ t ∷ rest)) → (filter p ss ++ (if b then t ∷ [] else [])) ++ without (filter p (without ps (ss ++ ds))) (t ∷ []) ≡ filter p (without ps ds)
+    of_test false e oldest' =
+        let out : has_task (filter p (without ps (ss ++ ds))) t ≡ false = rw (has_task-filter p (without ps (ss ++ ds)) t, e) (and_false _) in
+        rw (append-nil (filter p ss), without_other (filter p (without ps (ss ++ ds))) t out) is
+      where
+        and_false : (a : Bool) → a && false ≡ false
+        and_false true = refl
+        and_false false = refl
+    of_test true e oldest' =
+        let head = oldest' e in
+        let distinct : are_distinct_tasks (t ∷ head.0) ≡ true = subst (λ ts. are_distinct_tasks ts ≡ true) head.1 (distinct-filter p (without ps (ss ++ ds)) (distinct-filter (λ u. not (has_task (ss ++ ds) u)) ps known.once)) in
+        let was : filter p ss ++ (t ∷ head.0) ≡ filter p (without ps ds) = rw head.1 at is in
+        rw (head.1, without_first head.0 t distinct, append_assoc (filter p ss) (t ∷ []) head.0) was
+
+-- one more put, and some of the queued ones dropped
+IsOrder-put : (p : TaskId → Bool) (ps ss ds more : List TaskId) (t : TaskId) → AreApart ps ss ds → has_task ps t ≡ false → ((u : TaskId) → has_task more u ≡ true → (has_task ps u ≡ true) × (has_task ss u ≡ false)) → IsOrder p ps ss ds → IsOrder p (ps ++ t ∷ []) ss (ds ++ more)
+IsOrder-put p ps ss ds more t known new drops is =
+    let out_more = none_of more (λ u among. (drops u among).0) in
+    let out_dropped = none_of ds known.put_dropped in
+    let out_started = none_of ss known.put_started in
+    let gone : has_task (ds ++ more) t ≡ false = not_more ds more t out_dropped out_more in
+    let all_gone : has_task (ss ++ (ds ++ more)) t ≡ false = not_more ss (ds ++ more) t out_started gone in
+    let left : filter p (without (ps ++ t ∷ []) (ss ++ (ds ++ more))) ≡ without (filter p (without ps (ss ++ ds))) more ++ filter p (t ∷ []) =
+    rw (without-append ps (t ∷ []) (ss ++ (ds ++ more)), all_gone, ← (append_assoc ss ds more), without_both ps (ss ++ ds) more, filter_append, filter_swap p (λ u. not (has_task more u)) (without ps (ss ++ ds))) refl in
+    let right : filter p (without (ps ++ t ∷ []) (ds ++ more)) ≡ without (filter p (without ps ds)) more ++ filter p (t ∷ []) =
+    rw (without-append ps (t ∷ []) (ds ++ more), gone, without_both ps ds more, filter_append, filter_swap p (λ u. not (has_task more u)) (without ps ds)) refl in
+    let stays : without (filter p ss) more ≡ filter p ss = without_none (filter p ss) more (λ u among. of_drop u (both (has_task ss u) (p u) (sym (has_task-filter p ss u) ∙ among)).0 (has_task more u) refl) in
+    let both_sides : without (filter p (without ps ds)) more ≡ filter p ss ++ without (filter p (without ps (ss ++ ds))) more =
+    sym (ap (λ ts. without ts more) is) ∙ (without-append (filter p ss) (filter p (without ps (ss ++ ds))) more ∙ ap (λ ts. ts ++ without (filter p (without ps (ss ++ ds))) more) stays) in
+    rw (left, right, both_sides, append_assoc (filter p ss) (without (filter p (without ps (ss ++ ds))) more) (filter p (t ∷ []))) refl
+  where
+    none_of : (ts : List TaskId) → ((u : TaskId) → has_task ts u ≡ true → has_task ps u ≡ true) → has_task ts t ≡ false
+    none_of ts all = of_test (has_task ts t) refl
+      where
+        of_test : (b : Bool) → has_task ts t ≡ b → b ≡ false
+        of_test false e = refl
+        of_test true e = let there = all t e in absurd (cc)
+
+    of_drop : (u : TaskId) → has_task ss u ≡ true → (b : Bool) → has_task more u ≡ b → b ≡ false
+    of_drop u among false e = refl
+    of_drop u among true e = let out = (drops u e).1 in absurd (cc)
+
+-- another test that agrees on who was put
+IsOrder-test : (p q : TaskId → Bool) (ps ss ds : List TaskId) → AreApart ps ss ds → ((u : TaskId) → has_task ps u ≡ true → q u ≡ p u) → IsOrder p ps ss ds → IsOrder q ps ss ds
+IsOrder-test p q ps ss ds known same is =
+    rw (filter_on q p ss (λ u among. same u (known.put_started u among)), filter_on q p (without ps (ss ++ ds)) (λ u among. same u (both (has_task ps u) (not (has_task (ss ++ ds) u)) (sym (has_task-without ps (ss ++ ds) u) ∙ among)).0), filter_on q p (without ps ds) (λ u among. same u (both (has_task ps u) (not (has_task ds u)) (sym (has_task-without ps ds u) ∙ among)).0)) is
+
+for_queue_stays : (w : Parts) (h es : List Event) (q : ℕ) (t : TaskId) → IsFired h t → is_for_queue w (h ++ es) q t ≡ is_for_queue w h q t
+for_queue_stays w h es q t fired = rw (seat_stays w h es t fired) refl
+
+-- the order of one queue
+abbrev IsOrderOf : Parts → ℕ → List Event → Type 0
+IsOrderOf w q h = IsOrder (is_for_queue w h q) (put h) (started h) (dropped h)
+
+order_other : (p : TaskId → Bool) (h : List Event) (e : Event) → put_by e ≡ [] → started_by e ≡ [] → dropped_by e ≡ [] → IsOrder p (put h) (started h) (dropped h) → IsOrder p (put (h ++ e ∷ [])) (started (h ++ e ∷ [])) (dropped (h ++ e ∷ []))
+order_other p h e no_put no_start no_drop is = rw (put-push, started-push, dropped-push, no_put, no_start, no_drop, append-nil (put h), append-nil (started h), append-nil (dropped h)) is
+
+order_start : (w : Parts) (q : ℕ) (h : List Event) (t : TaskId) (a : ℕ) → IsAllowed w h (Start t a) → ArePlaced h → IsOrderOf w q h → IsOrder (is_for_queue w h q) (put (h ++ Start t a ∷ [])) (started (h ++ Start t a ∷ [])) (dropped (h ++ Start t a ∷ []))
+order_start w q h t a allowed known is =
+    let facts = StartFacts-allowed w h t a allowed in
+    rw (put-push, started-push, dropped-push, append-nil (put h), append-nil (dropped h)) (IsOrder-start (is_for_queue w h q) (put h) (started h) (dropped h) t known.lists (λ passes. (facts.others, oldest facts passes)) is)
+  where
+    oldest : (facts : StartFacts w h t) → is_for_queue w h q t ≡ true → queued w h q ≡ t ∷ facts.others
+    oldest facts passes =
+        let there : (facts.place.branch.queue == q) ≡ true = rw facts.is_place at passes in
+        let same : facts.place.branch.queue ≡ q = grind (arith, nat_tests, there) in
+        subst (λ n. queued w h n ≡ t ∷ facts.others) same facts.is_oldest
+
+order_put : (w : Parts) (q : ℕ) (h : List Event) (t : TaskId) (d : Option TaskId) → IsAllowed w h (Put t d) → ArePlaced h → IsOrderOf w q h → IsOrder (is_for_queue w h q) (put (h ++ Put t d ∷ [])) (started (h ++ Put t d ∷ [])) (dropped (h ++ Put t d ∷ []))
+order_put w q h t d allowed known is =
+    let facts = PutFacts-allowed w h t d allowed in
+    rw (put-push, started-push, dropped-push, append-nil (started h)) (IsOrder-put (is_for_queue w h q) (put h) (started h) (dropped h) (option_to_list d) t known.lists facts.new_put (λ u one. (let there = facts.drops u one in let f = QueuedFacts-queued w h there.0 u there.1 in (f.put_so, f.not_started))) is)
+
+order_by : (w : Parts) (q : ℕ) (h : List Event) (e : Event) → IsAllowed w h e → ArePlaced h → IsOrderOf w q h → IsOrder (is_for_queue w h q) (put (h ++ e ∷ [])) (started (h ++ e ∷ [])) (dropped (h ++ e ∷ []))
+order_by w q h (Start t a) allowed known is = order_start w q h t a allowed known is
+order_by w q h (Put t d) allowed known is = order_put w q h t d allowed known is
+order_by w q h (Post m) allowed known is = order_other (is_for_queue w h q) h (Post m) refl refl refl is
+order_by w q h (Fire t s ms cs) allowed known is = order_other (is_for_queue w h q) h (Fire t s ms cs) refl refl refl is
+order_by w q h (Admit t) allowed known is = order_other (is_for_queue w h q) h (Admit t) refl refl refl is
+order_by w q h (End t how) allowed known is = order_other (is_for_queue w h q) h (End t how) refl refl refl is
+
+order_kept : (w : Parts) (q : ℕ) (h : List Event) (e : Event) → ArePlaced h → IsOrderOf w q h → IsAllowed w h e → IsOrderOf w q (h ++ e ∷ [])
+order_kept w q h e known is allowed =
+    let now = ArePlaced_kept w h e known allowed in
+    IsOrder-test (is_for_queue w h q) (is_for_queue w (h ++ e ∷ []) q) (put (h ++ e ∷ [])) (started (h ++ e ∷ [])) (dropped (h ++ e ∷ [])) now.lists
+    (λ u among. for_queue_stays w h (e ∷ []) q u (put_fired w h e allowed known u among)) (order_by w q h e allowed known is)
+
+in_order : (w : Parts) (q : ℕ) (h : List Event) → IsLegal w h → IsOrderOf w q h
+in_order w q h legal = (along w (λ g. ArePlaced g × IsOrderOf w q g) (λ g e p allowed. (ArePlaced_kept w g e p.0 allowed, order_kept w q g e p.0 p.1 allowed)) (ArePlaced-none, refl) h legal).1
+
+-- start order
+pub starts_in_order : (w : Parts) (h : List Event) → IsLegal w h → (q : ℕ) → started_from w h q ++ queued w h q ≡ without (put_into w h q) (dropped h)
+starts_in_order w h legal q = in_order w q h legal ∙ filter_swap (is_for_queue w h q) (λ u. not (has_task (dropped h) u)) (put h)
+
+-- over plain lists: who stands before whom
+behind_has : (t u : TaskId) (ts : List TaskId) → stands_before t u ts ≡ true → has_task ts u ≡ true
+behind_has t u [] is = absurd (cc)
+behind_has t u (x ∷ ts) is = of_test (same_task t x && has_task ts u) refl is (behind_has t u ts)
+  where
+    of_test : (b : Bool) → same_task t x && has_task ts u ≡ b → b || stands_before t u ts ≡ true → (stands_before t u ts ≡ true → has_task ts u ≡ true) → has_task (x ∷ ts) u ≡ true
+    of_test true e at rest = or_right (same_task u x) (has_task ts u) (both (same_task t x) (has_task ts u) e).1
+    of_test false e at rest = or_right (same_task u x) (has_task ts u) (rest at)
+
+before_front : (t u : TaskId) (ts us : List TaskId) → has_task us u ≡ false → stands_before t u (ts ++ us) ≡ true → stands_before t u ts ≡ true
+before_front t u [] us out is = let there = behind_has t u us is in absurd (cc)
+before_front t u (x ∷ ts) us out is = of_test (same_task t x && has_task (ts ++ us) u) refl is (before_front t u ts us out)
+  where
+    of_test : (b : Bool) → same_task t x && has_task (ts ++ us) u ≡ b → b || stands_before t u (ts ++ us) ≡ true → (stands_before t u (ts ++ us) ≡ true → stands_before t u ts ≡ true) → stands_before t u (x ∷ ts) ≡ true
+    of_test false e at rest = or_right (same_task t x && has_task ts u) (stands_before t u ts) (rest at)
+    of_test true e at rest =
+        let parts = both (same_task t x) (has_task (ts ++ us) u) e in
+        let there : has_task ts u ≡ true = of_more ts us u (has_task ts u ≡ true) parts.1 (λ one. one) (λ one. absurd (cc)) in
+        or_left (same_task t x && has_task ts u) (stands_before t u ts) (rw (parts.0, there) refl)
+
+before_without : (t u : TaskId) (ts gone : List TaskId) → has_task gone t ≡ false → has_task gone u ≡ false → stands_before t u ts ≡ true → stands_before t u (without ts gone) ≡ true
+before_without t u [] gone out_t out_u is = absurd (cc)
+before_without t u (x ∷ ts) gone out_t out_u is = of_test (same_task t x && has_task ts u) refl is (before_without t u ts gone out_t out_u)
+  where
+    longer : (b : Bool) → stands_before t u (without ts gone) ≡ true → stands_before t u (if b then x ∷ without ts gone else without ts gone) ≡ true
+    longer true rest = or_right (same_task t x && has_task (without ts gone) u) (stands_before t u (without ts gone)) rest
+    longer false rest = rest
+
+    of_test : (b : Bool) → same_task t x && has_task ts u ≡ b → b || stands_before t u ts ≡ true → (stands_before t u ts ≡ true → stands_before t u (without ts gone) ≡ true) → stands_before t u (without (x ∷ ts) gone) ≡ true
+    of_test false e at rest = longer (not (has_task gone x)) (rest at)
+    of_test true e at rest =
+        let parts = both (same_task t x) (has_task ts u) e in
+        let one : t ≡ x = same_task-is t x parts.0 in
+        let stays : has_task gone x ≡ false = subst (λ y. has_task gone y ≡ false) one out_t in
+        let there : has_task (without ts gone) u ≡ true = rw (has_task-without ts gone u, parts.1, out_u) refl in
+        rw (stays, parts.0, there) refl
+
+-- of two tasks of a queue
+pub starts_earlier : (w : Parts) (h : List Event) → IsLegal w h → (q : ℕ) (t u : TaskId) → stands_before t u (put_into w h q) ≡ true → has_task (started h) u ≡ true → (stands_before t u (started_from w h q) ≡ true) ⊎ (has_task (dropped h) t ≡ true)
+starts_earlier w h legal q t u earlier runs = of_test (has_task (dropped h) t) refl
+  where
+    not_queued : has_task (queued w h q) u ≡ false
+    not_queued = of_queued (has_task (queued w h q) u) refl
+      where
+        of_queued : (b : Bool) → has_task (queued w h q) u ≡ b → b ≡ false
+        of_queued false e = refl
+        of_queued true e = let facts = QueuedFacts-queued w h q u e in let out = facts.not_started in absurd (cc)
+
+    of_test : (b : Bool) → has_task (dropped h) t ≡ b → (stands_before t u (started_from w h q) ≡ true) ⊎ (b ≡ true)
+    of_test true e = inr refl
+    of_test false e =
+        let stays = (ArePlaced-legal w h legal).lists.not_both u runs in
+        let stands : stands_before t u (started_from w h q ++ queued w h q) ≡ true = rw (starts_in_order w h legal q) (before_without t u (put_into w h q) (dropped h) e stays earlier) in
+        inl (before_front t u (started_from w h q) (queued w h q) not_queued stands)

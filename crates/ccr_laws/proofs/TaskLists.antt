@@ -1,0 +1,242 @@
+-- Over plain lists of tasks: who stands in a list, in part of it, and in two lists.
+use Rattle.std.proofs.Common.{◌≡◌, ℕ, zero, suc, ◌<◌, ◌≤◌, Bool, true, false, not, ◌&&◌, ◌||◌, List, [], ◌∷◌, ◌++◌, length, drop, filter, refl, sym, arith, ap, ◌∙◌, subst}
+use Rattle.std.specs.Prelude.{if◌then◌else◌}
+use Rattle.std.specs.List.{list_any, list_all}
+use Rattle.std.proofs.lemmas.Grind.{common_steps}
+use Rattle.std.proofs.lemmas.Bool.Decides.{nat_tests}
+use Rattle.ccr_base.specs.declared.names.TaskId.{TaskId}
+use Rattle.ccr_base.specs.Names.{same_task, has_task, without}
+use Rattle.ccr_model.specs.Consequences.{are_distinct_tasks}
+use Rattle.ccr_model.specs.Rules.{is_first}
+use Rattle.ccr_model.proofs.PostNames.{both}
+use Rattle.ccr_model.proofs.Quiet.{first_is}
+use Rattle.ccr_model.proofs.Covered.{same_task-is, or_left, or_right, head_rest}
+use Rattle.ccr_model.proofs.Allowing.{same_task-self}
+
+pub same_task-sym : (s t : TaskId) → same_task s t ≡ same_task t s
+same_task-sym s t = grind (arith, nat_tests)
+
+pub not_true : (b : Bool) → not b ≡ true → b ≡ false
+not_true false is = refl
+not_true true is = absurd (cc)
+
+pub not_false : (b : Bool) → b ≡ false → not b ≡ true
+not_false false is = refl
+not_false true is = absurd (cc)
+
+pub neither : (a b : Bool) → a || b ≡ false → (a ≡ false) × (b ≡ false)
+neither false b is = (refl, is)
+neither true b is = absurd (cc)
+
+-- who stands in the list is one of it
+pub has_task-append : (ts us : List TaskId) (t : TaskId) → has_task (ts ++ us) t ≡ has_task ts t || has_task us t
+has_task-append [] us t = refl
+has_task-append (x ∷ ts) us t = rw (has_task-append ts us t) (or_assoc (same_task t x) (has_task ts t) (has_task us t))
+  where
+    or_assoc : (a b c : Bool) → a || (b || c) ≡ (a || b) || c
+    or_assoc true b c = refl
+    or_assoc false b c = refl
+
+pub has_task-filter : (p : TaskId → Bool) (ts : List TaskId) (t : TaskId) → has_task (filter p ts) t ≡ has_task ts t && p t
+has_task-filter p [] t = refl
+has_task-filter p (x ∷ ts) t = of_tests (same_task t x) (p x) refl refl (has_task-filter p ts t)
+  where
+    of_tests : (a b : Bool) → same_task t x ≡ a → p x ≡ b → has_task (filter p ts) t ≡ has_task ts t && p t → has_task (if b then x ∷ filter p ts else filter p ts) t ≡ (a || has_task ts t) && p t
+    of_tests true true e f rest = let one : t ≡ x = same_task-is t x e in rw (one, same_task-self x, f) refl
+    of_tests true false e f rest = let one : t ≡ x = same_task-is t x e in let out : p t ≡ false = rw one f in grind (arith, rest, out)
+    of_tests false true e f rest = rw e rest
+    of_tests false false e f rest = rest
+
+pub has_task-without : (ts gone : List TaskId) (t : TaskId) → has_task (without ts gone) t ≡ has_task ts t && not (has_task gone t)
+has_task-without ts gone t = has_task-filter (λ u. not (has_task gone u)) ts t
+
+-- what two lists leave
+pub without_both : (ts gone more : List TaskId) → without ts (gone ++ more) ≡ without (without ts gone) more
+without_both [] gone more = refl
+without_both (t ∷ ts) gone more = grind (arith, common_steps, without_both ts gone more)
+
+pub without-append : (ts us gone : List TaskId) → without (ts ++ us) gone ≡ without ts gone ++ without us gone
+without-append ts us gone = grind (arith, common_steps)
+
+pub filter_append : (p : TaskId → Bool) (ts us : List TaskId) → filter p (ts ++ us) ≡ filter p ts ++ filter p us
+filter_append p ts us = grind (arith, common_steps)
+
+-- two tests, one after the other, in either order
+pub filter_swap : (p q : TaskId → Bool) (ts : List TaskId) → filter p (filter q ts) ≡ filter q (filter p ts)
+filter_swap p q [] = refl
+filter_swap p q (x ∷ ts) = of_tests (p x) (q x) refl refl (filter_swap p q ts)
+  where
+    of_tests : (a b : Bool) → p x ≡ a → q x ≡ b → filter p (filter q ts) ≡ filter q (filter p ts) → filter p (if b then x ∷ filter q ts else filter q ts) ≡ filter q (if a then x ∷ filter p ts else filter p ts)
+    of_tests true true e f rest = rw (e, f, rest) refl
+    of_tests true false e f rest = rw (f, rest) refl
+    of_tests false true e f rest = rw (e, rest) refl
+    of_tests false false e f rest = rest
+
+-- a test that agrees on the members
+pub filter_on : (p q : TaskId → Bool) (ts : List TaskId) → ((u : TaskId) → has_task ts u ≡ true → p u ≡ q u) → filter p ts ≡ filter q ts
+filter_on p q [] same = refl
+filter_on p q (x ∷ ts) same =
+    let here = same x (or_left (same_task x x) (has_task ts x) (same_task-self x)) in
+    let later = filter_on p q ts (λ u is. same u (or_right (same_task u x) (has_task ts u) is)) in
+    rw (here, later) refl
+
+-- a test that all pass
+pub filter_all : (p : TaskId → Bool) (ts : List TaskId) → ((u : TaskId) → has_task ts u ≡ true → p u ≡ true) → filter p ts ≡ ts
+filter_all p [] all = refl
+filter_all p (x ∷ ts) all = rw (all x (or_left (same_task x x) (has_task ts x) (same_task-self x)), filter_all p ts (λ u is. all u (or_right (same_task u x) (has_task ts u) is))) refl
+
+-- nobody goes
+pub without_none : (ts gone : List TaskId) → ((u : TaskId) → has_task ts u ≡ true → has_task gone u ≡ false) → without ts gone ≡ ts
+without_none ts gone apart = filter_all (λ u. not (has_task gone u)) ts (λ u is. not_false (has_task gone u) (apart u is))
+
+-- one who isn't there goes
+pub without_other : (ts : List TaskId) (t : TaskId) → has_task ts t ≡ false → without ts (t ∷ []) ≡ ts
+without_other ts t out = without_none ts (t ∷ []) (λ u is. of_test u (same_task u t) refl is)
+  where
+    of_test : (u : TaskId) (b : Bool) → same_task u t ≡ b → has_task ts u ≡ true → same_task u t || false ≡ false
+    of_test u false e is = rw e refl
+    of_test u true e is = let one : u ≡ t = same_task-is u t e in absurd (cc)
+
+-- nobody stands twice in a part
+pub distinct-filter : (p : TaskId → Bool) (ts : List TaskId) → are_distinct_tasks ts ≡ true → are_distinct_tasks (filter p ts) ≡ true
+distinct-filter p [] is = refl
+distinct-filter p (x ∷ ts) is =
+    let parts = both (not (has_task ts x)) (are_distinct_tasks ts) is in
+    of_test (p x) (not_true (has_task ts x) parts.0) (distinct-filter p ts parts.1)
+  where
+    of_test : (b : Bool) → has_task ts x ≡ false → are_distinct_tasks (filter p ts) ≡ true → are_distinct_tasks (if b then x ∷ filter p ts else filter p ts) ≡ true
+    of_test true out rest = rw (has_task-filter p ts x, out) rest
+    of_test false out rest = rest
+
+pub distinct-push : (ts : List TaskId) (t : TaskId) → are_distinct_tasks ts ≡ true → has_task ts t ≡ false → are_distinct_tasks (ts ++ t ∷ []) ≡ true
+distinct-push [] t is out = refl
+distinct-push (x ∷ ts) t is out =
+    let parts = both (not (has_task ts x)) (are_distinct_tasks ts) is in
+    let outs = neither (same_task t x) (has_task ts t) out in
+    rw (has_task-append ts (t ∷ []) x, not_true (has_task ts x) parts.0, same_task-sym x t, outs.0) (distinct-push ts t parts.1 outs.1)
+
+-- the first of a list, and the others
+pub first_rest : (ts : List TaskId) (t : TaskId) → is_first ts t ≡ true → (rest : List TaskId) × (ts ≡ t ∷ rest)
+first_rest ts t is = head_rest ts t (first_is ts t is)
+
+-- the first goes, and stood there once
+pub without_first : (ts : List TaskId) (t : TaskId) → are_distinct_tasks (t ∷ ts) ≡ true → without (t ∷ ts) (t ∷ []) ≡ ts
+without_first ts t is =
+    let out = not_true (has_task ts t) (both (not (has_task ts t)) (are_distinct_tasks ts) is).0 in
+    rw same_task-self (without_other ts t out)
+
+-- an oldest task is one of its list
+pub has_oldest : (ts us : List TaskId) (t : TaskId) → ts ≡ t ∷ us → has_task ts t ≡ true
+has_oldest ts us t is = rw (is, same_task-self) refl
+
+-- one or the other
+pub either : (a b : Bool) → a || b ≡ true → (C : Type 0) → (a ≡ true → C) → (b ≡ true → C) → C
+either true b is C one other = one refl
+either false b is C one other = other is
+
+-- one of a longer list is one of the first or one of those behind
+pub of_more : (ts us : List TaskId) (t : TaskId) (C : Type 0) → has_task (ts ++ us) t ≡ true → (has_task ts t ≡ true → C) → (has_task us t ≡ true → C) → C
+of_more ts us t C is one other = either (has_task ts t) (has_task us t) (sym (has_task-append ts us t) ∙ is) C one other
+
+pub among_left : (ts us : List TaskId) (t : TaskId) → has_task ts t ≡ true → has_task (ts ++ us) t ≡ true
+among_left ts us t is = rw has_task-append (or_left (has_task ts t) (has_task us t) is)
+
+pub among_right : (ts us : List TaskId) (t : TaskId) → has_task us t ≡ true → has_task (ts ++ us) t ≡ true
+among_right ts us t is = rw has_task-append (or_right (has_task ts t) (has_task us t) is)
+
+pub not_more : (ts us : List TaskId) (t : TaskId) → has_task ts t ≡ false → has_task us t ≡ false → has_task (ts ++ us) t ≡ false
+not_more ts us t one other = rw (has_task-append ts us t, one) other
+
+-- one of one
+pub of_one : (t u : TaskId) → has_task (t ∷ []) u ≡ true → u ≡ t
+of_one t u is = of_test (same_task u t) refl is
+  where
+    of_test : (b : Bool) → same_task u t ≡ b → b || false ≡ true → u ≡ t
+    of_test true e f = same_task-is u t e
+    of_test false e f = absurd (cc)
+
+-- not in a list of one
+pub not_one : (t u : TaskId) (ts : List TaskId) → has_task ts t ≡ false → has_task ts u ≡ true → has_task (t ∷ []) u ≡ false
+not_one t u ts out within = of_test (has_task (t ∷ []) u) refl
+  where
+    of_test : (b : Bool) → has_task (t ∷ []) u ≡ b → b ≡ false
+    of_test false e = refl
+    of_test true e = let one : u ≡ t = of_one t u e in absurd (cc)
+
+-- not in a list whose members would be in another
+pub not_within : (ts us : List TaskId) (t : TaskId) → (has_task ts t ≡ true → has_task us t ≡ true) → has_task us t ≡ false → has_task ts t ≡ false
+not_within ts us t within out = of_test (has_task ts t) refl
+  where
+    of_test : (b : Bool) → has_task ts t ≡ b → b ≡ false
+    of_test false e = refl
+    of_test true e = let there = within e in absurd (cc)
+
+-- out of a longer list, out of its first part
+pub out_left : (ts us : List TaskId) (t : TaskId) → has_task (ts ++ us) t ≡ false → has_task ts t ≡ false
+out_left ts us t is = (neither (has_task ts t) (has_task us t) (sym (has_task-append ts us t) ∙ is)).0
+
+pub out_right : (ts us : List TaskId) (t : TaskId) → has_task (ts ++ us) t ≡ false → has_task us t ≡ false
+out_right ts us t is = (neither (has_task ts t) (has_task us t) (sym (has_task-append ts us t) ∙ is)).1
+
+-- who passes a test that some member passes
+pub any_named : (p : TaskId → Bool) (ts : List TaskId) → list_any p ts ≡ true → (t : TaskId) × (has_task ts t ≡ true) × (p t ≡ true)
+any_named p [] is = absurd (cc)
+any_named p (x ∷ ts) is = of_test (p x) refl is (any_named p ts)
+  where
+    of_test : (b : Bool) → p x ≡ b → b || list_any p ts ≡ true → (list_any p ts ≡ true → (t : TaskId) × (has_task ts t ≡ true) × (p t ≡ true)) → (t : TaskId) × (has_task (x ∷ ts) t ≡ true) × (p t ≡ true)
+    of_test true e at rest = (x, or_left (same_task x x) (has_task ts x) (same_task-self x), e)
+    of_test false e at rest = let r = rest at in (r.0, or_right (same_task r.0 x) (has_task ts r.0) r.1, r.2)
+
+-- some member passes the test
+pub any_has : (p : TaskId → Bool) (ts : List TaskId) (t : TaskId) → has_task ts t ≡ true → p t ≡ true → list_any p ts ≡ true
+any_has p [] t is passes = absurd (cc)
+any_has p (x ∷ ts) t is passes = of_test (same_task t x) refl is (λ rest. any_has p ts t rest passes)
+  where
+    of_test : (b : Bool) → same_task t x ≡ b → b || has_task ts t ≡ true → (has_task ts t ≡ true → list_any p ts ≡ true) → list_any p (x ∷ ts) ≡ true
+    of_test true e at rest = or_left (p x) (list_any p ts) (subst (λ y. p y ≡ true) (same_task-is t x e) passes)
+    of_test false e at rest = or_right (p x) (list_any p ts) (rest at)
+
+-- the only one of at most one
+pub only_one : (ts : List TaskId) (t : TaskId) → has_task ts t ≡ true → length ts ≤ 1 → ts ≡ t ∷ []
+only_one [] t is few = absurd (cc)
+only_one (x ∷ []) t is few = let one : t ≡ x = of_one x t is in ap (λ y. y ∷ []) (sym one)
+only_one (x ∷ y ∷ ts) t is few = absurd (omega arith)
+
+-- one of whom all pass
+pub passes_all : (p : TaskId → Bool) (ts : List TaskId) (t : TaskId) → has_task ts t ≡ true → list_all p ts ≡ true → p t ≡ true
+passes_all p [] t is all = absurd (cc)
+passes_all p (x ∷ ts) t is all =
+    let parts = both (p x) (list_all p ts) all in
+    of_test (same_task t x) refl is parts.0 (λ rest. passes_all p ts t rest parts.1)
+  where
+    of_test : (b : Bool) → same_task t x ≡ b → b || has_task ts t ≡ true → p x ≡ true → (has_task ts t ≡ true → p t ≡ true) → p t ≡ true
+    of_test true e at here rest = let one : t ≡ x = same_task-is t x e in rw one here
+    of_test false e at here rest = rest at
+
+-- without the first ones
+pub has_task-drop : (n : ℕ) (ts : List TaskId) (t : TaskId) → has_task (drop n ts) t ≡ true → has_task ts t ≡ true
+has_task-drop zero ts t is = is
+has_task-drop (suc n) [] t is = is
+has_task-drop (suc n) (x ∷ ts) t is = or_right (same_task t x) (has_task ts t) (has_task-drop n ts t is)
+
+pub distinct-drop : (n : ℕ) (ts : List TaskId) → are_distinct_tasks ts ≡ true → are_distinct_tasks (drop n ts) ≡ true
+distinct-drop zero ts is = is
+distinct-drop (suc n) [] is = is
+distinct-drop (suc n) (x ∷ ts) is = distinct-drop n ts (both (not (has_task ts x)) (are_distinct_tasks ts) is).1
+
+pub drop_behind : (n : ℕ) (ts us : List TaskId) → n ≤ length ts → drop n (ts ++ us) ≡ drop n ts ++ us
+drop_behind zero ts us few = refl
+drop_behind (suc n) [] us few = absurd (omega arith)
+drop_behind (suc n) (x ∷ ts) us few = drop_behind n ts us (omega arith)
+
+pub drop_one_more : (n : ℕ) (ts us : List TaskId) (t : TaskId) → drop n ts ≡ t ∷ us → drop (suc n) ts ≡ us
+drop_one_more zero [] us t is = absurd (cc)
+drop_one_more zero (x ∷ ts) us t is = cc
+drop_one_more (suc n) [] us t is = absurd (cc)
+drop_one_more (suc n) (x ∷ ts) us t is = drop_one_more n ts us t is
+
+pub drop_some : (n : ℕ) (ts us : List TaskId) (t : TaskId) → drop n ts ≡ t ∷ us → n < length ts
+drop_some zero [] us t is = absurd (cc)
+drop_some zero (x ∷ ts) us t is = omega arith
+drop_some (suc n) [] us t is = absurd (cc)
+drop_some (suc n) (x ∷ ts) us t is = let less = drop_some n ts us t is in omega arith

@@ -1,0 +1,7 @@
+use Rattle.std.proofs.Common.{◌≡◌, drop}
+use Rattle.ccr_base.specs.Names.{has_task}
+use Rattle.ccr_model.specs.Firings.{put}
+use Rattle.ccr_laws.proofs.fates.was_put.Given as goal
+
+abbrev pub invariant-loop-event : goal.invariant-loop-event
+invariant-loop-event l = has_task (put l.events) l.task ≡ has_task (put (drop l.event-index l.events)) l.task

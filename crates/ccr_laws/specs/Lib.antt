@@ -1,0 +1,8 @@
+pub mod Standing
+pub mod WholePattern
+pub mod Times
+pub mod OneFate
+pub mod Drops
+pub mod Queues
+pub mod Interleaves
+pub mod AtWork

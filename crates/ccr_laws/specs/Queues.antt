@@ -1,0 +1,21 @@
+-- What was put into a queue and what started from it.
+use Rattle.std.specs.Prelude.{ℕ, Bool, false, ◌&&◌, ◌||◌, List, [], ◌∷◌, filter}
+use Rattle.ccr_base.specs.declared.names.TaskId.{TaskId}
+use Rattle.ccr_base.specs.Names.{same_task, has_task}
+use Rattle.ccr_wiring.specs.declared.parts.Parts.{Parts}
+use Rattle.ccr_model.specs.declared.history.Event.{Event}
+use Rattle.ccr_model.specs.Firings.{put, started}
+use Rattle.ccr_model.specs.Tasks.{is_for_queue}
+
+-- the tasks put into the queue, in the order of their puts
+abbrev pub put_into : Parts → List Event → ℕ → List TaskId
+put_into wiring history queue = filter (is_for_queue wiring history queue) (put history)
+
+-- the tasks of the queue that started, in the order of their starts
+abbrev pub started_from : Parts → List Event → ℕ → List TaskId
+started_from wiring history queue = filter (is_for_queue wiring history queue) (started history)
+
+-- whether the first stands in the list, and the second somewhere behind it
+abbrev pub stands_before : TaskId → TaskId → List TaskId → Bool
+stands_before first second [] = false
+stands_before first second (task ∷ tasks) = (same_task first task && has_task tasks second) || stands_before first second tasks

@@ -1,0 +1,44 @@
+//! What every firing of a legal history takes, and how often branches fire. Each law is the contract of a function that does nothing.
+
+ghost use Rattle.std.specs.Prelude.{◌≡◌, ◌≤◌, ℕ, List, Some, true};
+ghost use Rattle.std.specs.List.{slice_get};
+ghost use Rattle.ccr_base.specs.declared.names.MsgId.{MsgId};
+ghost use Rattle.ccr_base.specs.declared.names.TaskId.{TaskId};
+ghost use Rattle.ccr_base.specs.declared.names.Spot.{Spot};
+ghost use Rattle.ccr_base.specs.declared.messages.Msg.{Msg};
+ghost use Rattle.ccr_base.specs.declared.policies.Group.TheVariants as groups;
+ghost use Rattle.ccr_wiring.specs.declared.parts.Parts.{Parts};
+ghost use Rattle.ccr_wiring.specs.declared.parts.ArbiterPart.{ArbiterPart};
+ghost use Rattle.ccr_wiring.specs.declared.parts.Kind.TheVariants as kinds;
+ghost use Rattle.ccr_wiring.specs.Valid.{IsValid};
+ghost use Rattle.ccr_wiring.specs.Wirings.{Seat, seat};
+ghost use Rattle.ccr_model.specs.declared.history.Event.{Event};
+ghost use Rattle.ccr_model.specs.declared.history.Event.TheVariants.{Post, Fire};
+ghost use Rattle.ccr_base.specs.Names.{has_message};
+ghost use Rattle.ccr_model.specs.Legal.{IsLegal};
+ghost use Rattle.ccr_model.specs.Laws.{times_taken};
+ghost use Rattle.ccr_laws.specs.Standing.{Stands};
+ghost use Rattle.ccr_laws.specs.WholePattern.{TakesWhole};
+ghost use Rattle.ccr_laws.specs.OneFate.{IsHeld, HasOneFate};
+ghost use Rattle.ccr_laws.specs.Times.{times_fired, times_any_fired, times_torn_down};
+
+/// Each firing takes its whole pattern from what its ports held before it, and nothing else: of each slot the count, of a gather
+/// the total, at a site the one oldest message of the awaited port.
+pub fn firings_take_whole_patterns()
+    ensures { (wiring : Parts) → IsValid wiring → (history : List Event) → IsLegal wiring history → (past : List Event) (task : TaskId) (spot : Spot) (messages : List MsgId) (cuts : List TaskId) → Stands history past (Fire task spot messages cuts) → TakesWhole wiring past spot messages }
+{}
+
+/// A choice, a `once` receiver, and the teardown branches of an Interleave all together, fire at most once.
+pub fn single_firings_come_once()
+    ensures choice { (wiring : Parts) → IsValid wiring → (history : List Event) → IsLegal wiring history → (number : ℕ) (arbiter : ArbiterPart) → slice_get wiring.arbiters number ≡ Some arbiter → arbiter.kind ≡ kinds.Choice → times_any_fired wiring history number ≤ 1 }
+    ensures once { (wiring : Parts) (history : List Event) → IsLegal wiring history → (branch : ℕ) (s : Seat) → seat wiring branch ≡ Some s → s.branch.group ≡ groups.Once → times_fired history branch ≤ 1 }
+    ensures teardown { (wiring : Parts) (history : List Event) → IsLegal wiring history → (interleave : ℕ) → times_torn_down wiring history interleave ≤ 1 }
+{}
+
+/// Each posted message has exactly one fate, the one that `fate` tells. A name is taken at most once: at most one firing names
+/// it, and once. What a firing names was posted and held before it.
+pub fn messages_have_one_fate()
+    ensures fate { (wiring : Parts) → IsValid wiring → (history : List Event) → IsLegal wiring history → (past : List Event) (message : Msg) → Stands history past (Post message) → HasOneFate wiring history message.id }
+    ensures once { (wiring : Parts) → IsValid wiring → (history : List Event) → IsLegal wiring history → (name : MsgId) → times_taken history name ≤ 1 }
+    ensures held_before { (wiring : Parts) → IsValid wiring → (history : List Event) → IsLegal wiring history → (past : List Event) (task : TaskId) (spot : Spot) (messages : List MsgId) (cuts : List TaskId) → Stands history past (Fire task spot messages cuts) → (name : MsgId) → has_message messages name ≡ true → IsHeld past name }
+{}

@@ -1,0 +1,13 @@
+pub mod Leads
+pub mod Namings
+pub mod Terms
+pub mod Known
+pub mod Sources
+pub mod Handling
+pub mod Shapes
+pub mod Firing
+pub mod Arbiters
+pub mod Posting
+pub mod Validity
+pub mod Fitting
+pub mod Whole

@@ -1,0 +1,143 @@
+-- A valid wiring, whole: it fits, it is small, its names are good and no port is crowded.
+use Rattle.std.proofs.Common.{◌≡◌, ℕ, ◌<◌, ◌≤◌, Bool, true, false, List, length, refl, arith}
+use Rattle.std.specs.Prelude.{◌==◌, ◌||◌, nat_lt}
+use Rattle.std.specs.List.{list_any}
+use Rattle.ccr_wiring.specs.declared.parts.Parts.{Parts}
+use Rattle.ccr_wiring.specs.declared.parts.QueuePart.{QueuePart}
+use Rattle.ccr_wiring.specs.declared.parts.CausePart.{CausePart}
+use Rattle.ccr_wiring.specs.Groups.{is_misgrouped, is_branchless}
+use Rattle.ccr_wiring.specs.Names.{declared_names}
+use Rattle.ccr_wiring.specs.References.{set_is_dangling, cause_is_dangling, handler_is_dangling, arbiter_is_dangling, poster_is_dangling, has_dangling_set, has_dangling_cause, has_dangling_handler, has_dangling_arbiter, has_dangling_poster}
+use Rattle.ccr_wiring.specs.Repeats.{arbiter_repeats, set_repeats, poster_repeats, has_repeating_set, has_repeating_arbiter, has_repeating_poster}
+use Rattle.ccr_wiring.specs.Limits.{policy_is_outside, set_is_outside, handler_is_outside, arbiter_is_outside, has_branches_above, has_posts_above, has_too_many, has_outside_queue, has_outside_set, has_outside_handler, has_outside_arbiter}
+use Rattle.ccr_wiring.specs.Spots.{times, named_ports}
+use Rattle.ccr_wiretext.proofs.Each.{neither}
+use Rattle.ccr_wiretext.proofs.Fit.{PolicyFit, ArbiterFit, SetFit, HandlerFit, PosterFit}
+use Rattle.ccr_wiretext.proofs.Spotted.{Uncrowded, times_none, among}
+use Rattle.ccr_wiretext.proofs.Sound.{Counts, Fits}
+use Rattle.ccr_wiretext.proofs.Round.Namings.{Good}
+use Rattle.ccr_wiretext.proofs.Round.Validity.{each_if, none_of_two, below, within, policy_fits, set_fits, handler_fits, arbiter_fits, poster_fits, NoCode}
+
+-- the tests of which one is that numbers name something. The others are likewise
+record There (parts : Parts) : Type 0 where
+  sets : has_dangling_set parts ≡ false
+  causes : has_dangling_cause parts ≡ false
+  handlers : has_dangling_handler parts ≡ false
+  arbiters : has_dangling_arbiter parts ≡ false
+  posters : has_dangling_poster parts ≡ false
+
+there : (parts : Parts) → NoCode parts → There parts
+there parts none =
+    let a = neither (has_dangling_set parts || has_dangling_cause parts || has_dangling_handler parts || has_dangling_arbiter parts) (has_dangling_poster parts) none.there in
+    let b = neither (has_dangling_set parts || has_dangling_cause parts || has_dangling_handler parts) (has_dangling_arbiter parts) a.0 in
+    let c = neither (has_dangling_set parts || has_dangling_cause parts) (has_dangling_handler parts) b.0 in
+    let d = neither (has_dangling_set parts) (has_dangling_cause parts) c.0 in
+    record { sets = d.0; causes = d.1; handlers = c.1; arbiters = b.1; posters = a.1 }
+
+record Once (parts : Parts) : Type 0 where
+  sets : has_repeating_set parts ≡ false
+  arbiters : has_repeating_arbiter parts ≡ false
+  posters : has_repeating_poster parts ≡ false
+
+once : (parts : Parts) → NoCode parts → Once parts
+once parts none =
+    let a = neither (has_repeating_set parts || has_repeating_arbiter parts) (has_repeating_poster parts) none.once in
+    let b = neither (has_repeating_set parts) (has_repeating_arbiter parts) a.0 in
+    record { sets = b.0; arbiters = b.1; posters = a.1 }
+
+record Within (parts : Parts) : Type 0 where
+  budget : nat_lt 10000 parts.budget ≡ false
+  many : has_too_many parts ≡ false
+  queues : has_outside_queue parts ≡ false
+  sets : has_outside_set parts ≡ false
+  handlers : has_outside_handler parts ≡ false
+  arbiters : has_outside_arbiter parts ≡ false
+
+inside : (parts : Parts) → NoCode parts → Within parts
+inside parts none =
+    let a = neither (nat_lt 10000 parts.budget || has_too_many parts || has_outside_queue parts || has_outside_set parts || has_outside_handler parts) (has_outside_arbiter parts) none.inside in
+    let b = neither (nat_lt 10000 parts.budget || has_too_many parts || has_outside_queue parts || has_outside_set parts) (has_outside_handler parts) a.0 in
+    let c = neither (nat_lt 10000 parts.budget || has_too_many parts || has_outside_queue parts) (has_outside_set parts) b.0 in
+    let d = neither (nat_lt 10000 parts.budget || has_too_many parts) (has_outside_queue parts) c.0 in
+    let e = neither (nat_lt 10000 parts.budget) (has_too_many parts) d.0 in
+    record { budget = e.0; many = e.1; queues = d.1; sets = c.1; handlers = b.1; arbiters = a.1 }
+
+pub valid_counts : (parts : Parts) → NoCode parts → Counts parts
+valid_counts parts none =
+    let limits = inside parts none in
+    let queues : Bool = nat_lt 16 (length parts.queues) in
+    let ports : Bool = nat_lt 256 (length parts.ports) in
+    let sets : Bool = nat_lt 64 (length parts.sets) in
+    let causes : Bool = nat_lt 32 (length parts.causes) in
+    let handlers : Bool = nat_lt 256 (length parts.handlers) in
+    let arbiters : Bool = nat_lt 256 (length parts.arbiters) in
+    let posters : Bool = nat_lt 16 (length parts.posters) in
+    let branches : Bool = has_branches_above 256 parts.arbiters in
+    let posts : Bool = has_posts_above 10000 parts.posters in
+    let a = neither (queues || ports || sets || causes || handlers || arbiters || posters || branches) posts limits.many in
+    let b = neither (queues || ports || sets || causes || handlers || arbiters || posters) branches a.0 in
+    let c = neither (queues || ports || sets || causes || handlers || arbiters) posters b.0 in
+    let d = neither (queues || ports || sets || causes || handlers) arbiters c.0 in
+    let e = neither (queues || ports || sets || causes) handlers d.0 in
+    let f = neither (queues || ports || sets) causes e.0 in
+    let g = neither (queues || ports) sets f.0 in
+    let h = neither queues ports g.0 in
+    record {
+      budget = within 10000 parts.budget limits.budget;
+      queues = within 16 (length parts.queues) h.0;
+      ports = within 256 (length parts.ports) h.1;
+      sets = within 64 (length parts.sets) g.1;
+      causes = within 32 (length parts.causes) f.1;
+      handlers = within 256 (length parts.handlers) e.1;
+      arbiters = within 256 (length parts.arbiters) d.1;
+      branches = within 256 _ b.1;
+      posters = within 16 (length parts.posters) c.1;
+      posts = within 10000 _ a.1;
+    }
+
+pub valid_fits : (parts : Parts) → NoCode parts → Fits parts
+valid_fits parts none =
+    let named = there parts none in
+    let apart = once parts none in
+    let limits = inside parts none in
+    record {
+      queues = each_if (λ (part : QueuePart). PolicyFit part.policy) (λ (part : QueuePart). policy_is_outside part.policy) (λ part e. policy_fits part.policy e) parts.queues limits.queues;
+      sets = each_if (SetFit (length parts.ports)) (λ part. set_is_dangling parts part || (set_repeats part || set_is_outside part))
+          (λ part e.
+          let a = neither (set_is_dangling parts part) (set_repeats part || set_is_outside part) e in
+          let b = neither (set_repeats part) (set_is_outside part) a.1 in
+          set_fits parts part a.0 b.0 b.1)
+          parts.sets (none_of_two (set_is_dangling parts) (λ part. set_repeats part || set_is_outside part) parts.sets named.sets (none_of_two set_repeats set_is_outside parts.sets apart.sets limits.sets));
+      causes = each_if (λ (part : CausePart). part.port < length parts.ports) (cause_is_dangling parts) (λ part e. below (length parts.ports) part.port e) parts.causes named.causes;
+      handlers = each_if (HandlerFit (length parts.ports) (length parts.causes)) (λ part. handler_is_dangling parts part || handler_is_outside part)
+          (λ part e. let a = neither (handler_is_dangling parts part) (handler_is_outside part) e in handler_fits parts part a.0 a.1)
+          parts.handlers (none_of_two (handler_is_dangling parts) handler_is_outside parts.handlers named.handlers limits.handlers);
+      arbiters = each_if (ArbiterFit (length parts.queues) (length parts.handlers) (length parts.ports))
+          (λ part. (arbiter_is_dangling parts part || arbiter_repeats part) || (arbiter_is_outside part || (is_misgrouped part || is_branchless part)))
+          (λ part e.
+          let a = neither (arbiter_is_dangling parts part || arbiter_repeats part) (arbiter_is_outside part || (is_misgrouped part || is_branchless part)) e in
+          let b = neither (arbiter_is_dangling parts part) (arbiter_repeats part) a.0 in
+          let c = neither (arbiter_is_outside part) (is_misgrouped part || is_branchless part) a.1 in
+          let d = neither (is_misgrouped part) (is_branchless part) c.1 in
+          arbiter_fits parts part b.0 b.1 c.0 d.0 d.1)
+          parts.arbiters
+          (none_of_two (λ part. arbiter_is_dangling parts part || arbiter_repeats part) (λ part. arbiter_is_outside part || (is_misgrouped part || is_branchless part)) parts.arbiters
+          (none_of_two (arbiter_is_dangling parts) arbiter_repeats parts.arbiters named.arbiters apart.arbiters)
+          (none_of_two arbiter_is_outside (λ part. is_misgrouped part || is_branchless part) parts.arbiters limits.arbiters (none_of_two is_misgrouped is_branchless parts.arbiters none.grouped none.branched)));
+      posters = each_if (PosterFit (length parts.ports) (length parts.causes)) (λ part. poster_is_dangling parts part || poster_repeats part)
+          (λ part e. let a = neither (poster_is_dangling parts part) (poster_repeats part) e in poster_fits parts part a.0 a.1)
+          parts.posters (none_of_two (poster_is_dangling parts) poster_repeats parts.posters named.posters apart.posters);
+    }
+
+pub valid_names : (parts : Parts) → NoCode parts → Good (declared_names parts)
+valid_names parts none = record { apart = none.apart; formed = none.formed }
+
+pub valid_fine : (parts : Parts) → NoCode parts → Uncrowded (named_ports parts)
+valid_fine parts none port = by (list_any (λ other. other == port) ports) refl
+  where
+    ports : List ℕ
+    ports = named_ports parts
+
+    by : (t : Bool) → list_any (λ other. other == port) ports ≡ t → times port ports ≤ 16
+    by true is = within 16 (times port ports) (among (λ p. nat_lt 16 (times p ports)) port ports none.fine is)
+    by false is = let nothing = times_none port ports is in omega arith

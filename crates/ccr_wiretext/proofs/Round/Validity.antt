@@ -1,0 +1,192 @@
+-- What a valid wiring has: numbers within their limits, references that name something, names apart, ports not crowded.
+use Rattle.std.proofs.Common.{◌≡◌, ℕ, ◌<◌, ◌≤◌, Bool, true, false, cond, List, [], ◌∷◌, length, Option, Some, None, inl, inr, refl, arith}
+use Rattle.std.specs.Prelude.{◌==◌, ◌&&◌, ◌||◌, not, nat_lt}
+use Rattle.std.specs.List.{list_any}
+use Rattle.std.proofs.lemmas.Bool.Decides.{nat_tests}
+use Rattle.ccr_base.specs.declared.policies.Policy.{Policy}
+use Rattle.ccr_base.specs.declared.policies.Policy.TheVariants as policies
+use Rattle.ccr_base.specs.declared.handlers.Action.{Action}
+use Rattle.ccr_base.specs.declared.handlers.Action.TheVariants as actions
+use Rattle.ccr_base.specs.declared.handlers.Expr.{Expr}
+use Rattle.ccr_base.specs.declared.handlers.Expr.TheVariants as exprs
+use Rattle.ccr_base.specs.declared.messages.Sent.{Sent}
+use Rattle.ccr_base.specs.declared.patterns.Slot.{Slot}
+use Rattle.ccr_base.specs.declared.patterns.Pattern.{Pattern}
+use Rattle.ccr_base.specs.declared.patterns.Pattern.TheVariants as patterns
+use Rattle.ccr_wiring.specs.declared.parts.Parts.{Parts}
+use Rattle.ccr_wiring.specs.declared.parts.SetPart.{SetPart}
+use Rattle.ccr_wiring.specs.declared.parts.HandlerPart.{HandlerPart}
+use Rattle.ccr_wiring.specs.declared.parts.BranchPart.{BranchPart}
+use Rattle.ccr_wiring.specs.declared.parts.ArbiterPart.{ArbiterPart}
+use Rattle.ccr_wiring.specs.declared.parts.PosterPart.{PosterPart}
+use Rattle.ccr_wiring.specs.declared.parts.Kind.{Kind}
+use Rattle.ccr_wiring.specs.Groups.{may_have, is_receive, is_one_named, is_misgrouped, has_strange_group, has_misgrouped, is_branchless, has_branchless}
+use Rattle.ccr_wiring.specs.Names.{has_repeated_name, has_malformed_name}
+use Rattle.ccr_wiring.specs.References.{is_beyond, has_beyond, action_is_dangling, pattern_is_dangling, branch_is_dangling, post_is_dangling, set_is_dangling, handler_is_dangling, arbiter_is_dangling, poster_is_dangling, has_dangling}
+use Rattle.ccr_wiring.specs.Repeats.{are_apart, names_ports_once, branch_repeats, arbiter_repeats, set_repeats, post_repeats, poster_repeats, has_repeat}
+use Rattle.ccr_wiring.specs.Limits.{is_outside, policy_is_outside, expr_is_outside, action_is_outside, slot_is_outside, pattern_is_outside, branch_is_outside, set_is_outside, handler_is_outside, arbiter_is_outside, has_outside}
+use Rattle.ccr_wiring.specs.Spots.{has_crowded_port}
+use Rattle.ccr_wiring.specs.Codes.{code_of}
+use Rattle.ccr_wiring.specs.Valid.{IsValid}
+use Rattle.ccr_wiretext.proofs.Steps.{not_true, not_false}
+use Rattle.ccr_wiretext.proofs.Each.{Each, neither}
+use Rattle.ccr_wiretext.proofs.Fit.{PolicyFit, ExprFit, PortsFit, ActionFit, SlotFit, PatternFit, BranchFit, BranchesFit, ArbiterFit, Shaped, SetFit, HandlerFit, PostFit, PosterFit}
+
+-- ---- tests that fail
+
+pub each_if : {X : Type 0} (P : X → Type 0) (f : X → Bool) → ((x : X) → f x ≡ false → P x) → (xs : List X) → list_any f xs ≡ false → Each P xs
+each_if P f fact [] none = tt
+each_if P f fact (x ∷ xs) none = let parts = neither (f x) (list_any f xs) none in (fact x parts.0, each_if P f fact xs parts.1)
+
+pub none_of_two : {X : Type 0} (f g : X → Bool) (xs : List X) → list_any f xs ≡ false → list_any g xs ≡ false → list_any (λ x. f x || g x) xs ≡ false
+none_of_two f g [] first second = refl
+none_of_two f g (x ∷ xs) first second =
+    let a = neither (f x) (list_any f xs) first in
+    let b = neither (g x) (list_any g xs) second in
+    rw (a.0, b.0, none_of_two f g xs a.1 b.1) refl
+
+pub below : (count n : ℕ) → is_beyond count n ≡ false → n < count
+below count n e = grind (arith, nat_tests, e)
+
+pub within : (most n : ℕ) → nat_lt most n ≡ false → n ≤ most
+within most n e = grind (arith, nat_tests, e)
+
+limits : (least most n : ℕ) → is_outside least most n ≡ false → (least ≤ n) × (n ≤ most)
+limits least most n e = let parts = neither (nat_lt n least) (nat_lt most n) e in (grind (arith, nat_tests, parts.0), within most n parts.1)
+
+numbers_fit : (count : ℕ) (numbers : List ℕ) → has_beyond count numbers ≡ false → PortsFit count numbers
+numbers_fit count numbers none = each_if (λ n. n < count) (is_beyond count) (below count) numbers none
+
+-- ---- each kind of part
+
+pub policy_fits : (p : Policy) → policy_is_outside p ≡ false → PolicyFit p
+policy_fits policies.Unbounded e = tt
+policy_fits (policies.Discard n) e = limits 1 1000 n e
+policy_fits (policies.Throttle n) e = limits 1 1000 n e
+
+expr_fits : (value : Expr) → expr_is_outside value ≡ false → ExprFit value
+expr_fits (exprs.Number n) e = tt
+expr_fits (exprs.Arg k) e = (limits 0 65535 k e).1
+expr_fits exprs.Sum e = tt
+expr_fits exprs.Count e = tt
+
+action_fits : (parts : Parts) (action : Action) → action_is_dangling parts action ≡ false → action_is_outside action ≡ false → ActionFit (length parts.ports) (length parts.causes) action
+action_fits parts (actions.Post port value) there inside = (below (length parts.ports) port there, expr_fits value inside)
+action_fits parts (actions.Fail value) there inside = expr_fits value inside
+action_fits parts (actions.Add cause) there inside = below (length parts.causes) cause there
+action_fits parts (actions.Remove cause) there inside = below (length parts.causes) cause there
+action_fits parts (actions.Await port) there inside = below (length parts.ports) port there
+
+pub handler_fits : (parts : Parts) (part : HandlerPart) → handler_is_dangling parts part ≡ false → handler_is_outside part ≡ false → HandlerFit (length parts.ports) (length parts.causes) part
+handler_fits parts part there inside =
+    let limit = neither (nat_lt 16 (length part.handler.actions)) (list_any action_is_outside part.handler.actions) inside in (
+      each_if (ActionFit (length parts.ports) (length parts.causes)) (λ action. action_is_dangling parts action || action_is_outside action)
+          (λ action e. let a = neither (action_is_dangling parts action) (action_is_outside action) e in action_fits parts action a.0 a.1) part.handler.actions
+          (none_of_two (action_is_dangling parts) action_is_outside part.handler.actions there limit.1),
+      within 16 (length part.handler.actions) limit.0,
+    )
+
+slot_fits : (parts : Parts) (slot : Slot) → is_beyond (length parts.ports) slot.port ≡ false → slot_is_outside slot ≡ false → SlotFit (length parts.ports) slot
+slot_fits parts slot there inside =
+    let exact = neither (not (slot.least == slot.most)) (is_outside 1 1000 slot.least) inside in
+    let same = not_false (slot.least == slot.most) exact.0 in
+    let counted = limits 1 1000 slot.least exact.1 in
+    (below (length parts.ports) slot.port there, grind (arith, nat_tests, same), counted.0, counted.1)
+
+pattern_fits : (parts : Parts) (shape : Pattern) → pattern_is_dangling parts shape ≡ false → names_ports_once shape ≡ true → pattern_is_outside shape ≡ false → PatternFit (length parts.ports) shape
+pattern_fits parts (patterns.Slots slots) there once inside =
+    let limit = neither (is_outside 1 8 (length slots)) (list_any slot_is_outside slots) inside in
+    let counted = limits 1 8 (length slots) limit.0 in (
+      each_if (SlotFit (length parts.ports)) (λ (slot : Slot). is_beyond (length parts.ports) slot.port || slot_is_outside slot)
+          (λ slot e. let a = neither (is_beyond (length parts.ports) slot.port) (slot_is_outside slot) e in slot_fits parts slot a.0 a.1) slots
+          (none_of_two (λ (slot : Slot). is_beyond (length parts.ports) slot.port) slot_is_outside slots there limit.1),
+      once,
+      counted.0,
+      counted.1,
+    )
+pattern_fits parts (patterns.Gather total first second) there once inside =
+    let ports = neither (is_beyond (length parts.ports) first) (is_beyond (length parts.ports) second) there in
+    let counted = limits 1 1000 total inside in
+    (below (length parts.ports) first ports.0, below (length parts.ports) second ports.1, not_true (first == second) once, counted.0, counted.1)
+
+branch_fits : (parts : Parts) (branch : BranchPart) → branch_is_dangling parts branch ≡ false → branch_repeats branch ≡ false → branch_is_outside branch ≡ false → BranchFit (length parts.queues) (length parts.handlers) (length parts.ports) branch
+branch_fits parts branch there once inside =
+    let a = neither (is_beyond (length parts.queues) branch.queue || is_beyond (length parts.handlers) branch.handler) (pattern_is_dangling parts branch.pattern) there in
+    let b = neither (is_beyond (length parts.queues) branch.queue) (is_beyond (length parts.handlers) branch.handler) a.0 in
+    (below (length parts.queues) branch.queue b.0, below (length parts.handlers) branch.handler b.1, pattern_fits parts branch.pattern a.1 (not_false (names_ports_once branch.pattern) once) inside)
+
+abbrev strange : Kind → BranchPart → Bool
+strange kind branch = not (may_have kind branch.group)
+
+branches_fit : (parts : Parts) (part : ArbiterPart) → arbiter_is_dangling parts part ≡ false → arbiter_repeats part ≡ false → arbiter_is_outside part ≡ false → has_strange_group part ≡ false
+    → BranchesFit (length parts.queues) (length parts.handlers) (length parts.ports) part
+branches_fit parts part there once inside grouped =
+    each_if (λ (branch : BranchPart). BranchFit (length parts.queues) (length parts.handlers) (length parts.ports) branch × (may_have part.kind branch.group ≡ true))
+    (λ branch. (branch_is_dangling parts branch || branch_repeats branch) || (branch_is_outside branch || strange part.kind branch))
+    (λ branch e.
+    let a = neither (branch_is_dangling parts branch || branch_repeats branch) (branch_is_outside branch || strange part.kind branch) e in
+    let b = neither (branch_is_dangling parts branch) (branch_repeats branch) a.0 in
+    let c = neither (branch_is_outside branch) (strange part.kind branch) a.1 in
+    (branch_fits parts branch b.0 b.1 c.0, not_false (may_have part.kind branch.group) c.1))
+    part.branches
+    (none_of_two (λ branch. branch_is_dangling parts branch || branch_repeats branch) (λ branch. branch_is_outside branch || strange part.kind branch) part.branches
+    (none_of_two (branch_is_dangling parts) branch_repeats part.branches there once) (none_of_two branch_is_outside (strange part.kind) part.branches inside grouped))
+
+shaped : (part : ArbiterPart) → (is_receive part.kind && not (is_one_named part.name part.branches)) ≡ false → is_branchless part ≡ false → Shaped part
+shaped part one some = by (is_receive part.kind) refl one some
+  where
+    by : (t : Bool) → is_receive part.kind ≡ t → (t && not (is_one_named part.name part.branches)) ≡ false → (not t && (length part.branches == 0)) ≡ false → Shaped part
+    by true is a b = inl (is, not_false (is_one_named part.name part.branches) a)
+    by false is a b = inr (is, b)
+
+pub arbiter_fits : (parts : Parts) (part : ArbiterPart) → arbiter_is_dangling parts part ≡ false → arbiter_repeats part ≡ false → arbiter_is_outside part ≡ false → is_misgrouped part ≡ false → is_branchless part ≡ false
+    → ArbiterFit (length parts.queues) (length parts.handlers) (length parts.ports) part
+arbiter_fits parts part there once inside grouped some =
+    let a = neither (has_strange_group part) (is_receive part.kind && not (is_one_named part.name part.branches)) grouped in
+    (branches_fit parts part there once inside a.0, shaped part a.1 some)
+
+pub set_fits : (parts : Parts) (part : SetPart) → set_is_dangling parts part ≡ false → set_repeats part ≡ false → set_is_outside part ≡ false → SetFit (length parts.ports) part
+set_fits parts part there once inside =
+    let counted = limits 1 8 (length part.ports) inside in
+    (numbers_fit (length parts.ports) part.ports there, not_false (are_apart part.ports) once, counted.0, counted.1)
+
+post_fits : (parts : Parts) (post : Sent) → post_is_dangling parts post ≡ false → post_repeats post ≡ false → PostFit (length parts.ports) (length parts.causes) post
+post_fits parts post there once =
+    let a = neither (is_beyond (length parts.ports) post.port) (has_beyond (length parts.causes) post.causes) there in
+    (below (length parts.ports) post.port a.0, numbers_fit (length parts.causes) post.causes a.1, not_false (are_apart post.causes) once)
+
+pub poster_fits : (parts : Parts) (part : PosterPart) → poster_is_dangling parts part ≡ false → poster_repeats part ≡ false → PosterFit (length parts.ports) (length parts.causes) part
+poster_fits parts part there once =
+    each_if (PostFit (length parts.ports) (length parts.causes)) (λ post. post_is_dangling parts post || post_repeats post)
+    (λ post e. let a = neither (post_is_dangling parts post) (post_repeats post) e in post_fits parts post a.0 a.1) part.posts
+    (none_of_two (post_is_dangling parts) post_repeats part.posts there once)
+
+-- ---- all codes
+
+-- no condition of a code stands
+pub record NoCode (parts : Parts) : Type 0 where
+  pub grouped : has_misgrouped parts ≡ false
+  pub apart : has_repeated_name parts ≡ false
+  pub there : has_dangling parts ≡ false
+  pub once : has_repeat parts ≡ false
+  pub inside : has_outside parts ≡ false
+  pub branched : has_branchless parts ≡ false
+  pub fine : has_crowded_port parts ≡ false
+  pub formed : has_malformed_name parts ≡ false
+
+skip : (b : Bool) (n : ℕ) (o : Option ℕ) → cond b (Some n) o ≡ None → (b ≡ false) × (o ≡ None)
+skip true n o e = absurd cc
+skip false n o e = (refl, e)
+
+pub no_code : (parts : Parts) → IsValid parts → NoCode parts
+unfolding code_of
+no_code parts valid =
+    let a = skip (has_misgrouped parts) 3 _ valid in
+    let b = skip (has_repeated_name parts) 6 _ a.1 in
+    let c = skip (has_dangling parts) 7 _ b.1 in
+    let d = skip (has_repeat parts) 8 _ c.1 in
+    let e = skip (has_outside parts) 10 _ d.1 in
+    let f = skip (has_branchless parts) 11 _ e.1 in
+    let g = skip (has_crowded_port parts) 12 _ f.1 in
+    let h = skip (has_malformed_name parts) 14 None g.1 in
+    record { grouped = a.0; apart = b.0; there = c.0; once = d.0; inside = e.0; branched = f.0; fine = g.0; formed = h.0 }
