@@ -16,6 +16,7 @@ use ccr_model::{EndHow, Event};
 use std::alloc::Global;
 
 /// Each word that is left names a task.
+#[tactic(auto, using(crate::proofs::Each::each_steps))]
 fn tasks(alloc: Global, mut words: Cursor<'_>) -> Result<List<TaskId>, Stop>
     ensures { Says result (each task_of words.entry) }
 {
@@ -40,6 +41,7 @@ fn cuts(alloc: Global, words: Cursor<'_>) -> Result<List<TaskId>, Stop>
 }
 
 /// MSG .., and the tasks behind the word cut.
+#[tactic(auto, using(crate::proofs::Each::fired_steps))]
 fn fired(alloc: Global, mut words: Cursor<'_>) -> Result<(List<MsgId>, List<TaskId>), Stop>
     ensures { Says result (fired words.entry) }
 {
