@@ -1,7 +1,9 @@
 //! The numbers of names.
 
-ghost use Rattle.std.specs.Prelude.{◌≡◌, ◌<◌, ◌≤◌, false, [], ◌∷◌, ◌++◌, IfOk, OnOk, length, map};
-ghost use Rattle.ccr_wiring.specs.Names.{has_name, has_repeated};
+ghost use Rattle.std.specs.Prelude.{◌≡◌, ◌≤◌, false, [], ◌∷◌, ◌++◌, IfOk, OnOk, length, map};
+ghost use Rattle.std.specs.List.{list_any};
+ghost use Rattle.std.specs.Str.{bytes_eq};
+ghost use Rattle.ccr_wiring.specs.Names.{has_repeated};
 ghost use Rattle.ccr_trace.specs.Known.{number_in};
 
 use ccr_base::OutOfMemory;
@@ -33,7 +35,7 @@ impl<'w> Numbers<'w> {
     }
 
     fn add(&mut self, name: &'w [u8]) -> Result<(), OutOfMemory>
-        requires { has_name self.old name.now ≡ false }
+        requires { list_any (bytes_eq name.now) self.old ≡ false }
         ensures { OnOk result (self.new ≡ self.old ++ name.now ∷ []) }
     {
         self.names.insert(name)?;
