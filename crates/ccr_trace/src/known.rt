@@ -1,6 +1,7 @@
 //! What a wiring has: its ports, causes and spots by their names.
 
 ghost use Rattle.std.specs.Prelude.{◌≡◌, ◌++◌, IfOk, OnOk, map, is_some};
+ghost use Rattle.std.specs.List.{slice_get};
 ghost use Rattle.ccr_wiring.specs.Wirings.{actions_of, awaited, site_port};
 ghost use Rattle.ccr_trace.specs.Words.{branch_names, branch_names_of, cause_names};
 ghost use Rattle.ccr_trace.specs.Said.{SpotName};
@@ -13,7 +14,7 @@ use crate::numbers::Numbers;
 use crate::stop::Stop;
 use ccr_base::{Action, BranchNo, CauseNo, List, Name, OutOfMemory, PortNo, Spot};
 use ccr_model::seats::seat;
-use ccr_wiring::{ArbiterPart, BranchPart, CausePart, Parts, Wiring};
+use ccr_wiring::{ArbiterPart, CausePart, Parts, Wiring, valid_wirings_are_sound};
 use std::alloc::Global;
 use std::marker::Model;
 
@@ -27,7 +28,7 @@ fn port_names<'w>(alloc: Global, ports: &'w [Name]) -> Result<Vec<&'w [u8]>, Out
     Ok(names)
 }
 
-fn names_of_causes<'w>(
+fn cause_names<'w>(
     alloc: Global,
     parts: &'w [CausePart],
 ) -> Result<Vec<&'w [u8]>, OutOfMemory>
@@ -42,22 +43,22 @@ fn names_of_causes<'w>(
 
 fn add_branches<'w>(
     names: &mut Vec<&'w [u8]>,
-    branches: &'w [BranchPart],
+    arbiter: &'w ArbiterPart,
 ) -> Result<(), OutOfMemory>
-    ensures { OnOk result (map (λ name. name.now) names.new.items ≡ map (λ name. name.now) names.old.items ++ map (λ part. part.name) branches.now) }
+    ensures { OnOk result (map (λ name. name.now) names.new.items ≡ map (λ name. name.now) names.old.items ++ branch_names_of arbiter.now) }
 {
-    for part in branches {
+    for part in arbiter.branches.as_slice() {
         names.push(part.name.as_slice())?;
     }
     Ok(())
 }
 
-fn names_of_branches<'w>(alloc: Global, parts: &'w Parts) -> Result<Vec<&'w [u8]>, OutOfMemory>
+fn branch_names<'w>(alloc: Global, parts: &'w Parts) -> Result<Vec<&'w [u8]>, OutOfMemory>
     ensures { IfOk result (λ names. map (λ name. name.now) names.items ≡ branch_names parts.now) }
 {
     let mut names = Vec::new(alloc);
     for arbiter in parts.arbiters.as_slice() {
-        add_branches(&mut names, arbiter.branches.as_slice())?;
+        add_branches(&mut names, arbiter)?;
     }
     Ok(names)
 }
@@ -123,10 +124,14 @@ impl<'w> Known<'w> {
     pub fn new(alloc: Global, wiring: &'w Wiring) -> Result<Self, OutOfMemory>
         ensures { IfOk result (λ known. known ≡ wiring.now) }
     {
+        valid_wirings_are_sound();
         let parts = wiring.parts();
-        let ports = Numbers::of(alloc, &port_names(alloc, parts.ports.as_slice())?)?;
-        let causes = Numbers::of(alloc, &names_of_causes(alloc, parts.causes.as_slice())?)?;
-        let branches = Numbers::of(alloc, &names_of_branches(alloc, parts)?)?;
+        let names = port_names(alloc, parts.ports.as_slice())?;
+        let ports = Numbers::of(alloc, &names)?;
+        let names = cause_names(alloc, parts.causes.as_slice())?;
+        let causes = Numbers::of(alloc, &names)?;
+        let names = branch_names(alloc, parts)?;
+        let branches = Numbers::of(alloc, &names)?;
         Ok(Known {
             alloc,
             wiring,
@@ -142,6 +147,8 @@ impl<'w> Known<'w> {
         self.ports.get(name).ok_or(Stop::Unknown)
     }
 
+    /// The causes of these names.
+    #[tactic(auto, using(crate::proofs::Each::each_steps))]
     pub fn causes(&self, mut names: Cursor<'_>) -> Result<List<CauseNo>, Stop>
         ensures { Finds result (each (number_in (cause_names self.now)) names.entry) }
     {
@@ -154,6 +161,7 @@ impl<'w> Known<'w> {
     }
 
     /// The branch of that name, or its site where it has one of that number.
+    #[tactic(auto, unfolding(crate::specs::Known::spot_known))]
     pub fn spot(&self, name: &[u8], site: Option<u32>) -> Result<Spot, Stop>
         ensures { Finds result (spot_known self.now (record { name = name.now; site = site })) }
     {

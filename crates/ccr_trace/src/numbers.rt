@@ -1,6 +1,6 @@
 //! The numbers of names.
 
-ghost use Rattle.std.specs.Prelude.{◌≡◌, ◌≤◌, false, [], ◌∷◌, ◌++◌, IfOk, OnOk, length, map};
+ghost use Rattle.std.specs.Prelude.{◌≡◌, ◌<◌, ◌≤◌, false, [], ◌∷◌, ◌++◌, IfOk, OnOk, length, map};
 ghost use Rattle.std.specs.List.{list_any};
 ghost use Rattle.std.specs.Str.{bytes_eq};
 ghost use Rattle.ccr_wiring.specs.Names.{has_repeated};
@@ -18,11 +18,13 @@ pub struct Numbers<'w> {
 }
 
 impl<'w> Model for Numbers<'w> {
-    ghost use Rattle.std.specs.Prelude.{List as Listed, ℕ, map};
+    ghost use Rattle.std.specs.Prelude.{List as Listed, ℕ, ◌≤◌, length, map};
 
     ghost Value = { Listed (Listed ℕ) };
 
     ghost view = { λ numbers. map (λ name. name.now) numbers.names.keys };
+
+    ghost invariant = { λ numbers. length numbers.names.keys ≤ 256 };
 }
 
 impl<'w> Numbers<'w> {
@@ -35,16 +37,18 @@ impl<'w> Numbers<'w> {
     }
 
     fn add(&mut self, name: &'w [u8]) -> Result<(), OutOfMemory>
-        requires { list_any (bytes_eq name.now) self.old ≡ false }
+        requires fresh { list_any (bytes_eq name.now) self.old ≡ false }
+        requires room { length self.old < 256 }
         ensures { OnOk result (self.new ≡ self.old ++ name.now ∷ []) }
     {
         self.names.insert(name)?;
         Ok(())
     }
 
-    /// The numbers of these names, which differ.
+    /// The numbers of these names, of which there are at most 256.
     pub fn of(alloc: Global, names: &[&'w [u8]]) -> Result<Self, OutOfMemory>
-        requires { has_repeated (map (λ name. name.now) names.now) ≡ false }
+        requires apart { has_repeated (map (λ name. name.now) names.now) ≡ false }
+        requires few { length names.now ≤ 256 }
         ensures { IfOk result (λ numbers. numbers ≡ map (λ name. name.now) names.now) }
     {
         let mut numbers = Numbers::new(alloc);
@@ -55,7 +59,6 @@ impl<'w> Numbers<'w> {
     }
 
     pub fn get(&self, name: &[u8]) -> Option<u32>
-        requires { length self.now ≤ 256 }
         ensures { result ≡ number_in self.now name.now }
     {
         let number = self.names.get_index_of(name)?;

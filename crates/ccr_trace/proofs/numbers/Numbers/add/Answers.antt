@@ -6,5 +6,5 @@ use Rattle.ccr_trace.proofs.numbers.Numbers.add.Goals as goal
 
 pub returns : goal.returns
 returns c =
-    let fresh : list_any (bytes_eq c.args.name.now) (seen c.self.inside.names.keys) ≡ false = rw c.self.view_is c.requires in
+    let fresh : list_any (bytes_eq c.args.name.now) (seen c.self.inside.names.keys) ≡ false = rw c.self.view_is c.requires.fresh in
     ap seen c.in_ok-insert.ensures.keys ∙ seen-insert c.self.inside.names.keys c.args.name fresh ∙ rw c.self.view_is refl
