@@ -49,6 +49,11 @@ refused line stops.Memory = refusals.Memory
 refused line stops.Malformed = refusals.At line 1
 refused line stops.Unknown = refusals.At line 2
 
+-- this line and this code
+abbrev pub IsRefusal : HistoryRefused → ℕ × ℕ → Type 0
+IsRefusal refusals.Memory at = Unit {0}
+IsRefusal (refusals.At line code) at = at ≡ (line, code)
+
 -- the history, or the first offending line and its code
 abbrev pub IsReading : Result ReadHistory HistoryRefused → Result ReadHistory (ℕ × ℕ) → Type 0
 IsReading (Ok history) read = read ≡ Ok history
