@@ -5,6 +5,7 @@ mod cursor;
 mod events;
 mod forms;
 mod known;
+mod laws;
 mod names;
 mod numbers;
 mod pieces;
@@ -15,6 +16,7 @@ mod stop;
 mod words;
 mod writing;
 
+pub use laws::lines_are_read_exactly;
 pub use names::branch_names;
 pub use reading::{ReadHistory, read_history};
 pub use refused::HistoryRefused;
