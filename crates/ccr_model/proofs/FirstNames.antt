@@ -1,14 +1,9 @@
--- The first of a list, and their names.
-use Rattle.std.proofs.Common.{◌≡◌, ℕ, zero, suc, ◌-◌, ◌<◌, List, [], ◌∷◌, ◌++◌, length, take, map, Option, Some, None, refl, ap, ◌∙◌, append_assoc, arith}
+-- The names of the first of a list.
+use Rattle.std.proofs.Common.{◌≡◌, ℕ, zero, suc, List, [], ◌∷◌, ◌++◌, length, take, map, Option, Some, None, refl, ap, ◌∙◌, append_assoc, arith}
 use Rattle.std.specs.Option.{option_map}
 use Rattle.ccr_base.specs.declared.names.MsgId.{MsgId}
 use Rattle.ccr_base.specs.declared.messages.Msg.{Msg}
 use Rattle.ccr_model.specs.Choice.{names_of, joined}
-
--- one of them, and the others
-pub take-more : {X : Type 0} (n : ℕ) (x : X) (xs : List X) → 0 < n → take n (x ∷ xs) ≡ x ∷ take (n - 1) xs
-take-more zero x xs some = absurd (omega arith)
-take-more (suc n) x xs some = let less : suc n - 1 ≡ n = omega arith in rw less refl
 
 pub names_of-take : (n : ℕ) (messages : List Msg) → names_of (take n messages) ≡ take n (names_of messages)
 names_of-take zero messages = refl

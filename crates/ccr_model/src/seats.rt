@@ -74,7 +74,7 @@ fn awaited_at(actions: &[Action], site: u32) -> Option<PortNo>
 }
 
 /// The port that is awaited at this site of the branch.
-pub(crate) fn site_port(wiring: &Wiring, branch: BranchNo, site: u32) -> Option<PortNo>
+pub fn site_port(wiring: &Wiring, branch: BranchNo, site: u32) -> Option<PortNo>
     ensures { result ≡ site_port wiring.now branch site }
 {
     let seat = seat(wiring, branch)?;

@@ -178,7 +178,7 @@ pub AreFew-legal : (w : Parts) → TakesSome w → (h : List Event) → IsLegal 
 AreFew-legal w some h legal = along w AreFew (AreFew_kept w some) (record { fires = omega arith; admits = record { few = omega arith }; puts = record { few = omega arith }; starts = record { few = omega arith }; ends = record { few = omega arith } }) h legal
 
 -- each event is of one kind
-all_kinds : (h : List Event) → length h ≡ length (posts h) + (length (firings h) + (length (let_in h) + (length (put h) + (length (started h) + length (ended h)))))
+pub all_kinds : (h : List Event) → length h ≡ length (posts h) + (length (firings h) + (length (let_in h) + (length (put h) + (length (started h) + length (ended h)))))
 all_kinds [] = refl
 all_kinds (Post m ∷ h) = omega (arith, all_kinds h)
 all_kinds (Fire t s ms cs ∷ h) = omega (arith, all_kinds h)

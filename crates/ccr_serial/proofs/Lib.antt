@@ -8,3 +8,4 @@ pub mod Attempts
 pub mod Runs
 pub mod Finished
 pub mod Orders
+pub mod Choices

@@ -1,12 +1,12 @@
 -- What valid wirings have.
-use Rattle.std.proofs.Common.{◌≡◌, ℕ, ◌≤◌, true, [], ◌∷◌, length, refl, arith}
+use Rattle.std.proofs.Common.{◌≡◌, ◌≤◌, true, [], ◌∷◌, length, refl, arith}
 use Rattle.std.specs.Prelude.{nat_le}
 use Rattle.std.proofs.lemmas.Bool.Decides.{nat_tests}
 use Rattle.ccr_base.specs.declared.patterns.Pattern.{Pattern}
 use Rattle.ccr_base.specs.declared.patterns.Pattern.TheVariants.{Slots, Gather}
 use Rattle.ccr_wiring.specs.declared.parts.Parts.{Parts}
 use Rattle.ccr_wiring.specs.Limits.{posts_in_all}
-use Rattle.ccr_wiring.specs.Valid.{IsValid, HasPortsApart, HasQueues, IsPatternFilled}
+use Rattle.ccr_wiring.specs.Valid.{IsValid, HasPortsApart, HasQueues, HasPatternsFilled, IsPatternFilled}
 use Rattle.ccr_wiring.proofs.Soundness.{sound}
 use Rattle.ccr_serial.specs.Potential.{takes_some, TakesSome, most_events}
 
@@ -21,6 +21,9 @@ pattern_takes_some (Gather total p q) filled = grind (arith, nat_tests, filled.0
 
 pub TakesSome-valid : (w : Parts) → IsValid w → TakesSome w
 TakesSome-valid w valid b s is = pattern_takes_some s.branch.pattern ((sound w valid).patterns b s is)
+
+pub HasPatternsFilled-valid : (w : Parts) → IsValid w → HasPatternsFilled w
+HasPatternsFilled-valid w valid = (sound w valid).patterns
 
 pub HasPortsApart-valid : (w : Parts) → IsValid w → HasPortsApart w
 HasPortsApart-valid w valid = (sound w valid).apart

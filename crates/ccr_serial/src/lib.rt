@@ -1,6 +1,7 @@
 //! The engine on one thread.
 #![tactic(auto)]
 
+mod choice;
 mod laws;
 mod order;
 mod serial;

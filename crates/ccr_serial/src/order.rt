@@ -10,9 +10,9 @@ ghost use Rattle.ccr_model.specs.Tasks.{queued, running, waiting};
 ghost use Rattle.ccr_model.specs.Order.{script_post, post_from, next_attempt, fire_at, fire_from, admit_first, admit_from, put_first, how_of, run_task, start_from};
 ghost use Rattle.ccr_serial.specs.Engine.{next_event};
 
+use crate::choice::engine_choice;
 use ccr_base::{ActorNo, List, Msg, MsgId, OutOfMemory, Sent, Spot, TaskId};
 use ccr_handler::PlayEnd;
-use ccr_model::choices::engine_choice;
 use ccr_model::data::play_of;
 use ccr_model::firings::fired;
 use ccr_model::live::{has_room, is_live};
@@ -97,7 +97,8 @@ fn fire_at(
     events: &[Event],
     spot: Spot,
 ) -> Result<Option<Event>, OutOfMemory>
-    requires { next_attempt closer (fired events.now) < 2 ^ 32 }
+    requires few { length events.now ≤ 120000 }
+    requires attempts { next_attempt closer (fired events.now) < 2 ^ 32 }
     ensures { IfOk result (λ event. event ≡ fire_at wiring.now closer events.now spot) }
 {
     if !is_live(alloc, wiring, events, spot)? || !has_room(alloc, wiring, events, spot)? {
@@ -126,7 +127,8 @@ fn first_fire(
     closer: ActorNo,
     events: &[Event],
 ) -> Result<Option<Event>, OutOfMemory>
-    requires { next_attempt closer (fired events.now) < 2 ^ 32 }
+    requires few { length events.now ≤ 120000 }
+    requires attempts { next_attempt closer (fired events.now) < 2 ^ 32 }
     ensures { IfOk result (λ event. event ≡ fire_from wiring.now closer events.now (spots wiring.now)) }
 {
     for spot in wiring.spots() {

@@ -1,2 +1,9 @@
 pub mod Words
 pub mod HistoryText
+pub mod Pieces
+pub mod Said
+pub mod Places
+pub mod Forms
+pub mod Known
+pub mod Reading
+pub mod Answers

@@ -1,12 +1,25 @@
-//! Histories as text.
+//! Histories as text, written and read again.
 #![tactic(auto)]
 
+mod cursor;
 mod events;
+mod forms;
+mod known;
+mod laws;
 mod names;
+mod numbers;
+mod pieces;
+mod places;
+mod reading;
+mod refused;
+mod stop;
 mod words;
 mod writing;
 
+pub use laws::lines_are_read_exactly;
 pub use names::branch_names;
+pub use reading::{ReadHistory, read_history};
+pub use refused::HistoryRefused;
 pub use words::spot_text;
 pub use writing::write_history;
 

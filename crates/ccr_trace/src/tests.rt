@@ -7,6 +7,8 @@ use ccr_wiring::{ArbiterPart, BranchPart, CausePart, HandlerPart, Kind, Parts, Q
 use std::alloc::Global;
 use std::test::*;
 
+mod reading;
+
 fn name(alloc: Global, bytes: &[u8]) -> Result<Name, Fail> {
     Ok(List::from_vec(bytes.to_vec(alloc)?))
 }

@@ -1,0 +1,166 @@
+-- In a valid wiring no two ports share a name, nor two causes, nor two branches.
+use Rattle.std.proofs.Common.{◌≡◌, ℕ, ◌+◌, Bool, true, false, cond, List, [], ◌∷◌, ◌++◌, map, flat_map, length, Option, Some, None, refl, sym, ap, ◌∙◌, length-append, append_assoc, arith}
+use Rattle.std.specs.Prelude.{◌||◌, ◌&&◌, ◌==◌, not}
+use Rattle.std.specs.List.{list_any}
+use Rattle.std.specs.Str.{bytes_eq}
+use Rattle.std.proofs.lemmas.Bool.Decides.{nat_tests}
+use Rattle.std.proofs.lemmas.List.{length-map}
+use Rattle.std.proofs.lemmas.List.Concat.{flat_map-cons}
+use Rattle.std.proofs.lemmas.List.Folds.{list_any-append}
+use Rattle.std.proofs.lemmas.Slice.Eq.{bytes_eq-Decides}
+use Rattle.ccr_wiring.specs.declared.parts.ArbiterPart.{ArbiterPart}
+use Rattle.ccr_wiring.specs.declared.parts.BranchPart.{BranchPart}
+use Rattle.ccr_wiring.specs.declared.parts.Kind.{Kind}
+use Rattle.ccr_wiring.specs.declared.parts.Parts.{Parts}
+use Rattle.ccr_wiring.specs.Codes.{code_of}
+use Rattle.ccr_wiring.specs.Groups.{is_receive, is_one_named, is_misgrouped, has_misgrouped, has_strange_group}
+use Rattle.ccr_wiring.specs.Names.{queue_names, set_names, cause_names as names_of_causes, handler_names, poster_names, arbiter_names, declared_names, has_name, has_repeated, has_repeated_name}
+use Rattle.ccr_wiring.specs.Valid.{IsValid}
+use Rattle.ccr_wiring.specs.Wirings.{Seat, seats_of, seats_from, seats}
+use Rattle.ccr_trace.specs.Words.{branch_names, branch_names_of, cause_names}
+
+neither : (a b : Bool) → (a || b) ≡ false → (a ≡ false) × (b ≡ false)
+neither true b e = absurd cc
+neither false b e = (refl, e)
+
+no_code : (test : Bool) (code : ℕ) (rest : Option ℕ) → cond test (Some code) rest ≡ None → (test ≡ false) × (rest ≡ None)
+no_code true code rest e = absurd cc
+no_code false code rest e = (refl, e)
+
+pub misgrouped_none : (parts : Parts) → IsValid parts → has_misgrouped parts ≡ false
+unfolding code_of
+misgrouped_none parts valid = (no_code (has_misgrouped parts) 3 _ valid).0
+
+pub repeated_none : (parts : Parts) → IsValid parts → has_repeated_name parts ≡ false
+unfolding code_of
+repeated_none parts valid = (no_code (has_repeated_name parts) 6 _ (no_code (has_misgrouped parts) 3 _ valid).1).0
+
+lacks_left : (xs ys : List (List ℕ)) (name : List ℕ) → has_name (xs ++ ys) name ≡ false → has_name xs name ≡ false
+lacks_left xs ys name e = (neither (has_name xs name) (has_name ys name) (sym (list_any-append (λ other. bytes_eq other name) xs ys) ∙ e)).0
+
+lacks_right : (xs ys : List (List ℕ)) (name : List ℕ) → has_name (xs ++ ys) name ≡ false → has_name ys name ≡ false
+lacks_right xs ys name e = (neither (has_name xs name) (has_name ys name) (sym (list_any-append (λ other. bytes_eq other name) xs ys) ∙ e)).1
+
+lacks_both : (xs ys : List (List ℕ)) (name : List ℕ) → has_name xs name ≡ false → has_name ys name ≡ false → has_name (xs ++ ys) name ≡ false
+lacks_both xs ys name e f = list_any-append (λ other. bytes_eq other name) xs ys ∙ rw (e, f) refl
+
+apart_left : (xs ys : List (List ℕ)) → has_repeated (xs ++ ys) ≡ false → has_repeated xs ≡ false
+apart_left [] ys e = refl
+apart_left (x ∷ xs) ys e =
+    let parts = neither (has_name (xs ++ ys) x) (has_repeated (xs ++ ys)) e in
+    rw (lacks_left xs ys x parts.0, apart_left xs ys parts.1) refl
+
+apart_right : (xs ys : List (List ℕ)) → has_repeated (xs ++ ys) ≡ false → has_repeated ys ≡ false
+apart_right [] ys e = e
+apart_right (x ∷ xs) ys e = apart_right xs ys (neither (has_name (xs ++ ys) x) (has_repeated (xs ++ ys)) e).1
+
+pub ports_apart : (parts : Parts) → IsValid parts → has_repeated parts.ports ≡ false
+ports_apart parts valid =
+    let q = queue_names parts.queues in
+    let s = set_names parts.sets in
+    let c = names_of_causes parts.causes in
+    let h = handler_names parts.handlers in
+    let a = flat_map arbiter_names parts.arbiters in
+    let p = poster_names parts.posters in
+    apart_right q parts.ports
+    (apart_left (q ++ parts.ports) s
+    (apart_left (q ++ parts.ports ++ s) c
+    (apart_left (q ++ parts.ports ++ s ++ c) h
+    (apart_left (q ++ parts.ports ++ s ++ c ++ h) a
+    (apart_left (q ++ parts.ports ++ s ++ c ++ h ++ a) p (repeated_none parts valid))))))
+
+pub causes_apart : (parts : Parts) → IsValid parts → has_repeated (cause_names parts) ≡ false
+causes_apart parts valid =
+    let q = queue_names parts.queues in
+    let s = set_names parts.sets in
+    let c = names_of_causes parts.causes in
+    let h = handler_names parts.handlers in
+    let a = flat_map arbiter_names parts.arbiters in
+    let p = poster_names parts.posters in
+    apart_right (q ++ parts.ports ++ s) c
+    (apart_left (q ++ parts.ports ++ s ++ c) h
+    (apart_left (q ++ parts.ports ++ s ++ c ++ h) a
+    (apart_left (q ++ parts.ports ++ s ++ c ++ h ++ a) p (repeated_none parts valid))))
+
+arbiters_apart : (parts : Parts) → IsValid parts → has_repeated (flat_map arbiter_names parts.arbiters) ≡ false
+arbiters_apart parts valid =
+    let q = queue_names parts.queues in
+    let s = set_names parts.sets in
+    let c = names_of_causes parts.causes in
+    let h = handler_names parts.handlers in
+    let a = flat_map arbiter_names parts.arbiters in
+    let p = poster_names parts.posters in
+    apart_right (q ++ parts.ports ++ s ++ c ++ h) a
+    (apart_left (q ++ parts.ports ++ s ++ c ++ h ++ a) p (repeated_none parts valid))
+
+-- behind the same names, others of which each is one of those
+apart_behind : (xs more fewer : List (List ℕ)) → ((name : List ℕ) → has_name more name ≡ false → has_name fewer name ≡ false) → (has_repeated more ≡ false → has_repeated fewer ≡ false)
+    → has_repeated (xs ++ more) ≡ false → has_repeated (xs ++ fewer) ≡ false
+apart_behind [] more fewer lacks apart e = apart e
+apart_behind (x ∷ xs) more fewer lacks apart e =
+    let parts = neither (has_name (xs ++ more) x) (has_repeated (xs ++ more)) e in
+    rw (lacks_both xs fewer x (lacks_left xs more x parts.0) (lacks x (lacks_right xs more x parts.0)), apart_behind xs more fewer lacks apart parts.1) refl
+
+-- an arbiter's names are its branches' names, or its own name before these
+abbrev Named : ArbiterPart → Type 0
+Named arbiter = (front : List (List ℕ)) × (arbiter_names arbiter ≡ front ++ branch_names_of arbiter)
+
+not_true : (b : Bool) → not b ≡ false → b ≡ true
+not_true true e = refl
+not_true false e = absurd cc
+
+both : (a b : Bool) → (a && b) ≡ true → (a ≡ true) × (b ≡ true)
+both true b e = (refl, e)
+both false b e = absurd cc
+
+one_named : (name : List ℕ) (branches : List BranchPart) → is_one_named name branches ≡ true → map (λ (part : BranchPart). part.name) branches ≡ name ∷ []
+one_named name [] e = absurd cc
+one_named name (branch ∷ []) e =
+    let parts = both (length {A = BranchPart} [] == 0) (bytes_eq branch.name name) e in
+    ap (λ (v : List ℕ). v ∷ []) ((bytes_eq-Decides branch.name name).0 parts.1)
+one_named name (branch ∷ next ∷ others) e =
+    let parts = both (length (next ∷ others) == 0) (bytes_eq branch.name name) e in
+    absurd (grind (arith, nat_tests, parts.0))
+
+named_by : (name : List ℕ) (branches : List BranchPart) (receive : Bool) → (receive && not (is_one_named name branches)) ≡ false
+    → (front : List (List ℕ)) × ((name ∷ cond receive [] (map (λ (part : BranchPart). part.name) branches)) ≡ front ++ map (λ (part : BranchPart). part.name) branches)
+named_by name branches true e = ([], sym (one_named name branches (not_true (is_one_named name branches) e)))
+named_by name branches false e = (name ∷ [], refl)
+
+named : (arbiter : ArbiterPart) → is_misgrouped arbiter ≡ false → Named arbiter
+named arbiter e = named_by arbiter.name arbiter.branches (is_receive arbiter.kind) (neither (has_strange_group arbiter) (is_receive arbiter.kind && not (is_one_named arbiter.name arbiter.branches)) e).1
+
+lacked : (arbiters : List ArbiterPart) → list_any is_misgrouped arbiters ≡ false → (name : List ℕ) → has_name (flat_map arbiter_names arbiters) name ≡ false → has_name (flat_map branch_names_of arbiters) name ≡ false
+lacked [] grouped name e = refl
+lacked (arbiter ∷ arbiters) grouped name e =
+    let parts = neither (is_misgrouped arbiter) (list_any is_misgrouped arbiters) grouped in
+    let front = named arbiter parts.0 in
+    let whole : has_name (arbiter_names arbiter ++ flat_map arbiter_names arbiters) name ≡ false = ap (λ names. has_name names name) (sym (flat_map-cons arbiter_names arbiter arbiters)) ∙ e in
+    let here : has_name (front.0 ++ branch_names_of arbiter) name ≡ false = ap (λ names. has_name names name) (sym front.1) ∙ lacks_left (arbiter_names arbiter) (flat_map arbiter_names arbiters) name whole in
+    let later = lacked arbiters parts.1 name (lacks_right (arbiter_names arbiter) (flat_map arbiter_names arbiters) name whole) in
+    ap (λ names. has_name names name) (flat_map-cons branch_names_of arbiter arbiters) ∙ lacks_both (branch_names_of arbiter) (flat_map branch_names_of arbiters) name (lacks_right front.0 (branch_names_of arbiter) name here) later
+
+apart : (arbiters : List ArbiterPart) → list_any is_misgrouped arbiters ≡ false → has_repeated (flat_map arbiter_names arbiters) ≡ false → has_repeated (flat_map branch_names_of arbiters) ≡ false
+apart [] grouped e = refl
+apart (arbiter ∷ arbiters) grouped e =
+    let parts = neither (is_misgrouped arbiter) (list_any is_misgrouped arbiters) grouped in
+    let front = named arbiter parts.0 in
+    let more = flat_map arbiter_names arbiters in
+    let whole : has_repeated ((front.0 ++ branch_names_of arbiter) ++ more) ≡ false = ap (λ names. has_repeated (names ++ more)) (sym front.1) ∙ (ap has_repeated (sym (flat_map-cons arbiter_names arbiter arbiters)) ∙ e) in
+    let kept : has_repeated ((front.0 ++ branch_names_of arbiter) ++ flat_map branch_names_of arbiters) ≡ false = apart_behind (front.0 ++ branch_names_of arbiter) more (flat_map branch_names_of arbiters) (lacked arbiters parts.1) (apart arbiters parts.1) whole in
+    ap has_repeated (flat_map-cons branch_names_of arbiter arbiters) ∙ apart_right front.0 (branch_names_of arbiter ++ flat_map branch_names_of arbiters) (ap has_repeated (sym (append_assoc front.0 (branch_names_of arbiter) (flat_map branch_names_of arbiters))) ∙ kept)
+
+pub branches_apart : (parts : Parts) → IsValid parts → has_repeated (branch_names parts) ≡ false
+branches_apart parts valid = apart parts.arbiters (misgrouped_none parts valid) (arbiters_apart parts valid)
+
+counted : (number : ℕ) (arbiters : List ArbiterPart) → length (flat_map branch_names_of arbiters) ≡ length (seats_from number arbiters)
+counted number [] = refl
+counted number (arbiter ∷ arbiters) =
+    let more = counted (number + 1) arbiters in
+    let seated : length (seats_of number arbiter) ≡ length arbiter.branches = length-map {B = Seat} arbiter.branches _ in
+    ap length (flat_map-cons branch_names_of arbiter arbiters)
+    ∙ omega (arith, more, length-append (branch_names_of arbiter) (flat_map branch_names_of arbiters), length-append (seats_of number arbiter) (seats_from (number + 1) arbiters), length-map arbiter.branches (λ (part : BranchPart). part.name), seated)
+
+-- a name for each branch
+pub length-branch_names : (parts : Parts) → length (branch_names parts) ≡ length (seats parts)
+length-branch_names parts = counted 0 parts.arbiters

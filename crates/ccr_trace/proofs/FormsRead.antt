@@ -1,0 +1,132 @@
+-- A line that is spelled says the same again.
+use Rattle.std.proofs.Common.{◌≡◌, ℕ, suc, ◌^◌, ◌<◌, Bool, true, false, List, [], ◌∷◌, ◌++◌, length, map, Option, Some, None, refl, sym, ap, ◌∙◌, arith}
+use Rattle.std.specs.Prelude.{codes, decimal}
+use Rattle.std.specs.List.{All, list_all}
+use Rattle.std.specs.Str.{bytes_eq}
+use Rattle.std.proofs.lemmas.List.Elements.{recursion_from_All}
+use Rattle.ccr_base.specs.declared.names.TaskId.{TaskId}
+use Rattle.ccr_base.specs.declared.names.MsgId.{MsgId}
+use Rattle.ccr_base.specs.declared.names.MsgId.TheVariants as ids
+use Rattle.ccr_model.specs.declared.history.EndHow.{EndHow}
+use Rattle.ccr_model.specs.declared.history.EndHow.TheVariants as ends
+use Rattle.ccr_text.specs.Words.{is_name_of}
+use Rattle.ccr_text.specs.Spelling.{joined}
+use Rattle.ccr_trace.specs.Words.{task_word, message_word}
+use Rattle.ccr_trace.specs.HistoryText.{cut_words, dropped_words, end_words}
+use Rattle.ccr_trace.specs.Pieces.{pieces}
+use Rattle.ccr_trace.specs.Said.{SpotName, Said, Post, Fire, Admit, Put, Start, End, said_words, spelled, spot_name_word, IsSaid, IsTask, IsMessage, IsName, IsDropped, IsEnd}
+use Rattle.ccr_trace.specs.Places.{◌>>=◌, exact_number, short_number, task_of, message_of, spot_of}
+use Rattle.ccr_trace.specs.Forms.{Words, word, each, cuts, fired, post_said, fire_said, admit_said, dropped_said, put_said, start_said, how_said, end_said, form_said, said_on}
+use Rattle.ccr_trace.proofs.Steps.{is_some_of-some}
+use Rattle.ccr_trace.proofs.Parting.{lacks, AreParted, pieces-joined, parted_append, parted_map}
+use Rattle.ccr_trace.proofs.WordsRead.{AreNumbers, number_lacks, number_read, short_read, task_read, message_read, spot_read, task_lacks, message_lacks, spot_lacks, name_lacks, each_read}
+
+names_read : (names : List (List ℕ)) → All IsName names → list_all is_name_of names ≡ true
+names_read [] good = refl
+names_read (name ∷ names) good =
+    let parts = recursion_from_All IsName (name ∷ names) good in
+    rw (parts.0, names_read names (λ k d below. good (suc k) d (omega arith))) refl
+
+no_cut : (message : MsgId) → bytes_eq (message_word message) (codes "cut") ≡ false
+no_cut (ids.Script actor place) = refl
+no_cut (ids.Task task place) = refl
+
+names_parted : (numbers : AreNumbers) (names : List (List ℕ)) → All IsName names → AreParted names
+names_parted numbers [] good = tt
+names_parted numbers (name ∷ names) good =
+    let parts = recursion_from_All IsName (name ∷ names) good in
+    (name_lacks numbers 32 name refl parts.0, names_parted numbers names (λ k d below. good (suc k) d (omega arith)))
+
+module _ (numbers : AreNumbers) where
+  post_again : (id : MsgId) (port : List ℕ) (value : ℕ) (causes : List (List ℕ)) → IsSaid (Post id port value causes) → post_said (message_word id ∷ port ∷ decimal value ∷ causes) ≡ Some (Post id port value causes)
+  unfolding post_said
+  post_again id port value causes good =
+      rw (message_read numbers id good.0, good.1, number_read numbers value good.2, names_read causes good.3) refl
+
+  cuts_again : (tasks : List TaskId) → 0 < length tasks → All IsTask tasks → cuts (map task_word tasks) ≡ Some tasks
+  unfolding cuts
+  cuts_again tasks some good = rw (each_read task_of task_word IsTask (task_read numbers) tasks good, is_some_of-some tasks some) refl
+
+  cut_again : (tasks : List TaskId) → All IsTask tasks → fired (cut_words tasks) ≡ Some ([], tasks)
+  unfolding fired
+  cut_again [] good = refl
+  cut_again (task ∷ tasks) good = rw (cuts_again (task ∷ tasks) (omega arith) good) refl
+
+  fired_again : (messages : List MsgId) (tasks : List TaskId) → All IsMessage messages → All IsTask tasks → fired (map message_word messages ++ cut_words tasks) ≡ Some (messages, tasks)
+  unfolding fired
+  fired_again [] tasks good cut = cut_again tasks cut
+  fired_again (message ∷ messages) tasks good cut =
+      let parts = recursion_from_All IsMessage (message ∷ messages) good in
+      let rest = fired_again messages tasks (λ k d below. good (suc k) d (omega arith)) cut in
+      rw (no_cut message, message_read numbers message parts.0, rest) refl
+
+  fire_again : (task : TaskId) (spot : SpotName) (messages : List MsgId) (tasks : List TaskId) → IsSaid (Fire task spot messages tasks)
+      → fire_said (task_word task ∷ spot_name_word spot ∷ (map message_word messages ++ cut_words tasks)) ≡ Some (Fire task spot messages tasks)
+  unfolding fire_said
+  fire_again task spot messages tasks good =
+      rw (task_read numbers task good.0, spot_read numbers spot good.1 good.2, fired_again messages tasks good.4 good.5, is_some_of-some messages good.3) refl
+
+  admit_again : (task : TaskId) → IsTask task → admit_said (task_word task ∷ []) ≡ Some (Admit task)
+  unfolding admit_said
+  admit_again task good = rw (task_read numbers task good) refl
+
+  dropped_again : (dropped : Option TaskId) → IsDropped dropped → dropped_said (dropped_words dropped) ≡ Some dropped
+  unfolding dropped_said
+  dropped_again None good = refl
+  dropped_again (Some task) good = rw (task_read numbers task good) refl
+
+  put_again : (task : TaskId) (dropped : Option TaskId) → IsSaid (Put task dropped) → put_said (task_word task ∷ dropped_words dropped) ≡ Some (Put task dropped)
+  unfolding put_said
+  put_again task dropped good = rw (task_read numbers task good.0, dropped_again dropped good.1) refl
+
+  start_again : (task : TaskId) (actor : ℕ) → IsSaid (Start task actor) → start_said (task_word task ∷ decimal actor ∷ []) ≡ Some (Start task actor)
+  unfolding start_said
+  start_again task actor good = rw (task_read numbers task good.0, short_read numbers actor good.1) refl
+
+  how_again : (how : EndHow) → IsEnd how → how_said (end_words how) ≡ Some (how, [])
+  unfolding how_said
+  how_again ends.Done good = refl
+  how_again (ends.Failed value) good = rw (number_read numbers value good) refl
+  how_again ends.Yield good = refl
+  how_again ends.Shed good = refl
+
+  end_again : (task : TaskId) (how : EndHow) → IsSaid (End task how) → end_said (task_word task ∷ end_words how) ≡ Some (End task how)
+  unfolding end_said
+  end_again task how good = rw (task_read numbers task good.0, how_again how good.1) refl
+
+  cut_parted : (tasks : List TaskId) → All IsTask tasks → AreParted (cut_words tasks)
+  cut_parted [] good = tt
+  cut_parted (task ∷ tasks) good = (refl, parted_map task_word IsTask (task_lacks numbers) (task ∷ tasks) good)
+
+  dropped_parted : (dropped : Option TaskId) → IsDropped dropped → AreParted (dropped_words dropped)
+  dropped_parted None good = tt
+  dropped_parted (Some task) good = (refl, (task_lacks numbers task good, tt))
+
+  end_parted : (how : EndHow) → IsEnd how → AreParted (end_words how)
+  end_parted ends.Done good = (refl, tt)
+  end_parted (ends.Failed value) good = (refl, (number_lacks numbers 32 value refl good, tt))
+  end_parted ends.Yield good = (refl, tt)
+  end_parted ends.Shed good = (refl, tt)
+
+  line_again : (first : List ℕ) (words : Words) (said : Said) → AreParted (first ∷ words) → form_said first words ≡ Some said → said_on (joined (first ∷ words)) ≡ Some said
+  line_again first words said parted is = rw (pieces-joined first words parted) is
+
+  -- a line that is spelled says the same again
+  pub said_again : (said : Said) → IsSaid said → said_on (spelled said) ≡ Some said
+  unfolding form_said
+  said_again (Post id port value causes) good =
+      line_again (codes "post") (message_word id ∷ port ∷ decimal value ∷ causes) (Post id port value causes)
+      (refl, (message_lacks numbers id good.0, (name_lacks numbers 32 port refl good.1, (number_lacks numbers 32 value refl good.2, names_parted numbers causes good.3))))
+      (post_again id port value causes good)
+  said_again (Fire task spot messages tasks) good =
+      line_again (codes "fire") (task_word task ∷ spot_name_word spot ∷ (map message_word messages ++ cut_words tasks)) (Fire task spot messages tasks)
+      (refl, (task_lacks numbers task good.0, (spot_lacks numbers spot good.1 good.2, parted_append (map message_word messages) (cut_words tasks) (parted_map message_word IsMessage (message_lacks numbers) messages good.4) (cut_parted tasks good.5))))
+      (fire_again task spot messages tasks good)
+  said_again (Admit task) good =
+      line_again (codes "admit") (task_word task ∷ []) (Admit task) (refl, (task_lacks numbers task good, tt)) (admit_again task good)
+  said_again (Put task dropped) good =
+      line_again (codes "put") (task_word task ∷ dropped_words dropped) (Put task dropped) (refl, (task_lacks numbers task good.0, dropped_parted dropped good.1)) (put_again task dropped good)
+  said_again (Start task actor) good =
+      line_again (codes "start") (task_word task ∷ decimal actor ∷ []) (Start task actor) (refl, (task_lacks numbers task good.0, (number_lacks numbers 32 actor refl (omega arith), tt))) (start_again task actor good)
+  said_again (End task how) good =
+      line_again (codes "end") (task_word task ∷ end_words how) (End task how) (refl, (task_lacks numbers task good.0, end_parted how good.1)) (end_again task how good)

@@ -1,0 +1,110 @@
+-- What is known is in the wiring.
+use Rattle.std.proofs.Common.{◌≡◌, ℕ, ◌+◌, ◌<◌, Bool, true, false, cond, List, [], ◌∷◌, ◌++◌, length, map, Option, Some, None, Result, Ok, Err, ◌⊎◌, inl, inr, refl, sym, ap, subst, ◌∙◌, get_or, arith}
+use Rattle.std.specs.Prelude.{nat_lt, is_some, IsSome, position}
+use Rattle.std.specs.List.{All, slice_get, position_or_len}
+use Rattle.std.specs.Str.{bytes_eq}
+use Rattle.std.proofs.lemmas.Bool.Decides.{nat_tests}
+use Rattle.std.proofs.lemmas.List.{length-map}
+use Rattle.std.proofs.lemmas.List.Elements.{All-nil, All-cons}
+use Rattle.std.proofs.lemmas.Option.{slice_get-get_or}
+use Rattle.ccr_base.specs.declared.names.Spot.{Spot}
+use Rattle.ccr_base.specs.declared.names.Spot.TheVariants.{Branch, Site}
+use Rattle.ccr_wiring.specs.declared.parts.CausePart.{CausePart}
+use Rattle.ccr_wiring.specs.declared.parts.Parts.{Parts}
+use Rattle.ccr_wiring.specs.Wirings.{Seat, seat, seats, site_port}
+use Rattle.ccr_model.specs.declared.history.Event.{Event}
+use Rattle.ccr_model.specs.declared.history.Event.TheVariants as events
+use Rattle.ccr_trace.specs.Words.{cause_names, branch_names}
+use Rattle.ccr_trace.specs.Said.{SpotName, Said, Post, Fire, Admit, Put, Start, End, IsSaid}
+use Rattle.ccr_trace.specs.Places.{◌>>=◌}
+use Rattle.ccr_trace.specs.Forms.{Words, each, said_on}
+use Rattle.ccr_trace.specs.Known.{number_in, spot_at, spot_known, known, IsKnownSpot, IsKnown, HasMessages}
+use Rattle.ccr_trace.specs.Reading.{or_code, event_of, event_on}
+use Rattle.ccr_trace.proofs.Steps.{bind_some, some_is, only_one, chosen}
+use Rattle.ccr_trace.proofs.Apart.{length-branch_names}
+use Rattle.ccr_trace.proofs.FormsSaid.{line_told}
+
+pub number_within : (names : List (List ℕ)) (word : List ℕ) (n : ℕ) → number_in names word ≡ Some n → n < length names
+number_within names word n e = by (position_or_len (λ name. bytes_eq word name) names) refl (nat_lt (position_or_len (λ name. bytes_eq word name) names) (length names)) refl e
+  where
+    by : (p : ℕ) → position_or_len (λ name. bytes_eq word name) names ≡ p → (t : Bool) → nat_lt p (length names) ≡ t → cond t (Some p) None ≡ Some n → n < length names
+    by p is false below e' = absurd cc
+    by p is true below e' = let same : p ≡ n = some_is p n e' in grind (arith, nat_tests, below, same)
+
+-- each word that is read is good
+each_good : {A : Type 0} (read : List ℕ → Option A) (Good : A → Type 0) → ((w : List ℕ) (x : A) → read w ≡ Some x → Good x) → (words : Words) (values : List A) → each read words ≡ Some values → All Good values
+unfolding each
+each_good read Good good [] values e = subst (λ (v : List _). All Good v) (some_is [] values e) (All-nil Good)
+each_good read Good good (w ∷ words) values e =
+    let first = bind_some (read w) _ values e in
+    let rest = bind_some (each read words) _ values first.2 in
+    subst (λ (v : List _). All Good v) (some_is (first.0 ∷ rest.0) values rest.2) (All-cons Good first.0 rest.0 (good w first.0 first.1) (each_good read Good good words rest.0 rest.1))
+
+seat_there : (parts : Parts) (branch : ℕ) → branch < length (seats parts) → IsSome (seat parts branch)
+seat_there parts branch below = at_place (seats parts) below
+  where
+    at_place : (xs : List Seat) → branch < length xs → is_some (slice_get xs branch) ≡ true
+    at_place [] below = absurd (omega arith)
+    at_place (x ∷ xs) below = ap is_some (slice_get-get_or (x ∷ xs) branch x below)
+
+spot_there : (parts : Parts) (branch : ℕ) (site : Option ℕ) (spot : Spot) → branch < length (seats parts) → spot_at parts branch site ≡ Some spot → IsKnownSpot parts spot
+spot_there parts branch None spot below e = subst (λ (s : Spot). IsKnownSpot parts s) (some_is (Branch branch) spot e) (seat_there parts branch below)
+spot_there parts branch (Some site) spot below e =
+    elim (chosen (is_some (site_port parts branch site)) (Some (Site branch site)) None (Some spot) e) [
+      inl h ↦ subst (λ (s : Spot). IsKnownSpot parts s) (some_is (Site branch site) spot h.1) h.0
+    | inr h ↦ absurd (let none : only_one spot ≡ None = sym h.1 in cc) ]
+
+pub known_is : (parts : Parts) (said : Said) (event : Event) → known parts said ≡ Some event → IsKnown parts event
+unfolding known spot_known
+known_is parts (Post id port value causes) event e =
+    let number = bind_some (number_in parts.ports port) _ event e in
+    let numbers = bind_some (each (number_in (cause_names parts)) causes) _ event number.2 in
+    let few : length (cause_names parts) ≡ length parts.causes = length-map parts.causes (λ (part : CausePart). part.name) in
+    subst (λ (v : Event). IsKnown parts v) (some_is (events.Post (record { id = id; port = number.0; value = value; causes = numbers.0 })) event numbers.2)
+    (number_within parts.ports port number.0 number.1, each_good (number_in (cause_names parts)) (λ n. n < length parts.causes) (λ w n is. omega (arith, number_within (cause_names parts) w n is, few)) causes numbers.0 numbers.1)
+known_is parts (Fire task spot messages cuts) event e =
+    let place = bind_some (number_in (branch_names parts) spot.name >>= λ branch. spot_at parts branch spot.site) _ event e in
+    let branch = bind_some (number_in (branch_names parts) spot.name) _ place.0 place.1 in
+    let below : branch.0 < length (seats parts) = omega (arith, number_within (branch_names parts) spot.name branch.0 branch.1, length-branch_names parts) in
+    subst (λ (v : Event). IsKnown parts v) (some_is (events.Fire task place.0 messages cuts) event place.2) (spot_there parts branch.0 spot.site place.0 below branch.2)
+known_is parts (Admit task) event e = subst (λ (v : Event). IsKnown parts v) (some_is (events.Admit task) event e) tt
+known_is parts (Put task dropped) event e = subst (λ (v : Event). IsKnown parts v) (some_is (events.Put task dropped) event e) tt
+known_is parts (Start task actor) event e = subst (λ (v : Event). IsKnown parts v) (some_is (events.Start task actor) event e) tt
+known_is parts (End task how) event e = subst (λ (v : Event). IsKnown parts v) (some_is (events.End task how) event e) tt
+
+has_messages : (parts : Parts) (said : Said) (event : Event) → IsSaid said → known parts said ≡ Some event → HasMessages event
+unfolding known
+has_messages parts (Post id port value causes) event good e =
+    let number = bind_some (number_in parts.ports port) _ event e in
+    let numbers = bind_some (each (number_in (cause_names parts)) causes) _ event number.2 in
+    subst (λ (v : Event). HasMessages v) (some_is (events.Post (record { id = id; port = number.0; value = value; causes = numbers.0 })) event numbers.2) tt
+has_messages parts (Fire task spot messages cuts) event good e =
+    let place = bind_some (spot_known parts spot) _ event e in
+    subst (λ (v : Event). HasMessages v) (some_is (events.Fire task place.0 messages cuts) event place.2) good.3
+has_messages parts (Admit task) event good e = subst (λ (v : Event). HasMessages v) (some_is (events.Admit task) event e) tt
+has_messages parts (Put task dropped) event good e = subst (λ (v : Event). HasMessages v) (some_is (events.Put task dropped) event e) tt
+has_messages parts (Start task actor) event good e = subst (λ (v : Event). HasMessages v) (some_is (events.Start task actor) event e) tt
+has_messages parts (End task how) event good e = subst (λ (v : Event). HasMessages v) (some_is (events.End task how) event e) tt
+
+abbrev done : {A : Type 0} → A → Result A ℕ
+done x = Ok x
+
+code_none : {A : Type 0} (found : Option A) (code : ℕ) (x : A) → or_code found code ≡ Ok x → found ≡ Some x
+code_none None code x e = absurd cc
+code_none (Some y) code x e = let same : done y ≡ done x = e in cc
+
+-- what the event's line says
+pub event_said : (parts : Parts) (line : List ℕ) (event : Event) → event_on parts line ≡ Ok event → (said : Said) × (said_on line ≡ Some said) × (known parts said ≡ Some event)
+event_said parts line event e = by (said_on line) refl e
+  where
+    by : (o : Option Said) → said_on line ≡ o → event_of parts o ≡ Ok event → (said : Said) × (said_on line ≡ Some said) × (known parts said ≡ Some event)
+    by None is e' = absurd cc
+    by (Some said) is e' = (said, is, code_none (known parts said) 2 event e')
+
+pub event_is_known : (parts : Parts) (line : List ℕ) (event : Event) → event_on parts line ≡ Ok event → IsKnown parts event
+event_is_known parts line event e = let said = event_said parts line event e in known_is parts said.0 event said.2
+
+pub event_has_messages : (parts : Parts) (line : List ℕ) (event : Event) → event_on parts line ≡ Ok event → HasMessages event
+event_has_messages parts line event e =
+    let said = event_said parts line event e in
+    has_messages parts said.0 event (line_told line said.0 said.1).0 said.2

@@ -1,0 +1,74 @@
+-- Words that have no separator are found again between separators.
+use Rattle.std.proofs.Common.{◌≡◌, ℕ, suc, Bool, true, false, List, [], ◌∷◌, ◌++◌, map, refl, sym, ap, ◌∙◌, arith}
+use Rattle.std.specs.Prelude.{◌==◌, ◌&&◌, not}
+use Rattle.std.specs.List.{list_all, All}
+use Rattle.std.proofs.lemmas.Bool.Decides.{nat_tests}
+use Rattle.std.proofs.lemmas.List.Elements.{recursion_from_All}
+use Rattle.ccr_text.specs.Spelling.{joined}
+use Rattle.ccr_trace.specs.Pieces.{pieces}
+
+both : (a b : Bool) → (a && b) ≡ true → (a ≡ true) × (b ≡ true)
+both true b e = (refl, e)
+both false b e = absurd cc
+
+-- no byte is the separator
+abbrev pub lacks : ℕ → List ℕ → Bool
+lacks separator bytes = list_all (λ b. not (b == separator)) bytes
+
+other : (b separator : ℕ) → not (b == separator) ≡ true → (b == separator) ≡ false
+other b separator e = grind (arith, nat_tests, e)
+
+same_byte : (separator : ℕ) → (separator == separator) ≡ true
+same_byte separator = grind (arith, nat_tests)
+
+pub pieces_first : (separator : ℕ) (word rest : List ℕ) → lacks separator word ≡ true → pieces separator (word ++ separator ∷ rest) ≡ word ∷ pieces separator rest
+pieces_first separator [] rest e = rw (same_byte separator) refl
+pieces_first separator (b ∷ word) rest e =
+    let parts = both (not (b == separator)) (lacks separator word) e in
+    rw (other b separator parts.0, pieces_first separator word rest parts.1) refl
+
+pub pieces_only : (separator : ℕ) (word : List ℕ) → lacks separator word ≡ true → pieces separator word ≡ word ∷ []
+pieces_only separator [] e = refl
+pieces_only separator (b ∷ word) e =
+    let parts = both (not (b == separator)) (lacks separator word) e in
+    rw (other b separator parts.0, pieces_only separator word parts.1) refl
+
+-- each word
+abbrev pub AreParted : List (List ℕ) → Type 0
+AreParted [] = Unit {0}
+AreParted (word ∷ words) = (lacks 32 word ≡ true) × AreParted words
+
+pub pieces-joined : (word : List ℕ) (words : List (List ℕ)) → AreParted (word ∷ words) → pieces 32 (joined (word ∷ words)) ≡ word ∷ words
+pieces-joined word [] are = pieces_only 32 word are.0
+pieces-joined word (next ∷ words) are = pieces_first 32 word (joined (next ∷ words)) are.0 ∙ ap (λ (w : List (List ℕ)). word ∷ w) (pieces-joined next words are.1)
+
+pub lacks-append : (separator : ℕ) (xs ys : List ℕ) → lacks separator xs ≡ true → lacks separator ys ≡ true → lacks separator (xs ++ ys) ≡ true
+lacks-append separator [] ys e f = f
+lacks-append separator (b ∷ xs) ys e f =
+    let parts = both (not (b == separator)) (lacks separator xs) e in
+    rw (parts.0, lacks-append separator xs ys parts.1 f) refl
+
+by_test : (test : ℕ → Bool) (separator b : ℕ) → test separator ≡ false → test b ≡ true → not (b == separator) ≡ true
+by_test test separator b none is = of_same (b == separator) refl
+  where
+    of_same : (t : Bool) → (b == separator) ≡ t → not t ≡ true
+    of_same false e = refl
+    of_same true e = absurd (let same : b ≡ separator = grind (arith, nat_tests, e) in let clash : true ≡ false = sym is ∙ (ap test same ∙ none) in cc)
+
+-- bytes that pass a test that the separator doesn't pass
+pub lacks_tested : (test : ℕ → Bool) (separator : ℕ) (bytes : List ℕ) → test separator ≡ false → list_all test bytes ≡ true → lacks separator bytes ≡ true
+lacks_tested test separator [] none e = refl
+lacks_tested test separator (b ∷ bytes) none e =
+    let parts = both (test b) (list_all test bytes) e in
+    rw (by_test test separator b none parts.0, lacks_tested test separator bytes none parts.1) refl
+
+pub parted_append : (words more : List (List ℕ)) → AreParted words → AreParted more → AreParted (words ++ more)
+parted_append [] more e f = f
+parted_append (word ∷ words) more e f = (e.0, parted_append words more e.1 f)
+
+-- the words for these
+pub parted_map : {A : Type 0} (spell : A → List ℕ) (Good : A → Type 0) → ((x : A) → Good x → lacks 32 (spell x) ≡ true) → (xs : List A) → All Good xs → AreParted (map spell xs)
+parted_map spell Good apart [] good = tt
+parted_map spell Good apart (x ∷ xs) good =
+    let parts = recursion_from_All Good (x ∷ xs) good in
+    (apart x parts.0, parted_map spell Good apart xs (λ k d below. good (suc k) d (omega arith)))

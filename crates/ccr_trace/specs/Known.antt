@@ -1,0 +1,68 @@
+-- What the words for ports, causes and spots stand for in a wiring.
+use Rattle.std.specs.Prelude.{◌≡◌, ℕ, ◌<◌, List, length, position, is_some, IsSome, Option, Some, None, if◌then◌else◌}
+use Rattle.std.specs.Option.{option_map}
+use Rattle.std.specs.List.{All}
+use Rattle.std.specs.Str.{bytes_eq}
+use Rattle.ccr_base.specs.declared.names.Spot.{Spot}
+use Rattle.ccr_base.specs.declared.names.Spot.TheVariants.{Branch, Site}
+use Rattle.ccr_wiring.specs.declared.parts.Parts.{Parts}
+use Rattle.ccr_wiring.specs.Wirings.{seat, site_port}
+use Rattle.ccr_model.specs.declared.history.Event.{Event}
+use Rattle.ccr_model.specs.declared.history.Event.TheVariants as events
+use Rattle.ccr_trace.specs.Words.{cause_names, branch_names}
+use Rattle.ccr_trace.specs.Said.{SpotName, Said, Post, Fire, Admit, Put, Start, End}
+use Rattle.ccr_trace.specs.Places.{◌>>=◌}
+use Rattle.ccr_trace.specs.Forms.{each}
+
+-- the number of the name: its place among the names
+abbrev pub number_in : List (List ℕ) → List ℕ → Option ℕ
+number_in names word = position (λ name. bytes_eq word name) names
+
+-- the branch, or its site where it has one of that number
+abbrev pub spot_at : Parts → ℕ → Option ℕ → Option Spot
+spot_at parts branch None = Some (Branch branch)
+spot_at parts branch (Some site) = if is_some (site_port parts branch site) then Some (Site branch site) else None
+
+unfoldable pub spot_known : Parts → SpotName → Option Spot
+spot_known parts spot = number_in (branch_names parts) spot.name >>= λ branch. spot_at parts branch spot.site
+
+-- the event, where the wiring has the port, the causes and the spot
+unfoldable pub known : Parts → Said → Option Event
+known parts (Post id port value causes) = do
+  number ← number_in parts.ports port
+  numbers ← each (number_in (cause_names parts)) causes
+  Some (events.Post (record { id = id; port = number; value = value; causes = numbers }))
+known parts (Fire task spot messages cuts) = spot_known parts spot >>= λ place. Some (events.Fire task place messages cuts)
+known parts (Admit task) = Some (events.Admit task)
+known parts (Put task dropped) = Some (events.Put task dropped)
+known parts (Start task actor) = Some (events.Start task actor)
+known parts (End task how) = Some (events.End task how)
+
+-- the spot is one of the wiring's
+abbrev pub IsKnownSpot : Parts → Spot → Type 0
+IsKnownSpot parts (Branch branch) = IsSome (seat parts branch)
+IsKnownSpot parts (Site branch site) = IsSome (site_port parts branch site)
+
+-- the numbers of ports, causes and spots are the wiring's
+abbrev pub IsKnown : Parts → Event → Type 0
+IsKnown parts (events.Post message) = (message.port < length parts.ports) × All (λ cause. cause < length parts.causes) message.causes
+IsKnown parts (events.Fire task spot messages cuts) = IsKnownSpot parts spot
+IsKnown parts (events.Admit task) = Unit {0}
+IsKnown parts (events.Put task dropped) = Unit {0}
+IsKnown parts (events.Start task actor) = Unit {0}
+IsKnown parts (events.End task how) = Unit {0}
+
+abbrev pub AreKnown : Parts → List Event → Type 0
+AreKnown parts history = All (IsKnown parts) history
+
+-- a firing names a message at least
+abbrev pub HasMessages : Event → Type 0
+HasMessages (events.Fire task spot messages cuts) = 0 < length messages
+HasMessages (events.Post message) = Unit {0}
+HasMessages (events.Admit task) = Unit {0}
+HasMessages (events.Put task dropped) = Unit {0}
+HasMessages (events.Start task actor) = Unit {0}
+HasMessages (events.End task how) = Unit {0}
+
+abbrev pub HaveMessages : List Event → Type 0
+HaveMessages history = All HasMessages history

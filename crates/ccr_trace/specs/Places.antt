@@ -1,0 +1,85 @@
+-- What one word of a line says. Each number, name and spot has one word.
+use Rattle.std.specs.Prelude.{ℕ, ◌^◌, List, [], ◌∷◌, ◌==◌, nat_lt, decimal, Option, Some, None, if◌then◌else◌}
+use Rattle.std.specs.Option.{option_and_then}
+use Rattle.std.specs.Str.{bytes_eq}
+use Rattle.ccr_base.specs.declared.names.TaskId.{TaskId}
+use Rattle.ccr_base.specs.declared.names.MsgId.{MsgId}
+use Rattle.ccr_base.specs.declared.names.MsgId.TheVariants as ids
+use Rattle.ccr_text.specs.Words.{number_of, is_name_of}
+use Rattle.ccr_trace.specs.Pieces.{pieces}
+use Rattle.ccr_trace.specs.Said.{SpotName}
+
+-- one step behind another: nothing where one has nothing
+infixl 10 ◌>>=◌
+abbrev pub ◌>>=◌ : {A B : Type 0} → Option A → (A → Option B) → Option B
+found >>= next = option_and_then next found
+
+-- the number where the word is its digits, which have no leading zero
+abbrev pub where_spelled : List ℕ → ℕ → Option ℕ
+where_spelled word n = if bytes_eq word (decimal n) then Some n else None
+
+-- a number below 2 ^ 64
+unfoldable pub exact_number : List ℕ → Option ℕ
+exact_number word = number_of word >>= where_spelled word
+
+abbrev pub where_short : ℕ → Option ℕ
+where_short n = if nat_lt n (2 ^ 32) then Some n else None
+
+-- a number below 2 ^ 32
+unfoldable pub short_number : List ℕ → Option ℕ
+short_number word = exact_number word >>= where_short
+
+-- a message's value
+abbrev pub value_of : List ℕ → Option ℕ
+value_of word = exact_number word
+
+-- a word of the form of a name
+abbrev pub name_of : List ℕ → Option (List ℕ)
+name_of word = if is_name_of word then Some word else None
+
+-- A.K
+abbrev pub task_in : List (List ℕ) → Option TaskId
+task_in (actor ∷ attempt ∷ []) = do
+  a ← short_number actor
+  k ← short_number attempt
+  Some (record { actor = a; attempt = k })
+task_in _ = None
+
+-- tA.K
+unfoldable pub task_of : List ℕ → Option TaskId
+task_of [] = None
+task_of (b ∷ numbers) = if b == 116 then task_in (pieces 46 numbers) else None
+
+-- A.K of a script
+abbrev pub script_in : List (List ℕ) → Option MsgId
+script_in (actor ∷ place ∷ []) = do
+  a ← short_number actor
+  k ← short_number place
+  Some (ids.Script a k)
+script_in _ = None
+
+-- A.K.I
+abbrev pub answer_in : List (List ℕ) → Option MsgId
+answer_in (actor ∷ attempt ∷ place ∷ []) = do
+  a ← short_number actor
+  k ← short_number attempt
+  i ← short_number place
+  Some (ids.Task (record { actor = a; attempt = k }) i)
+answer_in _ = None
+
+-- sA.K or tA.K.I
+unfoldable pub message_of : List ℕ → Option MsgId
+message_of [] = None
+message_of (b ∷ numbers) = if b == 115 then script_in (pieces 46 numbers) else if b == 116 then answer_in (pieces 46 numbers) else None
+
+abbrev pub spot_with : List ℕ → Option ℕ → Option SpotName
+spot_with word site = if is_name_of word then Some (record { name = word; site = site }) else None
+
+abbrev pub spot_in : List (List ℕ) → Option SpotName
+spot_in (word ∷ []) = spot_with word None
+spot_in (word ∷ site ∷ []) = short_number site >>= λ k. spot_with word (Some k)
+spot_in _ = None
+
+-- a name, or NAME@K
+unfoldable pub spot_of : List ℕ → Option SpotName
+spot_of word = spot_in (pieces 64 word)

@@ -1,0 +1,79 @@
+-- What a line of a history says, with ports, causes and spots as the words for them, and the one spelling of it.
+use Rattle.std.specs.Prelude.{◌≡◌, ℕ, ◌^◌, ◌<◌, true, List, [], ◌∷◌, ◌++◌, length, map, codes, decimal, Option, Some, None}
+use Rattle.std.specs.List.{All}
+use Rattle.ccr_base.specs.declared.names.TaskId.{TaskId}
+use Rattle.ccr_base.specs.declared.names.MsgId.{MsgId}
+use Rattle.ccr_base.specs.declared.names.MsgId.TheVariants as ids
+use Rattle.ccr_model.specs.declared.history.EndHow.{EndHow}
+use Rattle.ccr_model.specs.declared.history.EndHow.TheVariants as ends
+use Rattle.ccr_text.specs.Words.{is_name_of}
+use Rattle.ccr_text.specs.Spelling.{joined}
+use Rattle.ccr_trace.specs.Words.{task_word, message_word}
+use Rattle.ccr_trace.specs.HistoryText.{cut_words, dropped_words, end_words}
+
+-- a branch's name, or NAME@K for its site K
+pub record SpotName : Type 0 where
+  pub name : List ℕ
+  pub site : Option ℕ
+
+pub data Said : Type 0 where
+  Post : MsgId → List ℕ → ℕ → List (List ℕ) → Said
+  Fire : TaskId → SpotName → List MsgId → List TaskId → Said
+  Admit : TaskId → Said
+  Put : TaskId → Option TaskId → Said
+  Start : TaskId → ℕ → Said
+  End : TaskId → EndHow → Said
+
+abbrev pub site_word : Option ℕ → List ℕ
+site_word None = []
+site_word (Some site) = 64 ∷ decimal site
+
+abbrev pub spot_name_word : SpotName → List ℕ
+spot_name_word spot = spot.name ++ site_word spot.site
+
+-- the words of the line
+abbrev pub said_words : Said → List (List ℕ)
+said_words (Post id port value causes) = codes "post" ∷ message_word id ∷ port ∷ decimal value ∷ causes
+said_words (Fire task spot messages cuts) = codes "fire" ∷ task_word task ∷ spot_name_word spot ∷ (map message_word messages ++ cut_words cuts)
+said_words (Admit task) = codes "admit" ∷ task_word task ∷ []
+said_words (Put task dropped) = codes "put" ∷ task_word task ∷ dropped_words dropped
+said_words (Start task actor) = codes "start" ∷ task_word task ∷ decimal actor ∷ []
+said_words (End task how) = codes "end" ∷ task_word task ∷ end_words how
+
+-- the line without its LF
+abbrev pub spelled : Said → List ℕ
+spelled said = joined (said_words said)
+
+-- what numbers and names may stand in a line
+abbrev pub IsTask : TaskId → Type 0
+IsTask task = (task.actor < 2 ^ 32) × (task.attempt < 2 ^ 32)
+
+abbrev pub IsMessage : MsgId → Type 0
+IsMessage (ids.Script actor place) = (actor < 2 ^ 32) × (place < 2 ^ 32)
+IsMessage (ids.Task task place) = IsTask task × (place < 2 ^ 32)
+
+abbrev pub IsName : List ℕ → Type 0
+IsName word = is_name_of word ≡ true
+
+abbrev pub IsSite : Option ℕ → Type 0
+IsSite None = Unit {0}
+IsSite (Some site) = site < 2 ^ 32
+
+abbrev pub IsDropped : Option TaskId → Type 0
+IsDropped None = Unit {0}
+IsDropped (Some task) = IsTask task
+
+abbrev pub IsEnd : EndHow → Type 0
+IsEnd (ends.Failed value) = value < 2 ^ 64
+IsEnd ends.Done = Unit {0}
+IsEnd ends.Yield = Unit {0}
+IsEnd ends.Shed = Unit {0}
+
+-- names are of the form of names, numbers fit, and a firing has a message at least
+abbrev pub IsSaid : Said → Type 0
+IsSaid (Post id port value causes) = IsMessage id × IsName port × (value < 2 ^ 64) × All IsName causes
+IsSaid (Fire task spot messages cuts) = IsTask task × IsName spot.name × IsSite spot.site × (0 < length messages) × All IsMessage messages × All IsTask cuts
+IsSaid (Admit task) = IsTask task
+IsSaid (Put task dropped) = IsTask task × IsDropped dropped
+IsSaid (Start task actor) = IsTask task × (actor < 2 ^ 32)
+IsSaid (End task how) = IsTask task × IsEnd how

@@ -1,0 +1,135 @@
+//! The words of a line, read from left to right.
+
+ghost use Rattle.std.specs.Prelude.{◌≡◌, [], ◌∷◌, IfSome, IfNone};
+ghost use Rattle.std.specs.List.{list_all};
+ghost use Rattle.ccr_text.specs.Words.{is_name_of};
+ghost use Rattle.ccr_trace.specs.Pieces.{pieces};
+ghost use Rattle.ccr_trace.specs.Said.{SpotName};
+ghost use Rattle.ccr_trace.specs.Places.{short_number, value_of, name_of, task_of, message_of, spot_of};
+ghost use Rattle.ccr_trace.specs.Forms.{word, no_more, only, place};
+ghost use Rattle.ccr_trace.specs.Answers.{Says, Leaves, LeavesBy};
+
+use crate::pieces::Pieces;
+use crate::places::{exact_number, message_of, short_number, spot_of, task_of};
+use crate::stop::Stop;
+use ccr_base::{ActorNo, MsgId, TaskId, Value};
+use ccr_text::is_name;
+use std::marker::Model;
+
+/// The words that are left. Each method takes the words of one place; the line is malformed where they don't fit it.
+#[derive(Drop)]
+pub struct Cursor<'a> {
+    words: Pieces<'a>,
+}
+
+impl<'a> Model for Cursor<'a> {
+    ghost use Rattle.std.specs.Prelude.{List as Listed, ℕ};
+
+    ghost Value = { Listed (Listed ℕ) };
+
+    ghost view = { λ cursor. cursor.words };
+}
+
+impl<'a> Cursor<'a> {
+    /// The words of a line without its LF. One space stands between two words.
+    pub fn new(line: &'a [u8]) -> Self
+        ensures { result ≡ pieces 32 line.now }
+    {
+        Cursor {
+            words: Pieces::new(b' ', line),
+        }
+    }
+
+    /// Takes the first word, where there is one.
+    pub fn take(&mut self) -> Option<&'a [u8]>
+        ensures some { IfSome result (λ word. self.old ≡ word.now ∷ self.new) }
+        ensures none { IfNone result (self.old ≡ []) }
+    {
+        self.words.take()
+    }
+
+    pub fn word(&mut self) -> Result<&'a [u8], Stop>
+        ensures { LeavesBy (λ word. word.now) self.new result (word self.old) }
+    {
+        self.take().ok_or(Stop::Malformed)
+    }
+
+    pub fn no_more(&self) -> Result<(), Stop>
+        ensures { Says result (no_more self.now) }
+    {
+        if !self.words.is_empty() {
+            return Err(Stop::Malformed);
+        }
+        Ok(())
+    }
+
+    pub fn task(&mut self) -> Result<TaskId, Stop>
+        ensures { Leaves self.new result (place task_of self.old) }
+    {
+        let word = self.word()?;
+        task_of(word).ok_or(Stop::Malformed)
+    }
+
+    pub fn message(&mut self) -> Result<MsgId, Stop>
+        ensures { Leaves self.new result (place message_of self.old) }
+    {
+        let word = self.word()?;
+        message_of(word).ok_or(Stop::Malformed)
+    }
+
+    /// A word of the form of a name.
+    pub fn name(&mut self) -> Result<&'a [u8], Stop>
+        ensures { LeavesBy (λ name. name.now) self.new result (place name_of self.old) }
+    {
+        let word = self.word()?;
+        if !is_name(word) {
+            return Err(Stop::Malformed);
+        }
+        Ok(word)
+    }
+
+    pub fn value(&mut self) -> Result<Value, Stop>
+        ensures { Leaves self.new result (place value_of self.old) }
+    {
+        let word = self.word()?;
+        exact_number(word).ok_or(Stop::Malformed)
+    }
+
+    pub fn actor(&mut self) -> Result<ActorNo, Stop>
+        ensures { Leaves self.new result (place short_number self.old) }
+    {
+        let word = self.word()?;
+        short_number(word).ok_or(Stop::Malformed)
+    }
+
+    /// A branch's name, and its site where there is one.
+    pub fn spot(&mut self) -> Result<(&'a [u8], Option<u32>), Stop>
+        ensures { LeavesBy (λ spot. record { name = spot.0.now; site = spot.1 }) self.new result (place spot_of self.old) }
+    {
+        let word = self.word()?;
+        spot_of(word).ok_or(Stop::Malformed)
+    }
+
+    /// Whether the words that are left are of the form of names.
+    fn are_names(&self) -> bool
+        ensures { result ≡ list_all is_name_of self.now }
+    {
+        let mut words = self.words.again();
+        'words: while let Some(word) = words.take() {
+            if !is_name(word) {
+                return false;
+            }
+        }
+        true
+    }
+
+    /// The words that are left are of the form of names.
+    pub fn names(&self) -> Result<(), Stop>
+        ensures { Says result (only (list_all is_name_of self.now)) }
+    {
+        if !self.are_names() {
+            return Err(Stop::Malformed);
+        }
+        Ok(())
+    }
+}

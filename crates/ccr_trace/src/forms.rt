@@ -1,0 +1,214 @@
+//! The lines of events: first what a line says, then what the wiring has of it.
+
+ghost use Rattle.std.specs.Prelude.{◌≡◌, not, ◌==◌, length};
+ghost use Rattle.std.specs.Option.{option_map};
+ghost use Rattle.ccr_trace.specs.Places.{task_of};
+ghost use Rattle.ccr_trace.specs.Forms.{cuts, each, fired, post_said, fire_said, admit_said, dropped_said, put_said, start_said, how_said, plain_end, end_said, form_said};
+ghost use Rattle.ccr_trace.specs.Reading.{event_of, event_on};
+ghost use Rattle.ccr_trace.specs.Answers.{Says, Leaves, Gives};
+
+use crate::cursor::Cursor;
+use crate::known::Known;
+use crate::places::{is_text, message_of, task_of};
+use crate::stop::Stop;
+use ccr_base::{List, Msg, MsgId, TaskId};
+use ccr_model::{EndHow, Event};
+use std::alloc::Global;
+
+/// Each word that is left names a task.
+#[tactic(auto, using(crate::proofs::Each::each_steps))]
+fn tasks(alloc: Global, mut words: Cursor<'_>) -> Result<List<TaskId>, Stop>
+    ensures { Says result (each task_of words.entry) }
+{
+    let mut tasks = List::new(alloc);
+    'words: while let Some(word) = words.take() {
+        let task = task_of(word).ok_or(Stop::Malformed)?;
+        tasks.push(task).map_err(|refused| refused.0)?;
+    }
+    Ok(tasks)
+}
+
+/// TASK .., one at least.
+#[tactic(auto, unfolding(crate::specs::Forms::cuts))]
+fn cuts(alloc: Global, words: Cursor<'_>) -> Result<List<TaskId>, Stop>
+    ensures { Says result (cuts words.entry) }
+{
+    let tasks = tasks(alloc, words)?;
+    if tasks.as_slice().is_empty() {
+        return Err(Stop::Malformed);
+    }
+    Ok(tasks)
+}
+
+/// MSG .., and the tasks behind the word cut.
+#[tactic(auto, using(crate::proofs::Each::fired_steps))]
+fn fired(alloc: Global, mut words: Cursor<'_>) -> Result<(List<MsgId>, List<TaskId>), Stop>
+    ensures { Says result (fired words.entry) }
+{
+    let mut messages = List::new(alloc);
+    'words: while let Some(word) = words.take() {
+        if is_text(word, "cut") {
+            return Ok((messages, cuts(alloc, words)?));
+        }
+        let message = message_of(word).ok_or(Stop::Malformed)?;
+        messages.push(message).map_err(|refused| refused.0)?;
+    }
+    Ok((messages, List::new(alloc)))
+}
+
+/// post MSG PORT VALUE CAUSE ..
+#[tactic(auto, unfolding(crate::specs::Forms::post_said, crate::specs::Known::known))]
+fn post(known: &Known<'_>, mut words: Cursor<'_>) -> Result<Event, Stop>
+    ensures { Gives result (event_of known.now (post_said words.entry)) }
+{
+    let id = words.message()?;
+    let port = words.name()?;
+    let value = words.value()?;
+    words.names()?;
+    Ok(Event::Post(Msg {
+        id,
+        port: known.port(port)?,
+        value,
+        causes: known.causes(words)?,
+    }))
+}
+
+/// fire TASK SPOT MSG .., with cut TASK .. behind it where there are cuts.
+#[tactic(auto, unfolding(crate::specs::Forms::fire_said, crate::specs::Known::known))]
+fn fire(alloc: Global, known: &Known<'_>, mut words: Cursor<'_>) -> Result<Event, Stop>
+    ensures { Gives result (event_of known.now (fire_said words.entry)) }
+{
+    let task = words.task()?;
+    let (name, site) = words.spot()?;
+    let (messages, cuts) = fired(alloc, words)?;
+    if messages.as_slice().is_empty() {
+        return Err(Stop::Malformed);
+    }
+    Ok(Event::Fire {
+        task,
+        spot: known.spot(name, site)?,
+        messages,
+        cuts,
+    })
+}
+
+/// admit TASK
+#[tactic(auto, unfolding(crate::specs::Forms::admit_said, crate::specs::Known::known))]
+fn admit(known: &Known<'_>, mut words: Cursor<'_>) -> Result<Event, Stop>
+    ensures { Gives result (event_of known.now (admit_said words.entry)) }
+{
+    let task = words.task()?;
+    words.no_more()?;
+    Ok(Event::Admit(task))
+}
+
+/// Nothing, or drop TASK.
+#[tactic(auto, unfolding(crate::specs::Forms::dropped_said))]
+fn dropped(mut words: Cursor<'_>) -> Result<Option<TaskId>, Stop>
+    ensures { Says result (dropped_said words.entry) }
+{
+    let Some(word) = words.take() else {
+        return Ok(None);
+    };
+    if !is_text(word, "drop") {
+        return Err(Stop::Malformed);
+    }
+    let task = words.task()?;
+    words.no_more()?;
+    Ok(Some(task))
+}
+
+/// put TASK, or put TASK drop TASK.
+#[tactic(auto, unfolding(crate::specs::Forms::put_said, crate::specs::Known::known))]
+fn put(known: &Known<'_>, mut words: Cursor<'_>) -> Result<Event, Stop>
+    ensures { Gives result (event_of known.now (put_said words.entry)) }
+{
+    let task = words.task()?;
+    let dropped = dropped(words)?;
+    Ok(Event::Put { task, dropped })
+}
+
+/// start TASK ACTOR
+#[tactic(auto, unfolding(crate::specs::Forms::start_said, crate::specs::Known::known))]
+fn start(known: &Known<'_>, mut words: Cursor<'_>) -> Result<Event, Stop>
+    ensures { Gives result (event_of known.now (start_said words.entry)) }
+{
+    let task = words.task()?;
+    let actor = words.actor()?;
+    words.no_more()?;
+    Ok(Event::Start { task, actor })
+}
+
+/// done, yield or shed.
+fn plain_end(word: &[u8]) -> Option<EndHow>
+    ensures { result ≡ plain_end word.now }
+{
+    if is_text(word, "done") {
+        Some(EndHow::Done)
+    } else if is_text(word, "yield") {
+        Some(EndHow::Yield)
+    } else if is_text(word, "shed") {
+        Some(EndHow::Shed)
+    } else {
+        None
+    }
+}
+
+/// How a segment ends.
+#[tactic(auto, unfolding(crate::specs::Forms::how_said))]
+fn how(words: &mut Cursor<'_>) -> Result<EndHow, Stop>
+    ensures { Leaves words.new result (how_said words.old) }
+{
+    let word = words.word()?;
+    if is_text(word, "failed") {
+        let value = words.value()?;
+        return Ok(EndHow::Failed(value));
+    }
+    plain_end(word).ok_or(Stop::Malformed)
+}
+
+/// end TASK done, end TASK failed VALUE, end TASK yield, end TASK shed.
+#[tactic(auto, unfolding(crate::specs::Forms::end_said, crate::specs::Known::known))]
+fn end(known: &Known<'_>, mut words: Cursor<'_>) -> Result<Event, Stop>
+    ensures { Gives result (event_of known.now (end_said words.entry)) }
+{
+    let task = words.task()?;
+    let how = how(&mut words)?;
+    words.no_more()?;
+    Ok(Event::End { task, how })
+}
+
+#[tactic(auto, unfolding(crate::specs::Forms::form_said))]
+fn form(
+    alloc: Global,
+    known: &Known<'_>,
+    first: &[u8],
+    words: Cursor<'_>,
+) -> Result<Event, Stop>
+    ensures { Gives result (event_of known.now (form_said first.now words.entry)) }
+{
+    if is_text(first, "post") {
+        post(known, words)
+    } else if is_text(first, "fire") {
+        fire(alloc, known, words)
+    } else if is_text(first, "admit") {
+        admit(known, words)
+    } else if is_text(first, "put") {
+        put(known, words)
+    } else if is_text(first, "start") {
+        start(known, words)
+    } else if is_text(first, "end") {
+        end(known, words)
+    } else {
+        Err(Stop::Malformed)
+    }
+}
+
+/// The event of a line without its LF.
+pub fn event_on(alloc: Global, known: &Known<'_>, line: &[u8]) -> Result<Event, Stop>
+    ensures { Gives result (event_on known.now line.now) }
+{
+    let mut words = Cursor::new(line);
+    let first = words.word()?;
+    form(alloc, known, first, words)
+}

@@ -1,0 +1,67 @@
+//! The numbers of names.
+
+ghost use Rattle.std.specs.Prelude.{◌≡◌, ◌<◌, ◌≤◌, false, [], ◌∷◌, ◌++◌, IfOk, OnOk, length, map};
+ghost use Rattle.std.specs.List.{list_any};
+ghost use Rattle.std.specs.Str.{bytes_eq};
+ghost use Rattle.ccr_wiring.specs.Names.{has_repeated};
+ghost use Rattle.ccr_trace.specs.Known.{number_in};
+
+use ccr_base::OutOfMemory;
+use indexmap::IndexSet;
+use std::alloc::Global;
+use std::marker::Model;
+
+/// Names, each with its number, found by hashing. Contracts see the names in the order of their numbers.
+#[derive(Drop)]
+pub struct Numbers<'w> {
+    names: IndexSet<&'w [u8]>,
+}
+
+impl<'w> Model for Numbers<'w> {
+    ghost use Rattle.std.specs.Prelude.{List as Listed, ℕ, ◌≤◌, length, map};
+
+    ghost Value = { Listed (Listed ℕ) };
+
+    ghost view = { λ numbers. map (λ name. name.now) numbers.names.keys };
+
+    ghost invariant = { λ numbers. length numbers.names.keys ≤ 256 };
+}
+
+impl<'w> Numbers<'w> {
+    fn new(alloc: Global) -> Self
+        ensures { result ≡ [] }
+    {
+        Numbers {
+            names: IndexSet::new(alloc),
+        }
+    }
+
+    fn add(&mut self, name: &'w [u8]) -> Result<(), OutOfMemory>
+        requires fresh { list_any (bytes_eq name.now) self.old ≡ false }
+        requires room { length self.old < 256 }
+        ensures { OnOk result (self.new ≡ self.old ++ name.now ∷ []) }
+    {
+        self.names.insert(name)?;
+        Ok(())
+    }
+
+    /// The numbers of these names, of which there are at most 256.
+    pub fn of(alloc: Global, names: &[&'w [u8]]) -> Result<Self, OutOfMemory>
+        requires apart { has_repeated (map (λ name. name.now) names.now) ≡ false }
+        requires few { length names.now ≤ 256 }
+        ensures { IfOk result (λ numbers. numbers ≡ map (λ name. name.now) names.now) }
+    {
+        let mut numbers = Numbers::new(alloc);
+        for name in names {
+            numbers.add(*name)?;
+        }
+        Ok(numbers)
+    }
+
+    pub fn get(&self, name: &[u8]) -> Option<u32>
+        ensures { result ≡ number_in self.now name.now }
+    {
+        let number = self.names.get_index_of(name)?;
+        Some(number as u32)
+    }
+}

@@ -1,0 +1,144 @@
+//! What one word of a line says. Each number, name and spot has one word.
+
+ghost use Rattle.std.specs.Prelude.{◌≡◌};
+ghost use Rattle.std.specs.Str.{bytes_eq};
+ghost use Rattle.std.specs.Option.{option_map};
+ghost use Rattle.ccr_trace.specs.Said.{SpotName};
+ghost use Rattle.ccr_trace.specs.Places.{exact_number, short_number, task_in, task_of, script_in, answer_in, message_of, spot_with, spot_of};
+
+use crate::pieces::Pieces;
+use ccr_base::{MsgId, TaskId};
+use ccr_text::{is_name, read_number};
+
+/// Whether the word is that text.
+pub fn is_text(word: &[u8], text: &str) -> bool
+    ensures { result ≡ bytes_eq word.now text.now }
+{
+    word == text.as_bytes()
+}
+
+/// A number below 2^64 without leading zeros.
+#[tactic(auto, unfolding(crate::specs::Places::exact_number))]
+pub fn exact_number(word: &[u8]) -> Option<u64>
+    ensures { result ≡ exact_number word.now }
+{
+    let number = read_number(word)?;
+    let mut buffer = itoa::Buffer::new();
+    if !is_text(word, buffer.format(number)) {
+        return None;
+    }
+    Some(number)
+}
+
+/// The same below 2^32.
+#[tactic(auto, unfolding(crate::specs::Places::short_number))]
+pub fn short_number(word: &[u8]) -> Option<u32>
+    ensures { result ≡ short_number word.now }
+{
+    let number = exact_number(word)?;
+    if number > u64::from(u32::MAX) {
+        return None;
+    }
+    Some(number as u32)
+}
+
+/// A.K
+fn task_in(mut numbers: Pieces<'_>) -> Option<TaskId>
+    ensures { result ≡ task_in numbers.entry }
+{
+    let actor = numbers.take()?;
+    let attempt = numbers.take()?;
+    if !numbers.is_empty() {
+        return None;
+    }
+    Some(TaskId {
+        actor: short_number(actor)?,
+        attempt: short_number(attempt)?,
+    })
+}
+
+/// tA.K
+#[tactic(auto, unfolding(crate::specs::Places::task_of))]
+pub fn task_of(word: &[u8]) -> Option<TaskId>
+    ensures { result ≡ task_of word.now }
+{
+    let (first, numbers) = word.split_first()?;
+    if *first != b't' {
+        return None;
+    }
+    task_in(Pieces::new(b'.', numbers))
+}
+
+/// A.K of a script.
+fn script_in(mut numbers: Pieces<'_>) -> Option<MsgId>
+    ensures { result ≡ script_in numbers.entry }
+{
+    let actor = numbers.take()?;
+    let place = numbers.take()?;
+    if !numbers.is_empty() {
+        return None;
+    }
+    Some(MsgId::Script {
+        actor: short_number(actor)?,
+        place: short_number(place)?,
+    })
+}
+
+/// A.K.I
+fn answer_in(mut numbers: Pieces<'_>) -> Option<MsgId>
+    ensures { result ≡ answer_in numbers.entry }
+{
+    let actor = numbers.take()?;
+    let attempt = numbers.take()?;
+    let place = numbers.take()?;
+    if !numbers.is_empty() {
+        return None;
+    }
+    let task = TaskId {
+        actor: short_number(actor)?,
+        attempt: short_number(attempt)?,
+    };
+    Some(MsgId::Task {
+        task,
+        place: short_number(place)?,
+    })
+}
+
+/// sA.K or tA.K.I
+#[tactic(auto, unfolding(crate::specs::Places::message_of))]
+pub fn message_of(word: &[u8]) -> Option<MsgId>
+    ensures { result ≡ message_of word.now }
+{
+    let (first, numbers) = word.split_first()?;
+    let numbers = Pieces::new(b'.', numbers);
+    match *first {
+        b's' => script_in(numbers),
+        b't' => answer_in(numbers),
+        _ => None,
+    }
+}
+
+fn spot_with(name: &[u8], site: Option<u32>) -> Option<(&[u8], Option<u32>)>
+    ensures { option_map (λ spot. record { name = spot.0.now; site = spot.1 }) result ≡ spot_with name.now site }
+{
+    if !is_name(name) {
+        return None;
+    }
+    Some((name, site))
+}
+
+/// A branch's name, and its site where there is one, of the word NAME or NAME@K.
+#[tactic(auto, unfolding(crate::specs::Places::spot_of))]
+pub fn spot_of(word: &[u8]) -> Option<(&[u8], Option<u32>)>
+    ensures { option_map (λ spot. record { name = spot.0.now; site = spot.1 }) result ≡ spot_of word.now }
+{
+    let mut parts = Pieces::new(b'@', word);
+    let name = parts.take()?;
+    let Some(site) = parts.take() else {
+        return spot_with(name, None);
+    };
+    if !parts.is_empty() {
+        return None;
+    }
+    spot_with(name, Some(short_number(site)?))
+}
