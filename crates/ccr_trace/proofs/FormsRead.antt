@@ -108,6 +108,16 @@ module _ (numbers : AreNumbers) where
   end_marked ends.Yield good = (refl, tt)
   end_marked ends.Shed good = (refl, tt)
 
+  -- each word of a line has bytes of words alone
+  pub said_marked : (said : Said) → IsSaid said → AreMarked (said_words said)
+  said_marked (Post id port value causes) good = (refl, (message_marked numbers id good.0, (name_marked port good.1, (number_marked numbers value good.2, names_marked causes good.3))))
+  said_marked (Fire task spot messages tasks) good =
+      (refl, (task_marked numbers task good.0, (spot_marked numbers spot good.1 good.2, marked_both (map message_word messages) (cut_words tasks) (marked_map message_word IsMessage (message_marked numbers) messages good.4) (cut_marked tasks good.5))))
+  said_marked (Admit task) good = (refl, (task_marked numbers task good, tt))
+  said_marked (Put task dropped) good = (refl, (task_marked numbers task good.0, dropped_marked dropped good.1))
+  said_marked (Start task actor) good = (refl, (task_marked numbers task good.0, (number_marked numbers actor (omega arith), tt)))
+  said_marked (End task how) good = (refl, (task_marked numbers task good.0, end_marked how good.1))
+
   line_again : (first : List ℕ) (words : Words) (said : Said) → AreMarked (first ∷ words) → form_said first words ≡ Some said → said_on (joined (first ∷ words)) ≡ Some said
   line_again first words said marked is = rw (pieces-joined first words marked) is
 
@@ -115,18 +125,10 @@ module _ (numbers : AreNumbers) where
   pub said_again : (said : Said) → IsSaid said → said_on (spelled said) ≡ Some said
   unfolding form_said
   said_again (Post id port value causes) good =
-      line_again (codes "post") (message_word id ∷ port ∷ decimal value ∷ causes) (Post id port value causes)
-      (refl, (message_marked numbers id good.0, (name_marked port good.1, (number_marked numbers value good.2, names_marked causes good.3))))
-      (post_again id port value causes good)
+      line_again (codes "post") (message_word id ∷ port ∷ decimal value ∷ causes) (Post id port value causes) (said_marked (Post id port value causes) good) (post_again id port value causes good)
   said_again (Fire task spot messages tasks) good =
-      line_again (codes "fire") (task_word task ∷ spot_name_word spot ∷ (map message_word messages ++ cut_words tasks)) (Fire task spot messages tasks)
-      (refl, (task_marked numbers task good.0, (spot_marked numbers spot good.1 good.2, marked_both (map message_word messages) (cut_words tasks) (marked_map message_word IsMessage (message_marked numbers) messages good.4) (cut_marked tasks good.5))))
-      (fire_again task spot messages tasks good)
-  said_again (Admit task) good =
-      line_again (codes "admit") (task_word task ∷ []) (Admit task) (refl, (task_marked numbers task good, tt)) (admit_again task good)
-  said_again (Put task dropped) good =
-      line_again (codes "put") (task_word task ∷ dropped_words dropped) (Put task dropped) (refl, (task_marked numbers task good.0, dropped_marked dropped good.1)) (put_again task dropped good)
-  said_again (Start task actor) good =
-      line_again (codes "start") (task_word task ∷ decimal actor ∷ []) (Start task actor) (refl, (task_marked numbers task good.0, (number_marked numbers actor (omega arith), tt))) (start_again task actor good)
-  said_again (End task how) good =
-      line_again (codes "end") (task_word task ∷ end_words how) (End task how) (refl, (task_marked numbers task good.0, end_marked how good.1)) (end_again task how good)
+      line_again (codes "fire") (task_word task ∷ spot_name_word spot ∷ (map message_word messages ++ cut_words tasks)) (Fire task spot messages tasks) (said_marked (Fire task spot messages tasks) good) (fire_again task spot messages tasks good)
+  said_again (Admit task) good = line_again (codes "admit") (task_word task ∷ []) (Admit task) (said_marked (Admit task) good) (admit_again task good)
+  said_again (Put task dropped) good = line_again (codes "put") (task_word task ∷ dropped_words dropped) (Put task dropped) (said_marked (Put task dropped) good) (put_again task dropped good)
+  said_again (Start task actor) good = line_again (codes "start") (task_word task ∷ decimal actor ∷ []) (Start task actor) (said_marked (Start task actor) good) (start_again task actor good)
+  said_again (End task how) good = line_again (codes "end") (task_word task ∷ end_words how) (End task how) (said_marked (End task how) good) (end_again task how good)

@@ -16,23 +16,23 @@ use Rattle.ccr_trace.proofs.Steps.{chosen, same_word}
 use Rattle.ccr_trace.proofs.LineSteps.{bytes_more, bytes-pieces}
 use Rattle.ccr_trace.proofs.KnownEvents.{event_is_known, event_has_messages}
 
-abbrev Read : Type 0
+abbrev pub Read : Type 0
 Read = Result ReadHistory (ℕ × ℕ)
 
-abbrev done : ReadHistory → Read
+abbrev pub done : ReadHistory → Read
 done read = Ok read
 
 abbrev stopped : ℕ × ℕ → Read
 stopped at = Err at
 
-ok_is : (x y : ReadHistory) → done x ≡ done y → x ≡ y
+pub ok_is : (x y : ReadHistory) → done x ≡ done y → x ≡ y
 ok_is x y e = cc
 
 -- what the line of an event leaves to the lines behind it
-abbrev behind : Parts → ReadHistory → List ℕ → List (List ℕ) → Result Event ℕ → Read
+abbrev pub behind : Parts → ReadHistory → List ℕ → List (List ℕ) → Result Event ℕ → Read
 behind parts read line lines on = elim on [ Ok event ↦ reading_from parts (with_event read line event) lines | Err code ↦ Err (read.lines + 1, code) ]
 
-step_ok : (parts : Parts) (read : ReadHistory) (line : List ℕ) (lines : List (List ℕ)) (on : Result Event ℕ) (out : ReadHistory) → behind parts read line lines on ≡ Ok out → (event : Event) × (on ≡ Ok event) × (reading_from parts (with_event read line event) lines ≡ Ok out)
+pub step_ok : (parts : Parts) (read : ReadHistory) (line : List ℕ) (lines : List (List ℕ)) (on : Result Event ℕ) (out : ReadHistory) → behind parts read line lines on ≡ Ok out → (event : Event) × (on ≡ Ok event) × (reading_from parts (with_event read line event) lines ≡ Ok out)
 step_ok parts read line lines (Ok event) out e = (event, refl, e)
 step_ok parts read line lines (Err code) out e = absurd cc
 
@@ -57,7 +57,7 @@ within_from parts (line ∷ next ∷ lines) read out e =
     | inr h ↦ let on = step_ok parts read line (next ∷ lines) (event_on parts line) out h.1 in let more : out.rest < (read.rest + (length line + 1)) + bytes_in (next ∷ lines) = within_from parts (next ∷ lines) (with_event read line on.0) out on.2 in omega (arith, bytes_more line (next ∷ lines), more) ]
 
 -- the lines behind the first
-head_ok : (parts : Parts) (lines : List (List ℕ)) (out : ReadHistory) → reading_lines parts lines ≡ Ok out → (rest : List (List ℕ)) × (lines ≡ codes "history 1" ∷ rest) × (reading_from parts head rest ≡ Ok out)
+pub head_ok : (parts : Parts) (lines : List (List ℕ)) (out : ReadHistory) → reading_lines parts lines ≡ Ok out → (rest : List (List ℕ)) × (lines ≡ codes "history 1" ∷ rest) × (reading_from parts head rest ≡ Ok out)
 unfolding reading_lines
 head_ok parts [] out e = absurd cc
 head_ok parts (last ∷ []) out e = absurd cc
