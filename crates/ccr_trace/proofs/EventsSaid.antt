@@ -125,8 +125,9 @@ spot_named parts name branch None spot is e =
     ap (spot_word (branch_names parts)) (sym (some_is (Branch branch) spot e)) ∙ (name_at-number (branch_names parts) name branch is ∙ sym (append-nil name))
 spot_named parts name branch (Some site) spot is e =
     elim (chosen (is_some (site_port parts branch site)) (Some (Site branch site)) None (Some spot) e) [
-      inl h ↦ ap (spot_word (branch_names parts)) (sym (some_is (Site branch site) spot h.1)) ∙ rw (name_at-number (branch_names parts) name branch is) refl
-    | inr h ↦ absurd (let none : only_one spot ≡ None = sym h.1 in cc) ]
+      | inl h ↦ ap (spot_word (branch_names parts)) (sym (some_is (Site branch site) spot h.1)) ∙ rw (name_at-number (branch_names parts) name branch is) refl
+      | inr h ↦ absurd (let none : only_one spot ≡ None = sym h.1 in cc)
+    ]
 
 -- the event that is known of a line has this line
 pub known_words : (parts : Parts) (said : Said) (event : Event) → known parts said ≡ Some event → event_words parts event ≡ said_words said

@@ -87,7 +87,7 @@ module _ (numbers : AreNumbers) (parts : Parts) (valid : IsValid parts) where
       ∙ (reading_next parts read line (pieces 10 rest) event (pieces_some 10 rest) (not_report parts event) (event_again event known_here some_here short_here)
       ∙ (later
       ∙ same_read ((read.history ++ event ∷ []) ++ history) (read.history ++ event ∷ history) ((read.rest + (length line + 1)) + length (events_text parts history)) (read.rest + length (events_text parts (event ∷ history))) ((read.lines + 1) + length history) (read.lines + length (event ∷ history))
-          (append_assoc read.history (event ∷ []) history) (omega (arith, count_bytes parts event history)) (omega arith)))
+      (append_assoc read.history (event ∷ []) history) (omega (arith, count_bytes parts event history)) (omega arith)))
 
   -- the text of a history is read as this history
   pub history_again : (history : List Event) (more : List ℕ) → AreKnown parts history → HaveMessages history → AreShort history
@@ -139,8 +139,9 @@ told_from parts [] read out e = absurd cc
 told_from parts (last ∷ []) read out e = absurd cc
 told_from parts (line ∷ next ∷ lines) read out e =
     elim (chosen (bytes_eq line (codes "report 1")) (done read) (behind parts read line (next ∷ lines) (event_on parts line)) (Ok out) e) [
-      inl h ↦ told_done parts line next lines read out h.0 (ok_is read out h.1)
-    | inr h ↦ let on = step_ok parts read line (next ∷ lines) (event_on parts line) out h.1 in told_more parts line next lines read out on.0 on.1 (told_from parts (next ∷ lines) (with_event read line on.0) out on.2) ]
+      | inl h ↦ told_done parts line next lines read out h.0 (ok_is read out h.1)
+      | inr h ↦ let on = step_ok parts read line (next ∷ lines) (event_on parts line) out h.1 in told_more parts line next lines read out on.0 on.1 (told_from parts (next ∷ lines) (with_event read line on.0) out on.2)
+    ]
 
 join_first : (parts : Parts) (read out : ReadHistory) (line : List ℕ) (rest : List (List ℕ)) → reading_from parts read rest ≡ Ok out → join_with_byte 10 (line ∷ rest) ≡ line ++ 10 ∷ join_with_byte 10 rest
 unfolding reading_from
