@@ -13,8 +13,13 @@ use Rattle.ccr_wiring.specs.declared.parts.BranchPart.{BranchPart}
 use Rattle.ccr_wiring.specs.declared.parts.Kind.{Kind}
 use Rattle.ccr_wiring.specs.declared.parts.Parts.{Parts}
 use Rattle.ccr_wiring.specs.Codes.{code_of}
-use Rattle.ccr_wiring.specs.Groups.{is_receive, is_one_named, is_misgrouped, has_misgrouped, has_strange_group}
-use Rattle.ccr_wiring.specs.Names.{queue_names, set_names, cause_names as names_of_causes, handler_names, poster_names, arbiter_names, declared_names, has_name, has_repeated, has_repeated_name}
+use Rattle.ccr_wiring.specs.Groups.{is_receive, is_one_named, is_misgrouped, has_misgrouped, has_branchless, has_strange_group}
+use Rattle.ccr_wiring.specs.Names.{queue_names, set_names, cause_names as names_of_causes, handler_names, poster_names, arbiter_names, declared_names, has_name, has_repeated, has_repeated_name, has_malformed_name}
+use Rattle.ccr_wiring.specs.References.{has_dangling}
+use Rattle.ccr_wiring.specs.Repeats.{has_repeat}
+use Rattle.ccr_wiring.specs.Limits.{has_outside}
+use Rattle.ccr_wiring.specs.Spots.{has_crowded_port}
+use Rattle.ccr_text.specs.Words.{is_name_of}
 use Rattle.ccr_wiring.specs.Valid.{IsValid}
 use Rattle.ccr_wiring.specs.Wirings.{Seat, seats_of, seats_from, seats}
 use Rattle.ccr_trace.specs.Words.{branch_names, branch_names_of, cause_names}
@@ -35,14 +40,23 @@ pub repeated_none : (parts : Parts) → IsValid parts → has_repeated_name part
 unfolding code_of
 repeated_none parts valid = (no_code (has_repeated_name parts) 6 _ (no_code (has_misgrouped parts) 3 _ valid).1).0
 
+none_left : (test : List ℕ → Bool) (xs ys : List (List ℕ)) → list_any test (xs ++ ys) ≡ false → list_any test xs ≡ false
+none_left test xs ys e = (neither (list_any test xs) (list_any test ys) (sym (list_any-append test xs ys) ∙ e)).0
+
+none_right : (test : List ℕ → Bool) (xs ys : List (List ℕ)) → list_any test (xs ++ ys) ≡ false → list_any test ys ≡ false
+none_right test xs ys e = (neither (list_any test xs) (list_any test ys) (sym (list_any-append test xs ys) ∙ e)).1
+
+none_both : (test : List ℕ → Bool) (xs ys : List (List ℕ)) → list_any test xs ≡ false → list_any test ys ≡ false → list_any test (xs ++ ys) ≡ false
+none_both test xs ys e f = list_any-append test xs ys ∙ rw (e, f) refl
+
 lacks_left : (xs ys : List (List ℕ)) (name : List ℕ) → has_name (xs ++ ys) name ≡ false → has_name xs name ≡ false
-lacks_left xs ys name e = (neither (has_name xs name) (has_name ys name) (sym (list_any-append (λ other. bytes_eq other name) xs ys) ∙ e)).0
+lacks_left xs ys name e = none_left (λ other. bytes_eq other name) xs ys e
 
 lacks_right : (xs ys : List (List ℕ)) (name : List ℕ) → has_name (xs ++ ys) name ≡ false → has_name ys name ≡ false
-lacks_right xs ys name e = (neither (has_name xs name) (has_name ys name) (sym (list_any-append (λ other. bytes_eq other name) xs ys) ∙ e)).1
+lacks_right xs ys name e = none_right (λ other. bytes_eq other name) xs ys e
 
 lacks_both : (xs ys : List (List ℕ)) (name : List ℕ) → has_name xs name ≡ false → has_name ys name ≡ false → has_name (xs ++ ys) name ≡ false
-lacks_both xs ys name e f = list_any-append (λ other. bytes_eq other name) xs ys ∙ rw (e, f) refl
+lacks_both xs ys name e f = none_both (λ other. bytes_eq other name) xs ys e f
 
 apart_left : (xs ys : List (List ℕ)) → has_repeated (xs ++ ys) ≡ false → has_repeated xs ≡ false
 apart_left [] ys e = refl
@@ -130,15 +144,16 @@ named_by name branches false e = (name ∷ [], refl)
 named : (arbiter : ArbiterPart) → is_misgrouped arbiter ≡ false → Named arbiter
 named arbiter e = named_by arbiter.name arbiter.branches (is_receive arbiter.kind) (neither (has_strange_group arbiter) (is_receive arbiter.kind && not (is_one_named arbiter.name arbiter.branches)) e).1
 
-lacked : (arbiters : List ArbiterPart) → list_any is_misgrouped arbiters ≡ false → (name : List ℕ) → has_name (flat_map arbiter_names arbiters) name ≡ false → has_name (flat_map branch_names_of arbiters) name ≡ false
-lacked [] grouped name e = refl
-lacked (arbiter ∷ arbiters) grouped name e =
+-- what no name of an arbiter or a branch passes, no branch's name passes
+none_passes : (test : List ℕ → Bool) (arbiters : List ArbiterPart) → list_any is_misgrouped arbiters ≡ false → list_any test (flat_map arbiter_names arbiters) ≡ false → list_any test (flat_map branch_names_of arbiters) ≡ false
+none_passes test [] grouped e = refl
+none_passes test (arbiter ∷ arbiters) grouped e =
     let parts = neither (is_misgrouped arbiter) (list_any is_misgrouped arbiters) grouped in
     let front = named arbiter parts.0 in
-    let whole : has_name (arbiter_names arbiter ++ flat_map arbiter_names arbiters) name ≡ false = ap (λ names. has_name names name) (sym (flat_map-cons arbiter_names arbiter arbiters)) ∙ e in
-    let here : has_name (front.0 ++ branch_names_of arbiter) name ≡ false = ap (λ names. has_name names name) (sym front.1) ∙ lacks_left (arbiter_names arbiter) (flat_map arbiter_names arbiters) name whole in
-    let later = lacked arbiters parts.1 name (lacks_right (arbiter_names arbiter) (flat_map arbiter_names arbiters) name whole) in
-    ap (λ names. has_name names name) (flat_map-cons branch_names_of arbiter arbiters) ∙ lacks_both (branch_names_of arbiter) (flat_map branch_names_of arbiters) name (lacks_right front.0 (branch_names_of arbiter) name here) later
+    let whole : list_any test (arbiter_names arbiter ++ flat_map arbiter_names arbiters) ≡ false = ap (list_any test) (sym (flat_map-cons arbiter_names arbiter arbiters)) ∙ e in
+    let here : list_any test (front.0 ++ branch_names_of arbiter) ≡ false = ap (list_any test) (sym front.1) ∙ none_left test (arbiter_names arbiter) (flat_map arbiter_names arbiters) whole in
+    let later = none_passes test arbiters parts.1 (none_right test (arbiter_names arbiter) (flat_map arbiter_names arbiters) whole) in
+    ap (list_any test) (flat_map-cons branch_names_of arbiter arbiters) ∙ none_both test (branch_names_of arbiter) (flat_map branch_names_of arbiters) (none_right test front.0 (branch_names_of arbiter) here) later
 
 apart : (arbiters : List ArbiterPart) → list_any is_misgrouped arbiters ≡ false → has_repeated (flat_map arbiter_names arbiters) ≡ false → has_repeated (flat_map branch_names_of arbiters) ≡ false
 apart [] grouped e = refl
@@ -147,7 +162,7 @@ apart (arbiter ∷ arbiters) grouped e =
     let front = named arbiter parts.0 in
     let more = flat_map arbiter_names arbiters in
     let whole : has_repeated ((front.0 ++ branch_names_of arbiter) ++ more) ≡ false = ap (λ names. has_repeated (names ++ more)) (sym front.1) ∙ (ap has_repeated (sym (flat_map-cons arbiter_names arbiter arbiters)) ∙ e) in
-    let kept : has_repeated ((front.0 ++ branch_names_of arbiter) ++ flat_map branch_names_of arbiters) ≡ false = apart_behind (front.0 ++ branch_names_of arbiter) more (flat_map branch_names_of arbiters) (lacked arbiters parts.1) (apart arbiters parts.1) whole in
+    let kept : has_repeated ((front.0 ++ branch_names_of arbiter) ++ flat_map branch_names_of arbiters) ≡ false = apart_behind (front.0 ++ branch_names_of arbiter) more (flat_map branch_names_of arbiters) (λ name. none_passes (λ other. bytes_eq other name) arbiters parts.1) (apart arbiters parts.1) whole in
     ap has_repeated (flat_map-cons branch_names_of arbiter arbiters) ∙ apart_right front.0 (branch_names_of arbiter ++ flat_map branch_names_of arbiters) (ap has_repeated (sym (append_assoc front.0 (branch_names_of arbiter) (flat_map branch_names_of arbiters))) ∙ kept)
 
 pub branches_apart : (parts : Parts) → IsValid parts → has_repeated (branch_names parts) ≡ false
@@ -164,3 +179,41 @@ counted number (arbiter ∷ arbiters) =
 -- a name for each branch
 pub length-branch_names : (parts : Parts) → length (branch_names parts) ≡ length (seats parts)
 length-branch_names parts = counted 0 parts.arbiters
+
+formed : (parts : Parts) → IsValid parts → list_any (λ name. not (is_name_of name)) (declared_names parts) ≡ false
+unfolding code_of
+formed parts valid =
+    let a = no_code (has_misgrouped parts) 3 _ valid in
+    let b = no_code (has_repeated_name parts) 6 _ a.1 in
+    let c = no_code (has_dangling parts) 7 _ b.1 in
+    let d = no_code (has_repeat parts) 8 _ c.1 in
+    let e = no_code (has_outside parts) 10 _ d.1 in
+    let f = no_code (has_branchless parts) 11 _ e.1 in
+    let g = no_code (has_crowded_port parts) 12 _ f.1 in
+    (no_code (has_malformed_name parts) 14 _ g.1).0
+
+-- the ports, the causes and the branches have names of the form of names
+pub record AreFormed (parts : Parts) : Type 0 where
+  pub ports : list_any (λ name. not (is_name_of name)) parts.ports ≡ false
+  pub causes : list_any (λ name. not (is_name_of name)) (cause_names parts) ≡ false
+  pub branches : list_any (λ name. not (is_name_of name)) (branch_names parts) ≡ false
+
+pub are_formed : (parts : Parts) → IsValid parts → AreFormed parts
+are_formed parts valid =
+    let q = queue_names parts.queues in
+    let s = set_names parts.sets in
+    let c = names_of_causes parts.causes in
+    let h = handler_names parts.handlers in
+    let a = flat_map arbiter_names parts.arbiters in
+    let p = poster_names parts.posters in
+    let test : List ℕ → Bool = λ name. not (is_name_of name) in
+    let five = none_left test (q ++ parts.ports ++ s ++ c ++ h ++ a) p (formed parts valid) in
+    let four = none_left test (q ++ parts.ports ++ s ++ c ++ h) a five in
+    let three = none_left test (q ++ parts.ports ++ s ++ c) h four in
+    let two = none_left test (q ++ parts.ports ++ s) c three in
+    let one = none_left test (q ++ parts.ports) s two in
+    record {
+      ports = none_right test q parts.ports one;
+      causes = none_right test (q ++ parts.ports ++ s) c three;
+      branches = none_passes test parts.arbiters (misgrouped_none parts valid) (none_right test (q ++ parts.ports ++ s ++ c ++ h) a five);
+    }

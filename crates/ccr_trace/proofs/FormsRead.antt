@@ -18,8 +18,8 @@ use Rattle.ccr_trace.specs.Said.{SpotName, Said, Post, Fire, Admit, Put, Start, 
 use Rattle.ccr_trace.specs.Places.{◌>>=◌, exact_number, short_number, task_of, message_of, spot_of}
 use Rattle.ccr_trace.specs.Forms.{Words, word, each, cuts, fired, post_said, fire_said, admit_said, dropped_said, put_said, start_said, how_said, end_said, form_said, said_on}
 use Rattle.ccr_trace.proofs.Steps.{is_some_of-some}
-use Rattle.ccr_trace.proofs.Parting.{lacks, AreParted, pieces-joined, parted_append, parted_map}
-use Rattle.ccr_trace.proofs.WordsRead.{AreNumbers, number_lacks, number_read, short_read, task_read, message_read, spot_read, task_lacks, message_lacks, spot_lacks, name_lacks, each_read}
+use Rattle.ccr_trace.proofs.Parting.{AreMarked, pieces-joined, marked_both, marked_map}
+use Rattle.ccr_trace.proofs.WordsRead.{AreNumbers, number_read, short_read, task_read, message_read, spot_read, number_marked, task_marked, message_marked, spot_marked, name_marked, each_read}
 
 names_read : (names : List (List ℕ)) → All IsName names → list_all is_name_of names ≡ true
 names_read [] good = refl
@@ -31,11 +31,11 @@ no_cut : (message : MsgId) → bytes_eq (message_word message) (codes "cut") ≡
 no_cut (ids.Script actor place) = refl
 no_cut (ids.Task task place) = refl
 
-names_parted : (numbers : AreNumbers) (names : List (List ℕ)) → All IsName names → AreParted names
-names_parted numbers [] good = tt
-names_parted numbers (name ∷ names) good =
+names_marked : (names : List (List ℕ)) → All IsName names → AreMarked names
+names_marked [] good = tt
+names_marked (name ∷ names) good =
     let parts = recursion_from_All IsName (name ∷ names) good in
-    (name_lacks numbers 32 name refl parts.0, names_parted numbers names (λ k d below. good (suc k) d (omega arith)))
+    (name_marked name parts.0, names_marked names (λ k d below. good (suc k) d (omega arith)))
 
 module _ (numbers : AreNumbers) where
   post_again : (id : MsgId) (port : List ℕ) (value : ℕ) (causes : List (List ℕ)) → IsSaid (Post id port value causes) → post_said (message_word id ∷ port ∷ decimal value ∷ causes) ≡ Some (Post id port value causes)
@@ -94,39 +94,41 @@ module _ (numbers : AreNumbers) where
   unfolding end_said
   end_again task how good = rw (task_read numbers task good.0, how_again how good.1) refl
 
-  cut_parted : (tasks : List TaskId) → All IsTask tasks → AreParted (cut_words tasks)
-  cut_parted [] good = tt
-  cut_parted (task ∷ tasks) good = (refl, parted_map task_word IsTask (task_lacks numbers) (task ∷ tasks) good)
+  cut_marked : (tasks : List TaskId) → All IsTask tasks → AreMarked (cut_words tasks)
+  cut_marked [] good = tt
+  cut_marked (task ∷ tasks) good = (refl, marked_map task_word IsTask (task_marked numbers) (task ∷ tasks) good)
 
-  dropped_parted : (dropped : Option TaskId) → IsDropped dropped → AreParted (dropped_words dropped)
-  dropped_parted None good = tt
-  dropped_parted (Some task) good = (refl, (task_lacks numbers task good, tt))
+  dropped_marked : (dropped : Option TaskId) → IsDropped dropped → AreMarked (dropped_words dropped)
+  dropped_marked None good = tt
+  dropped_marked (Some task) good = (refl, (task_marked numbers task good, tt))
 
-  end_parted : (how : EndHow) → IsEnd how → AreParted (end_words how)
-  end_parted ends.Done good = (refl, tt)
-  end_parted (ends.Failed value) good = (refl, (number_lacks numbers 32 value refl good, tt))
-  end_parted ends.Yield good = (refl, tt)
-  end_parted ends.Shed good = (refl, tt)
+  end_marked : (how : EndHow) → IsEnd how → AreMarked (end_words how)
+  end_marked ends.Done good = (refl, tt)
+  end_marked (ends.Failed value) good = (refl, (number_marked numbers value good, tt))
+  end_marked ends.Yield good = (refl, tt)
+  end_marked ends.Shed good = (refl, tt)
 
-  line_again : (first : List ℕ) (words : Words) (said : Said) → AreParted (first ∷ words) → form_said first words ≡ Some said → said_on (joined (first ∷ words)) ≡ Some said
-  line_again first words said parted is = rw (pieces-joined first words parted) is
+  -- each word of a line has bytes of words alone
+  pub said_marked : (said : Said) → IsSaid said → AreMarked (said_words said)
+  said_marked (Post id port value causes) good = (refl, (message_marked numbers id good.0, (name_marked port good.1, (number_marked numbers value good.2, names_marked causes good.3))))
+  said_marked (Fire task spot messages tasks) good =
+      (refl, (task_marked numbers task good.0, (spot_marked numbers spot good.1 good.2, marked_both (map message_word messages) (cut_words tasks) (marked_map message_word IsMessage (message_marked numbers) messages good.4) (cut_marked tasks good.5))))
+  said_marked (Admit task) good = (refl, (task_marked numbers task good, tt))
+  said_marked (Put task dropped) good = (refl, (task_marked numbers task good.0, dropped_marked dropped good.1))
+  said_marked (Start task actor) good = (refl, (task_marked numbers task good.0, (number_marked numbers actor (omega arith), tt)))
+  said_marked (End task how) good = (refl, (task_marked numbers task good.0, end_marked how good.1))
+
+  line_again : (first : List ℕ) (words : Words) (said : Said) → AreMarked (first ∷ words) → form_said first words ≡ Some said → said_on (joined (first ∷ words)) ≡ Some said
+  line_again first words said marked is = rw (pieces-joined first words marked) is
 
   -- a line that is spelled says the same again
   pub said_again : (said : Said) → IsSaid said → said_on (spelled said) ≡ Some said
   unfolding form_said
   said_again (Post id port value causes) good =
-      line_again (codes "post") (message_word id ∷ port ∷ decimal value ∷ causes) (Post id port value causes)
-      (refl, (message_lacks numbers id good.0, (name_lacks numbers 32 port refl good.1, (number_lacks numbers 32 value refl good.2, names_parted numbers causes good.3))))
-      (post_again id port value causes good)
+      line_again (codes "post") (message_word id ∷ port ∷ decimal value ∷ causes) (Post id port value causes) (said_marked (Post id port value causes) good) (post_again id port value causes good)
   said_again (Fire task spot messages tasks) good =
-      line_again (codes "fire") (task_word task ∷ spot_name_word spot ∷ (map message_word messages ++ cut_words tasks)) (Fire task spot messages tasks)
-      (refl, (task_lacks numbers task good.0, (spot_lacks numbers spot good.1 good.2, parted_append (map message_word messages) (cut_words tasks) (parted_map message_word IsMessage (message_lacks numbers) messages good.4) (cut_parted tasks good.5))))
-      (fire_again task spot messages tasks good)
-  said_again (Admit task) good =
-      line_again (codes "admit") (task_word task ∷ []) (Admit task) (refl, (task_lacks numbers task good, tt)) (admit_again task good)
-  said_again (Put task dropped) good =
-      line_again (codes "put") (task_word task ∷ dropped_words dropped) (Put task dropped) (refl, (task_lacks numbers task good.0, dropped_parted dropped good.1)) (put_again task dropped good)
-  said_again (Start task actor) good =
-      line_again (codes "start") (task_word task ∷ decimal actor ∷ []) (Start task actor) (refl, (task_lacks numbers task good.0, (number_lacks numbers 32 actor refl (omega arith), tt))) (start_again task actor good)
-  said_again (End task how) good =
-      line_again (codes "end") (task_word task ∷ end_words how) (End task how) (refl, (task_lacks numbers task good.0, end_parted how good.1)) (end_again task how good)
+      line_again (codes "fire") (task_word task ∷ spot_name_word spot ∷ (map message_word messages ++ cut_words tasks)) (Fire task spot messages tasks) (said_marked (Fire task spot messages tasks) good) (fire_again task spot messages tasks good)
+  said_again (Admit task) good = line_again (codes "admit") (task_word task ∷ []) (Admit task) (said_marked (Admit task) good) (admit_again task good)
+  said_again (Put task dropped) good = line_again (codes "put") (task_word task ∷ dropped_words dropped) (Put task dropped) (said_marked (Put task dropped) good) (put_again task dropped good)
+  said_again (Start task actor) good = line_again (codes "start") (task_word task ∷ decimal actor ∷ []) (Start task actor) (said_marked (Start task actor) good) (start_again task actor good)
+  said_again (End task how) good = line_again (codes "end") (task_word task ∷ end_words how) (End task how) (said_marked (End task how) good) (end_again task how good)

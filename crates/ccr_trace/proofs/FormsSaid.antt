@@ -94,8 +94,9 @@ unfolding fired
 fired_told [] rest e = subst (λ (r : List MsgId × List TaskId). AreFired [] r) (some_is ([], []) rest e) (All-nil IsMessage, All-nil IsTask, refl)
 fired_told (first ∷ words) rest e =
     elim (chosen (bytes_eq first (codes "cut")) _ _ (Some rest) e) [
-      inl h ↦ fired_cut first words rest h.0 h.1
-    | inr h ↦ fired_more first words rest (fired_told words) h.1 ]
+      | inl h ↦ fired_cut first words rest h.0 h.1
+      | inr h ↦ fired_more first words rest (fired_told words) h.1
+    ]
 
 pub fire_told : (words : Words) (said : Said) → fire_said words ≡ Some said → Tells (codes "fire") words said
 unfolding fire_said
@@ -176,12 +177,15 @@ end_is first text plain how good spelled is e =
 plain_told : (first : List ℕ) (how : EndHow) → plain_end first ≡ Some how → IsEnd how × (end_words how ≡ first ∷ [])
 plain_told first how e =
     elim (chosen (bytes_eq first (codes "done")) (Some ends.Done) _ (Some how) e) [
-      inl h ↦ end_is first (codes "done") ends.Done how tt refl h.0 h.1
-    | inr h ↦ elim (chosen (bytes_eq first (codes "yield")) (Some ends.Yield) _ (Some how) h.1) [
-        inl i ↦ end_is first (codes "yield") ends.Yield how tt refl i.0 i.1
-      | inr i ↦ elim (chosen (bytes_eq first (codes "shed")) (Some ends.Shed) None (Some how) i.1) [
-          inl j ↦ end_is first (codes "shed") ends.Shed how tt refl j.0 j.1
-        | inr j ↦ absurd (let none : only_one how ≡ None = sym j.1 in cc) ] ] ]
+      | inl h ↦ end_is first (codes "done") ends.Done how tt refl h.0 h.1
+      | inr h ↦ elim (chosen (bytes_eq first (codes "yield")) (Some ends.Yield) _ (Some how) h.1) [
+        | inl i ↦ end_is first (codes "yield") ends.Yield how tt refl i.0 i.1
+        | inr i ↦ elim (chosen (bytes_eq first (codes "shed")) (Some ends.Shed) None (Some how) i.1) [
+          | inl j ↦ end_is first (codes "shed") ends.Shed how tt refl j.0 j.1
+          | inr j ↦ absurd (let none : only_one how ≡ None = sym j.1 in cc)
+        ]
+      ]
+    ]
 
 -- an end, and the words behind it
 abbrev IsHow : Words → EndHow × Words → Type 0
@@ -207,8 +211,9 @@ unfolding how_said
 how_told [] how e = absurd cc
 how_told (first ∷ words) how e =
     elim (chosen (bytes_eq first (codes "failed")) (failed words) _ (Some how) e) [
-      inl h ↦ failed_told first words how h.0 h.1
-    | inr h ↦ plain_how first words how h.1 ]
+      | inl h ↦ failed_told first words how h.0 h.1
+      | inr h ↦ plain_how first words how h.1
+    ]
 
 pub end_told : (words : Words) (said : Said) → end_said words ≡ Some said → Tells (codes "end") words said
 unfolding end_said
@@ -233,18 +238,24 @@ form_told : (first : List ℕ) (words : Words) (said : Said) → form_said first
 unfolding form_said
 form_told first words said e =
     elim (chosen (bytes_eq first (codes "post")) (post_said words) _ (Some said) e) [
-      inl h ↦ form_is first (codes "post") words said h.0 (post_told words said h.1)
-    | inr h ↦ elim (chosen (bytes_eq first (codes "fire")) (fire_said words) _ (Some said) h.1) [
-        inl i ↦ form_is first (codes "fire") words said i.0 (fire_told words said i.1)
-      | inr i ↦ elim (chosen (bytes_eq first (codes "admit")) (admit_said words) _ (Some said) i.1) [
-          inl j ↦ form_is first (codes "admit") words said j.0 (admit_told words said j.1)
-        | inr j ↦ elim (chosen (bytes_eq first (codes "put")) (put_said words) _ (Some said) j.1) [
-            inl k ↦ form_is first (codes "put") words said k.0 (put_told words said k.1)
-          | inr k ↦ elim (chosen (bytes_eq first (codes "start")) (start_said words) _ (Some said) k.1) [
-              inl l ↦ form_is first (codes "start") words said l.0 (start_told words said l.1)
-            | inr l ↦ elim (chosen (bytes_eq first (codes "end")) (end_said words) None (Some said) l.1) [
-                inl m ↦ form_is first (codes "end") words said m.0 (end_told words said m.1)
-              | inr m ↦ absurd (let none : only_one said ≡ None = sym m.1 in cc) ] ] ] ] ] ]
+      | inl h ↦ form_is first (codes "post") words said h.0 (post_told words said h.1)
+      | inr h ↦ elim (chosen (bytes_eq first (codes "fire")) (fire_said words) _ (Some said) h.1) [
+        | inl i ↦ form_is first (codes "fire") words said i.0 (fire_told words said i.1)
+        | inr i ↦ elim (chosen (bytes_eq first (codes "admit")) (admit_said words) _ (Some said) i.1) [
+          | inl j ↦ form_is first (codes "admit") words said j.0 (admit_told words said j.1)
+          | inr j ↦ elim (chosen (bytes_eq first (codes "put")) (put_said words) _ (Some said) j.1) [
+            | inl k ↦ form_is first (codes "put") words said k.0 (put_told words said k.1)
+            | inr k ↦ elim (chosen (bytes_eq first (codes "start")) (start_said words) _ (Some said) k.1) [
+              | inl l ↦ form_is first (codes "start") words said l.0 (start_told words said l.1)
+              | inr l ↦ elim (chosen (bytes_eq first (codes "end")) (end_said words) None (Some said) l.1) [
+                | inl m ↦ form_is first (codes "end") words said m.0 (end_told words said m.1)
+                | inr m ↦ absurd (let none : only_one said ≡ None = sym m.1 in cc)
+              ]
+            ]
+          ]
+        ]
+      ]
+    ]
 
 pub joined_is : (words : List (List ℕ)) → joined words ≡ join_with_byte 32 words
 joined_is [] = refl

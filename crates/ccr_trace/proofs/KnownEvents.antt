@@ -51,8 +51,9 @@ spot_there : (parts : Parts) (branch : ℕ) (site : Option ℕ) (spot : Spot) �
 spot_there parts branch None spot below e = subst (λ (s : Spot). IsKnownSpot parts s) (some_is (Branch branch) spot e) (seat_there parts branch below)
 spot_there parts branch (Some site) spot below e =
     elim (chosen (is_some (site_port parts branch site)) (Some (Site branch site)) None (Some spot) e) [
-      inl h ↦ subst (λ (s : Spot). IsKnownSpot parts s) (some_is (Site branch site) spot h.1) h.0
-    | inr h ↦ absurd (let none : only_one spot ≡ None = sym h.1 in cc) ]
+      | inl h ↦ subst (λ (s : Spot). IsKnownSpot parts s) (some_is (Site branch site) spot h.1) h.0
+      | inr h ↦ absurd (let none : only_one spot ≡ None = sym h.1 in cc)
+    ]
 
 pub known_is : (parts : Parts) (said : Said) (event : Event) → known parts said ≡ Some event → IsKnown parts event
 unfolding known spot_known

@@ -16,23 +16,23 @@ use Rattle.ccr_trace.proofs.Steps.{chosen, same_word}
 use Rattle.ccr_trace.proofs.LineSteps.{bytes_more, bytes-pieces}
 use Rattle.ccr_trace.proofs.KnownEvents.{event_is_known, event_has_messages}
 
-abbrev Read : Type 0
+abbrev pub Read : Type 0
 Read = Result ReadHistory (ℕ × ℕ)
 
-abbrev done : ReadHistory → Read
+abbrev pub done : ReadHistory → Read
 done read = Ok read
 
 abbrev stopped : ℕ × ℕ → Read
 stopped at = Err at
 
-ok_is : (x y : ReadHistory) → done x ≡ done y → x ≡ y
+pub ok_is : (x y : ReadHistory) → done x ≡ done y → x ≡ y
 ok_is x y e = cc
 
 -- what the line of an event leaves to the lines behind it
-abbrev behind : Parts → ReadHistory → List ℕ → List (List ℕ) → Result Event ℕ → Read
+abbrev pub behind : Parts → ReadHistory → List ℕ → List (List ℕ) → Result Event ℕ → Read
 behind parts read line lines on = elim on [ Ok event ↦ reading_from parts (with_event read line event) lines | Err code ↦ Err (read.lines + 1, code) ]
 
-step_ok : (parts : Parts) (read : ReadHistory) (line : List ℕ) (lines : List (List ℕ)) (on : Result Event ℕ) (out : ReadHistory) → behind parts read line lines on ≡ Ok out → (event : Event) × (on ≡ Ok event) × (reading_from parts (with_event read line event) lines ≡ Ok out)
+pub step_ok : (parts : Parts) (read : ReadHistory) (line : List ℕ) (lines : List (List ℕ)) (on : Result Event ℕ) (out : ReadHistory) → behind parts read line lines on ≡ Ok out → (event : Event) × (on ≡ Ok event) × (reading_from parts (with_event read line event) lines ≡ Ok out)
 step_ok parts read line lines (Ok event) out e = (event, refl, e)
 step_ok parts read line lines (Err code) out e = absurd cc
 
@@ -44,8 +44,9 @@ along parts P step [] read out p e = absurd cc
 along parts P step (last ∷ []) read out p e = absurd cc
 along parts P step (line ∷ next ∷ lines) read out p e =
     elim (chosen (bytes_eq line (codes "report 1")) (Ok read) (behind parts read line (next ∷ lines) (event_on parts line)) (Ok out) e) [
-      inl h ↦ subst P (ok_is read out h.1) p
-    | inr h ↦ let on = step_ok parts read line (next ∷ lines) (event_on parts line) out h.1 in along parts P step (next ∷ lines) (with_event read line on.0) out (step read line on.0 p on.1) on.2 ]
+      | inl h ↦ subst P (ok_is read out h.1) p
+      | inr h ↦ let on = step_ok parts read line (next ∷ lines) (event_on parts line) out h.1 in along parts P step (next ∷ lines) (with_event read line on.0) out (step read line on.0 p on.1) on.2
+    ]
 
 within_from : (parts : Parts) (lines : List (List ℕ)) (read out : ReadHistory) → reading_from parts read lines ≡ Ok out → out.rest < read.rest + bytes_in lines
 unfolding reading_from
@@ -53,18 +54,20 @@ within_from parts [] read out e = absurd cc
 within_from parts (last ∷ []) read out e = absurd cc
 within_from parts (line ∷ next ∷ lines) read out e =
     elim (chosen (bytes_eq line (codes "report 1")) (Ok read) (behind parts read line (next ∷ lines) (event_on parts line)) (Ok out) e) [
-      inl h ↦ let same : read.rest ≡ out.rest = ap (λ (r : ReadHistory). r.rest) (ok_is read out h.1) in omega (arith, bytes_more line (next ∷ lines), same)
-    | inr h ↦ let on = step_ok parts read line (next ∷ lines) (event_on parts line) out h.1 in let more : out.rest < (read.rest + (length line + 1)) + bytes_in (next ∷ lines) = within_from parts (next ∷ lines) (with_event read line on.0) out on.2 in omega (arith, bytes_more line (next ∷ lines), more) ]
+      | inl h ↦ let same : read.rest ≡ out.rest = ap (λ (r : ReadHistory). r.rest) (ok_is read out h.1) in omega (arith, bytes_more line (next ∷ lines), same)
+      | inr h ↦ let on = step_ok parts read line (next ∷ lines) (event_on parts line) out h.1 in let more : out.rest < (read.rest + (length line + 1)) + bytes_in (next ∷ lines) = within_from parts (next ∷ lines) (with_event read line on.0) out on.2 in omega (arith, bytes_more line (next ∷ lines), more)
+    ]
 
 -- the lines behind the first
-head_ok : (parts : Parts) (lines : List (List ℕ)) (out : ReadHistory) → reading_lines parts lines ≡ Ok out → (rest : List (List ℕ)) × (lines ≡ codes "history 1" ∷ rest) × (reading_from parts head rest ≡ Ok out)
+pub head_ok : (parts : Parts) (lines : List (List ℕ)) (out : ReadHistory) → reading_lines parts lines ≡ Ok out → (rest : List (List ℕ)) × (lines ≡ codes "history 1" ∷ rest) × (reading_from parts head rest ≡ Ok out)
 unfolding reading_lines
 head_ok parts [] out e = absurd cc
 head_ok parts (last ∷ []) out e = absurd cc
 head_ok parts (line ∷ next ∷ lines) out e =
     elim (chosen (bytes_eq line (codes "history 1")) (reading_from parts head (next ∷ lines)) (Err (1, 1)) (Ok out) e) [
-      inl h ↦ (next ∷ lines, ap (λ (w : List ℕ). w ∷ next ∷ lines) (same_word line (codes "history 1") h.0), h.1)
-    | inr h ↦ absurd (let refused : stopped (1, 1) ≡ done out = h.1 in cc) ]
+      | inl h ↦ (next ∷ lines, ap (λ (w : List ℕ). w ∷ next ∷ lines) (same_word line (codes "history 1") h.0), h.1)
+      | inr h ↦ absurd (let refused : stopped (1, 1) ≡ done out = h.1 in cc)
+    ]
 
 pub text_along : (parts : Parts) (P : ReadHistory → Type 0) → ((read : ReadHistory) (line : List ℕ) (event : Event) → P read → event_on parts line ≡ Ok event → P (with_event read line event))
     → P head → (text : List ℕ) (out : ReadHistory) → reading parts text ≡ Ok out → P out

@@ -4,6 +4,7 @@ use Rattle.std.specs.Prelude.{◌==◌, ◌&&◌, not}
 use Rattle.std.specs.List.{list_all, All}
 use Rattle.std.proofs.lemmas.Bool.Decides.{nat_tests}
 use Rattle.std.proofs.lemmas.List.Elements.{recursion_from_All}
+use Rattle.ccr_text.specs.Words.{is_mark}
 use Rattle.ccr_text.specs.Spelling.{joined}
 use Rattle.ccr_trace.specs.Pieces.{pieces}
 
@@ -33,16 +34,7 @@ pieces_only separator (b ∷ word) e =
     let parts = both (not (b == separator)) (lacks separator word) e in
     rw (other b separator parts.0, pieces_only separator word parts.1) refl
 
--- each word
-abbrev pub AreParted : List (List ℕ) → Type 0
-AreParted [] = Unit {0}
-AreParted (word ∷ words) = (lacks 32 word ≡ true) × AreParted words
-
-pub pieces-joined : (word : List ℕ) (words : List (List ℕ)) → AreParted (word ∷ words) → pieces 32 (joined (word ∷ words)) ≡ word ∷ words
-pieces-joined word [] are = pieces_only 32 word are.0
-pieces-joined word (next ∷ words) are = pieces_first 32 word (joined (next ∷ words)) are.0 ∙ ap (λ (w : List (List ℕ)). word ∷ w) (pieces-joined next words are.1)
-
-pub lacks-append : (separator : ℕ) (xs ys : List ℕ) → lacks separator xs ≡ true → lacks separator ys ≡ true → lacks separator (xs ++ ys) ≡ true
+lacks-append : (separator : ℕ) (xs ys : List ℕ) → lacks separator xs ≡ true → lacks separator ys ≡ true → lacks separator (xs ++ ys) ≡ true
 lacks-append separator [] ys e f = f
 lacks-append separator (b ∷ xs) ys e f =
     let parts = both (not (b == separator)) (lacks separator xs) e in
@@ -62,13 +54,45 @@ lacks_tested test separator (b ∷ bytes) none e =
     let parts = both (test b) (list_all test bytes) e in
     rw (by_test test separator b none parts.0, lacks_tested test separator bytes none parts.1) refl
 
-pub parted_append : (words more : List (List ℕ)) → AreParted words → AreParted more → AreParted (words ++ more)
-parted_append [] more e f = f
-parted_append (word ∷ words) more e f = (e.0, parted_append words more e.1 f)
+-- bytes that pass one test pass another
+pub tested_by : (test wider : ℕ → Bool) (bytes : List ℕ) → ((b : ℕ) → test b ≡ true → wider b ≡ true) → list_all test bytes ≡ true → list_all wider bytes ≡ true
+tested_by test wider [] more e = refl
+tested_by test wider (b ∷ bytes) more e =
+    let parts = both (test b) (list_all test bytes) e in
+    rw (more b parts.0, tested_by test wider bytes more parts.1) refl
+
+-- the bytes of words alone
+abbrev pub marked : List ℕ → Bool
+marked word = list_all is_mark word
+
+pub marked-append : (xs ys : List ℕ) → marked xs ≡ true → marked ys ≡ true → marked (xs ++ ys) ≡ true
+marked-append [] ys e f = f
+marked-append (b ∷ xs) ys e f =
+    let parts = both (is_mark b) (marked xs) e in
+    rw (parts.0, marked-append xs ys parts.1 f) refl
+
+abbrev pub AreMarked : List (List ℕ) → Type 0
+AreMarked [] = Unit {0}
+AreMarked (word ∷ words) = (marked word ≡ true) × AreMarked words
+
+-- a line has no LF
+pub joined_lacks : (words : List (List ℕ)) → AreMarked words → lacks 10 (joined words) ≡ true
+joined_lacks [] are = refl
+joined_lacks (word ∷ []) are = lacks_tested is_mark 10 word refl are.0
+joined_lacks (word ∷ next ∷ words) are = lacks-append 10 word (32 ∷ joined (next ∷ words)) (lacks_tested is_mark 10 word refl are.0) (joined_lacks (next ∷ words) are.1)
+
+-- the words of a line are found again
+pub pieces-joined : (word : List ℕ) (words : List (List ℕ)) → AreMarked (word ∷ words) → pieces 32 (joined (word ∷ words)) ≡ word ∷ words
+pieces-joined word [] are = pieces_only 32 word (lacks_tested is_mark 32 word refl are.0)
+pieces-joined word (next ∷ words) are = pieces_first 32 word (joined (next ∷ words)) (lacks_tested is_mark 32 word refl are.0) ∙ ap (λ (w : List (List ℕ)). word ∷ w) (pieces-joined next words are.1)
+
+pub marked_both : (words more : List (List ℕ)) → AreMarked words → AreMarked more → AreMarked (words ++ more)
+marked_both [] more e f = f
+marked_both (word ∷ words) more e f = (e.0, marked_both words more e.1 f)
 
 -- the words for these
-pub parted_map : {A : Type 0} (spell : A → List ℕ) (Good : A → Type 0) → ((x : A) → Good x → lacks 32 (spell x) ≡ true) → (xs : List A) → All Good xs → AreParted (map spell xs)
-parted_map spell Good apart [] good = tt
-parted_map spell Good apart (x ∷ xs) good =
+pub marked_map : {A : Type 0} (spell : A → List ℕ) (Good : A → Type 0) → ((x : A) → Good x → marked (spell x) ≡ true) → (xs : List A) → All Good xs → AreMarked (map spell xs)
+marked_map spell Good apart [] good = tt
+marked_map spell Good apart (x ∷ xs) good =
     let parts = recursion_from_All Good (x ∷ xs) good in
-    (apart x parts.0, parted_map spell Good apart xs (λ k d below. good (suc k) d (omega arith)))
+    (apart x parts.0, marked_map spell Good apart xs (λ k d below. good (suc k) d (omega arith)))

@@ -9,14 +9,14 @@ use Rattle.std.proofs.lemmas.List.Elements.{recursion_from_All}
 use Rattle.ccr_base.specs.declared.names.TaskId.{TaskId}
 use Rattle.ccr_base.specs.declared.names.MsgId.{MsgId}
 use Rattle.ccr_base.specs.declared.names.MsgId.TheVariants as ids
-use Rattle.ccr_text.specs.Words.{is_digits, value_after, number_of, may_be_in_name, is_name_of}
+use Rattle.ccr_text.specs.Words.{is_digits, is_mark, value_after, number_of, may_be_in_name, is_name_of}
 use Rattle.ccr_trace.specs.Words.{task_word, message_word}
 use Rattle.ccr_trace.specs.Pieces.{pieces}
 use Rattle.ccr_trace.specs.Said.{SpotName, spot_name_word, site_word, IsTask, IsMessage, IsName, IsSite}
 use Rattle.ccr_trace.specs.Places.{◌>>=◌, where_spelled, where_short, exact_number, short_number, name_of, task_in, task_of, script_in, answer_in, message_of, spot_with, spot_in, spot_of}
 use Rattle.ccr_trace.specs.Forms.{Words, each}
 use Rattle.ccr_trace.proofs.Steps.{same_text}
-use Rattle.ccr_trace.proofs.Parting.{lacks, pieces_first, pieces_only, lacks-append, lacks_tested}
+use Rattle.ccr_trace.proofs.Parting.{lacks, pieces_first, pieces_only, lacks_tested, tested_by, marked, marked-append}
 
 -- the digits of each number are read as that number
 abbrev pub AreNumbers : Type 0
@@ -26,6 +26,24 @@ both : (a b : Bool) → (a && b) ≡ true → (a ≡ true) × (b ≡ true)
 both true b e = (refl, e)
 both false b e = absurd cc
 
+pub name_read : (name : List ℕ) → IsName name → name_of name ≡ Some name
+name_read name good = rw good refl
+
+letters : (name : List ℕ) → IsName name → list_all may_be_in_name name ≡ true
+letters [] good = absurd cc
+letters (b ∷ name) good =
+    let first = both (is_ascii_alphabetic b && nat_lt (length name) 16) (list_all may_be_in_name name) good in
+    let letter = both (is_ascii_alphabetic b) (nat_lt (length name) 16) first.0 in
+    let may : may_be_in_name b ≡ true = grind (arith, nat_tests, letter.0) in
+    rw (may, first.1) refl
+
+-- no @ stands in a name
+name_lacks : (name : List ℕ) → IsName name → lacks 64 name ≡ true
+name_lacks name good = lacks_tested may_be_in_name 64 name refl (letters name good)
+
+pub name_marked : (name : List ℕ) → IsName name → marked name ≡ true
+name_marked name good = tested_by may_be_in_name is_mark name (λ b may. grind (arith, nat_tests, may)) (letters name good)
+
 module _ (numbers : AreNumbers) where
   digits_of : (n : ℕ) → n < 2 ^ 64 → list_all is_ascii_digit (decimal n) ≡ true
   digits_of n fits = by (is_digits (decimal n)) (nat_lt (value_after 0 (decimal n)) (2 ^ 64)) refl (numbers n fits)
@@ -34,8 +52,8 @@ module _ (numbers : AreNumbers) where
       by true b is e = (both _ (list_all is_ascii_digit (decimal n)) is).1
       by false b is e = absurd cc
 
-  -- no dot, no space and no @ among digits
-  pub number_lacks : (separator n : ℕ) → is_ascii_digit separator ≡ false → n < 2 ^ 64 → lacks separator (decimal n) ≡ true
+  -- no dot and no @ stands among digits
+  number_lacks : (separator n : ℕ) → is_ascii_digit separator ≡ false → n < 2 ^ 64 → lacks separator (decimal n) ≡ true
   number_lacks separator n none fits = lacks_tested is_ascii_digit separator (decimal n) none (digits_of n fits)
 
   pub number_read : (n : ℕ) → n < 2 ^ 64 → exact_number (decimal n) ≡ Some n
@@ -69,45 +87,36 @@ module _ (numbers : AreNumbers) where
   message_read (ids.Task task place) good =
       rw (three_parts task.actor task.attempt place good.0.0 good.0.1 good.1, short_read task.actor good.0.0, short_read task.attempt good.0.1, short_read place good.1) refl
 
-  pub name_read : (name : List ℕ) → IsName name → name_of name ≡ Some name
-  name_read name good = rw good refl
-
-  letters : (name : List ℕ) → IsName name → list_all may_be_in_name name ≡ true
-  letters [] good = absurd cc
-  letters (b ∷ name) good =
-      let first = both (is_ascii_alphabetic b && nat_lt (length name) 16) (list_all may_be_in_name name) good in
-      let letter = both (is_ascii_alphabetic b) (nat_lt (length name) 16) first.0 in
-      let may : may_be_in_name b ≡ true = grind (arith, nat_tests, letter.0) in
-      rw (may, first.1) refl
-
-  -- no space and no @ in a name
-  pub name_lacks : (separator : ℕ) (name : List ℕ) → may_be_in_name separator ≡ false → IsName name → lacks separator name ≡ true
-  name_lacks separator name none good = lacks_tested may_be_in_name separator name none (letters name good)
-
   spot_parts : (spot : SpotName) → IsName spot.name → IsSite spot.site → spot_in (pieces 64 (spot_name_word spot)) ≡ Some spot
   spot_parts spot good site = by spot.site site refl
     where
       by : (s : Option ℕ) → IsSite s → spot.site ≡ s → spot_in (pieces 64 (spot.name ++ site_word s)) ≡ Some (record { name = spot.name; site = s })
-      by None fits is = rw (append-nil spot.name, pieces_only 64 spot.name (name_lacks 64 spot.name refl good), good) refl
-      by (Some k) fits is = rw (pieces_first 64 spot.name (decimal k) (name_lacks 64 spot.name refl good), pieces_only 64 (decimal k) (short_lacks 64 k refl fits), short_read k fits, good) refl
+      by None fits is = rw (append-nil spot.name, pieces_only 64 spot.name (name_lacks spot.name good), good) refl
+      by (Some k) fits is = rw (pieces_first 64 spot.name (decimal k) (name_lacks spot.name good), pieces_only 64 (decimal k) (short_lacks 64 k refl fits), short_read k fits, good) refl
 
   pub spot_read : (spot : SpotName) → IsName spot.name → IsSite spot.site → spot_of (spot_name_word spot) ≡ Some spot
   unfolding spot_of
   spot_read spot good site = spot_parts spot good site
 
-  pub task_lacks : (task : TaskId) → IsTask task → lacks 32 (task_word task) ≡ true
-  task_lacks task good = lacks-append 32 (decimal task.actor) (46 ∷ decimal task.attempt) (short_lacks 32 task.actor refl good.0) (short_lacks 32 task.attempt refl good.1)
+  pub number_marked : (n : ℕ) → n < 2 ^ 64 → marked (decimal n) ≡ true
+  number_marked n fits = tested_by is_ascii_digit is_mark (decimal n) (λ b digit. grind (arith, nat_tests, digit)) (digits_of n fits)
 
-  pub message_lacks : (message : MsgId) → IsMessage message → lacks 32 (message_word message) ≡ true
-  message_lacks (ids.Script actor place) good = lacks-append 32 (decimal actor) (46 ∷ decimal place) (short_lacks 32 actor refl good.0) (short_lacks 32 place refl good.1)
-  message_lacks (ids.Task task place) good = lacks-append 32 (task_word task) (46 ∷ decimal place) (task_lacks task good.0) (short_lacks 32 place refl good.1)
+  short_marked : (n : ℕ) → n < 2 ^ 32 → marked (decimal n) ≡ true
+  short_marked n fits = number_marked n (omega arith)
 
-  pub spot_lacks : (spot : SpotName) → IsName spot.name → IsSite spot.site → lacks 32 (spot_name_word spot) ≡ true
-  spot_lacks spot good site = lacks-append 32 spot.name (site_word spot.site) (name_lacks 32 spot.name refl good) (by spot.site site)
+  pub task_marked : (task : TaskId) → IsTask task → marked (task_word task) ≡ true
+  task_marked task good = marked-append (decimal task.actor) (46 ∷ decimal task.attempt) (short_marked task.actor good.0) (short_marked task.attempt good.1)
+
+  pub message_marked : (message : MsgId) → IsMessage message → marked (message_word message) ≡ true
+  message_marked (ids.Script actor place) good = marked-append (decimal actor) (46 ∷ decimal place) (short_marked actor good.0) (short_marked place good.1)
+  message_marked (ids.Task task place) good = marked-append (task_word task) (46 ∷ decimal place) (task_marked task good.0) (short_marked place good.1)
+
+  pub spot_marked : (spot : SpotName) → IsName spot.name → IsSite spot.site → marked (spot_name_word spot) ≡ true
+  spot_marked spot good site = marked-append spot.name (site_word spot.site) (name_marked spot.name good) (by spot.site site)
     where
-      by : (s : Option ℕ) → IsSite s → lacks 32 (site_word s) ≡ true
+      by : (s : Option ℕ) → IsSite s → marked (site_word s) ≡ true
       by None fits = refl
-      by (Some k) fits = short_lacks 32 k refl fits
+      by (Some k) fits = short_marked k fits
 
 -- each word that is spelled is read again
 pub each_read : {A : Type 0} (read : List ℕ → Option A) (spell : A → List ℕ) (Good : A → Type 0) → ((x : A) → Good x → read (spell x) ≡ Some x) → (xs : List A) → All Good xs → each read (map spell xs) ≡ Some xs

@@ -114,6 +114,7 @@ message_said (b ∷ numbers) message e = by (chosen (b == 115) (script_in (piece
     other : (((b == 116) ≡ true) × (answer_in (pieces 46 numbers) ≡ Some message)) ⊎ (((b == 116) ≡ false) × (None ≡ Some message)) → IsMessage message × (message_word message ≡ b ∷ numbers)
     other (inl h) = let first : b ≡ 116 = eq_true b 116 h.0 in rw first (answer_parts numbers (pieces 46 numbers) message refl h.1)
     other (inr h) = absurd cc
+
     by : (((b == 115) ≡ true) × (script_in (pieces 46 numbers) ≡ Some message)) ⊎ (((b == 115) ≡ false) × (cond (b == 116) (answer_in (pieces 46 numbers)) None ≡ Some message)) → IsMessage message × (message_word message ≡ b ∷ numbers)
     by (inl h) = let first : b ≡ 115 = eq_true b 115 h.0 in rw first (script_parts numbers (pieces 46 numbers) message refl h.1)
     by (inr h) = other (chosen (b == 116) (answer_in (pieces 46 numbers)) None (Some message) h.1)

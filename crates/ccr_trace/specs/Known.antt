@@ -1,5 +1,5 @@
 -- What the words for ports, causes and spots stand for in a wiring.
-use Rattle.std.specs.Prelude.{◌≡◌, ℕ, ◌<◌, List, length, position, is_some, IsSome, Option, Some, None, if◌then◌else◌}
+use Rattle.std.specs.Prelude.{◌≡◌, ℕ, ◌^◌, ◌<◌, List, length, position, is_some, IsSome, Option, Some, None, if◌then◌else◌}
 use Rattle.std.specs.Option.{option_map}
 use Rattle.std.specs.List.{All}
 use Rattle.std.specs.Str.{bytes_eq}
@@ -10,7 +10,7 @@ use Rattle.ccr_wiring.specs.Wirings.{seat, site_port}
 use Rattle.ccr_model.specs.declared.history.Event.{Event}
 use Rattle.ccr_model.specs.declared.history.Event.TheVariants as events
 use Rattle.ccr_trace.specs.Words.{cause_names, branch_names}
-use Rattle.ccr_trace.specs.Said.{SpotName, Said, Post, Fire, Admit, Put, Start, End}
+use Rattle.ccr_trace.specs.Said.{SpotName, Said, Post, Fire, Admit, Put, Start, End, IsTask, IsMessage, IsDropped, IsEnd}
 use Rattle.ccr_trace.specs.Places.{◌>>=◌}
 use Rattle.ccr_trace.specs.Forms.{each}
 
@@ -66,3 +66,19 @@ HasMessages (events.End task how) = Unit {0}
 
 abbrev pub HaveMessages : List Event → Type 0
 HaveMessages history = All HasMessages history
+
+abbrev pub IsShortSpot : Spot → Type 0
+IsShortSpot (Branch branch) = Unit {0}
+IsShortSpot (Site branch site) = site < 2 ^ 32
+
+-- actors, attempts, places and sites are below 2 ^ 32, and values below 2 ^ 64, as the types of an event have it
+abbrev pub IsShort : Event → Type 0
+IsShort (events.Post message) = IsMessage message.id × (message.value < 2 ^ 64)
+IsShort (events.Fire task spot messages cuts) = IsTask task × IsShortSpot spot × All IsMessage messages × All IsTask cuts
+IsShort (events.Admit task) = IsTask task
+IsShort (events.Put task dropped) = IsTask task × IsDropped dropped
+IsShort (events.Start task actor) = IsTask task × (actor < 2 ^ 32)
+IsShort (events.End task how) = IsTask task × IsEnd how
+
+abbrev pub AreShort : List Event → Type 0
+AreShort history = All IsShort history

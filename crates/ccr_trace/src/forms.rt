@@ -179,12 +179,7 @@ fn end(known: &Known<'_>, mut words: Cursor<'_>) -> Result<Event, Stop>
 }
 
 #[tactic(auto, unfolding(crate::specs::Forms::form_said))]
-fn form(
-    alloc: Global,
-    known: &Known<'_>,
-    first: &[u8],
-    words: Cursor<'_>,
-) -> Result<Event, Stop>
+fn form(alloc: Global, known: &Known<'_>, first: &[u8], words: Cursor<'_>) -> Result<Event, Stop>
     ensures { Gives result (event_of known.now (form_said first.now words.entry)) }
 {
     if is_text(first, "post") {

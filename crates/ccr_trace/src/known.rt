@@ -28,10 +28,7 @@ fn port_names<'w>(alloc: Global, ports: &'w [Name]) -> Result<Vec<&'w [u8]>, Out
     Ok(names)
 }
 
-fn cause_names<'w>(
-    alloc: Global,
-    parts: &'w [CausePart],
-) -> Result<Vec<&'w [u8]>, OutOfMemory>
+fn cause_names<'w>(alloc: Global, parts: &'w [CausePart]) -> Result<Vec<&'w [u8]>, OutOfMemory>
     ensures { IfOk result (λ names. map (λ name. name.now) names.items ≡ map (λ part. part.name) parts.now) }
 {
     let mut names = Vec::new(alloc);
@@ -41,10 +38,7 @@ fn cause_names<'w>(
     Ok(names)
 }
 
-fn add_branches<'w>(
-    names: &mut Vec<&'w [u8]>,
-    arbiter: &'w ArbiterPart,
-) -> Result<(), OutOfMemory>
+fn add_branches<'w>(names: &mut Vec<&'w [u8]>, arbiter: &'w ArbiterPart) -> Result<(), OutOfMemory>
     ensures { OnOk result (map (λ name. name.now) names.new.items ≡ map (λ name. name.now) names.old.items ++ branch_names_of arbiter.now) }
 {
     for part in arbiter.branches.as_slice() {

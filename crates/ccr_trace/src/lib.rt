@@ -16,7 +16,7 @@ mod stop;
 mod words;
 mod writing;
 
-pub use laws::lines_are_read_exactly;
+pub use laws::{lines_are_read_exactly, what_is_read_is_written, what_is_written_is_read};
 pub use names::branch_names;
 pub use reading::{ReadHistory, read_history};
 pub use refused::HistoryRefused;

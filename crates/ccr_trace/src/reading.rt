@@ -118,11 +118,7 @@ fn read_lines(
     read_from(alloc, known, lines)
 }
 
-fn read_text(
-    alloc: Global,
-    wiring: &Wiring,
-    text: &[u8],
-) -> Result<ReadHistory, HistoryRefused>
+fn read_text(alloc: Global, wiring: &Wiring, text: &[u8]) -> Result<ReadHistory, HistoryRefused>
     requires { length text.now ≤ 33554432 }
     ensures { IsReading result (reading wiring.now text.now) }
 {

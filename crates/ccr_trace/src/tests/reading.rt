@@ -32,14 +32,12 @@ fn refusal_behind(alloc: Global, wiring: &Wiring, lines: &str) -> (u32, u8) {
 
 /// Each text is refused at that line with that code.
 fn are_refused(alloc: Global, wiring: &Wiring, rows: &[(&str, u32, u8)]) -> bool {
-    rows.iter()
-        .all(|(text, line, code)| refusal(alloc, wiring, text.as_bytes()) == (*line, *code))
+    rows.iter().all(|(text, line, code)| refusal(alloc, wiring, text.as_bytes()) == (*line, *code))
 }
 
 /// The same of lines behind the line `history 1`.
 fn are_refused_behind(alloc: Global, wiring: &Wiring, rows: &[(&str, u32, u8)]) -> bool {
-    rows.iter()
-        .all(|(lines, line, code)| refusal_behind(alloc, wiring, lines) == (*line, *code))
+    rows.iter().all(|(lines, line, code)| refusal_behind(alloc, wiring, lines) == (*line, *code))
 }
 
 #[test]
@@ -114,7 +112,11 @@ fn fires(rt: HostRuntime) -> Result<(), Fail> {
             rt.alloc(),
             &wiring,
             &[
-                ("fire t1.0 x s0.0 t1.0.0 cut t1.0 t1.1\nfire t1.0 x@0 s0.0\nreport 1\n", 0, 0),
+                (
+                    "fire t1.0 x s0.0 t1.0.0 cut t1.0 t1.1\nfire t1.0 x@0 s0.0\nreport 1\n",
+                    0,
+                    0
+                ),
                 ("fire t1.0 x\n", 2, 1),
                 ("fire t1.0 x cut t1.0\n", 2, 1),
                 ("fire t1.0 x s0.0 cut\n", 2, 1),

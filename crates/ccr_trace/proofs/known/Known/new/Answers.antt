@@ -25,7 +25,8 @@ of-requires-3-clause-few c =
     omega (arith, names, few, length-branch_names c.args.wiring.now)
 
 pub invariant_of-result : goal.invariant_of-result
-invariant_of-result c =
-    (rw (c.in_ok-ports.ensures, c.deref.ensures.value, c.in_ok-names.ensures, c.as_slice.ensures, c.parts-parts.ensures.parts) refl,
-    rw (c.in_ok-causes.ensures, c.deref-2.ensures.value, c.in_ok-names-2.ensures, c.as_slice-2.ensures, c.parts-parts.ensures.parts) refl,
-    rw (c.in_ok-branches.ensures, c.deref-3.ensures.value, c.in_ok-names-3.ensures, c.parts-parts.ensures.parts) refl)
+invariant_of-result c = (
+  rw (c.in_ok-ports.ensures, c.deref.ensures.value, c.in_ok-names.ensures, c.as_slice.ensures, c.parts-parts.ensures.parts) refl,
+  rw (c.in_ok-causes.ensures, c.deref-2.ensures.value, c.in_ok-names-2.ensures, c.as_slice-2.ensures, c.parts-parts.ensures.parts) refl,
+  rw (c.in_ok-branches.ensures, c.deref-3.ensures.value, c.in_ok-names-3.ensures, c.parts-parts.ensures.parts) refl,
+)

@@ -1,0 +1,77 @@
+-- Names by their numbers, and numbers by their names.
+use Rattle.std.proofs.Common.{◌≡◌, ℕ, zero, suc, ◌+◌, ◌<◌, Bool, true, false, cond, List, [], ◌∷◌, length, Option, Some, None, refl, sym, ap, ◌∙◌, arith}
+use Rattle.std.specs.Prelude.{◌||◌, not, nat_lt}
+use Rattle.std.specs.List.{list_any, position_or_len}
+use Rattle.std.specs.Str.{bytes_eq}
+use Rattle.std.proofs.lemmas.Bool.Decides.{nat_tests}
+use Rattle.ccr_text.specs.Words.{is_name_of}
+use Rattle.ccr_wiring.specs.Names.{has_name, has_repeated}
+use Rattle.ccr_trace.specs.Words.{name_at}
+use Rattle.ccr_trace.specs.Said.{IsName}
+use Rattle.ccr_trace.specs.Known.{number_in}
+use Rattle.ccr_trace.proofs.Steps.{some_is, same_word, same_text}
+
+neither : (a b : Bool) → (a || b) ≡ false → (a ≡ false) × (b ≡ false)
+neither true b e = absurd cc
+neither false b e = (refl, e)
+
+abbrev place_of : List (List ℕ) → List ℕ → ℕ
+place_of names word = position_or_len (λ name. bytes_eq word name) names
+
+here : (name : List ℕ) (names : List (List ℕ)) (word : List ℕ) → bytes_eq word name ≡ true → place_of (name ∷ names) word ≡ 0
+here name names word e = rw e refl
+
+later : (name : List ℕ) (names : List (List ℕ)) (word : List ℕ) → bytes_eq word name ≡ false → place_of (name ∷ names) word ≡ suc (place_of names word)
+later name names word e = rw e (omega arith)
+
+-- the name at the place where it is found
+found_at : (names : List (List ℕ)) (word : List ℕ) → place_of names word < length names → name_at names (place_of names word) ≡ word
+found_at [] word below = absurd (omega arith)
+found_at (name ∷ names) word below = by (bytes_eq word name) refl (found_at names word)
+  where
+    by : (t : Bool) → bytes_eq word name ≡ t → (place_of names word < length names → name_at names (place_of names word) ≡ word) → name_at (name ∷ names) (place_of (name ∷ names) word) ≡ word
+    by true is next = ap (name_at (name ∷ names)) (here name names word is) ∙ sym (same_word word name is)
+    by false is next =
+        let place = later name names word is in
+        ap (name_at (name ∷ names)) place ∙ next (omega arith)
+
+number_of_place : (p count n : ℕ) → cond (nat_lt p count) (Some p) None ≡ Some n → (p ≡ n) × (p < count)
+number_of_place p count n e = by (nat_lt p count) refl e
+  where
+    by : (t : Bool) → nat_lt p count ≡ t → cond t (Some p) None ≡ Some n → (p ≡ n) × (p < count)
+    by false is e' = absurd cc
+    by true is e' = (some_is p n e', grind (arith, nat_tests, is))
+
+-- a number that is found is that of the name
+pub name_at-number : (names : List (List ℕ)) (word : List ℕ) (n : ℕ) → number_in names word ≡ Some n → name_at names n ≡ word
+name_at-number names word n e =
+    let place = number_of_place (place_of names word) (length names) n e in
+    ap (name_at names) (sym place.0) ∙ found_at names word place.1
+
+other_at : (names : List (List ℕ)) (n : ℕ) (name : List ℕ) → n < length names → has_name names name ≡ false → bytes_eq (name_at names n) name ≡ false
+other_at [] n name below none = absurd (omega arith)
+other_at (x ∷ names) zero name below none = (neither (bytes_eq x name) (has_name names name) none).0
+other_at (x ∷ names) (suc n) name below none = other_at names n name (omega arith) (neither (bytes_eq x name) (has_name names name) none).1
+
+place_again : (names : List (List ℕ)) (n : ℕ) → has_repeated names ≡ false → n < length names → place_of names (name_at names n) ≡ n
+place_again [] n apart below = absurd (omega arith)
+place_again (x ∷ names) zero apart below = here x names x (same_text x)
+place_again (x ∷ names) (suc n) apart below =
+    let parts = neither (has_name names x) (has_repeated names) apart in
+    later x names (name_at names n) (other_at names n x (omega arith) parts.0) ∙ ap suc (place_again names n parts.1 (omega arith))
+
+-- where the names differ, the number is found by its name
+pub number_in-name : (names : List (List ℕ)) (n : ℕ) → has_repeated names ≡ false → n < length names → number_in names (name_at names n) ≡ Some n
+number_in-name names n apart below =
+    let within : nat_lt n (length names) ≡ true = grind (arith, nat_tests, below) in
+    rw (place_again names n apart below, within) refl
+
+-- the name is of the form of a name
+pub name_formed : (names : List (List ℕ)) (n : ℕ) → list_any (λ name. not (is_name_of name)) names ≡ false → n < length names → IsName (name_at names n)
+name_formed [] n none below = absurd (omega arith)
+name_formed (x ∷ names) zero none below = formed (is_name_of x) refl (neither (not (is_name_of x)) _ none).0
+  where
+    formed : (t : Bool) → is_name_of x ≡ t → not (is_name_of x) ≡ false → is_name_of x ≡ true
+    formed true is e = is
+    formed false is e = absurd (let clash : true ≡ false = ap not (sym is) ∙ e in cc)
+name_formed (x ∷ names) (suc n) none below = name_formed names n (neither (not (is_name_of x)) (list_any (λ name. not (is_name_of name)) names) none).1 (omega arith)
