@@ -30,139 +30,117 @@ fn refusal_behind(alloc: Global, wiring: &Wiring, lines: &str) -> (u32, u8) {
     refusal(alloc, wiring, &text)
 }
 
-/// Each text is refused at that line with that code.
-fn are_refused(alloc: Global, wiring: &Wiring, rows: &[(&str, u32, u8)]) -> bool {
-    rows.iter().all(|(text, line, code)| refusal(alloc, wiring, text.as_bytes()) == (*line, *code))
-}
-
-/// The same of lines behind the line `history 1`.
-fn are_refused_behind(alloc: Global, wiring: &Wiring, rows: &[(&str, u32, u8)]) -> bool {
-    rows.iter().all(|(lines, line, code)| refusal_behind(alloc, wiring, lines) == (*line, *code))
-}
-
 #[test]
 fn first_and_last_lines(rt: HostRuntime) -> Result<(), Fail> {
     let wiring = wiring(rt.alloc())?;
-    assert!(rt;
-        are_refused(
-            rt.alloc(),
-            &wiring,
-            &[
-                ("", 1, 3),
-                ("\n", 1, 1),
-                ("history 1", 1, 1),
-                ("history 01\n", 1, 1),
-                ("history 2\n", 1, 1),
-                ("report 1\n", 1, 1),
-                ("admit t1.0\nreport 1\n", 1, 1),
-                ("history 1\n", 1, 3),
-                ("history 1\nhistory 1\n", 2, 1),
-                ("history 1\nreport 1", 2, 1),
-                ("history 1\nreport 1 \n", 2, 1),
-                ("history 1\nreport 1\n", 0, 0),
-                ("history 1\nreport 1\n\0\n\n", 0, 0),
-                ("history 1\nadmit t1.0", 2, 1),
-                ("history 1\nadmit t1.0\n", 2, 3),
-                ("history 1\nadmit t1.0\n\nreport 1\n", 3, 1),
-                ("history 1\npost s0.0 c 7\npost\nreport 1\n", 2, 2),
-            ]
-        )
-    );
+    for (text, line, code) in [
+        ("", 1, 3),
+        ("\n", 1, 1),
+        ("history 1", 1, 1),
+        ("history 01\n", 1, 1),
+        ("history 2\n", 1, 1),
+        ("report 1\n", 1, 1),
+        ("admit t1.0\nreport 1\n", 1, 1),
+        ("history 1\n", 1, 3),
+        ("history 1\nhistory 1\n", 2, 1),
+        ("history 1\nreport 1", 2, 1),
+        ("history 1\nreport 1 \n", 2, 1),
+        ("history 1\nreport 1\n", 0, 0),
+        ("history 1\nreport 1\n\0\n\n", 0, 0),
+        ("history 1\nadmit t1.0", 2, 1),
+        ("history 1\nadmit t1.0\n", 2, 3),
+        ("history 1\nadmit t1.0\n\nreport 1\n", 3, 1),
+        ("history 1\npost s0.0 c 7\npost\nreport 1\n", 2, 2),
+    ] {
+        let found = refusal(rt.alloc(), &wiring, text.as_bytes());
+        assert!(rt; found == (line, code), "{text:?}");
+    }
     Ok(())
 }
 
 #[test]
 fn posts(rt: HostRuntime) -> Result<(), Fail> {
     let wiring = wiring(rt.alloc())?;
-    assert!(rt;
-        are_refused_behind(
-            rt.alloc(),
-            &wiring,
-            &[
-                ("post s0.0 a 7 k k\npost t0.0.0 b 0\nreport 1\n", 0, 0),
-                ("post s0.0 a 07\n", 2, 1),
-                ("post s0.0 a 18446744073709551616\n", 2, 1),
-                ("post s00.0 a 7\n", 2, 1),
-                ("post s0.4294967296 a 7\n", 2, 1),
-                ("post s0.0.0 a 7\n", 2, 1),
-                ("post t0.0 a 7\n", 2, 1),
-                ("post u0.0 a 7\n", 2, 1),
-                ("post s0.0 a\n", 2, 1),
-                ("post s0.0  a 7\n", 2, 1),
-                ("post s0.0 a 7 \n", 2, 1),
-                ("post s0.0 a 7\r\n", 2, 1),
-                ("post s0.0 c 7\n", 2, 2),
-                ("post s0.0 k 7\n", 2, 2),
-                ("post s0.0 a 7 k b\n", 2, 2),
-                ("post s0.0 c 07\n", 2, 1),
-                ("post s0.0 c 7 +\n", 2, 1),
-                ("post s0.0 9 7\n", 2, 1),
-                ("post s0.0 aaaaaaaaaaaaaaaaa 7\n", 2, 1),
-            ]
-        )
-    );
+    for (text, line, code) in [
+        ("post s0.0 a 7 k k\npost t0.0.0 b 0\nreport 1\n", 0, 0),
+        ("post s0.0 a 07\n", 2, 1),
+        ("post s0.0 a 18446744073709551616\n", 2, 1),
+        ("post s00.0 a 7\n", 2, 1),
+        ("post s0.4294967296 a 7\n", 2, 1),
+        ("post s0.0.0 a 7\n", 2, 1),
+        ("post t0.0 a 7\n", 2, 1),
+        ("post u0.0 a 7\n", 2, 1),
+        ("post s0.0 a\n", 2, 1),
+        ("post s0.0  a 7\n", 2, 1),
+        ("post s0.0 a 7 \n", 2, 1),
+        ("post s0.0 a 7\r\n", 2, 1),
+        ("post s0.0 c 7\n", 2, 2),
+        ("post s0.0 k 7\n", 2, 2),
+        ("post s0.0 a 7 k b\n", 2, 2),
+        ("post s0.0 c 07\n", 2, 1),
+        ("post s0.0 c 7 +\n", 2, 1),
+        ("post s0.0 9 7\n", 2, 1),
+        ("post s0.0 aaaaaaaaaaaaaaaaa 7\n", 2, 1),
+    ] {
+        let found = refusal_behind(rt.alloc(), &wiring, text);
+        assert!(rt; found == (line, code), "{text:?}");
+    }
     Ok(())
 }
 
 #[test]
 fn fires(rt: HostRuntime) -> Result<(), Fail> {
     let wiring = wiring(rt.alloc())?;
-    assert!(rt;
-        are_refused_behind(
-            rt.alloc(),
-            &wiring,
-            &[
-                (
-                    "fire t1.0 x s0.0 t1.0.0 cut t1.0 t1.1\nfire t1.0 x@0 s0.0\nreport 1\n",
-                    0,
-                    0
-                ),
-                ("fire t1.0 x\n", 2, 1),
-                ("fire t1.0 x cut t1.0\n", 2, 1),
-                ("fire t1.0 x s0.0 cut\n", 2, 1),
-                ("fire t1.0 x s0.0 cut s0.0\n", 2, 1),
-                ("fire t1.0 x t1.0\n", 2, 1),
-                ("fire s1.0 x s0.0\n", 2, 1),
-                ("fire t1.0 y s0.0\n", 2, 2),
-                ("fire t1.0 x@1 s0.0\n", 2, 2),
-                ("fire t1.0 x@4294967295 s0.0\n", 2, 2),
-                ("fire t1.0 x@4294967296 s0.0\n", 2, 1),
-                ("fire t1.0 x@00 s0.0\n", 2, 1),
-                ("fire t1.0 x@ s0.0\n", 2, 1),
-                ("fire t1.0 x@0@0 s0.0\n", 2, 1),
-                ("fire t1.0 @0 s0.0\n", 2, 1),
-                ("fire t1.0 y@0 s0.0 t1.0\n", 2, 1),
-            ]
-        )
-    );
+    for (text, line, code) in [
+        (
+            "fire t1.0 x s0.0 t1.0.0 cut t1.0 t1.1\nfire t1.0 x@0 s0.0\nreport 1\n",
+            0,
+            0,
+        ),
+        ("fire t1.0 x\n", 2, 1),
+        ("fire t1.0 x cut t1.0\n", 2, 1),
+        ("fire t1.0 x s0.0 cut\n", 2, 1),
+        ("fire t1.0 x s0.0 cut s0.0\n", 2, 1),
+        ("fire t1.0 x t1.0\n", 2, 1),
+        ("fire s1.0 x s0.0\n", 2, 1),
+        ("fire t1.0 y s0.0\n", 2, 2),
+        ("fire t1.0 x@1 s0.0\n", 2, 2),
+        ("fire t1.0 x@4294967295 s0.0\n", 2, 2),
+        ("fire t1.0 x@4294967296 s0.0\n", 2, 1),
+        ("fire t1.0 x@00 s0.0\n", 2, 1),
+        ("fire t1.0 x@ s0.0\n", 2, 1),
+        ("fire t1.0 x@0@0 s0.0\n", 2, 1),
+        ("fire t1.0 @0 s0.0\n", 2, 1),
+        ("fire t1.0 y@0 s0.0 t1.0\n", 2, 1),
+    ] {
+        let found = refusal_behind(rt.alloc(), &wiring, text);
+        assert!(rt; found == (line, code), "{text:?}");
+    }
     Ok(())
 }
 
 #[test]
 fn tasks(rt: HostRuntime) -> Result<(), Fail> {
     let wiring = wiring(rt.alloc())?;
-    assert!(rt;
-        are_refused_behind(
-            rt.alloc(),
-            &wiring,
-            &[
-                ("admit\n", 2, 1),
-                ("admit t1.0 t1.1\n", 2, 1),
-                ("Admit t1.0\n", 2, 1),
-                ("put t1.0 drop\n", 2, 1),
-                ("put t1.0 cut t1.1\n", 2, 1),
-                ("put t1.0 drop t1.1 t1.2\n", 2, 1),
-                ("start t1.0\n", 2, 1),
-                ("start t1.0 4294967296\n", 2, 1),
-                ("start t1.0 1 1\n", 2, 1),
-                ("end t1.0\n", 2, 1),
-                ("end t1.0 lost\n", 2, 1),
-                ("end t1.0 done 0\n", 2, 1),
-                ("end t1.0 failed\n", 2, 1),
-                ("end t1.0 failed 00\n", 2, 1),
-            ]
-        )
-    );
+    for (text, line, code) in [
+        ("admit\n", 2, 1),
+        ("admit t1.0 t1.1\n", 2, 1),
+        ("Admit t1.0\n", 2, 1),
+        ("put t1.0 drop\n", 2, 1),
+        ("put t1.0 cut t1.1\n", 2, 1),
+        ("put t1.0 drop t1.1 t1.2\n", 2, 1),
+        ("start t1.0\n", 2, 1),
+        ("start t1.0 4294967296\n", 2, 1),
+        ("start t1.0 1 1\n", 2, 1),
+        ("end t1.0\n", 2, 1),
+        ("end t1.0 lost\n", 2, 1),
+        ("end t1.0 done 0\n", 2, 1),
+        ("end t1.0 failed\n", 2, 1),
+        ("end t1.0 failed 00\n", 2, 1),
+    ] {
+        let found = refusal_behind(rt.alloc(), &wiring, text);
+        assert!(rt; found == (line, code), "{text:?}");
+    }
     Ok(())
 }
 
