@@ -30,7 +30,7 @@ pub enum MsgId {
 }
 
 /// Where a firing happens: a branch, or an await site (from 0) of a branch.
-#[derive(Clone, Copy, Debug, PartialEq, Eq)]
+#[derive(Clone, Copy, Debug, PartialEq, Eq, Hash)]
 pub enum Spot {
     Branch(BranchNo),
     Site(BranchNo, u32),
