@@ -50,10 +50,8 @@ pub fn choose<T: Seen>(
     Ok(Some(List::from_vec(places)))
 }
 
-/// Whether `choose` answers places. It takes no memory.
+/// Whether `choose` answers places. It takes no memory and has no condition.
 pub fn can_choose<T: Seen>(items: &[T], slot: &Slot) -> bool
-    requires ordered { slot.now.least ≤ slot.now.most }
-    requires fits { length items.now < 2 ^ 32 }
     ensures { result ≡ is_choosable slot.now (T.seen items.now) }
 {
     let mut left = slot.least;

@@ -28,19 +28,9 @@ use Rattle.ccr_model.specs.Rules.{may_enter, may_put}
 use Rattle.ccr_model.specs.Order.{first, post_from, fire_at, fire_from, admit_first, admit_from, put_first, start_from}
 use Rattle.ccr_model.specs.Legal.{IsQuiet}
 use Rattle.ccr_check.specs.Verdicts.{AllowsSome, MeansQuiet}
-use Rattle.ccr_check.specs.Left.{has_line_left, has_enough, can_take, can_fire, can_admit, has_admission, has_queued, is_still}
-
-is_some-or : {X : Type 0} (a b : Option X) → is_some (option_or a b) ≡ is_some a || is_some b
-is_some-or None b = refl
-is_some-or (Some x) b = refl
-
-is_some-map : {X Y : Type 0} (f : X → Y) (o : Option X) → is_some (option_map f o) ≡ is_some o
-is_some-map f None = refl
-is_some-map f (Some x) = refl
-
-is_some-if : {X : Type 0} (b : Bool) (o : Option X) → is_some (if b then o else None) ≡ b && is_some o
-is_some-if true o = refl
-is_some-if false o = refl
+use Rattle.ccr_model.specs.Enough.{can_fire}
+use Rattle.ccr_model.proofs.CanFire.{is_some-or, is_some-map, some_fire_at}
+use Rattle.ccr_check.specs.Left.{has_line_left, can_admit, has_admission, has_queued, is_still}
 
 is_some-get : {X : Type 0} (xs : List X) (k : ℕ) → is_some (slice_get xs k) ≡ nat_lt k (length xs)
 is_some-get [] k = grind (arith, nat_tests)
@@ -61,53 +51,6 @@ some_post h n [] = refl
 some_post h n (p ∷ ps) = rw (is_some-or, is_some-map, is_some-get, some_post h (n + 1) ps) refl
 
 -- a firing
-is_some-joined : (a b : Option (List Msg)) → is_some (joined a b) ≡ is_some a && is_some b
-is_some-joined None b = refl
-is_some-joined (Some x) None = refl
-is_some-joined (Some x) (Some y) = refl
-
-some_choice : (slot : Slot) (ms : List Msg) → is_some (choice slot ms) ≡ is_choosable slot ms
-some_choice slot ms = of_test (is_choosable slot ms) _
-  where
-    of_test : {X : Type 0} (b : Bool) (x : X) → is_some (if b then Some x else None) ≡ b
-    of_test true x = refl
-    of_test false x = refl
-
-some_choice_of_slots : (f : ℕ → List Msg) (slots : List Slot) → is_some (choice_of_slots f slots) ≡ list_all (λ (slot : Slot). is_choosable slot (f slot.port)) slots
-some_choice_of_slots f [] = refl
-some_choice_of_slots f (s ∷ slots) = rw (is_some-joined, some_choice s (f s.port), some_choice_of_slots f slots) refl
-
-some_gather : (n p q : ℕ) (a b : List Msg) → is_some (engine_gather n p q a b) ≡ nat_le n (length a + length b)
-some_gather n p q a b = of_tests (nat_lt (length a + length b) n) (nat_lt p q) _ _ ∙ grind (arith, nat_tests)
-  where
-    of_tests : {X : Type 0} (x y : Bool) (one other : X) → is_some (if x then None else if y then Some one else Some other) ≡ not x
-    of_tests true y one other = refl
-    of_tests false true one other = refl
-    of_tests false false one other = refl
-
-some_choice_of : (f : ℕ → List Msg) (p : Pattern) → is_some (engine_choice_of f p) ≡ has_enough f p
-some_choice_of f (Slots slots) = some_choice_of_slots f slots
-some_choice_of f (Gather total p q) = some_gather total p q (f p) (f q)
-
-some_oldest : (ms : List Msg) → is_some (oldest ms) ≡ nat_lt 0 (length ms)
-some_oldest [] = refl
-some_oldest (m ∷ ms) = grind (arith, nat_tests)
-
-some_choice_at : (w : Parts) (h : List Event) (s : Spot) → is_some (engine_choice w h s) ≡ can_take w h s
-some_choice_at w h (Branch b) = of_seat (seat w b)
-  where
-    of_seat : (o : Option Seat) → is_some (option_and_then (λ (s : Seat). engine_choice_of (held h) s.branch.pattern) o) ≡ option_map_or (λ (s : Seat). has_enough (held h) s.branch.pattern) o false
-    of_seat None = refl
-    of_seat (Some s) = some_choice_of (held h) s.branch.pattern
-some_choice_at w h (Site b k) = of_port (site_port w b k)
-  where
-    of_port : (o : Option ℕ) → is_some (option_and_then (λ port. oldest (held h port)) o) ≡ option_map_or (λ port. nat_lt 0 (length (held h port))) o false
-    of_port None = refl
-    of_port (Some port) = some_oldest (held h port)
-
-some_fire_at : (w : Parts) (c : ℕ) (h : List Event) (s : Spot) → is_some (fire_at w c h s) ≡ can_fire w h s
-some_fire_at w c h s = rw (is_some-if, is_some-map, some_choice_at w h s) refl
-
 some_fire : (w : Parts) (c : ℕ) (h : List Event) (ss : List Spot) → is_some (fire_from w c h ss) ≡ list_any (can_fire w h) ss
 some_fire w c h [] = refl
 some_fire w c h (s ∷ ss) = rw (is_some-or, some_fire_at w c h s, some_fire w c h ss) refl

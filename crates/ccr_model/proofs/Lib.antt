@@ -14,3 +14,4 @@ pub mod Segments
 pub mod ValidHandlers
 pub mod PlayPast
 pub mod FirstNames
+pub mod CanFire

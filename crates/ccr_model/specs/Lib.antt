@@ -5,6 +5,7 @@ pub mod TaskData
 pub mod Tasks
 pub mod Live
 pub mod Choice
+pub mod Enough
 pub mod Rules
 pub mod Legal
 pub mod Order

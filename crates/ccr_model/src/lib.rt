@@ -3,6 +3,7 @@
 
 pub mod choices;
 pub mod data;
+pub mod enough;
 pub mod firings;
 mod history;
 mod laws;

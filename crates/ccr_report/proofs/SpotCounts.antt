@@ -6,49 +6,40 @@ use Rattle.std.proofs.lemmas.List.{take_more, length-map}
 use Rattle.std.proofs.lemmas.Bool.Decides.{nat_tests}
 use Rattle.std.proofs.lemmas.Grind.{common_steps, flat_map-append}
 use Rattle.ccr_base.specs.declared.names.Spot.{Spot}
-use Rattle.ccr_base.specs.declared.names.Spot.TheVariants as spots
+use Rattle.ccr_base.specs.declared.names.Spot.TheVariants.{Branch, Site}
 use Rattle.ccr_base.specs.Names.{same_spot}
 use Rattle.ccr_model.specs.declared.history.Event.{Event}
 use Rattle.ccr_model.specs.declared.history.Event.TheVariants.{Post, Fire, Admit, Put, Start, End}
 use Rattle.ccr_model.specs.Firings.{Firing, firing_of, firings, fired_at}
-use Rattle.ccr_report.specs.declared.spots.SpotKey.{SpotKey}
-use Rattle.ccr_report.specs.declared.spots.SpotKey.TheVariants.{Branch, Site}
-use Rattle.ccr_report.specs.contracts.spots.SpotKeyPartialEq.TheImpl.{ghosts as keys}
-use Rattle.ccr_report.specs.SpotKeys.{key_of, same_key}
+use Rattle.ccr_base.specs.contracts.names.SpotPartialEq.TheImpl.{ghosts as spots}
 use Rattle.ccr_report.proofs.SameNames.{lookup_same}
 
--- the derived comparison of keys is the test of them
-pub derived_key : (a b : SpotKey) → keys.eq a b ≡ same_key a b
-derived_key (Branch b) (Branch c) = refl
-derived_key (Branch b) (Site c l) = refl
-derived_key (Site b k) (Branch c) = refl
-derived_key (Site b k) (Site c l) = refl
+-- the derived comparison of spots is the test of them
+pub derived_spot : (s t : Spot) → spots.eq s t ≡ same_spot s t
+derived_spot (Branch b) (Branch c) = refl
+derived_spot (Branch b) (Site c l) = refl
+derived_spot (Site b k) (Branch c) = refl
+derived_spot (Site b k) (Site c l) = refl
 
-pub same_key-true : (a b : SpotKey) → same_key a b ≡ true → a ≡ b
-same_key-true (Branch b) (Branch c) same = grind (arith, nat_tests, same)
-same_key-true (Branch b) (Site c l) same = cc
-same_key-true (Site b k) (Branch c) same = cc
-same_key-true (Site b k) (Site c l) same = grind (arith, nat_tests, same)
+pub same_spot-true : (s t : Spot) → same_spot s t ≡ true → s ≡ t
+same_spot-true (Branch b) (Branch c) same = grind (arith, nat_tests, same)
+same_spot-true (Branch b) (Site c l) same = cc
+same_spot-true (Site b k) (Branch c) same = cc
+same_spot-true (Site b k) (Site c l) same = grind (arith, nat_tests, same)
 
-pub same_key-spots : (s t : Spot) → same_key (key_of s) (key_of t) ≡ same_spot s t
-same_key-spots (spots.Branch b) (spots.Branch c) = refl
-same_key-spots (spots.Branch b) (spots.Site c l) = refl
-same_key-spots (spots.Site b k) (spots.Branch c) = refl
-same_key-spots (spots.Site b k) (spots.Site c l) = refl
-
--- the count of a key, after a firing at one key
-pub key_counted : (old new : List (SpotKey × ℕ)) (k q : SpotKey) (n : ℕ) → n ≡ unwrap_or (lookup (same_key k) old) 0 → lookup (keys.eq q) new ≡ cond (keys.eq k q) (Some (n + 1)) (lookup (keys.eq q) old) → unwrap_or (lookup (same_key q) new) 0 ≡ unwrap_or (lookup (same_key q) old) 0 + cond (same_key k q) 1 0
-key_counted old new k q n is updates =
-    let found : lookup (same_key q) new ≡ cond (same_key k q) (Some (n + 1)) (lookup (same_key q) old) =
-    sym (lookup_same (keys.eq q) (same_key q) (derived_key q) new)
+-- the count of a spot, after a firing at one spot
+pub spot_counted : (old new : List (Spot × ℕ)) (k q : Spot) (n : ℕ) → n ≡ unwrap_or (lookup (same_spot k) old) 0 → lookup (spots.eq q) new ≡ cond (spots.eq k q) (Some (n + 1)) (lookup (spots.eq q) old) → unwrap_or (lookup (same_spot q) new) 0 ≡ unwrap_or (lookup (same_spot q) old) 0 + cond (same_spot k q) 1 0
+spot_counted old new k q n is updates =
+    let found : lookup (same_spot q) new ≡ cond (same_spot k q) (Some (n + 1)) (lookup (same_spot q) old) =
+    sym (lookup_same (spots.eq q) (same_spot q) (derived_spot q) new)
     ∙ updates
-    ∙ ap (λ (b : Bool). cond b (Some (n + 1)) (lookup (keys.eq q) old)) (derived_key k q)
-    ∙ ap (λ (o : Option ℕ). cond (same_key k q) (Some (n + 1)) o) (lookup_same (keys.eq q) (same_key q) (derived_key q) old)
+    ∙ ap (λ (b : Bool). cond b (Some (n + 1)) (lookup (spots.eq q) old)) (derived_spot k q)
+    ∙ ap (λ (o : Option ℕ). cond (same_spot k q) (Some (n + 1)) o) (lookup_same (spots.eq q) (same_spot q) (derived_spot q) old)
     in
-    ap (λ (o : Option ℕ). unwrap_or o 0) found ∙ of_test (same_key k q) refl
+    ap (λ (o : Option ℕ). unwrap_or o 0) found ∙ of_test (same_spot k q) refl
   where
-    of_test : (b : Bool) → same_key k q ≡ b → unwrap_or (cond b (Some (n + 1)) (lookup (same_key q) old)) 0 ≡ unwrap_or (lookup (same_key q) old) 0 + cond b 1 0
-    of_test true same = ap (λ (m : ℕ). m + 1) (is ∙ ap (λ (key : SpotKey). unwrap_or (lookup (same_key key) old) 0) (same_key-true k q same))
+    of_test : (b : Bool) → same_spot k q ≡ b → unwrap_or (cond b (Some (n + 1)) (lookup (same_spot q) old)) 0 ≡ unwrap_or (lookup (same_spot q) old) 0 + cond b 1 0
+    of_test true same = ap (λ (m : ℕ). m + 1) (is ∙ ap (λ (spot : Spot). unwrap_or (lookup (same_spot spot) old) 0) (same_spot-true k q same))
     of_test false same = omega arith
 
 pub fired_at-append : (events more : List Event) (spot : Spot) → length (fired_at (events ++ more) spot) ≡ length (fired_at events spot) + length (fired_at more spot)

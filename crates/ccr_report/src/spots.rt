@@ -5,32 +5,15 @@ ghost use Rattle.std.specs.HashMap.{get};
 ghost use Rattle.ccr_base.specs.declared.names.Spot.{Spot as Place};
 ghost use Rattle.ccr_base.specs.Names.{same_spot};
 ghost use Rattle.ccr_model.specs.Firings.{fired_at};
-ghost use Rattle.ccr_report.specs.SpotKeys.{key_of, same_key};
 
-use ccr_base::{BranchNo, OutOfMemory, Spot};
+use ccr_base::{OutOfMemory, Spot};
 use ccr_model::Event;
 use std::alloc::Global;
 use std::collections::HashMap;
 
-/// A spot, as the key of a table.
-#[derive(Clone, Copy, Debug, PartialEq, Eq, Hash)]
-pub enum SpotKey {
-    Branch(BranchNo),
-    Site(BranchNo, u32),
-}
-
-fn key_of(spot: Spot) -> SpotKey
-    ensures { result ≡ key_of spot }
-{
-    match spot {
-        Spot::Branch(branch) => SpotKey::Branch(branch),
-        Spot::Site(branch, site) => SpotKey::Site(branch, site),
-    }
-}
-
 /// How often each spot fired.
-pub fn firings_at(alloc: Global, events: &[Event]) -> Result<HashMap<SpotKey, u64>, OutOfMemory>
-    ensures { IfOk result (λ counts. (spot : Place) → unwrap_or (get same_key counts (key_of spot)) 0 ≡ length (fired_at events.now spot)) }
+pub fn firings_at(alloc: Global, events: &[Event]) -> Result<HashMap<Spot, u64>, OutOfMemory>
+    ensures { IfOk result (λ counts. (spot : Place) → unwrap_or (get same_spot counts spot) 0 ≡ length (fired_at events.now spot)) }
 {
     let mut counts = HashMap::new(alloc);
     for event in events {
@@ -39,9 +22,9 @@ pub fn firings_at(alloc: Global, events: &[Event]) -> Result<HashMap<SpotKey, u6
     Ok(counts)
 }
 
-fn count_event(counts: &mut HashMap<SpotKey, u64>, event: &Event) -> Result<(), OutOfMemory>
-    requires { (spot : Place) → unwrap_or (get same_key counts.old (key_of spot)) 0 < 2 ^ 64 - 1 }
-    ensures { OnOk result ((spot : Place) → unwrap_or (get same_key counts.new (key_of spot)) 0 ≡ unwrap_or (get same_key counts.old (key_of spot)) 0 + length (fired_at (event.now ∷ []) spot)) }
+fn count_event(counts: &mut HashMap<Spot, u64>, event: &Event) -> Result<(), OutOfMemory>
+    requires { (spot : Place) → unwrap_or (get same_spot counts.old spot) 0 < 2 ^ 64 - 1 }
+    ensures { OnOk result ((spot : Place) → unwrap_or (get same_spot counts.new spot) 0 ≡ unwrap_or (get same_spot counts.old spot) 0 + length (fired_at (event.now ∷ []) spot)) }
 {
     match event {
         Event::Fire { spot, .. } => count_spot(counts, *spot),
@@ -49,19 +32,18 @@ fn count_event(counts: &mut HashMap<SpotKey, u64>, event: &Event) -> Result<(), 
     }
 }
 
-fn count_spot(counts: &mut HashMap<SpotKey, u64>, spot: Spot) -> Result<(), OutOfMemory>
-    requires { (other : Place) → unwrap_or (get same_key counts.old (key_of other)) 0 < 2 ^ 64 - 1 }
-    ensures { OnOk result ((other : Place) → unwrap_or (get same_key counts.new (key_of other)) 0 ≡ unwrap_or (get same_key counts.old (key_of other)) 0 + (if same_spot spot other then 1 else 0)) }
+fn count_spot(counts: &mut HashMap<Spot, u64>, spot: Spot) -> Result<(), OutOfMemory>
+    requires { (other : Place) → unwrap_or (get same_spot counts.old other) 0 < 2 ^ 64 - 1 }
+    ensures { OnOk result ((other : Place) → unwrap_or (get same_spot counts.new other) 0 ≡ unwrap_or (get same_spot counts.old other) 0 + (if same_spot spot other then 1 else 0)) }
 {
-    let key = key_of(spot);
     let count = count_at(counts, spot);
-    counts.insert(key, count + 1)?;
+    counts.insert(spot, count + 1)?;
     Ok(())
 }
 
 /// How often the spot fired.
-pub fn count_at(counts: &HashMap<SpotKey, u64>, spot: Spot) -> u64
-    ensures { result ≡ unwrap_or (get same_key counts.now (key_of spot)) 0 }
+pub fn count_at(counts: &HashMap<Spot, u64>, spot: Spot) -> u64
+    ensures { result ≡ unwrap_or (get same_spot counts.now spot) 0 }
 {
-    counts.get(&key_of(spot)).copied().unwrap_or(0)
+    counts.get(&spot).copied().unwrap_or(0)
 }

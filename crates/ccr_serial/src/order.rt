@@ -14,8 +14,8 @@ use crate::choice::engine_choice;
 use ccr_base::{ActorNo, List, Msg, MsgId, OutOfMemory, Sent, Spot, TaskId};
 use ccr_handler::PlayEnd;
 use ccr_model::data::play_of;
+use ccr_model::enough::can_fire;
 use ccr_model::firings::fired;
-use ccr_model::live::{has_room, is_live};
 use ccr_model::posts::{posts_of_poster, posts_of_task};
 use ccr_model::rules::{cuts_at, drop_at, has_budget, may_enter, may_put};
 use ccr_model::tasks::{queued, running, waiting};
@@ -101,7 +101,7 @@ fn fire_at(
     requires attempts { next_attempt closer (fired events.now) < 2 ^ 32 }
     ensures { IfOk result (λ event. event ≡ fire_at wiring.now closer events.now spot) }
 {
-    if !is_live(alloc, wiring, events, spot)? || !has_room(alloc, wiring, events, spot)? {
+    if !can_fire(alloc, wiring, events, spot)? {
         return Ok(None);
     }
     let Some(messages) = engine_choice(alloc, wiring, events, spot)? else {

@@ -3,8 +3,8 @@ use Rattle.std.specs.Prelude.{unwrap_or}
 use Rattle.std.specs.HashMap.{get}
 use Rattle.ccr_base.specs.declared.names.Spot.{Spot}
 use Rattle.ccr_model.specs.Firings.{fired_at}
-use Rattle.ccr_report.specs.SpotKeys.{key_of, same_key}
+use Rattle.ccr_base.specs.Names.{same_spot}
 use Rattle.ccr_report.proofs.spots.firings_at.Given as goal
 
 abbrev pub invariant-loop-event : goal.invariant-loop-event
-invariant-loop-event l = (spot : Spot) → unwrap_or (get same_key l.counts (key_of spot)) 0 ≡ length (fired_at (take l.event-index l.events) spot)
+invariant-loop-event l = (spot : Spot) → unwrap_or (get same_spot l.counts spot) 0 ≡ length (fired_at (take l.event-index l.events) spot)

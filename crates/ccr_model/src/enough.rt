@@ -1,0 +1,81 @@
+//! Which spots can fire now.
+
+ghost use Rattle.std.specs.Prelude.{◌≡◌, IfOk};
+ghost use Rattle.std.specs.List.{list_all};
+ghost use Rattle.ccr_base.specs.Choice.{is_choosable};
+ghost use Rattle.ccr_model.specs.Posts.{held};
+ghost use Rattle.ccr_model.specs.Enough.{can_fire, can_take, has_enough};
+
+use crate::Event;
+use crate::live::{has_room, is_live};
+use crate::posts::held;
+use crate::seats::{seat, site_port};
+use ccr_base::{OutOfMemory, Pattern, Slot, Spot, can_choose};
+use ccr_wiring::Wiring;
+use std::alloc::Global;
+
+/// Whether each slot has enough in its port.
+fn all_can_choose(alloc: Global, events: &[Event], slots: &[Slot]) -> Result<bool, OutOfMemory>
+    ensures { IfOk result (λ all. all ≡ list_all (λ slot. is_choosable slot (held events.now slot.port)) slots.now) }
+{
+    for slot in slots {
+        if !can_choose(&held(alloc, events, slot.port)?, slot) {
+            return Ok(false);
+        }
+    }
+    Ok(true)
+}
+
+/// Whether the ports hold enough for the pattern.
+fn has_enough(alloc: Global, events: &[Event], pattern: &Pattern) -> Result<bool, OutOfMemory>
+    ensures { IfOk result (λ enough. enough ≡ has_enough (held events.now) pattern.now) }
+{
+    match pattern {
+        Pattern::Slots(slots) => all_can_choose(alloc, events, slots.as_slice()),
+        Pattern::Gather {
+            total,
+            first,
+            second,
+        } => {
+            let of_first = held(alloc, events, *first)?.len();
+            let of_second = held(alloc, events, *second)?.len();
+            Ok((*total as usize).saturating_sub(of_first) <= of_second)
+        }
+    }
+}
+
+/// Whether there is something for the spot to take.
+fn can_take(
+    alloc: Global,
+    wiring: &Wiring,
+    events: &[Event],
+    spot: Spot,
+) -> Result<bool, OutOfMemory>
+    ensures { IfOk result (λ can. can ≡ can_take wiring.now events.now spot) }
+{
+    match spot {
+        Spot::Branch(branch) => match seat(wiring, branch) {
+            Some(seat) => has_enough(alloc, events, &seat.branch.pattern),
+            None => Ok(false),
+        },
+        Spot::Site(branch, site) => match site_port(wiring, branch, site) {
+            Some(port) => Ok(!held(alloc, events, port)?.is_empty()),
+            None => Ok(false),
+        },
+    }
+}
+
+/// Whether the spot can fire: it is live, its queue has room, and there is something for it to take.
+pub fn can_fire(
+    alloc: Global,
+    wiring: &Wiring,
+    events: &[Event],
+    spot: Spot,
+) -> Result<bool, OutOfMemory>
+    ensures { IfOk result (λ can. can ≡ can_fire wiring.now events.now spot) }
+{
+    if !is_live(alloc, wiring, events, spot)? || !has_room(alloc, wiring, events, spot)? {
+        return Ok(false);
+    }
+    can_take(alloc, wiring, events, spot)
+}
