@@ -1,9 +1,8 @@
 -- The event that comes first is allowed.
-use Rattle.std.proofs.Common.{◌≡◌, ℕ, zero, suc, ◌+◌, ◌-◌, ◌<◌, ◌≤◌, ◌⊎◌, inl, inr, Bool, true, false, not, ◌&&◌, ◌||◌, List, [], ◌∷◌, ◌++◌, length, map, filter, flat_map, take, min, max, length-append, length-take, Option, Some, None, refl, sym, arith, ap, ◌∙◌, subst, append-nil}
+use Rattle.std.proofs.Common.{◌≡◌, ℕ, zero, suc, ◌+◌, ◌-◌, ◌<◌, ◌≤◌, ◌⊎◌, inl, inr, Bool, true, false, ◌&&◌, ◌||◌, List, [], ◌∷◌, ◌++◌, length, map, filter, flat_map, take, min, length-append, length-take, Option, Some, None, refl, sym, arith, subst, append-nil}
 use Rattle.std.specs.Prelude.{◌==◌, if◌then◌else◌, find, nat_lt, nat_le, option_map, option_and_then, IfSome}
 use Rattle.std.specs.List.{slice_get, list_any}
 use Rattle.std.specs.Option.{option_map_or, option_or}
-use Rattle.std.proofs.lemmas.Grind.{common_steps}
 use Rattle.std.proofs.lemmas.Bool.Decides.{nat_tests}
 use Rattle.ccr_base.specs.declared.names.TaskId.{TaskId}
 use Rattle.ccr_base.specs.declared.names.MsgId.{MsgId}
@@ -14,7 +13,6 @@ use Rattle.ccr_base.specs.declared.patterns.Pattern.{Pattern}
 use Rattle.ccr_base.specs.declared.patterns.Pattern.TheVariants.{Slots, Gather}
 use Rattle.ccr_base.specs.declared.names.Spot.{Spot}
 use Rattle.ccr_base.specs.declared.names.Spot.TheVariants.{Branch, Site}
-use Rattle.ccr_handler.specs.declared.segments.Play.{Play}
 use Rattle.ccr_handler.specs.declared.segments.PlayEnd.{PlayEnd}
 use Rattle.ccr_handler.specs.declared.segments.PlayEnd.TheVariants as plays
 use Rattle.ccr_wiring.specs.declared.parts.Parts.{Parts}
@@ -23,22 +21,21 @@ use Rattle.ccr_wiring.specs.declared.parts.ArbiterPart.{ArbiterPart}
 use Rattle.ccr_wiring.specs.declared.parts.QueuePart.{QueuePart}
 use Rattle.ccr_model.specs.declared.history.Event.{Event}
 use Rattle.ccr_model.specs.declared.history.Event.TheVariants.{Post, Fire, Admit, Put, Start, End}
-use Rattle.ccr_model.specs.declared.history.EndHow.{EndHow}
 use Rattle.ccr_model.specs.declared.history.EndHow.TheVariants as ends
 use Rattle.ccr_base.specs.Names.{same_task, has_task, same_lists, same_options, same_message, without}
 use Rattle.ccr_model.specs.Posts.{posts_of_poster, posts_of_task, posts_of_tasks, held}
 use Rattle.ccr_wiring.specs.Wirings.{Seat, seat, spots, site_port, branch_of}
 use Rattle.ccr_model.specs.Firings.{Firing, firings, firing_of, firing_named, fired, started, ended}
 use Rattle.ccr_model.specs.TaskData.{seat_of, play_of}
-use Rattle.ccr_model.specs.Tasks.{is_interleave, is_branch_where, fired_by, waiting, queued, is_for_queue, running, running_by, started_as, has_post_left, count_unfinished}
-use Rattle.ccr_model.specs.Live.{is_live, has_room, is_none_of}
-use Rattle.ccr_model.specs.Choice.{is_choice, is_choice_of, engine_choice, engine_choice_of, engine_gather, choice_of_slots, are_first, are_split, are_oldest, oldest, names_of}
-use Rattle.ccr_model.specs.Rules.{refusal, refused, is_post, is_script_line, is_new, may_put, drop_at, cuts_at, has_budget, is_play_post, may_end, may_shed, ends_so, is_shed, is_first, is_oldest_waiting, may_enter, is_oldest_queued, may_start}
+use Rattle.ccr_model.specs.Tasks.{is_interleave, is_branch_where, waiting, queued, is_for_queue, running, running_by, started_as, has_post_left, count_unfinished}
+use Rattle.ccr_model.specs.Live.{is_live, has_room}
+use Rattle.ccr_model.specs.Choice.{is_choice, is_choice_of, engine_choice, engine_choice_of, engine_gather, are_first, are_split, are_oldest, oldest, names_of}
+use Rattle.ccr_model.specs.Rules.{refused, is_post, is_new, may_put, drop_at, cuts_at, has_budget, ends_so, is_shed, may_enter, may_start}
 use Rattle.ccr_model.specs.Legal.{IsAllowed, IsLegal}
 use Rattle.ccr_model.specs.Order.{post_from, script_post, fire_at, fire_from, next_attempt, put_first, run_task, run_with, task_post, how_of, admit_first, admit_from, start_from, first}
 use Rattle.ccr_model.proofs.PostNames.{along, both, refused_not, same_message-self}
 use Rattle.ccr_model.proofs.Quiet.{Among, some_of}
-use Rattle.ccr_model.proofs.Stable.{firing_named-append, find-append, firings-append}
+use Rattle.ccr_model.proofs.Stable.{firing_named-append, firings-append}
 
 IfSome-or : (P : Event → Type 0) (a b : Option Event) → IfSome a P → IfSome b P → IfSome (option_or a b) P
 IfSome-or P None b p q = q

@@ -1,6 +1,6 @@
 -- exclusion: of the admitted roots of an Interleave that aren't over, all are concurrent or there is one.
-use Rattle.std.proofs.Common.{◌≡◌, ℕ, zero, suc, ◌+◌, ◌-◌, ◌<◌, ◌≤◌, ◌⊎◌, inl, inr, Bool, true, false, not, ◌&&◌, ◌||◌, List, [], ◌∷◌, ◌++◌, length, map, filter, flat_map, Option, Some, None, option_to_list, refl, sym, arith, ap, ◌∙◌, subst, append-nil}
-use Rattle.std.specs.Prelude.{◌==◌, if◌then◌else◌, nat_lt, nat_le, option_and_then, option_map}
+use Rattle.std.proofs.Common.{◌≡◌, ℕ, ◌≤◌, ◌⊎◌, inl, inr, Bool, true, false, not, ◌&&◌, ◌||◌, List, [], ◌∷◌, ◌++◌, length, filter, Option, Some, None, option_to_list, refl, sym, arith, ap, ◌∙◌, subst, append-nil}
+use Rattle.std.specs.Prelude.{◌==◌, if◌then◌else◌, nat_le}
 use Rattle.std.specs.List.{slice_get, list_any, list_all}
 use Rattle.std.specs.Option.{option_map_or}
 use Rattle.std.proofs.lemmas.Grind.{common_steps}
@@ -15,12 +15,12 @@ use Rattle.ccr_model.specs.declared.history.EndHow.{EndHow}
 use Rattle.ccr_model.specs.declared.history.EndHow.TheVariants as ends
 use Rattle.ccr_base.specs.Names.{same_task, same_options, has_task, without}
 use Rattle.ccr_wiring.specs.Wirings.{Seat, seat, branch_of, segment_of, policy_of}
-use Rattle.ccr_model.specs.Firings.{Firing, firing_named, spot_of, let_in, admitted_by, last_segments, last_by, started, ended, put, dropped}
+use Rattle.ccr_model.specs.Firings.{Firing, firing_named, spot_of, let_in, admitted_by, last_segments, last_by, started, put, dropped}
 use Rattle.ccr_model.specs.Sites.{root_of}
 use Rattle.ccr_model.specs.TaskData.{seat_of}
 use Rattle.ccr_model.specs.Tasks.{waiting, queued, is_for_queue, running, is_over, is_in_arbiter, admitted, is_concurrent}
 use Rattle.ccr_model.specs.Live.{is_none_of}
-use Rattle.ccr_model.specs.Rules.{refusal, refused, is_oldest_waiting, is_first, may_enter, may_put, drop_at, drop_by, is_concurrent_task}
+use Rattle.ccr_model.specs.Rules.{is_oldest_waiting, is_first, may_enter, may_put, drop_at, drop_by, is_concurrent_task}
 use Rattle.ccr_model.specs.Legal.{IsAllowed, IsLegal}
 use Rattle.ccr_model.specs.Consequences.{is_alone}
 use Rattle.ccr_model.proofs.PostNames.{along, both, refused_not}

@@ -1,15 +1,13 @@
 -- Each legal history is covered.
-use Rattle.std.proofs.Common.{◌≡◌, ℕ, zero, suc, ◌+◌, ◌-◌, ◌<◌, ◌≤◌, ◌⊎◌, inl, inr, Bool, true, false, not, ◌&&◌, ◌||◌, List, [], ◌∷◌, ◌++◌, length, map, filter, flat_map, Option, Some, None, refl, sym, arith, ap, ◌∙◌, subst, append-nil, rules}
-use Rattle.std.specs.Prelude.{◌==◌, if◌then◌else◌, nat_lt, nat_le}
-use Rattle.std.specs.List.{slice_get, list_any}
-use Rattle.std.specs.Option.{option_map_or, option_map}
+use Rattle.std.proofs.Common.{◌≡◌, ℕ, ◌+◌, ◌-◌, ◌≤◌, ◌⊎◌, inl, inr, Bool, true, false, not, ◌&&◌, ◌||◌, List, [], ◌∷◌, ◌++◌, length, filter, Option, Some, None, refl, sym, arith, ◌∙◌, subst, append-nil}
+use Rattle.std.specs.List.{slice_get}
+use Rattle.std.specs.Option.{option_map}
 use Rattle.std.proofs.lemmas.Grind.{common_steps}
 use Rattle.std.proofs.lemmas.Bool.Decides.{nat_tests}
 use Rattle.ccr_base.specs.declared.names.TaskId.{TaskId}
 use Rattle.ccr_base.specs.declared.names.MsgId.{MsgId}
 use Rattle.ccr_base.specs.declared.names.MsgId.TheVariants.{Script, Task}
 use Rattle.ccr_base.specs.declared.messages.Msg.{Msg}
-use Rattle.ccr_base.specs.declared.names.Spot.{Spot}
 use Rattle.ccr_wiring.specs.declared.parts.Parts.{Parts}
 use Rattle.ccr_model.specs.declared.history.Event.{Event}
 use Rattle.ccr_model.specs.declared.history.Event.TheVariants.{Post, Fire, Admit, Put, Start, End}
@@ -18,16 +16,16 @@ use Rattle.ccr_model.specs.declared.history.EndHow.TheVariants as ends
 use Rattle.ccr_base.specs.Names.{same_task, has_task, without}
 use Rattle.ccr_model.specs.Posts.{posts, posts_of_task, posts_of_tasks}
 use Rattle.ccr_wiring.specs.Wirings.{Seat, seat, branch_of}
-use Rattle.ccr_model.specs.Firings.{Firing, firing_named, spot_of, started, started_by, ended, ended_by, put, dropped}
-use Rattle.ccr_model.specs.TaskData.{seat_of, play_of}
+use Rattle.ccr_model.specs.Firings.{Firing, firing_named, spot_of, started, started_by, ended, put, dropped}
+use Rattle.ccr_model.specs.TaskData.{seat_of}
 use Rattle.ccr_model.specs.Tasks.{queued, is_for_queue, running, has_post_left, unfinished, count_unfinished}
-use Rattle.ccr_model.specs.Rules.{refusal, refusal_of_post, refused, is_first, is_oldest_queued, is_play_post, is_post, may_end, may_shed, is_shed}
-use Rattle.ccr_model.specs.Legal.{IsAllowed, IsLegal, has_shed, is_covered, is_shed_end}
+use Rattle.ccr_model.specs.Rules.{is_first, is_oldest_queued, may_end, may_shed, is_shed}
+use Rattle.ccr_model.specs.Legal.{IsAllowed, IsLegal, has_shed, is_shed_end}
 use Rattle.ccr_model.proofs.PostNames.{along, both, refused_not}
 use Rattle.ccr_model.proofs.Quiet.{some_of, some_then, first_is}
 use Rattle.ccr_model.proofs.TaskSteps.{running-post, running-fire, running-admit, running-put, running-end}
 use Rattle.ccr_model.proofs.Stable.{firing_named-append, play_of-append}
-use Rattle.ccr_model.proofs.Allowing.{head_passes, filter_head, same_task-self, some-below}
+use Rattle.ccr_model.proofs.Allowing.{head_passes, same_task-self}
 
 -- no name stands twice
 abbrev pub are_distinct : List TaskId → Bool

@@ -1,7 +1,6 @@
 -- What a port holds after one more event.
-use Rattle.std.proofs.Common.{◌≡◌, ℕ, Bool, true, false, not, ◌&&◌, ◌||◌, List, [], ◌∷◌, ◌++◌, filter, flat_map, refl, arith, ap, ◌∙◌}
+use Rattle.std.proofs.Common.{◌≡◌, ℕ, false, not, List, [], ◌∷◌, ◌++◌, filter, refl, arith}
 use Rattle.std.specs.Prelude.{◌==◌, if◌then◌else◌, Option}
-use Rattle.std.specs.List.{list_any}
 use Rattle.std.proofs.lemmas.Grind.{common_steps}
 use Rattle.ccr_base.specs.declared.names.TaskId.{TaskId}
 use Rattle.ccr_base.specs.declared.names.MsgId.{MsgId}
@@ -11,7 +10,7 @@ use Rattle.ccr_model.specs.declared.history.Event.{Event}
 use Rattle.ccr_model.specs.declared.history.Event.TheVariants.{Post, Fire, Admit, Put, Start, End}
 use Rattle.ccr_model.specs.declared.history.EndHow.{EndHow}
 use Rattle.ccr_base.specs.Names.{has_message}
-use Rattle.ccr_model.specs.Posts.{held, taken, posts, posted}
+use Rattle.ccr_model.specs.Posts.{held, taken, posted}
 
 pub held-post : (h : List Event) (m : Msg) (p : ℕ) → has_message (taken h) m.id ≡ false → held (h ++ Post m ∷ []) p ≡ held h p ++ (if m.port == p then m ∷ [] else [])
 held-post h m p fresh = grind (arith, common_steps)

@@ -1,4 +1,6 @@
+mod WorkedParts
 mod WorkedRuns
+mod WorkedTasks
 mod WrongEvents
 pub mod HeldSteps
 pub mod PostNames

@@ -1,8 +1,7 @@
 -- A segment past the end of every handler does nothing.
-use Rattle.std.proofs.Common.{◌≡◌, ℕ, ◌^◌, ◌≤◌, List, [], length, Option, Some, None, refl, arith}
+use Rattle.std.proofs.Common.{◌≡◌, ℕ, ◌≤◌, [], length, Option, Some, None, refl, arith}
 use Rattle.std.specs.List.{slice_get}
 use Rattle.std.specs.Option.{option_map_or}
-use Rattle.ccr_base.specs.declared.handlers.Action.{Action}
 use Rattle.ccr_handler.specs.declared.segments.PlayEnd.TheVariants.{Done}
 use Rattle.ccr_handler.specs.Playing.{actions_from, play}
 use Rattle.ccr_wiring.specs.declared.parts.Parts.{Parts}

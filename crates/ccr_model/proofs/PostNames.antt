@@ -1,21 +1,17 @@
 -- No two posts of a legal history have one name.
-use Rattle.std.proofs.Common.{◌≡◌, ℕ, ◌+◌, ◌<◌, ◌≤◌, Bool, true, false, not, ◌&&◌, ◌||◌, List, [], ◌∷◌, ◌++◌, length, filter, flat_map, Option, Some, None, refl, arith, ap, ◌∙◌, subst, append_assoc, append-nil}
-use Rattle.std.specs.Prelude.{◌==◌, if◌then◌else◌}
-use Rattle.std.specs.List.{list_any}
+use Rattle.std.proofs.Common.{◌≡◌, ℕ, ◌+◌, ◌<◌, ◌≤◌, Bool, true, false, ◌&&◌, List, [], ◌∷◌, ◌++◌, length, filter, Option, None, refl, arith, subst, append_assoc, append-nil}
+use Rattle.std.specs.Prelude.{if◌then◌else◌}
 use Rattle.std.proofs.lemmas.Grind.{common_steps}
 use Rattle.std.proofs.lemmas.Bool.Decides.{nat_tests}
-use Rattle.std.proofs.lemmas.List.Sums.{sum_by-append}
-use Rattle.ccr_base.specs.declared.names.TaskId.{TaskId}
 use Rattle.ccr_base.specs.declared.names.MsgId.{MsgId}
 use Rattle.ccr_base.specs.declared.names.MsgId.TheVariants.{Script, Task}
 use Rattle.ccr_base.specs.declared.messages.Msg.{Msg}
-use Rattle.ccr_base.specs.declared.names.Spot.{Spot}
 use Rattle.ccr_wiring.specs.declared.parts.Parts.{Parts}
 use Rattle.ccr_model.specs.declared.history.Event.{Event}
 use Rattle.ccr_model.specs.declared.history.Event.TheVariants.{Post, Fire, Admit, Put, Start, End}
-use Rattle.ccr_base.specs.Names.{same_task, same_message}
-use Rattle.ccr_model.specs.Posts.{posts, post_of, is_script_of, is_message_of, posts_of_poster, posts_of_task}
-use Rattle.ccr_model.specs.Rules.{refusal, refusal_of_post, refused}
+use Rattle.ccr_base.specs.Names.{same_message}
+use Rattle.ccr_model.specs.Posts.{posts, post_of, is_script_of, is_message_of}
+use Rattle.ccr_model.specs.Rules.{refusal_of_post, refused}
 use Rattle.ccr_model.specs.Legal.{IsAllowed, IsLegal, IsLegalAfter}
 
 -- what the empty history has and each allowed event keeps, each legal history has

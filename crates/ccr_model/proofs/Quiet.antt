@@ -1,15 +1,13 @@
 -- Where no event comes first, none is allowed.
-use Rattle.std.proofs.Common.{◌≡◌, ℕ, zero, suc, ◌+◌, ◌-◌, ◌<◌, ◌≤◌, ◌⊎◌, inl, inr, Bool, true, false, not, ◌&&◌, ◌||◌, List, [], ◌∷◌, ◌++◌, length, map, filter, flat_map, take, Option, Some, None, refl, sym, arith, ap, ◌∙◌, subst, append-nil}
-use Rattle.std.specs.Prelude.{◌==◌, if◌then◌else◌, find, nat_lt, nat_le, option_map, option_and_then}
+use Rattle.std.proofs.Common.{◌≡◌, ℕ, zero, suc, ◌+◌, ◌-◌, ◌<◌, ◌≤◌, ◌⊎◌, inl, inr, Bool, true, false, not, ◌&&◌, ◌||◌, List, [], ◌∷◌, ◌++◌, length, map, take, Option, Some, None, refl, sym, arith, ap, subst}
+use Rattle.std.specs.Prelude.{◌==◌, if◌then◌else◌, find, nat_lt, option_map, option_and_then}
 use Rattle.std.specs.List.{slice_get}
 use Rattle.std.specs.Option.{option_map_or, option_or}
-use Rattle.std.proofs.lemmas.Grind.{common_steps}
 use Rattle.std.proofs.lemmas.Bool.Decides.{nat_tests}
 use Rattle.ccr_base.specs.declared.names.TaskId.{TaskId}
 use Rattle.ccr_base.specs.declared.names.MsgId.{MsgId}
 use Rattle.ccr_base.specs.declared.names.MsgId.TheVariants.{Script, Task}
 use Rattle.ccr_base.specs.declared.messages.Msg.{Msg}
-use Rattle.ccr_base.specs.declared.messages.Sent.{Sent}
 use Rattle.ccr_base.specs.declared.patterns.Pattern.{Pattern}
 use Rattle.ccr_base.specs.declared.patterns.Pattern.TheVariants.{Slots, Gather}
 use Rattle.ccr_base.specs.declared.names.Spot.{Spot}
@@ -19,11 +17,9 @@ use Rattle.ccr_wiring.specs.declared.parts.PosterPart.{PosterPart}
 use Rattle.ccr_wiring.specs.declared.parts.ArbiterPart.{ArbiterPart}
 use Rattle.ccr_wiring.specs.declared.parts.BranchPart.{BranchPart}
 use Rattle.ccr_wiring.specs.declared.parts.QueuePart.{QueuePart}
-use Rattle.ccr_wiring.specs.declared.parts.Kind.{Kind}
 use Rattle.ccr_model.specs.declared.history.Event.{Event}
 use Rattle.ccr_model.specs.declared.history.Event.TheVariants.{Post, Fire, Admit, Put, Start, End}
-use Rattle.ccr_model.specs.declared.history.EndHow.{EndHow}
-use Rattle.ccr_base.specs.Names.{same_task, has_task, same_lists, same_options, same_message}
+use Rattle.ccr_base.specs.Names.{same_task, has_task, same_lists, same_message}
 use Rattle.ccr_model.specs.Posts.{posts_of_poster, held}
 use Rattle.ccr_wiring.specs.Wirings.{Seat, seat, seats, seats_of, seats_from, spots, spots_from, sites_from, awaited, actions_of, site_port, branch_of}
 use Rattle.ccr_model.specs.Firings.{Firing, firings, fired, firing_named, spot_of, put, cut}
@@ -31,7 +27,7 @@ use Rattle.ccr_model.specs.TaskData.{seat_of}
 use Rattle.ccr_model.specs.Tasks.{waiting, queued, running}
 use Rattle.ccr_model.specs.Live.{is_live, has_room}
 use Rattle.ccr_model.specs.Choice.{is_choice, is_choice_of, engine_choice, engine_choice_of, engine_gather, choice_of_slots, are_first, are_split, are_oldest, oldest, names_of}
-use Rattle.ccr_model.specs.Rules.{refusal, refusal_of_post, refused, is_post, is_script_line, is_new, is_first, is_oldest_waiting, may_enter, may_put, drop_at, is_oldest_queued, cuts_at, has_budget, is_play_post}
+use Rattle.ccr_model.specs.Rules.{refusal_of_post, is_post, is_script_line, is_new, is_first, is_oldest_waiting, may_enter, may_put, drop_at, is_oldest_queued, is_play_post}
 use Rattle.ccr_model.specs.Legal.{IsAllowed, IsQuiet}
 use Rattle.ccr_model.specs.Order.{first, post_from, script_post, fire_at, fire_from, admit_first, admit_from, put_first, run_task, start_from}
 use Rattle.ccr_wiring.specs.Valid.{HasQueues}

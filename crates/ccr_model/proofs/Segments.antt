@@ -1,5 +1,5 @@
 -- The actions of a segment, and plays by other names of the exception ports.
-use Rattle.std.proofs.Common.{◌≡◌, ℕ, zero, suc, ◌+◌, ◌-◌, ◌≤◌, Bool, true, false, List, [], ◌∷◌, ◌++◌, length, map, Option, Some, None, option_to_list, refl, ap, ◌∙◌, arith}
+use Rattle.std.proofs.Common.{◌≡◌, ℕ, zero, suc, ◌-◌, ◌≤◌, Bool, true, false, List, [], ◌∷◌, ◌++◌, length, map, Option, refl, ap, arith}
 use Rattle.std.specs.Prelude.{if◌then◌else◌}
 use Rattle.std.specs.List.{slice_get}
 use Rattle.std.proofs.lemmas.Option.{slice_get-map}
@@ -8,8 +8,6 @@ use Rattle.ccr_wiring.specs.declared.parts.CausePart.{CausePart}
 use Rattle.ccr_wiring.specs.Wirings.{exception_port}
 use Rattle.ccr_base.specs.declared.handlers.Action.{Action}
 use Rattle.ccr_base.specs.declared.handlers.Action.TheVariants.{Post, Fail, Add, Remove, Await}
-use Rattle.ccr_base.specs.declared.handlers.Expr.{Expr}
-use Rattle.ccr_handler.specs.declared.segments.Play.{Play}
 use Rattle.ccr_cause.specs.Causes.{with_cause, without_cause, union}
 use Rattle.ccr_handler.specs.Playing.{is_await, after_await, actions_from, exceptions, play, value_of, with_post}
 

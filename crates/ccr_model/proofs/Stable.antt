@@ -1,21 +1,20 @@
 -- What is said of a task that fired stays so, whatever events come.
-use Rattle.std.proofs.Common.{◌≡◌, ℕ, zero, suc, Bool, true, false, not, ◌&&◌, ◌||◌, List, [], ◌∷◌, ◌++◌, length, drop, map, filter, flat_map, Option, Some, None, refl, sym, arith, ap, ◌∙◌, append-nil}
-use Rattle.std.specs.Prelude.{◌==◌, if◌then◌else◌, find}
+use Rattle.std.proofs.Common.{◌≡◌, ℕ, zero, suc, Bool, true, false, List, [], ◌∷◌, ◌++◌, length, drop, filter, Option, Some, None, refl, arith, ap}
+use Rattle.std.specs.Prelude.{if◌then◌else◌, find}
 use Rattle.std.specs.List.{slice_get}
 use Rattle.std.specs.Option.{option_map_or, option_map}
 use Rattle.std.proofs.lemmas.Grind.{common_steps}
-use Rattle.std.proofs.lemmas.Bool.Decides.{nat_tests}
 use Rattle.ccr_base.specs.declared.names.TaskId.{TaskId}
 use Rattle.ccr_base.specs.declared.names.Spot.{Spot}
-use Rattle.ccr_base.specs.declared.names.Spot.TheVariants.{Branch, Site}
+use Rattle.ccr_base.specs.declared.names.Spot.TheVariants.{Site}
 use Rattle.ccr_wiring.specs.declared.parts.Parts.{Parts}
 use Rattle.ccr_model.specs.declared.history.Event.{Event}
 use Rattle.ccr_model.specs.declared.history.Event.TheVariants.{Post, Fire, Admit, Put, Start, End}
 use Rattle.ccr_base.specs.Names.{same_task, same_spot}
 use Rattle.ccr_wiring.specs.Wirings.{branch_of, segment_of, next_site}
-use Rattle.ccr_model.specs.Firings.{Firing, firings, firing_of, firing_named, spot_of, yielded, fired_at}
-use Rattle.ccr_model.specs.Sites.{before, yields_at, yielded_at, suspended, resumed, root_at, root_of}
-use Rattle.ccr_model.specs.TaskData.{Load, load_at, load_of, load_after, no_load, with_messages, messages_of, play_of}
+use Rattle.ccr_model.specs.Firings.{Firing, firings, firing_named, yielded, fired_at}
+use Rattle.ccr_model.specs.Sites.{before, yields_at, resumed, root_at}
+use Rattle.ccr_model.specs.TaskData.{load_at, load_after, no_load, with_messages, messages_of, play_of}
 
 pub find-append : {X : Type 0} (p : X → Bool) (xs ys : List X) (x : X) → find p xs ≡ Some x → find p (xs ++ ys) ≡ Some x
 find-append p [] ys x is = absurd (cc)

@@ -1,7 +1,6 @@
 -- At most one firing names a message, and once.
-use Rattle.std.proofs.Common.{◌≡◌, ℕ, zero, suc, ◌+◌, ◌-◌, ◌<◌, ◌≤◌, Bool, true, false, not, ◌&&◌, ◌||◌, List, [], ◌∷◌, ◌++◌, length, take, map, filter, flat_map, Option, Some, None, refl, sym, arith, ap, ◌∙◌, subst, append_assoc, append-nil}
-use Rattle.std.specs.Prelude.{◌==◌, if◌then◌else◌, nat_lt}
-use Rattle.std.specs.List.{list_any}
+use Rattle.std.proofs.Common.{◌≡◌, ℕ, zero, suc, ◌+◌, ◌<◌, ◌≤◌, Bool, true, false, not, ◌&&◌, ◌||◌, List, [], ◌∷◌, ◌++◌, length, take, filter, Option, Some, None, refl, arith, subst, append-nil}
+use Rattle.std.specs.Prelude.{◌==◌}
 use Rattle.std.specs.Option.{option_map_or}
 use Rattle.std.proofs.lemmas.Grind.{common_steps}
 use Rattle.std.proofs.lemmas.Bool.Decides.{nat_tests}
@@ -19,13 +18,13 @@ use Rattle.ccr_model.specs.declared.history.Event.TheVariants.{Post, Fire, Admit
 use Rattle.ccr_base.specs.Names.{same_message, same_lists, has_message}
 use Rattle.ccr_model.specs.Posts.{posts, held, taken, taken_by}
 use Rattle.ccr_wiring.specs.Wirings.{Seat, seat, site_port}
-use Rattle.ccr_base.specs.Choice.{holds, is_choosable, choice}
+use Rattle.ccr_base.specs.Choice.{holds, choice}
 use Rattle.ccr_model.specs.Choice.{names_of, joined, choice_of_slots, are_first, are_split, is_choice_of, are_oldest, is_choice}
 use Rattle.ccr_model.specs.Live.{is_live, has_room}
-use Rattle.ccr_model.specs.Rules.{refusal, refused, is_new}
+use Rattle.ccr_model.specs.Rules.{is_new}
 use Rattle.ccr_model.specs.Legal.{IsAllowed, IsLegal}
 use Rattle.ccr_wiring.specs.Valid.{has_port, are_apart, slot_ports, names_ports_once, HasPortsApart}
-use Rattle.ccr_model.proofs.PostNames.{times, along, both, refused_not, same_message-self, same_message-is, AreNamed, named_kept}
+use Rattle.ccr_model.proofs.PostNames.{times, along, both, refused_not, same_message-is, AreNamed, named_kept}
 
 -- how often the name stands in the list of names
 abbrev pub named : MsgId → List MsgId → ℕ

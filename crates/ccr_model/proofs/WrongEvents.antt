@@ -1,44 +1,17 @@
 -- Wrong events, each with its place and the rule that refuses it; fates and totals of the worked runs. The names say what each shows.
-use Rattle.std.proofs.Common.{◌≡◌, ℕ, Bool, true, false, List, [], ◌∷◌, ◌++◌, map, Option, Some, None, refl}
-use Rattle.ccr_base.specs.declared.names.TaskId.{TaskId}
-use Rattle.ccr_base.specs.declared.names.MsgId.{MsgId}
+use Rattle.std.proofs.Common.{◌≡◌, [], ◌∷◌, Some, None, refl}
 use Rattle.ccr_base.specs.declared.names.MsgId.TheVariants.{Script, Task}
-use Rattle.ccr_base.specs.declared.messages.Msg.{Msg}
-use Rattle.ccr_base.specs.declared.messages.Sent.{Sent}
-use Rattle.ccr_base.specs.declared.patterns.Slot.{Slot}
-use Rattle.ccr_base.specs.declared.patterns.Pred.{Pred}
-use Rattle.ccr_base.specs.declared.patterns.Pred.TheVariants.{Any, Eq, Lt, Ge}
-use Rattle.ccr_base.specs.declared.patterns.Pattern.{Pattern}
-use Rattle.ccr_base.specs.declared.patterns.Pattern.TheVariants.{Slots, Gather}
 use Rattle.ccr_base.specs.declared.names.Spot.TheVariants.{Branch, Site}
-use Rattle.ccr_base.specs.declared.handlers.Action.{Action}
-use Rattle.ccr_base.specs.declared.handlers.Action.TheVariants.{Post as aPost, Fail as aFail, Add as aAdd, Remove as aRemove, Await as aAwait}
-use Rattle.ccr_base.specs.declared.handlers.Expr.TheVariants.{Number, Arg, Sum, Count}
-use Rattle.ccr_wiring.specs.declared.parts.Parts.{Parts}
-use Rattle.ccr_wiring.specs.declared.parts.QueuePart.{QueuePart}
-use Rattle.ccr_wiring.specs.declared.parts.HandlerPart.{HandlerPart}
-use Rattle.ccr_wiring.specs.declared.parts.CausePart.{CausePart}
-use Rattle.ccr_wiring.specs.declared.parts.PosterPart.{PosterPart}
-use Rattle.ccr_wiring.specs.declared.parts.ArbiterPart.{ArbiterPart}
-use Rattle.ccr_wiring.specs.declared.parts.BranchPart.{BranchPart}
-use Rattle.ccr_base.specs.declared.policies.Policy.{Policy}
-use Rattle.ccr_base.specs.declared.policies.Policy.TheVariants.{Unbounded, Discard, Throttle}
-use Rattle.ccr_wiring.specs.declared.parts.Kind.{Kind}
-use Rattle.ccr_wiring.specs.declared.parts.Kind.TheVariants as kinds
-use Rattle.ccr_base.specs.declared.policies.Group.{Group}
-use Rattle.ccr_base.specs.declared.policies.Group.TheVariants as groups
-use Rattle.ccr_model.specs.declared.history.Event.{Event}
 use Rattle.ccr_model.specs.declared.history.Event.TheVariants.{Post, Fire, Admit, Put, Start, End}
 use Rattle.ccr_model.specs.declared.history.EndHow.TheVariants as ends
 use Rattle.ccr_model.specs.declared.history.Fate.TheVariants as fates
 use Rattle.ccr_model.specs.declared.history.TaskState.TheVariants as states
-use Rattle.ccr_model.specs.declared.history.Totals.{Totals}
 use Rattle.ccr_model.specs.Fates.{fate}
 use Rattle.ccr_model.specs.Counts.{totals}
-use Rattle.ccr_model.proofs.WorkedRuns.{task, message, no_posts_wiring, no_posts_history, one_post_wiring, one_post_history, once_keeps_second_wiring, once_keeps_second_history, predicate_wiring, predicate_history, join_wiring, join_history, choice_wiring, choice_history, gather_wiring, gather_history, discard_wiring, discard_history, throttle_wiring, throttle_history, interleave_groups_wiring, interleave_groups_history, teardown_cuts_wiring, teardown_cuts_history, budget_shed_wiring, budget_shed_history, causes_shed_wiring, causes_shed_history, await_wiring, await_history, await_teardown_waits_wiring, await_teardown_waits_history, cause_lists_wiring, cause_lists_history, rival_joins_wiring, rival_joins_history, portset_wiring, portset_history, sum_wraps_wiring, sum_wraps_history, second_task_shed_wiring, second_task_shed_history, causes_failed_wiring, causes_failed_history, gather_reversed_wiring, gather_reversed_history, admitted_task_dropped_wiring, admitted_task_dropped_history, argument_past_end_wiring, argument_past_end_history, fail_before_await_wiring, fail_before_await_history, two_teardowns_wiring, two_teardowns_history}
-use Rattle.ccr_model.specs.Legal.{first_refusal, is_complete, is_covered}
-use Rattle.ccr_model.specs.Order.{first, finished_in}
-use Rattle.ccr_model.specs.Consequences.{keeps_laws_along}
+use Rattle.ccr_model.proofs.WorkedParts.{task, message}
+use Rattle.ccr_model.proofs.WorkedRuns.{no_posts_wiring, no_posts_history, one_post_wiring, one_post_history, once_keeps_second_wiring, once_keeps_second_history, predicate_history, join_history, choice_wiring, choice_history, gather_wiring, gather_history, discard_wiring, discard_history, throttle_wiring, throttle_history, portset_history}
+use Rattle.ccr_model.proofs.WorkedTasks.{interleave_groups_wiring, interleave_groups_history, teardown_cuts_wiring, teardown_cuts_history, budget_shed_wiring, budget_shed_history, causes_shed_history, await_wiring, await_history, await_teardown_waits_wiring, await_teardown_waits_history, cause_lists_history, sum_wraps_history, second_task_shed_wiring, causes_failed_history}
+use Rattle.ccr_model.specs.Legal.{first_refusal}
 
 value_not_the_posters : first_refusal one_post_wiring [] 0 (Post (message (Script 0 0) 0 8 ([])) ∷ Fire (task 1 0) (Branch 0) ((Script 0 0) ∷ []) ([]) ∷ Put (task 1 0) None ∷ Start (task 1 0) 1 ∷ End (task 1 0) ends.Done ∷ []) ≡ Some (0, 1)
 value_not_the_posters = refl

@@ -1,9 +1,8 @@
 -- What follows for each legal history, as tests of one history. A law says that each passes after each legal history.
-use Rattle.std.specs.Prelude.{ℕ, ◌+◌, Bool, true, false, not, ◌==◌, ◌&&◌, ◌||◌, nat_le, List, [], ◌∷◌, ◌++◌, length, map, filter, if◌then◌else◌}
+use Rattle.std.specs.Prelude.{ℕ, ◌+◌, Bool, true, false, not, ◌==◌, ◌&&◌, ◌||◌, nat_le, List, [], ◌∷◌, ◌++◌, length, filter}
 use Rattle.std.specs.List.{list_any, list_all}
 use Rattle.ccr_base.specs.declared.names.TaskId.{TaskId}
 use Rattle.ccr_base.specs.declared.names.MsgId.{MsgId}
-use Rattle.ccr_base.specs.declared.names.Spot.TheVariants.{Branch}
 use Rattle.ccr_wiring.specs.declared.parts.Parts.{Parts}
 use Rattle.ccr_wiring.specs.declared.parts.ArbiterPart.{ArbiterPart}
 use Rattle.ccr_wiring.specs.declared.parts.QueuePart.{QueuePart}
@@ -14,10 +13,8 @@ use Rattle.ccr_base.specs.declared.policies.Group.TheVariants as groups
 use Rattle.ccr_model.specs.declared.history.Event.{Event}
 use Rattle.ccr_base.specs.Names.{same_task, has_task, has_message, same_lists, without}
 use Rattle.ccr_model.specs.Posts.{taken}
-use Rattle.ccr_wiring.specs.Wirings.{Seat, seats}
-use Rattle.ccr_model.specs.Firings.{fired_at, cut, put, dropped, started, let_in}
+use Rattle.ccr_model.specs.Firings.{cut, put, dropped, started}
 use Rattle.ccr_model.specs.Sites.{root_of}
-use Rattle.ccr_model.specs.TaskData.{seat_of}
 use Rattle.ccr_model.specs.Tasks.{fired_by, is_teardown, is_for_queue, queued, running, admitted, is_in_arbiter}
 use Rattle.ccr_model.specs.Rules.{is_concurrent_task}
 

@@ -1,9 +1,8 @@
 -- The totals of a history.
-use Rattle.std.specs.Prelude.{ℕ, ◌+◌, ◌-◌, Bool, true, false, not, List, [], length, filter}
+use Rattle.std.specs.Prelude.{◌+◌, ◌-◌, Bool, true, false, not, List, length, filter}
 use Rattle.ccr_base.specs.declared.messages.Msg.{Msg}
 use Rattle.ccr_model.specs.declared.history.Event.{Event}
 use Rattle.ccr_model.specs.declared.history.Event.TheVariants.{End}
-use Rattle.ccr_model.specs.declared.history.EndHow.{EndHow}
 use Rattle.ccr_model.specs.declared.history.EndHow.TheVariants.{Done, Failed, Yield, Shed}
 use Rattle.ccr_model.specs.declared.history.Totals.{Totals}
 use Rattle.ccr_base.specs.Names.{has_message}

@@ -1,11 +1,10 @@
 -- What stands in the history of tasks.
-use Rattle.std.specs.Prelude.{ℕ, Bool, List, [], ◌∷◌, ◌++◌, map, filter, flat_map, find, Option, option_map, option_to_list}
+use Rattle.std.specs.Prelude.{Bool, List, [], ◌∷◌, map, filter, flat_map, find, Option, option_map, option_to_list}
 use Rattle.ccr_base.specs.declared.names.TaskId.{TaskId}
 use Rattle.ccr_base.specs.declared.names.MsgId.{MsgId}
 use Rattle.ccr_base.specs.declared.names.Spot.{Spot}
 use Rattle.ccr_model.specs.declared.history.Event.{Event}
 use Rattle.ccr_model.specs.declared.history.Event.TheVariants.{Fire, Admit, Put, Start, End}
-use Rattle.ccr_model.specs.declared.history.EndHow.{EndHow}
 use Rattle.ccr_model.specs.declared.history.EndHow.TheVariants.{Done, Failed, Yield, Shed}
 use Rattle.ccr_base.specs.Names.{same_task, same_spot}
 

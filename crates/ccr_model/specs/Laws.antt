@@ -1,5 +1,5 @@
 -- The words of the laws.
-use Rattle.std.specs.Prelude.{ℕ, List, [], ◌∷◌, length, filter}
+use Rattle.std.specs.Prelude.{ℕ, List, length, filter}
 use Rattle.ccr_base.specs.declared.names.MsgId.{MsgId}
 use Rattle.ccr_base.specs.declared.messages.Msg.{Msg}
 use Rattle.ccr_model.specs.declared.history.Event.{Event}

@@ -1,14 +1,14 @@
 -- Which spots may fire once more.
-use Rattle.std.specs.Prelude.{ℕ, Bool, true, false, not, ◌==◌, ◌&&◌, nat_lt, List, length, Option}
+use Rattle.std.specs.Prelude.{ℕ, Bool, true, false, not, ◌==◌, ◌&&◌, nat_lt, List, length}
 use Rattle.std.specs.Option.{option_map_or}
 use Rattle.ccr_base.specs.declared.names.TaskId.{TaskId}
 use Rattle.ccr_base.specs.declared.names.Spot.{Spot}
 use Rattle.ccr_base.specs.declared.names.Spot.TheVariants.{Branch, Site}
 use Rattle.ccr_wiring.specs.declared.parts.Parts.{Parts}
 use Rattle.ccr_base.specs.declared.policies.Group.{Group}
-use Rattle.ccr_base.specs.declared.policies.Group.TheVariants.{Once, Always, Choice, Teardown, Exclusive, Concurrent}
+use Rattle.ccr_base.specs.declared.policies.Group.TheVariants.{Once, Always, Choice}
 use Rattle.ccr_base.specs.declared.policies.Policy.{Policy}
-use Rattle.ccr_base.specs.declared.policies.Policy.TheVariants.{Unbounded, Discard, Throttle}
+use Rattle.ccr_base.specs.declared.policies.Policy.TheVariants.{Throttle}
 use Rattle.ccr_model.specs.declared.history.Event.{Event}
 use Rattle.ccr_wiring.specs.Wirings.{Seat, seat, policy_of}
 use Rattle.ccr_model.specs.Firings.{fired_at}

@@ -1,5 +1,5 @@
 -- Which event is allowed after which history: one definition a rule, true where the rule lets it pass.
-use Rattle.std.specs.Prelude.{◌≡◌, ℕ, ◌+◌, ◌-◌, Bool, true, false, not, ◌==◌, ◌&&◌, ◌||◌, nat_lt, nat_le, List, [], ◌∷◌, length, Option, Some, None, option_and_then, is_none, if◌then◌else◌}
+use Rattle.std.specs.Prelude.{ℕ, ◌+◌, ◌-◌, Bool, true, false, not, ◌==◌, ◌&&◌, ◌||◌, nat_lt, nat_le, List, [], length, Option, Some, None, option_and_then, if◌then◌else◌}
 use Rattle.std.specs.List.{slice_get, list_all}
 use Rattle.std.specs.Option.{option_map_or}
 use Rattle.ccr_base.specs.declared.names.TaskId.{TaskId}
@@ -9,20 +9,19 @@ use Rattle.ccr_base.specs.declared.messages.Msg.{Msg}
 use Rattle.ccr_base.specs.declared.messages.Sent.{Sent}
 use Rattle.ccr_base.specs.declared.names.Spot.{Spot}
 use Rattle.ccr_base.specs.declared.names.Spot.TheVariants.{Branch, Site}
-use Rattle.ccr_handler.specs.declared.segments.Play.{Play}
 use Rattle.ccr_handler.specs.declared.segments.PlayEnd.{PlayEnd}
 use Rattle.ccr_handler.specs.declared.segments.PlayEnd.TheVariants as plays
 use Rattle.ccr_wiring.specs.declared.parts.Parts.{Parts}
 use Rattle.ccr_wiring.specs.declared.parts.PosterPart.{PosterPart}
 use Rattle.ccr_base.specs.declared.policies.Policy.{Policy}
-use Rattle.ccr_base.specs.declared.policies.Policy.TheVariants.{Unbounded, Discard, Throttle}
+use Rattle.ccr_base.specs.declared.policies.Policy.TheVariants.{Discard}
 use Rattle.ccr_model.specs.declared.history.Event.{Event}
 use Rattle.ccr_model.specs.declared.history.Event.TheVariants.{Post, Fire, Admit, Put, Start, End}
 use Rattle.ccr_model.specs.declared.history.EndHow.{EndHow}
 use Rattle.ccr_model.specs.declared.history.EndHow.TheVariants as ends
-use Rattle.ccr_base.specs.Names.{same_task, has_task, same_lists, same_options, without}
+use Rattle.ccr_base.specs.Names.{same_task, has_task, same_lists, same_options}
 use Rattle.ccr_model.specs.Posts.{posts_of_poster, posts_of_task, posts_of_tasks}
-use Rattle.ccr_wiring.specs.Wirings.{Seat, seat, policy_of, is_branch}
+use Rattle.ccr_wiring.specs.Wirings.{Seat, seat, policy_of}
 use Rattle.ccr_model.specs.Firings.{fired, cut, let_in, put, spot_of}
 use Rattle.ccr_model.specs.TaskData.{seat_of, play_of}
 use Rattle.ccr_model.specs.Tasks.{is_interleave, is_teardown, is_concurrent, waiting, queued, running, running_by, admitted, has_post_left, count_unfinished}

@@ -1,5 +1,5 @@
 -- Who is where: each is a filter of the history.
-use Rattle.std.specs.Prelude.{ℕ, Bool, true, false, not, ◌==◌, ◌&&◌, nat_lt, List, [], ◌∷◌, ◌++◌, length, filter, flat_map, Option, if◌then◌else◌}
+use Rattle.std.specs.Prelude.{ℕ, Bool, true, false, not, ◌==◌, ◌&&◌, nat_lt, List, [], ◌∷◌, ◌++◌, length, filter, flat_map, if◌then◌else◌}
 use Rattle.std.specs.List.{list_any}
 use Rattle.std.specs.Option.{option_map_or}
 use Rattle.ccr_base.specs.declared.names.TaskId.{TaskId}
@@ -12,10 +12,10 @@ use Rattle.ccr_base.specs.declared.policies.Group.{Group}
 use Rattle.ccr_base.specs.declared.policies.Group.TheVariants as groups
 use Rattle.ccr_model.specs.declared.history.Event.{Event}
 use Rattle.ccr_model.specs.declared.history.Event.TheVariants.{Start}
-use Rattle.ccr_base.specs.Names.{same_task, has_task, without}
+use Rattle.ccr_base.specs.Names.{same_task, without}
 use Rattle.ccr_model.specs.Posts.{posts_of_task}
-use Rattle.ccr_wiring.specs.Wirings.{Seat, seat, branch_of, is_branch}
-use Rattle.ccr_model.specs.Firings.{Firing, fired_where, spot_of, cut, let_in, put, dropped, started, ended, last_segments}
+use Rattle.ccr_wiring.specs.Wirings.{Seat, seat}
+use Rattle.ccr_model.specs.Firings.{fired_where, cut, let_in, put, dropped, started, ended, last_segments}
 use Rattle.ccr_model.specs.Sites.{root_of}
 use Rattle.ccr_model.specs.TaskData.{seat_of, play_of}
 

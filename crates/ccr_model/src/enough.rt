@@ -14,12 +14,20 @@ use ccr_base::{OutOfMemory, Pattern, Slot, Spot, can_choose};
 use ccr_wiring::Wiring;
 use std::alloc::Global;
 
-/// Whether each slot has enough in its port.
-fn all_can_choose(alloc: Global, events: &[Event], slots: &[Slot]) -> Result<bool, OutOfMemory>
+/// Whether the slot's port holds enough for it.
+fn slot_has_enough(alloc: Global, events: &[Event], slot: &Slot) -> Result<bool, OutOfMemory>
+    ensures { IfOk result (λ enough. enough ≡ is_choosable slot.now (held events.now slot.now.port)) }
+{
+    let held = held(alloc, events, slot.port)?;
+    Ok(can_choose(&held, slot))
+}
+
+/// Whether each slot's port holds enough for it.
+fn slots_have_enough(alloc: Global, events: &[Event], slots: &[Slot]) -> Result<bool, OutOfMemory>
     ensures { IfOk result (λ all. all ≡ list_all (λ slot. is_choosable slot (held events.now slot.port)) slots.now) }
 {
     for slot in slots {
-        if !can_choose(&held(alloc, events, slot.port)?, slot) {
+        if !slot_has_enough(alloc, events, slot)? {
             return Ok(false);
         }
     }
@@ -31,7 +39,7 @@ fn has_enough(alloc: Global, events: &[Event], pattern: &Pattern) -> Result<bool
     ensures { IfOk result (λ enough. enough ≡ has_enough (held events.now) pattern.now) }
 {
     match pattern {
-        Pattern::Slots(slots) => all_can_choose(alloc, events, slots.as_slice()),
+        Pattern::Slots(slots) => slots_have_enough(alloc, events, slots.as_slice()),
         Pattern::Gather {
             total,
             first,
