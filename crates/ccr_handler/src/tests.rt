@@ -48,43 +48,53 @@ fn check(rt: &impl Abort, alloc: Global, row: &Row) -> Result<(), Fail> {
 }
 
 #[test]
-fn expressions(rt: HostRuntime) -> Result<(), Fail> {
+fn each_expression_has_its_value(rt: HostRuntime) -> Result<(), Fail> {
+    let row = Row {
+        shows: "a number, the arguments, their sum and their count",
+        actions: &[
+            Action::Post(1, Expr::Number(7)),
+            Action::Post(2, Expr::Arg(0)),
+            Action::Post(3, Expr::Arg(1)),
+            Action::Post(4, Expr::Sum),
+            Action::Post(5, Expr::Count),
+        ],
+        segment: 0,
+        values: &[20, 30],
+        causes: &[],
+        posts: &[
+            (1, 7, &[]),
+            (2, 20, &[]),
+            (3, 30, &[]),
+            (4, 50, &[]),
+            (5, 2, &[]),
+        ],
+        end: PlayEnd::Done,
+        causes_then: &[],
+    };
+    check(&rt, rt.alloc(), &row)
+}
+
+#[test]
+fn argument_past_the_end_is_zero(rt: HostRuntime) -> Result<(), Fail> {
+    let row = Row {
+        shows: "an argument past the end is 0",
+        actions: &[
+            Action::Post(1, Expr::Arg(2)),
+            Action::Post(1, Expr::Arg(4294967295)),
+        ],
+        segment: 0,
+        values: &[20, 30],
+        causes: &[],
+        posts: &[(1, 0, &[]), (1, 0, &[])],
+        end: PlayEnd::Done,
+        causes_then: &[],
+    };
+    check(&rt, rt.alloc(), &row)
+}
+
+#[test]
+fn sums_wrap_and_begin_at_zero(rt: HostRuntime) -> Result<(), Fail> {
     let rows = [
-        Row {
-            shows: "a number, the arguments, their sum and their count",
-            actions: &[
-                Action::Post(1, Expr::Number(7)),
-                Action::Post(2, Expr::Arg(0)),
-                Action::Post(3, Expr::Arg(1)),
-                Action::Post(4, Expr::Sum),
-                Action::Post(5, Expr::Count),
-            ],
-            segment: 0,
-            values: &[20, 30],
-            causes: &[],
-            posts: &[
-                (1, 7, &[]),
-                (2, 20, &[]),
-                (3, 30, &[]),
-                (4, 50, &[]),
-                (5, 2, &[]),
-            ],
-            end: PlayEnd::Done,
-            causes_then: &[],
-        },
-        Row {
-            shows: "an argument past the end is 0",
-            actions: &[
-                Action::Post(1, Expr::Arg(2)),
-                Action::Post(1, Expr::Arg(4294967295)),
-            ],
-            segment: 0,
-            values: &[20, 30],
-            causes: &[],
-            posts: &[(1, 0, &[]), (1, 0, &[])],
-            end: PlayEnd::Done,
-            causes_then: &[],
-        },
         Row {
             shows: "a sum wraps",
             actions: &[Action::Post(1, Expr::Sum), Action::Fail(Expr::Sum)],
@@ -113,7 +123,7 @@ fn expressions(rt: HostRuntime) -> Result<(), Fail> {
 }
 
 #[test]
-fn failures(rt: HostRuntime) -> Result<(), Fail> {
+fn failure_ends_the_play(rt: HostRuntime) -> Result<(), Fail> {
     let rows = [
         Row {
             shows: "a failure without causes posts nothing",
@@ -143,6 +153,16 @@ fn failures(rt: HostRuntime) -> Result<(), Fail> {
             end: PlayEnd::Failed(4),
             causes_then: &[1],
         },
+    ];
+    for row in &rows {
+        check(&rt, rt.alloc(), row)?;
+    }
+    Ok(())
+}
+
+#[test]
+fn failure_posts_for_each_cause_of_its_moment(rt: HostRuntime) -> Result<(), Fail> {
+    let rows = [
         Row {
             shows: "a failure under three causes, in their order",
             actions: &[Action::Fail(Expr::Count)],
@@ -176,32 +196,39 @@ fn failures(rt: HostRuntime) -> Result<(), Fail> {
 }
 
 #[test]
-fn causes_and_segments(rt: HostRuntime) -> Result<(), Fail> {
-    const TWICE: [Action; 5] = [
-        Action::Post(1, Expr::Number(1)),
-        Action::Await(8),
-        Action::Post(2, Expr::Sum),
-        Action::Await(9),
-        Action::Remove(0),
-    ];
+fn post_carries_the_causes_of_its_moment(rt: HostRuntime) -> Result<(), Fail> {
+    let row = Row {
+        shows: "a post carries the causes of its moment",
+        actions: &[
+            Action::Post(1, Expr::Number(1)),
+            Action::Add(2),
+            Action::Post(2, Expr::Number(2)),
+            Action::Remove(0),
+            Action::Post(3, Expr::Number(3)),
+            Action::Remove(1),
+        ],
+        segment: 0,
+        values: &[],
+        causes: &[0],
+        posts: &[(1, 1, &[0]), (2, 2, &[0, 2]), (3, 3, &[2])],
+        end: PlayEnd::Done,
+        causes_then: &[2],
+    };
+    check(&rt, rt.alloc(), &row)
+}
+
+/// Two awaits, and so three segments.
+const TWICE: [Action; 5] = [
+    Action::Post(1, Expr::Number(1)),
+    Action::Await(8),
+    Action::Post(2, Expr::Sum),
+    Action::Await(9),
+    Action::Remove(0),
+];
+
+#[test]
+fn segments_lie_between_awaits(rt: HostRuntime) -> Result<(), Fail> {
     let rows = [
-        Row {
-            shows: "a post carries the causes of its moment",
-            actions: &[
-                Action::Post(1, Expr::Number(1)),
-                Action::Add(2),
-                Action::Post(2, Expr::Number(2)),
-                Action::Remove(0),
-                Action::Post(3, Expr::Number(3)),
-                Action::Remove(1),
-            ],
-            segment: 0,
-            values: &[],
-            causes: &[0],
-            posts: &[(1, 1, &[0]), (2, 2, &[0, 2]), (3, 3, &[2])],
-            end: PlayEnd::Done,
-            causes_then: &[2],
-        },
         Row {
             shows: "the first segment ends at the first await",
             actions: &TWICE,
