@@ -1,31 +1,22 @@
 -- Something is left exactly where an event comes first.
-use Rattle.std.proofs.Common.{◌≡◌, ℕ, zero, suc, ◌+◌, Bool, true, false, not, ◌&&◌, ◌||◌, List, [], ◌∷◌, length, Option, Some, None, refl, sym, arith, ◌∙◌}
-use Rattle.std.specs.Prelude.{if◌then◌else◌, find, nat_lt, nat_le, is_some, option_map, option_and_then}
-use Rattle.std.specs.List.{slice_get, list_any, list_all}
-use Rattle.std.specs.Option.{option_map_or, option_or}
+use Rattle.std.proofs.Common.{◌≡◌, ℕ, zero, suc, ◌+◌, Bool, true, false, not, ◌&&◌, ◌||◌, List, [], ◌∷◌, length, Option, Some, None, refl, sym, arith}
+use Rattle.std.specs.Prelude.{if◌then◌else◌, find, nat_lt, is_some}
+use Rattle.std.specs.List.{slice_get, list_any}
 use Rattle.std.proofs.lemmas.Bool.Decides.{nat_tests}
 use Rattle.ccr_base.specs.declared.names.TaskId.{TaskId}
-use Rattle.ccr_base.specs.declared.messages.Msg.{Msg}
-use Rattle.ccr_base.specs.declared.patterns.Slot.{Slot}
-use Rattle.ccr_base.specs.declared.patterns.Pattern.{Pattern}
-use Rattle.ccr_base.specs.declared.patterns.Pattern.TheVariants.{Slots, Gather}
 use Rattle.ccr_base.specs.declared.names.Spot.{Spot}
-use Rattle.ccr_base.specs.declared.names.Spot.TheVariants.{Branch, Site}
-use Rattle.ccr_base.specs.Choice.{choice, is_choosable}
 use Rattle.ccr_wiring.specs.declared.parts.Parts.{Parts}
 use Rattle.ccr_wiring.specs.declared.parts.PosterPart.{PosterPart}
 use Rattle.ccr_wiring.specs.declared.parts.ArbiterPart.{ArbiterPart}
 use Rattle.ccr_wiring.specs.declared.parts.QueuePart.{QueuePart}
-use Rattle.ccr_wiring.specs.Wirings.{Seat, seat, site_port, spots}
+use Rattle.ccr_wiring.specs.Wirings.{spots}
 use Rattle.ccr_model.specs.declared.history.Event.{Event}
 use Rattle.ccr_model.specs.declared.history.Event.TheVariants.{Admit}
-use Rattle.ccr_model.specs.Posts.{held}
 use Rattle.ccr_model.specs.Firings.{fired}
 use Rattle.ccr_model.specs.Tasks.{waiting, queued, running}
 use Rattle.ccr_model.specs.Live.{is_none_of}
-use Rattle.ccr_model.specs.Choice.{joined, choice_of_slots, engine_gather, engine_choice_of, oldest, engine_choice}
 use Rattle.ccr_model.specs.Rules.{may_enter, may_put}
-use Rattle.ccr_model.specs.Order.{first, post_from, fire_at, fire_from, admit_first, admit_from, put_first, start_from}
+use Rattle.ccr_model.specs.Order.{first, post_from, fire_from, admit_first, admit_from, put_first, start_from}
 use Rattle.ccr_model.specs.Legal.{IsQuiet}
 use Rattle.ccr_check.specs.Verdicts.{AllowsSome, MeansQuiet}
 use Rattle.ccr_model.specs.Enough.{can_fire}

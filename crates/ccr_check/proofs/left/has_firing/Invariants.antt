@@ -1,7 +1,7 @@
 use Rattle.std.proofs.Common.{◌≡◌, drop}
 use Rattle.std.specs.List.{list_any}
 use Rattle.ccr_wiring.specs.Wirings.{spots}
-use Rattle.ccr_check.specs.Left.{can_fire}
+use Rattle.ccr_model.specs.Enough.{can_fire}
 use Rattle.ccr_check.proofs.left.has_firing.Given as goal
 
 abbrev pub invariant-loop-spot : goal.invariant-loop-spot
