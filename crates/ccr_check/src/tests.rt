@@ -1,92 +1,15 @@
 use super::*;
-use ccr_base::{
-    Group, Handler, List, Msg, MsgId, Name, Pattern, Policy, Pred, Sent, Slot, Spot, TaskId,
-};
+use ccr_base::{List, Msg, MsgId, Spot, TaskId};
 use ccr_model::{EndHow, Event, History};
-use ccr_wiring::{
-    ArbiterPart, BranchPart, HandlerPart, Kind, Parts, PosterPart, QueuePart, Wiring,
-};
+use ccr_samples::{one_post, one_receiver, only};
+use ccr_wiring::Wiring;
 use std::alloc::Global;
 use std::test::*;
 
-fn name(alloc: Global, bytes: &[u8]) -> Result<Name, Fail> {
-    Ok(List::from_vec(bytes.to_vec(alloc)?))
-}
-
-fn only<T: Drop>(alloc: Global, item: T) -> Result<List<T>, Fail> {
-    let mut list = List::new(alloc);
-    list.push(item).ok().ok_or("memory")?;
-    Ok(list)
-}
-
-/// A queue `q` without a bound.
-fn queues(alloc: Global) -> Result<List<QueuePart>, Fail> {
-    let queue = QueuePart {
-        name: name(alloc, b"q")?,
-        policy: Policy::Unbounded,
-    };
-    only(alloc, queue)
-}
-
-/// A handler `h` without actions.
-fn handlers(alloc: Global) -> Result<List<HandlerPart>, Fail> {
-    let handler = HandlerPart {
-        name: name(alloc, b"h")?,
-        handler: Handler {
-            actions: List::new(alloc),
-        },
-    };
-    only(alloc, handler)
-}
-
-/// A receiver `x` that takes one message of `a`, each time that one is held.
-fn arbiters(alloc: Global) -> Result<List<ArbiterPart>, Fail> {
-    let slot = Slot {
-        port: 0,
-        least: 1,
-        most: 1,
-        pred: Pred::Any,
-    };
-    let branch = BranchPart {
-        name: name(alloc, b"x")?,
-        group: Group::Always,
-        queue: 0,
-        handler: 0,
-        pattern: Pattern::Slots(only(alloc, slot)?),
-    };
-    let receiver = ArbiterPart {
-        name: name(alloc, b"x")?,
-        kind: Kind::Receive,
-        branches: only(alloc, branch)?,
-    };
-    only(alloc, receiver)
-}
-
-/// A poster `p` that posts 7 to `a`.
-fn posters(alloc: Global) -> Result<List<PosterPart>, Fail> {
-    let sent = Sent {
-        port: 0,
-        value: 7,
-        causes: List::new(alloc),
-    };
-    let poster = PosterPart {
-        name: name(alloc, b"p")?,
-        posts: only(alloc, sent)?,
-    };
-    only(alloc, poster)
-}
-
+/// One receiver, and a poster with one post to it.
 fn wiring(alloc: Global) -> Result<Wiring, Fail> {
-    let parts = Parts {
-        budget: 5,
-        queues: queues(alloc)?,
-        ports: only(alloc, name(alloc, b"a")?)?,
-        sets: List::new(alloc),
-        causes: List::new(alloc),
-        handlers: handlers(alloc)?,
-        arbiters: arbiters(alloc)?,
-        posters: posters(alloc)?,
-    };
+    let mut parts = one_receiver(alloc).ok().ok_or("memory")?;
+    parts.posters = one_post(alloc).ok().ok_or("memory")?;
     Ok(Wiring::check(alloc, parts).ok().ok_or("not valid")?)
 }
 
@@ -115,7 +38,7 @@ fn push_fire(alloc: Global, history: &mut History) -> Result<(), Fail> {
     let fire = Event::Fire {
         task: FIRED,
         spot: Spot::Branch(0),
-        messages: only(alloc, POSTED)?,
+        messages: only(alloc, POSTED).ok().ok_or("memory")?,
         cuts: List::new(alloc),
     };
     push(history, fire)

@@ -1,76 +1,23 @@
 //! The fates of a history in which a put drops a task, as they were worked out by hand.
 
 use super::*;
-use ccr_base::{Group, Handler, List, Msg, MsgId, Name, Pattern, Policy, Pred, Slot, Spot, TaskId};
+use ccr_base::{List, Msg, MsgId, OutOfMemory, Policy, Spot, TaskId};
 use ccr_model::{EndHow, Event, Fate, History, TaskState};
-use ccr_wiring::{ArbiterPart, BranchPart, HandlerPart, Kind, Parts, QueuePart, Wiring};
+use ccr_samples::{one_queue, one_receiver, only};
+use ccr_wiring::{Parts, Wiring};
 use std::alloc::Global;
 use std::test::*;
 
-fn only<T: Drop>(alloc: Global, item: T) -> Result<List<T>, Fail> {
-    let mut list = List::new(alloc);
-    list.push(item).ok().ok_or("memory")?;
-    Ok(list)
-}
-
-fn name(alloc: Global, bytes: &[u8]) -> Result<Name, Fail> {
-    Ok(List::from_vec(bytes.to_vec(alloc)?))
-}
-
-/// A queue `q` that holds one task and drops it for the next.
-fn queues(alloc: Global) -> Result<List<QueuePart>, Fail> {
-    let queue = QueuePart {
-        name: name(alloc, b"q")?,
-        policy: Policy::Discard(1),
-    };
-    only(alloc, queue)
-}
-
-/// A handler `h` that does nothing.
-fn handlers(alloc: Global) -> Result<List<HandlerPart>, Fail> {
-    let handler = HandlerPart {
-        name: name(alloc, b"h")?,
-        handler: Handler {
-            actions: List::new(alloc),
-        },
-    };
-    only(alloc, handler)
-}
-
-/// A receive `r` that takes one message of the port, each time that one is held.
-fn arbiters(alloc: Global) -> Result<List<ArbiterPart>, Fail> {
-    let slot = Slot {
-        port: 0,
-        least: 1,
-        most: 1,
-        pred: Pred::Any,
-    };
-    let branch = BranchPart {
-        name: name(alloc, b"r")?,
-        group: Group::Always,
-        queue: 0,
-        handler: 0,
-        pattern: Pattern::Slots(only(alloc, slot)?),
-    };
-    let receive = ArbiterPart {
-        name: name(alloc, b"r")?,
-        kind: Kind::Receive,
-        branches: only(alloc, branch)?,
-    };
-    only(alloc, receive)
+/// One receiver without a budget, on a queue that holds one task and drops it for the next.
+fn parts(alloc: Global) -> Result<Parts, OutOfMemory> {
+    let mut parts = one_receiver(alloc)?;
+    parts.budget = 0;
+    parts.queues = one_queue(alloc, Policy::Discard(1))?;
+    Ok(parts)
 }
 
 fn wiring(alloc: Global) -> Result<Wiring, Fail> {
-    let parts = Parts {
-        budget: 0,
-        queues: queues(alloc)?,
-        ports: only(alloc, name(alloc, b"a")?)?,
-        sets: List::new(alloc),
-        causes: List::new(alloc),
-        handlers: handlers(alloc)?,
-        arbiters: arbiters(alloc)?,
-        posters: List::new(alloc),
-    };
+    let parts = parts(alloc).ok().ok_or("memory")?;
     Ok(Wiring::check(alloc, parts).ok().ok_or("not valid")?)
 }
 
@@ -100,7 +47,7 @@ fn fire(alloc: Global, attempt: u32) -> Result<Event, Fail> {
     Ok(Event::Fire {
         task: task(attempt),
         spot: Spot::Branch(0),
-        messages: only(alloc, message(attempt))?,
+        messages: only(alloc, message(attempt)).ok().ok_or("memory")?,
         cuts: List::new(alloc),
     })
 }

@@ -1,90 +1,25 @@
 use super::*;
-use ccr_base::{
-    Action, Group, Handler, List, Msg, MsgId, Name, Pattern, Policy, Pred, Slot, Spot, TaskId,
-};
+use ccr_base::{Action, List, Msg, MsgId, OutOfMemory, Spot, TaskId};
 use ccr_model::{EndHow, Event, History};
-use ccr_wiring::{ArbiterPart, BranchPart, CausePart, HandlerPart, Kind, Parts, QueuePart, Wiring};
+use ccr_samples::{name, one_cause, one_handler, one_receiver, only};
+use ccr_wiring::{Parts, Wiring};
 use std::alloc::Global;
 use std::test::*;
 
 mod reading;
 
-fn name(alloc: Global, bytes: &[u8]) -> Result<Name, Fail> {
-    Ok(List::from_vec(bytes.to_vec(alloc)?))
+/// One receiver with another port `b`, a cause `k` that has it, and a handler that awaits it.
+fn parts(alloc: Global) -> Result<Parts, OutOfMemory> {
+    let mut parts = one_receiver(alloc)?;
+    let second = name(alloc, b"b")?;
+    parts.ports.push(second).map_err(|(refused, _)| refused)?;
+    parts.causes = one_cause(alloc, 1)?;
+    parts.handlers = one_handler(alloc, only(alloc, Action::Await(1))?)?;
+    Ok(parts)
 }
 
-fn only<T: Drop>(alloc: Global, item: T) -> Result<List<T>, Fail> {
-    let mut list = List::new(alloc);
-    list.push(item).ok().ok_or("memory")?;
-    Ok(list)
-}
-
-/// A queue `q` without a bound.
-fn queues(alloc: Global) -> Result<List<QueuePart>, Fail> {
-    let queue = QueuePart {
-        name: name(alloc, b"q")?,
-        policy: Policy::Unbounded,
-    };
-    only(alloc, queue)
-}
-
-/// A cause `k`, whose port is `b`.
-fn causes(alloc: Global) -> Result<List<CausePart>, Fail> {
-    let cause = CausePart {
-        name: name(alloc, b"k")?,
-        port: 1,
-    };
-    only(alloc, cause)
-}
-
-/// A handler `h` that awaits `b`.
-fn handlers(alloc: Global) -> Result<List<HandlerPart>, Fail> {
-    let handler = HandlerPart {
-        name: name(alloc, b"h")?,
-        handler: Handler {
-            actions: only(alloc, Action::Await(1))?,
-        },
-    };
-    only(alloc, handler)
-}
-
-/// A receive `x` that takes one message of `a`, each time that one is held.
-fn arbiters(alloc: Global) -> Result<List<ArbiterPart>, Fail> {
-    let slot = Slot {
-        port: 0,
-        least: 1,
-        most: 1,
-        pred: Pred::Any,
-    };
-    let branch = BranchPart {
-        name: name(alloc, b"x")?,
-        group: Group::Always,
-        queue: 0,
-        handler: 0,
-        pattern: Pattern::Slots(only(alloc, slot)?),
-    };
-    let receive = ArbiterPart {
-        name: name(alloc, b"x")?,
-        kind: Kind::Receive,
-        branches: only(alloc, branch)?,
-    };
-    only(alloc, receive)
-}
-
-/// Ports `a` and `b`, a cause `k`, and a receive `x` whose handler awaits `b`.
 fn wiring(alloc: Global) -> Result<Wiring, Fail> {
-    let mut ports = only(alloc, name(alloc, b"a")?)?;
-    ports.push(name(alloc, b"b")?).ok().ok_or("memory")?;
-    let parts = Parts {
-        budget: 5,
-        queues: queues(alloc)?,
-        ports,
-        sets: List::new(alloc),
-        causes: causes(alloc)?,
-        handlers: handlers(alloc)?,
-        arbiters: arbiters(alloc)?,
-        posters: List::new(alloc),
-    };
+    let parts = parts(alloc).ok().ok_or("memory")?;
     Ok(Wiring::check(alloc, parts).ok().ok_or("not valid")?)
 }
 
@@ -118,7 +53,7 @@ fn push_posts(alloc: Global, history: &mut History) -> Result<(), Fail> {
         id: POSTED,
         port: 0,
         value: 18446744073709551615,
-        causes: only(alloc, 0)?,
+        causes: only(alloc, 0).ok().ok_or("memory")?,
     };
     push(history, Event::Post(caused))?;
     let plain = Msg {
@@ -142,7 +77,7 @@ fn push_fires(alloc: Global, history: &mut History) -> Result<(), Fail> {
     let at_site = Event::Fire {
         task: SECOND,
         spot: Spot::Site(0, 0),
-        messages: only(alloc, POSTED)?,
+        messages: only(alloc, POSTED).ok().ok_or("memory")?,
         cuts: List::from_vec([FIRST, SECOND].to_vec(alloc)?),
     };
     push(history, at_site)
