@@ -1,16 +1,21 @@
--- What ports hold, and the names at places.
-use Rattle.std.proofs.Common.{◌≡◌, ℕ, zero, suc, ◌-◌, ◌<◌, ◌≤◌, Bool, not, List, ◌∷◌, ◌++◌, length, take, filter, Option, Some, None, refl, arith}
-use Rattle.std.specs.Prelude.{◌==◌}
+-- What ports hold, the names at places, and spots that cannot fire.
+use Rattle.std.proofs.Common.{◌≡◌, ◌∙◌, ℕ, zero, suc, ◌-◌, ◌<◌, ◌≤◌, Bool, false, not, List, ◌∷◌, ◌++◌, length, take, filter, Option, Some, None, refl, arith}
+use Rattle.std.specs.Prelude.{◌==◌, is_some}
 use Rattle.std.specs.List.{slice_get}
 use Rattle.std.specs.Option.{option_map, option_to_list}
 use Rattle.std.proofs.lemmas.List.Sums.{length-filter, count_by-le-length}
 use Rattle.ccr_base.specs.declared.names.MsgId.{MsgId}
 use Rattle.ccr_base.specs.declared.messages.Msg.{Msg}
+use Rattle.ccr_base.specs.declared.names.Spot.{Spot}
 use Rattle.ccr_base.specs.Names.{has_message}
 use Rattle.ccr_base.specs.Choice.{messages_at}
+use Rattle.ccr_wiring.specs.declared.parts.Parts.{Parts}
 use Rattle.ccr_model.specs.declared.history.Event.{Event}
 use Rattle.ccr_model.specs.Posts.{posts, posted, taken, held}
 use Rattle.ccr_model.specs.Choice.{names_of}
+use Rattle.ccr_model.specs.Enough.{can_fire}
+use Rattle.ccr_model.specs.Order.{fire_at}
+use Rattle.ccr_model.proofs.CanFire.{some_fire_at}
 use Rattle.ccr_serial.proofs.Ending.{all_kinds}
 
 length-kept : {X : Type 0} (p : X → Bool) (xs : List X) → length (filter p xs) ≤ length xs
@@ -43,3 +48,11 @@ names_of-missed messages place places past = of_option (slice_get messages place
     of_option : (o : Option Msg) → option_map (λ (m : Msg). m.id) o ≡ None → names_of (option_to_list o ++ messages_at messages places) ≡ names_of (messages_at messages places)
     of_option None there = refl
     of_option (Some m) there = absurd (cc)
+
+-- where the spot cannot fire, the engine has no firing there
+pub no_fire_at : (w : Parts) (c : ℕ) (h : List Event) (s : Spot) → can_fire w h s ≡ false → None ≡ fire_at w c h s
+no_fire_at w c h s cannot = of_option (fire_at w c h s) (some_fire_at w c h s ∙ cannot)
+  where
+    of_option : (o : Option Event) → is_some o ≡ false → None ≡ o
+    of_option None none = refl
+    of_option (Some event) none = absurd (cc)
