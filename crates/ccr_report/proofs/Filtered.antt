@@ -1,5 +1,5 @@
 -- Lists of numbers, counted.
-use Rattle.std.proofs.Common.{◌≡◌, ◌≤◌, ◌+◌, Bool, true, false, ℕ, List, [], ◌∷◌, length, filter, arith}
+use Rattle.std.proofs.Common.{◌≤◌, Bool, ℕ, List, [], ◌∷◌, length, filter, arith}
 use Rattle.std.proofs.lemmas.Grind.{common_steps}
 
 pub length-filter-le : {X : Type 0} (p : X → Bool) (xs : List X) → length (filter p xs) ≤ length xs

@@ -1,5 +1,5 @@
 -- Counts over lists of numbers, as counts over what the numbers belong to.
-use Rattle.std.proofs.Common.{◌≡◌, ◌+◌, ◌-◌, ◌<◌, ℕ, zero, suc, Bool, true, false, not, Option, Some, None, List, [], ◌∷◌, ◌++◌, length, filter, map, flat_map, cond, refl, sym, ap, ◌∙◌, arith}
+use Rattle.std.proofs.Common.{◌≡◌, ◌+◌, ◌-◌, ℕ, zero, suc, Bool, true, false, not, Option, Some, None, List, [], ◌∷◌, ◌++◌, length, filter, map, flat_map, cond, refl, sym, ap, ◌∙◌, arith}
 use Rattle.std.specs.Prelude.{◌==◌, option_map, option_and_then, option_to_list}
 use Rattle.std.specs.List.{slice_get}
 use Rattle.std.specs.Option.{option_map_or}
@@ -16,9 +16,8 @@ use Rattle.ccr_wiring.specs.Wirings.{Seat, seat, seats, seats_of, seats_from, br
 use Rattle.ccr_model.specs.declared.history.Event.{Event}
 use Rattle.ccr_model.specs.Posts.{posts, posted, taken, held}
 use Rattle.ccr_model.specs.Firings.{spot_of}
-use Rattle.ccr_model.specs.TaskData.{seat_of}
 use Rattle.ccr_model.specs.Tasks.{is_for_queue}
-use Rattle.ccr_report.specs.Counting.{times, taken_at, ports_of, queue_of, queues_of, queues_in, branch_queues}
+use Rattle.ccr_report.specs.Counting.{times, taken_at, ports_of, queues_in, branch_queues}
 
 -- numbers that are counted belong to members that pass a test
 pub times-map : {X : Type 0} (f : X → ℕ) (k : ℕ) (xs : List X) → times k (map f xs) ≡ length (filter (λ x. f x == k) xs)

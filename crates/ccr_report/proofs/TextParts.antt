@@ -1,6 +1,6 @@
 -- A text by its parts.
 use Rattle.std.proofs.Common.{◌≡◌, ℕ, List, [], ◌∷◌, ◌++◌, codes, arith}
-use Rattle.std.proofs.lemmas.Grind.{common_steps, flat_map-append}
+use Rattle.std.proofs.lemmas.Grind.{common_steps}
 use Rattle.ccr_text.specs.Spelling.{line_text, text_of}
 
 pub text_parts : (first last : List (List ℕ)) (ports spots queues : List (List (List ℕ))) → (((line_text first ++ text_of ports) ++ text_of spots) ++ text_of queues) ++ line_text last ≡ text_of (first ∷ (ports ++ spots ++ queues ++ last ∷ []))

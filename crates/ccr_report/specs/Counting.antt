@@ -1,5 +1,5 @@
 -- What a report counts at a port and at a queue.
-use Rattle.std.specs.Prelude.{ℕ, ◌==◌, List, [], ◌∷◌, ◌++◌, map, filter, flat_map, length, not, Option, option_map, option_to_list}
+use Rattle.std.specs.Prelude.{ℕ, ◌==◌, List, map, filter, flat_map, length, Option, option_map, option_to_list}
 use Rattle.ccr_base.specs.declared.names.TaskId.{TaskId}
 use Rattle.ccr_base.specs.declared.messages.Msg.{Msg}
 use Rattle.ccr_base.specs.Names.{has_message}
@@ -8,7 +8,7 @@ use Rattle.ccr_wiring.specs.declared.parts.ArbiterPart.{ArbiterPart}
 use Rattle.ccr_wiring.specs.declared.parts.BranchPart.{BranchPart}
 use Rattle.ccr_wiring.specs.Wirings.{Seat}
 use Rattle.ccr_model.specs.declared.history.Event.{Event}
-use Rattle.ccr_model.specs.Posts.{posts, posted, taken}
+use Rattle.ccr_model.specs.Posts.{posted, taken}
 use Rattle.ccr_model.specs.Firings.{put, dropped}
 use Rattle.ccr_model.specs.TaskData.{seat_of}
 use Rattle.ccr_model.specs.Tasks.{is_for_queue}

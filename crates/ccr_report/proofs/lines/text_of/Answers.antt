@@ -1,4 +1,4 @@
-use Rattle.std.proofs.Common.{◌≡◌, ◌∙◌, ap, ℕ, List, [], ◌∷◌, ◌++◌, map, codes}
+use Rattle.std.proofs.Common.{◌∙◌, ap, ℕ, List, [], ◌∷◌, ◌++◌, map, codes}
 use Rattle.ccr_text.specs.Spelling.{line_text, text_of}
 use Rattle.ccr_report.specs.Report.{port_lines, spot_words, queue_lines, total_words}
 use Rattle.ccr_report.proofs.TextParts.{text_parts}

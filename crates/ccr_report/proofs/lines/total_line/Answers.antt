@@ -1,4 +1,3 @@
-use Rattle.std.proofs.Common.{◌≡◌}
 use Rattle.ccr_report.proofs.TextParts.{total_parts}
 use Rattle.ccr_report.proofs.lines.total_line.Goals as goal
 

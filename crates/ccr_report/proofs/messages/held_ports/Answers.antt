@@ -1,4 +1,4 @@
-use Rattle.std.proofs.Common.{◌≡◌, ◌∙◌, ap, not, Bool}
+use Rattle.std.proofs.Common.{◌∙◌, ap, not, Bool}
 use Rattle.std.proofs.lemmas.List.Elements.{filter_agree}
 use Rattle.ccr_base.specs.declared.messages.Msg.{Msg}
 use Rattle.ccr_model.specs.Posts.{posts}

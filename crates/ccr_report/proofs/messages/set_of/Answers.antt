@@ -1,4 +1,4 @@
-use Rattle.std.proofs.Common.{◌≡◌, sym, ◌∙◌, ap, cond, true, Bool, get_or}
+use Rattle.std.proofs.Common.{sym, ◌∙◌, ap, cond, true, Bool, get_or}
 use Rattle.ccr_base.specs.Names.{same_message}
 use Rattle.ccr_base.specs.declared.names.MsgId.TheVariants.{Script}
 use Rattle.ccr_report.proofs.SameNames.{has_message-more, message_inserted}

@@ -1,4 +1,3 @@
-use Rattle.std.proofs.Common.{sym}
 use Rattle.ccr_report.proofs.SpotCounts.{spot_counted}
 use Rattle.ccr_report.proofs.spots.count_spot.Goals as goal
 

@@ -1,4 +1,4 @@
-use Rattle.std.proofs.Common.{◌≡◌, ◌+◌, [], ◌∷◌, length, take, sym, ◌∙◌, ap, ℕ, arith}
+use Rattle.std.proofs.Common.{◌+◌, [], ◌∷◌, length, take, sym, ◌∙◌, ap, ℕ, arith}
 use Rattle.std.proofs.lemmas.Grind.{common_steps}
 use Rattle.ccr_model.specs.declared.history.Event.{Event}
 use Rattle.ccr_model.specs.Firings.{fired_at}

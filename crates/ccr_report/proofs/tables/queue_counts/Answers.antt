@@ -1,4 +1,4 @@
-use Rattle.std.proofs.Common.{◌≡◌, ◌∙◌, ap, List, filter, length}
+use Rattle.std.proofs.Common.{◌∙◌, ap, List, filter, length}
 use Rattle.std.specs.HashMap.{get}
 use Rattle.ccr_base.specs.declared.names.TaskId.{TaskId}
 use Rattle.ccr_base.specs.Names.{same_task}

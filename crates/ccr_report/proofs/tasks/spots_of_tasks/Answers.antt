@@ -1,4 +1,4 @@
-use Rattle.std.proofs.Common.{◌≡◌, [], ◌∷◌, sym, ◌∙◌, ap, take, Option}
+use Rattle.std.proofs.Common.{[], ◌∷◌, sym, ◌∙◌, ap, take, Option}
 use Rattle.std.specs.Option.{option_or}
 use Rattle.ccr_base.specs.declared.names.Spot.{Spot}
 use Rattle.ccr_model.specs.declared.history.Event.{Event}
