@@ -15,6 +15,7 @@ pub mod NamesApart
 pub mod Spotted
 pub mod Sound
 pub mod Told
+pub mod NamesAdded
 pub mod SoundLines
 pub mod NoCode
 pub mod Answered

@@ -7,6 +7,8 @@ use Rattle.ccr_base.specs.declared.handlers.Action.{Action}
 use Rattle.ccr_base.specs.declared.handlers.Action.TheVariants as actions
 use Rattle.ccr_base.specs.declared.handlers.Expr.{Expr}
 use Rattle.ccr_base.specs.declared.handlers.Expr.TheVariants as exprs
+use Rattle.ccr_base.specs.declared.policies.Group.{Group}
+use Rattle.ccr_base.specs.declared.policies.Group.TheVariants as groups
 use Rattle.ccr_base.specs.declared.policies.Policy.{Policy}
 use Rattle.ccr_base.specs.declared.policies.Policy.TheVariants as policies
 use Rattle.ccr_base.specs.declared.patterns.Slot.{Slot}
@@ -14,6 +16,9 @@ use Rattle.ccr_base.specs.declared.patterns.Pattern.{Pattern}
 use Rattle.ccr_base.specs.declared.patterns.Pattern.TheVariants as patterns
 use Rattle.ccr_wiring.specs.declared.parts.Parts.{Parts}
 use Rattle.ccr_wiring.specs.declared.parts.BranchPart.{BranchPart}
+use Rattle.ccr_wiring.specs.declared.parts.Kind.{Kind}
+use Rattle.ccr_wiring.specs.declared.parts.Kind.TheVariants as arbiters
+use Rattle.ccr_wiring.specs.Groups.{may_have}
 use Rattle.ccr_wiring.specs.Repeats.{has_port, are_apart, slot_ports}
 use Rattle.ccr_wiretext.specs.declared.keyword.Keyword.{Keyword}
 use Rattle.ccr_wiretext.specs.declared.keyword.Keyword.TheVariants as keywords
@@ -22,7 +27,8 @@ use Rattle.ccr_wiretext.specs.declared.named.Named.TheVariants as kinds
 use Rattle.ccr_wiretext.specs.Names.{Naming, named, as_port, as_queue, as_cause, as_handler}
 use Rattle.ccr_wiretext.specs.Drafts.{Declared}
 use Rattle.ccr_wiretext.specs.Places.{Words}
-use Rattle.ccr_wiretext.specs.Grammar.{Refers, IsPort, IsPolicy, IsExpr, IsSlots, IsPattern, ArePorts, AreCauses}
+use Rattle.ccr_wiretext.specs.Grammar.{Refers, IsPort, IsPolicy, IsExpr, IsSlots, IsPattern, ArePorts, AreCauses, IsGroup}
+use Rattle.ccr_wiretext.specs.Blocks.{group_of}
 use Rattle.ccr_wiretext.specs.Lines.{IsAction, IsBranchTail}
 use Rattle.ccr_wiretext.proofs.Steps.{then_some}
 use Rattle.ccr_wiretext.proofs.Each.{Each, neither}
@@ -219,3 +225,78 @@ action_fit draft handlers known keywords.Exclusive words action said = absurd sa
 action_fit draft handlers known keywords.Concurrent words action said = absurd said
 action_fit draft handlers known keywords.End words action said = absurd said
 action_fit draft handlers known keywords.Other words action said = absurd said
+
+-- ---- the groups that a line may have
+
+pub receive_group : (word : List ℕ) (g : Group) → IsGroup word g → may_have arbiters.Receive g ≡ true
+receive_group word groups.Once said = refl
+receive_group word groups.Always said = refl
+receive_group word groups.Choice said = absurd said
+receive_group word groups.Teardown said = absurd said
+receive_group word groups.Exclusive said = absurd said
+receive_group word groups.Concurrent said = absurd said
+
+pub group_may : (kind : Kind) (first : Keyword) (g : Group) → group_of kind first ≡ Some g → may_have kind g ≡ true
+group_may arbiters.Receive keywords.Budget g e = absurd cc
+group_may arbiters.Receive keywords.Queue g e = absurd cc
+group_may arbiters.Receive keywords.Port g e = absurd cc
+group_may arbiters.Receive keywords.Portset g e = absurd cc
+group_may arbiters.Receive keywords.Cause g e = absurd cc
+group_may arbiters.Receive keywords.Handler g e = absurd cc
+group_may arbiters.Receive keywords.Receive g e = absurd cc
+group_may arbiters.Receive keywords.Choice g e = absurd cc
+group_may arbiters.Receive keywords.Interleave g e = absurd cc
+group_may arbiters.Receive keywords.Poster g e = absurd cc
+group_may arbiters.Receive keywords.Post g e = absurd cc
+group_may arbiters.Receive keywords.Fail g e = absurd cc
+group_may arbiters.Receive keywords.Add g e = absurd cc
+group_may arbiters.Receive keywords.Remove g e = absurd cc
+group_may arbiters.Receive keywords.Await g e = absurd cc
+group_may arbiters.Receive keywords.Branch g e = absurd cc
+group_may arbiters.Receive keywords.Teardown g e = absurd cc
+group_may arbiters.Receive keywords.Exclusive g e = absurd cc
+group_may arbiters.Receive keywords.Concurrent g e = absurd cc
+group_may arbiters.Receive keywords.End g e = absurd cc
+group_may arbiters.Receive keywords.Other g e = absurd cc
+group_may arbiters.Choice keywords.Budget g e = absurd cc
+group_may arbiters.Choice keywords.Queue g e = absurd cc
+group_may arbiters.Choice keywords.Port g e = absurd cc
+group_may arbiters.Choice keywords.Portset g e = absurd cc
+group_may arbiters.Choice keywords.Cause g e = absurd cc
+group_may arbiters.Choice keywords.Handler g e = absurd cc
+group_may arbiters.Choice keywords.Receive g e = absurd cc
+group_may arbiters.Choice keywords.Choice g e = absurd cc
+group_may arbiters.Choice keywords.Interleave g e = absurd cc
+group_may arbiters.Choice keywords.Poster g e = absurd cc
+group_may arbiters.Choice keywords.Post g e = absurd cc
+group_may arbiters.Choice keywords.Fail g e = absurd cc
+group_may arbiters.Choice keywords.Add g e = absurd cc
+group_may arbiters.Choice keywords.Remove g e = absurd cc
+group_may arbiters.Choice keywords.Await g e = absurd cc
+group_may arbiters.Choice keywords.Branch g e = let same : groups.Choice ≡ g = cc in ap (may_have arbiters.Choice) (sym same)
+group_may arbiters.Choice keywords.Teardown g e = absurd cc
+group_may arbiters.Choice keywords.Exclusive g e = absurd cc
+group_may arbiters.Choice keywords.Concurrent g e = absurd cc
+group_may arbiters.Choice keywords.End g e = absurd cc
+group_may arbiters.Choice keywords.Other g e = absurd cc
+group_may arbiters.Interleave keywords.Budget g e = absurd cc
+group_may arbiters.Interleave keywords.Queue g e = absurd cc
+group_may arbiters.Interleave keywords.Port g e = absurd cc
+group_may arbiters.Interleave keywords.Portset g e = absurd cc
+group_may arbiters.Interleave keywords.Cause g e = absurd cc
+group_may arbiters.Interleave keywords.Handler g e = absurd cc
+group_may arbiters.Interleave keywords.Receive g e = absurd cc
+group_may arbiters.Interleave keywords.Choice g e = absurd cc
+group_may arbiters.Interleave keywords.Interleave g e = absurd cc
+group_may arbiters.Interleave keywords.Poster g e = absurd cc
+group_may arbiters.Interleave keywords.Post g e = absurd cc
+group_may arbiters.Interleave keywords.Fail g e = absurd cc
+group_may arbiters.Interleave keywords.Add g e = absurd cc
+group_may arbiters.Interleave keywords.Remove g e = absurd cc
+group_may arbiters.Interleave keywords.Await g e = absurd cc
+group_may arbiters.Interleave keywords.Branch g e = absurd cc
+group_may arbiters.Interleave keywords.Teardown g e = let same : groups.Teardown ≡ g = cc in ap (may_have arbiters.Interleave) (sym same)
+group_may arbiters.Interleave keywords.Exclusive g e = let same : groups.Exclusive ≡ g = cc in ap (may_have arbiters.Interleave) (sym same)
+group_may arbiters.Interleave keywords.Concurrent g e = let same : groups.Concurrent ≡ g = cc in ap (may_have arbiters.Interleave) (sym same)
+group_may arbiters.Interleave keywords.End g e = absurd cc
+group_may arbiters.Interleave keywords.Other g e = absurd cc

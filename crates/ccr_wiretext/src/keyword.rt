@@ -2,7 +2,7 @@
 
 ghost use Rattle.std.specs.Prelude.{◌≡◌};
 ghost use Rattle.std.specs.Str.{bytes_eq};
-ghost use Rattle.ccr_wiretext.specs.Keywords.{keyword};
+ghost use Rattle.ccr_wiretext.specs.Keywords.{keyword, keyword_in_block};
 
 /// Whether the word is that text.
 pub fn is_text(word: &[u8], text: &str) -> bool
@@ -38,6 +38,35 @@ pub enum Keyword {
     Other,
 }
 
+/// The keyword of a line in a block that a word is.
+fn keyword_in_block(word: &[u8]) -> Keyword
+    ensures { result ≡ keyword_in_block word.now }
+{
+    if is_text(word, "post") {
+        Keyword::Post
+    } else if is_text(word, "fail") {
+        Keyword::Fail
+    } else if is_text(word, "add") {
+        Keyword::Add
+    } else if is_text(word, "remove") {
+        Keyword::Remove
+    } else if is_text(word, "await") {
+        Keyword::Await
+    } else if is_text(word, "branch") {
+        Keyword::Branch
+    } else if is_text(word, "teardown") {
+        Keyword::Teardown
+    } else if is_text(word, "exclusive") {
+        Keyword::Exclusive
+    } else if is_text(word, "concurrent") {
+        Keyword::Concurrent
+    } else if is_text(word, "end") {
+        Keyword::End
+    } else {
+        Keyword::Other
+    }
+}
+
 /// The keyword that a word is.
 #[tactic(auto, unfolding(crate::specs::Keywords::keyword))]
 pub fn keyword_of(word: &[u8]) -> Keyword
@@ -63,27 +92,7 @@ pub fn keyword_of(word: &[u8]) -> Keyword
         Keyword::Interleave
     } else if is_text(word, "poster") {
         Keyword::Poster
-    } else if is_text(word, "post") {
-        Keyword::Post
-    } else if is_text(word, "fail") {
-        Keyword::Fail
-    } else if is_text(word, "add") {
-        Keyword::Add
-    } else if is_text(word, "remove") {
-        Keyword::Remove
-    } else if is_text(word, "await") {
-        Keyword::Await
-    } else if is_text(word, "branch") {
-        Keyword::Branch
-    } else if is_text(word, "teardown") {
-        Keyword::Teardown
-    } else if is_text(word, "exclusive") {
-        Keyword::Exclusive
-    } else if is_text(word, "concurrent") {
-        Keyword::Concurrent
-    } else if is_text(word, "end") {
-        Keyword::End
     } else {
-        Keyword::Other
+        keyword_in_block(word)
     }
 }

@@ -49,30 +49,6 @@ fn one_more_of_a_kind(rt: HostRuntime) -> Result<(), Fail> {
         (255, "handler k", "\nend\n", "handler k", 518, 10),
         (16, "poster p", "\nend\n", "", 0, 0),
         (16, "poster p", "\nend\n", "poster p", 40, 10),
-        (
-            16,
-            "receive r",
-            " once q h take a 1 any\n",
-            "receive x once q h take b 1 any",
-            0,
-            0,
-        ),
-        (
-            16,
-            "receive r",
-            " once q h take a 1 any\n",
-            "receive x once q h take b 1 any a 1 any",
-            24,
-            12,
-        ),
-        (
-            16,
-            "receive r",
-            " once q h take a 1 any\n",
-            "receive x once q h take a 1 any 4",
-            24,
-            7,
-        ),
     ];
     for row in &rows {
         assert!(rt; is_refused(&rt, row));
@@ -81,8 +57,28 @@ fn one_more_of_a_kind(rt: HostRuntime) -> Result<(), Fail> {
 }
 
 #[test]
-fn one_more_in_a_line_or_block(rt: HostRuntime) -> Result<(), Fail> {
-    let rows = [
+fn one_more_spot_of_receives(rt: HostRuntime) -> Result<(), Fail> {
+    for (last, line, code) in [
+        ("receive x once q h take b 1 any", 0, 0),
+        ("receive x once q h take b 1 any a 1 any", 24, 12),
+        ("receive x once q h take a 1 any 4", 24, 7),
+    ] {
+        let row = (
+            16,
+            "receive r",
+            " once q h take a 1 any\n",
+            last,
+            line,
+            code,
+        );
+        assert!(rt; is_refused(&rt, &row));
+    }
+    Ok(())
+}
+
+#[test]
+fn one_more_action_of_a_handler(rt: HostRuntime) -> Result<(), Fail> {
+    for (lines, line, code) in [
         (
             "handler k\nfail 1\nfail 1\nfail 1\nfail 1\nfail 1\nfail 1\nfail 1\nfail 1\nfail 1\nfail 1\nfail 1\nfail 1\nfail 1\nfail 1\nfail 1\nfail 1\nend",
             0,
@@ -93,6 +89,15 @@ fn one_more_in_a_line_or_block(rt: HostRuntime) -> Result<(), Fail> {
             25,
             10,
         ),
+    ] {
+        assert_eq!(rt; refusal_behind(&rt, lines), (line, code));
+    }
+    Ok(())
+}
+
+#[test]
+fn one_more_port_of_a_set(rt: HostRuntime) -> Result<(), Fail> {
+    for (lines, line, code) in [
         (
             "port c\nport d\nport e\nport f\nport g\nport i\nportset s a b c d e f g i",
             0,
@@ -108,6 +113,15 @@ fn one_more_in_a_line_or_block(rt: HostRuntime) -> Result<(), Fail> {
             14,
             10,
         ),
+    ] {
+        assert_eq!(rt; refusal_behind(&rt, lines), (line, code));
+    }
+    Ok(())
+}
+
+#[test]
+fn one_more_slot_of_a_branch(rt: HostRuntime) -> Result<(), Fail> {
+    for (lines, line, code) in [
         (
             "port c\nport d\nport e\nport f\nport g\nport i\nreceive r once q h take a 1 any b 1 any c 1 any d 1 any e 1 any f 1 any g 1 any i 1 any",
             0,
@@ -123,6 +137,15 @@ fn one_more_in_a_line_or_block(rt: HostRuntime) -> Result<(), Fail> {
             14,
             10,
         ),
+    ] {
+        assert_eq!(rt; refusal_behind(&rt, lines), (line, code));
+    }
+    Ok(())
+}
+
+#[test]
+fn one_more_spot_of_handlers_and_branches(rt: HostRuntime) -> Result<(), Fail> {
+    for (lines, line, code) in [
         (
             "handler k\nawait a\nawait a\nawait a\nawait a\nawait a\nawait a\nawait a\nawait a\nend\nreceive r once q k take b 1 any\nreceive s once q k take b 1 any\nreceive t once q h take a 1 any",
             20,
@@ -138,9 +161,8 @@ fn one_more_in_a_line_or_block(rt: HostRuntime) -> Result<(), Fail> {
             22,
             12,
         ),
-    ];
-    for (lines, line, code) in &rows {
-        assert_eq!(rt; refusal_behind(&rt, lines), (*line, *code));
+    ] {
+        assert_eq!(rt; refusal_behind(&rt, lines), (line, code));
     }
     Ok(())
 }

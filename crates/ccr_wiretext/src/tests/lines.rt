@@ -43,12 +43,11 @@ fn heads_and_bytes(rt: HostRuntime) -> Result<(), Fail> {
 }
 
 #[test]
-fn blocks_and_ends(rt: HostRuntime) -> Result<(), Fail> {
+fn words_that_their_block_does_not_have(rt: HostRuntime) -> Result<(), Fail> {
     assert!(rt;
         are_refused_behind(
             &rt,
             &[
-                ("", 0, 0),
                 ("end", 8, 3),
                 ("post a 1", 8, 3),
                 ("fail 1", 8, 3),
@@ -64,18 +63,55 @@ fn blocks_and_ends(rt: HostRuntime) -> Result<(), Fail> {
                 ("poster p\nfail 1", 9, 3),
                 ("poster p\nawait a", 9, 3),
                 ("poster p\nend\nend", 10, 3),
+            ]
+        )
+    );
+    Ok(())
+}
+
+#[test]
+fn ends_that_do_not_fit(rt: HostRuntime) -> Result<(), Fail> {
+    assert!(rt;
+        are_refused_behind(
+            &rt,
+            &[
                 ("choice c\nend", 9, 11),
                 ("interleave i\nend x", 9, 11),
                 ("choice c\nbranch x q h take a 1 any\nend x", 10, 4),
-                ("choice c\nbranch x q h take a 1 any\nend", 0, 0),
                 ("handler k\nend x", 9, 4),
                 ("poster p\nend x", 9, 4),
+            ]
+        )
+    );
+    Ok(())
+}
+
+#[test]
+fn blocks_left_open(rt: HostRuntime) -> Result<(), Fail> {
+    assert!(rt;
+        are_refused_behind(
+            &rt,
+            &[
                 ("handler k", 8, 9),
                 ("handler k\n", 8, 9),
                 ("handler k\n\n# x\n", 10, 9),
                 ("choice c\nbranch x q h take a 1 any", 9, 9),
                 ("interleave i", 8, 9),
                 ("poster p\npost a 1", 9, 9),
+            ]
+        )
+    );
+    Ok(())
+}
+
+#[test]
+fn whole_blocks_are_read(rt: HostRuntime) -> Result<(), Fail> {
+    assert!(rt;
+        are_refused_behind(
+            &rt,
+            &[
+                ("", 0, 0),
+                ("choice c\nbranch x q h take a 1 any\nend", 0, 0),
                 (
                     "interleave i\nteardown x q h take a 1 any\nexclusive y q h gather 2 a b\nconcurrent z q h take b 2 lt 3\nend",
                     0,
