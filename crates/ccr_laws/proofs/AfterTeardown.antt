@@ -24,12 +24,12 @@ use Rattle.ccr_model.proofs.PostNames.{both}
 use Rattle.ccr_model.proofs.Quiet.{some_of}
 use Rattle.ccr_model.proofs.Stable.{firing_named-append}
 use Rattle.ccr_laws.specs.Interleaves.{is_seat_in, is_teardown_in, is_exclusive_in, tears_down, is_of_interleave, is_of_teardown, is_of_exclusive}
+use Rattle.ccr_laws.proofs.Pushes.{started-push, cut-push, let_in-push, last-push}
 use Rattle.ccr_laws.proofs.LegalParts.{along_legal, onward, Parted-legal}
 use Rattle.ccr_laws.proofs.TaskLists.{has_oldest, of_more, among_left, of_one, out_left, out_right, any_named, any_has}
-use Rattle.ccr_laws.proofs.TaskPlaces.{IsFired, IsFired-append, AreFired, ArePlaced-legal, StartFacts-allowed, started-push, seat_fired, seat_stays, seat_by}
+use Rattle.ccr_laws.proofs.TaskPlaces.{IsFired, IsFired-append, AreFired, ArePlaced-legal, StartFacts-allowed, seat_fired, seat_stays, seat_by}
 use Rattle.ccr_laws.proofs.FiringFacts.{FiresSo, FiresSo-allowed, BranchFacts, BranchFacts-where, waits_parts, waits_whole}
-use Rattle.ccr_laws.proofs.Cutting.{fired_by-append, cut-push, let_in-push, dead, AdmitFacts-allowed}
-use Rattle.ccr_laws.proofs.Ending.{last-push}
+use Rattle.ccr_laws.proofs.Cutting.{fired_by-append, dead, AdmitFacts-allowed}
 use Rattle.ccr_laws.proofs.Roots.{root_stays, of_firing, other_firing, AreRooted-legal, last_fired, queued_works, at_work_admitted, seat_of_root, AdmittedFacts-admitted, admitted_whole}
 use Rattle.ccr_laws.proofs.Exclusion.{alone}
 

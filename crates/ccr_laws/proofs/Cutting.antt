@@ -30,20 +30,15 @@ use Rattle.ccr_model.proofs.Quiet.{some_of}
 use Rattle.ccr_model.proofs.Stable.{firing_named-append}
 use Rattle.ccr_model.proofs.Allowing.{OneName, OneName-legal}
 use Rattle.ccr_laws.specs.Interleaves.{is_seat_in, is_teardown_in, tears_down, fired_in}
+use Rattle.ccr_laws.proofs.Pushes.{put-push, cut-push, let_in-push}
 use Rattle.ccr_laws.proofs.LegalParts.{along_legal, onward, Parted-legal}
 use Rattle.ccr_laws.proofs.TaskLists.{first_rest, has_oldest, of_more, among_left, not_more, of_one, not_one}
-use Rattle.ccr_laws.proofs.TaskPlaces.{IsFired, ArePlaced, ArePlaced-legal, PutFacts, PutFacts-allowed, put-push}
+use Rattle.ccr_laws.proofs.TaskPlaces.{IsFired, ArePlaced, ArePlaced-legal, PutFacts, PutFacts-allowed}
 use Rattle.ccr_laws.proofs.FiringFacts.{FiresSo-allowed, BranchFacts, BranchFacts-where, WaitingFacts, WaitingFacts-waiting, fired_by_has, firing_named-new}
 
 -- an event later, a list longer
 pub fired_by-append : (w : Parts) (test : Seat → Bool) (h es : List Event) → fired_by w test (h ++ es) ≡ fired_by w test h ++ fired_by w test es
 fired_by-append w test h es = grind (arith, common_steps)
-
-pub cut-push : (h : List Event) (e : Event) → cut (h ++ e ∷ []) ≡ cut h ++ cut (e ∷ [])
-cut-push h e = grind (arith, common_steps)
-
-pub let_in-push : (h : List Event) (e : Event) → let_in (h ++ e ∷ []) ≡ let_in h ++ admitted_by e
-let_in-push h e = grind (arith, common_steps)
 
 -- a branch of an Interleave may fire while no teardown of it fired
 ends_live : (w : Parts) (h : List Event) (b i : ℕ) (k : Kind) (g : Group) → may_have k g ≡ true → is_interleave k ≡ true → is_live_in w h b i g ≡ true → is_none_of (fired_by w (λ s. (s.arbiter == i) && is_teardown s.branch.group) h) ≡ true

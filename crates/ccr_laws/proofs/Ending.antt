@@ -13,18 +13,11 @@ use Rattle.ccr_model.specs.Tasks.{running}
 use Rattle.ccr_model.specs.Legal.{IsAllowed, IsLegal}
 use Rattle.ccr_model.specs.Consequences.{are_distinct_tasks}
 use Rattle.ccr_model.proofs.PostNames.{both, refused_not}
+use Rattle.ccr_laws.proofs.Pushes.{started-push, dropped-push, ended-push, yielded-push, last-push}
+use Rattle.ccr_laws.proofs.Booleans.{not_true}
 use Rattle.ccr_laws.proofs.LegalParts.{along_legal}
-use Rattle.ccr_laws.proofs.TaskLists.{has_task-without, not_true, distinct-push, of_more, among_left, among_right, not_more, of_one, not_one, not_within}
-use Rattle.ccr_laws.proofs.TaskPlaces.{ArePlaced-legal, PutFacts-allowed, QueuedFacts-queued, started-push, dropped-push}
-
-pub ended-push : (h : List Event) (e : Event) → ended (h ++ e ∷ []) ≡ ended h ++ ended_by e
-ended-push h e = grind (arith, common_steps)
-
-pub yielded-push : (h : List Event) (e : Event) → yielded (h ++ e ∷ []) ≡ yielded h ++ yielded_by e
-yielded-push h e = grind (arith, common_steps)
-
-pub last-push : (h : List Event) (e : Event) → last_segments (h ++ e ∷ []) ≡ last_segments h ++ last_by e
-last-push h e = grind (arith, common_steps)
+use Rattle.ccr_laws.proofs.TaskLists.{has_task-without, distinct-push, of_more, among_left, among_right, not_more, of_one, not_one, not_within}
+use Rattle.ccr_laws.proofs.TaskPlaces.{ArePlaced-legal, PutFacts-allowed, QueuedFacts-queued}
 
 -- a running task started and didn't end
 pub record RunningFacts (h : List Event) (t : TaskId) : Type 0 where

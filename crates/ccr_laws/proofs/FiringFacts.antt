@@ -24,7 +24,8 @@ use Rattle.ccr_model.proofs.TaskSteps.{firings-push}
 use Rattle.ccr_model.proofs.Covered.{same_task-is, or_left, or_right}
 use Rattle.ccr_model.proofs.Allowing.{same_task-self, OneName}
 use Rattle.ccr_laws.specs.Interleaves.{is_seat_in}
-use Rattle.ccr_laws.proofs.TaskLists.{same_task-sym, has_task-append, has_task-without, not_true, neither}
+use Rattle.ccr_laws.proofs.Booleans.{not_true, neither}
+use Rattle.ccr_laws.proofs.TaskLists.{same_task-sym, has_task-append, has_task-without}
 use Rattle.ccr_laws.proofs.TaskPlaces.{IsFired}
 
 same_tasks-is : (ts us : List TaskId) → same_lists same_task ts us ≡ true → ts ≡ us

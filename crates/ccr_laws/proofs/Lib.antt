@@ -1,3 +1,5 @@
+pub mod Booleans
+pub mod Pushes
 pub mod Allowed
 pub mod WholePatterns
 pub mod SingleFirings

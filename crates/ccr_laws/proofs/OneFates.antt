@@ -24,6 +24,7 @@ use Rattle.ccr_model.proofs.Stable.{firings-append}
 use Rattle.ccr_model.proofs.Allowing.{OneName-legal}
 use Rattle.ccr_laws.specs.Standing.{Stands}
 use Rattle.ccr_laws.specs.OneFate.{IsHeld, IsTakenBy, HasFate, HasOneFate}
+use Rattle.ccr_laws.proofs.Booleans.{eq-self}
 use Rattle.ccr_laws.proofs.TaskLife.{firing_seated}
 use Rattle.ccr_laws.proofs.HeldBefore.{untaken_of_held, untaken_before}
 use Rattle.ccr_laws.proofs.States.{found_among, is_in, only_in}
@@ -136,9 +137,6 @@ Contains-among : (ms : List Msg) (m : Msg) → Among m ms → Contains ms m
 Contains-among [] m among = absurd among
 Contains-among (x ∷ ms) m (inl same) = (0, omega arith, sym same)
 Contains-among (x ∷ ms) m (inr more) = let rest = Contains-among ms m more in (suc rest.0, omega (arith, rest.1), rest.2)
-
-eq-self : (n : ℕ) → (n == n) ≡ true
-eq-self n = grind (arith, nat_tests)
 
 held_by_untaken : (h past : List Event) (m : Msg) → Stands h past (Post m) → has_message (taken h) m.id ≡ false → IsHeld h m.id
 held_by_untaken h past m stands out =

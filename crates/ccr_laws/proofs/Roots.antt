@@ -25,11 +25,13 @@ use Rattle.ccr_model.proofs.Covered.{same_task-is}
 use Rattle.ccr_model.proofs.Allowing.{same_task-self}
 use Rattle.ccr_laws.specs.AtWork.{is_queued, is_suspended, is_at_work}
 use Rattle.ccr_laws.specs.Interleaves.{is_seat_in, is_of_interleave}
+use Rattle.ccr_laws.proofs.Pushes.{let_in-push}
+use Rattle.ccr_laws.proofs.Booleans.{not_true}
 use Rattle.ccr_laws.proofs.LegalParts.{along_legal}
-use Rattle.ccr_laws.proofs.TaskLists.{has_task-filter, among_left, not_within, any_named, not_true}
+use Rattle.ccr_laws.proofs.TaskLists.{has_task-filter, among_left, not_within, any_named}
 use Rattle.ccr_laws.proofs.TaskPlaces.{IsFired, ArePlaced-legal, QueuedFacts-queued, seat_by}
 use Rattle.ccr_laws.proofs.FiringFacts.{FiresSo-allowed, not_new, firing_named-new, before-new, firings-other}
-use Rattle.ccr_laws.proofs.Cutting.{CutFacts-legal, let_in-push}
+use Rattle.ccr_laws.proofs.Cutting.{CutFacts-legal}
 use Rattle.ccr_laws.proofs.Ending.{AreEnded-legal, RunningFacts-running}
 use Rattle.ccr_laws.proofs.Suspending.{ResumeFacts, ResumeFacts-allowed, is_gone_on, gone_stays, resumes_suspended, resumes_gone, suspended_yielded}
 

@@ -15,8 +15,9 @@ use Rattle.ccr_model.specs.Consequences.{are_distinct_tasks}
 use Rattle.ccr_model.proofs.PostNames.{along, both}
 use Rattle.ccr_model.proofs.Covered.{same_task-is, or_left, or_right}
 use Rattle.ccr_laws.specs.Queues.{put_into, started_from, stands_before}
+use Rattle.ccr_laws.proofs.Pushes.{put-push, started-push, dropped-push}
 use Rattle.ccr_laws.proofs.TaskLists.{has_task-filter, has_task-without, filter_append, filter_swap, filter_on, without-append, without_both, without_none, without_other, without_first, distinct-filter, of_more, not_more}
-use Rattle.ccr_laws.proofs.TaskPlaces.{IsFired, AreApart, ArePlaced, ArePlaced_kept, ArePlaced-none, ArePlaced-legal, StartFacts, StartFacts-allowed, PutFacts-allowed, QueuedFacts-queued, put_fired, seat_stays, put-push, started-push, dropped-push}
+use Rattle.ccr_laws.proofs.TaskPlaces.{IsFired, AreApart, ArePlaced, ArePlaced_kept, ArePlaced-none, ArePlaced-legal, StartFacts, StartFacts-allowed, PutFacts-allowed, QueuedFacts-queued, put_fired, seat_stays}
 
 -- who of the tested ones started, then who is queued: who was put and not dropped
 abbrev IsOrder : (TaskId → Bool) → List TaskId → List TaskId → List TaskId → Type 0

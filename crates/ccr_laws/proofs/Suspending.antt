@@ -25,11 +25,13 @@ use Rattle.ccr_model.proofs.Stable.{firing_named-append}
 use Rattle.ccr_model.proofs.Covered.{some_map, or_left, or_right}
 use Rattle.ccr_model.proofs.Allowing.{same_task-self}
 use Rattle.ccr_laws.specs.AtWork.{is_suspended}
+use Rattle.ccr_laws.proofs.Pushes.{yielded-push}
+use Rattle.ccr_laws.proofs.Booleans.{not_true}
 use Rattle.ccr_laws.proofs.LegalParts.{along_legal}
-use Rattle.ccr_laws.proofs.TaskLists.{has_task-filter, has_task-append, filter_on, filter_append, distinct-filter, not_true, has_oldest, of_more, of_one, has_task-drop, distinct-drop, drop_behind, drop_one_more, drop_some}
+use Rattle.ccr_laws.proofs.TaskLists.{has_task-filter, has_task-append, filter_on, filter_append, distinct-filter, has_oldest, of_more, of_one, has_task-drop, distinct-drop, drop_behind, drop_one_more, drop_some}
 use Rattle.ccr_laws.proofs.TaskPlaces.{IsFired, ArePlaced-legal}
 use Rattle.ccr_laws.proofs.FiringFacts.{FiresSo-allowed, firings-other}
-use Rattle.ccr_laws.proofs.Ending.{AreEnded-legal, RunningFacts-allowed, yielded-push}
+use Rattle.ccr_laws.proofs.Ending.{AreEnded-legal, RunningFacts-allowed}
 
 -- who was suspended fired
 yielded_fired : (w : Parts) (h : List Event) → IsLegal w h → (t : TaskId) → has_task (yielded h) t ≡ true → IsFired h t

@@ -12,21 +12,10 @@ use Rattle.ccr_model.proofs.PostNames.{both}
 use Rattle.ccr_model.proofs.Quiet.{first_is}
 use Rattle.ccr_model.proofs.Covered.{same_task-is, or_left, or_right, head_rest}
 use Rattle.ccr_model.proofs.Allowing.{same_task-self}
+use Rattle.ccr_laws.proofs.Booleans.{not_true, not_false, neither, either}
 
 pub same_task-sym : (s t : TaskId) → same_task s t ≡ same_task t s
 same_task-sym s t = grind (arith, nat_tests)
-
-pub not_true : (b : Bool) → not b ≡ true → b ≡ false
-not_true false is = refl
-not_true true is = absurd (cc)
-
-pub not_false : (b : Bool) → b ≡ false → not b ≡ true
-not_false false is = refl
-not_false true is = absurd (cc)
-
-pub neither : (a b : Bool) → a || b ≡ false → (a ≡ false) × (b ≡ false)
-neither false b is = (refl, is)
-neither true b is = absurd (cc)
 
 -- who stands in the list is one of it
 pub has_task-append : (ts us : List TaskId) (t : TaskId) → has_task (ts ++ us) t ≡ has_task ts t || has_task us t
@@ -128,11 +117,6 @@ without_first ts t is =
 -- an oldest task is one of its list
 pub has_oldest : (ts us : List TaskId) (t : TaskId) → ts ≡ t ∷ us → has_task ts t ≡ true
 has_oldest ts us t is = rw (is, same_task-self) refl
-
--- one or the other
-pub either : (a b : Bool) → a || b ≡ true → (C : Type 0) → (a ≡ true → C) → (b ≡ true → C) → C
-either true b is C one other = one refl
-either false b is C one other = other is
 
 -- one of a longer list is one of the first or one of those behind
 pub of_more : (ts us : List TaskId) (t : TaskId) (C : Type 0) → has_task (ts ++ us) t ≡ true → (has_task ts t ≡ true → C) → (has_task us t ≡ true → C) → C

@@ -22,7 +22,9 @@ use Rattle.ccr_model.proofs.Quiet.{some_of, some_then}
 use Rattle.ccr_model.proofs.Stable.{firing_named-append}
 use Rattle.ccr_model.proofs.Covered.{same_task-is, some_map, or_left}
 use Rattle.ccr_model.proofs.Allowing.{same_task-self}
-use Rattle.ccr_laws.proofs.TaskLists.{has_task-append, has_task-filter, has_task-without, not_true, neither, first_rest, distinct-push, has_oldest, of_more, among_left, not_more, of_one}
+use Rattle.ccr_laws.proofs.Pushes.{put-push, started-push, dropped-push}
+use Rattle.ccr_laws.proofs.Booleans.{not_true, neither}
+use Rattle.ccr_laws.proofs.TaskLists.{has_task-append, has_task-filter, has_task-without, first_rest, distinct-push, has_oldest, of_more, among_left, not_more, of_one}
 
 -- the task fired
 abbrev pub IsFired : List Event → TaskId → Type 0
@@ -48,15 +50,6 @@ seat_by w h t f is = rw is refl
 -- its seat stays
 pub seat_stays : (w : Parts) (h es : List Event) (t : TaskId) → IsFired h t → seat_of w (h ++ es) t ≡ seat_of w h t
 seat_stays w h es t fired = rw (firing_named-append h es t fired.0 fired.1, fired.1) refl
-
-pub put-push : (h : List Event) (e : Event) → put (h ++ e ∷ []) ≡ put h ++ put_by e
-put-push h e = grind (arith, common_steps)
-
-pub started-push : (h : List Event) (e : Event) → started (h ++ e ∷ []) ≡ started h ++ started_by e
-started-push h e = grind (arith, common_steps)
-
-pub dropped-push : (h : List Event) (e : Event) → dropped (h ++ e ∷ []) ≡ dropped h ++ dropped_by e
-dropped-push h e = grind (arith, common_steps)
 
 -- a queued task was put, and neither started nor dropped
 pub record QueuedFacts (w : Parts) (h : List Event) (q : ℕ) (t : TaskId) : Type 0 where
