@@ -1,5 +1,5 @@
 -- After a task of a teardown branch has started, no task of another root of its Interleave starts.
-use Rattle.std.proofs.Common.{◌≡◌, ℕ, Bool, true, false, not, ◌&&◌, List, [], ◌∷◌, ◌++◌, map, Some, ◌⊎◌, inl, inr, refl, sym, arith, ap, ◌∙◌, subst, append-nil, append_assoc}
+use Rattle.std.proofs.Common.{◌≡◌, ℕ, Bool, true, false, List, [], ◌∷◌, ◌++◌, map, Some, ◌⊎◌, inl, inr, refl, sym, arith, ap, ◌∙◌, subst, append-nil, append_assoc}
 use Rattle.std.specs.Prelude.{◌==◌, if◌then◌else◌}
 use Rattle.std.specs.Option.{option_map_or}
 use Rattle.std.proofs.lemmas.Bool.Decides.{nat_tests}
@@ -24,6 +24,7 @@ use Rattle.ccr_model.proofs.PostNames.{both}
 use Rattle.ccr_model.proofs.Quiet.{some_of}
 use Rattle.ccr_model.proofs.Stable.{firing_named-append}
 use Rattle.ccr_laws.specs.Interleaves.{is_seat_in, is_teardown_in, is_exclusive_in, tears_down, is_of_interleave, is_of_teardown, is_of_exclusive}
+use Rattle.ccr_laws.proofs.Booleans.{refuted, no_both, and_not}
 use Rattle.ccr_laws.proofs.Pushes.{started-push, cut-push, let_in-push, last-push}
 use Rattle.ccr_laws.proofs.LegalParts.{along_legal, onward, Parted-legal}
 use Rattle.ccr_laws.proofs.TaskLists.{has_oldest, of_more, among_left, of_one, out_left, out_right, any_named, any_has}
@@ -125,11 +126,7 @@ over_stays w h e t legal is =
     any_has (λ u. same_task (root_of (h ++ e ∷ []) u) t) (last_segments (h ++ e ∷ [])) last.0 there still
 
 not_over_before : (w : Parts) (h : List Event) (e : Event) (t : TaskId) → IsLegal w h → is_over (h ++ e ∷ []) t ≡ false → is_over h t ≡ false
-not_over_before w h e t legal is = of_test (is_over h t) refl
-  where
-    of_test : (b : Bool) → is_over h t ≡ b → b ≡ false
-    of_test false e' = refl
-    of_test true e' = let over = over_stays w h e t legal e' in absurd (cc)
+not_over_before w h e t legal is = refuted (is_over h t) (λ over. no_both (over_stays w h e t legal over) is)
 
 -- who is admitted after one more event was so before it, or enters by it
 admitted_before : (w : Parts) (h : List Event) (e : Event) (i : ℕ) (t : TaskId) → IsLegal w h → IsAllowed w h e → has_task (admitted w (h ++ e ∷ []) i) t ≡ true → (has_task (admitted w h i) t ≡ true) ⊎ ((has_task (admitted_by e) t ≡ true) × (is_in_arbiter w (h ++ e ∷ []) i t ≡ true))
@@ -144,7 +141,7 @@ torn_exclusive : (w : Parts) (h : List Event) (i : ℕ) (t : TaskId) → is_of_t
 torn_exclusive w h i t is =
     let found = some_of (is_teardown_in i) (seat_of w h t) is in
     let parts = both (is_seat_in i found.0) (is_teardown found.0.branch.group) found.2 in
-    ap (λ o. option_map_or (is_exclusive_in i) o false) found.1 ∙ of_parts (is_seat_in i found.0) (is_concurrent found.0.branch.group) parts.0 (of_group found.0.branch.group parts.1)
+    ap (λ o. option_map_or (is_exclusive_in i) o false) found.1 ∙ and_not (is_seat_in i found.0) (is_concurrent found.0.branch.group) parts.0 (of_group found.0.branch.group parts.1)
   where
     of_group : (g : Group) → is_teardown g ≡ true → is_concurrent g ≡ false
     of_group groups.Teardown e = refl
@@ -153,9 +150,6 @@ torn_exclusive w h i t is =
     of_group groups.Choice e = refl
     of_group groups.Exclusive e = refl
     of_group groups.Concurrent e = absurd (cc)
-
-    of_parts : (a b : Bool) → a ≡ true → b ≡ false → a && not b ≡ true
-    of_parts a b is_a is_b = rw (is_a, is_b) refl
 
 torn_within : (w : Parts) (h : List Event) (i : ℕ) (t : TaskId) → is_of_teardown w h i t ≡ true → is_of_interleave w h i t ≡ true
 torn_within w h i t is =

@@ -3,8 +3,8 @@ pub mod Pushes
 pub mod Allowed
 pub mod WholePatterns
 pub mod SingleFirings
-pub mod Steps
-pub mod TaskLife
+pub mod DropFacts
+pub mod Seated
 pub mod FullQueues
 pub mod DroppingPuts
 pub mod HeldBefore

@@ -1,9 +1,8 @@
 -- Each posted message has exactly one fate.
-use Rattle.std.proofs.Common.{◌≡◌, ℕ, suc, inl, inr, Bool, true, false, not, ◌||◌, List, [], ◌∷◌, ◌++◌, filter, Option, Some, None, refl, sym, ap, ◌∙◌, arith, subst}
+use Rattle.std.proofs.Common.{◌≡◌, suc, inl, inr, Bool, true, false, not, ◌||◌, List, [], ◌∷◌, ◌++◌, filter, Option, Some, None, refl, sym, ap, ◌∙◌, arith, subst}
 use Rattle.std.specs.Prelude.{◌==◌, if◌then◌else◌, find, Contains}
 use Rattle.std.specs.Option.{option_map, option_map_or}
 use Rattle.std.proofs.lemmas.Grind.{common_steps}
-use Rattle.std.proofs.lemmas.Bool.Decides.{nat_tests}
 use Rattle.ccr_base.specs.declared.names.MsgId.{MsgId}
 use Rattle.ccr_base.specs.declared.names.TaskId.{TaskId}
 use Rattle.ccr_base.specs.declared.messages.Msg.{Msg}
@@ -25,13 +24,22 @@ use Rattle.ccr_model.proofs.Allowing.{OneName-legal}
 use Rattle.ccr_laws.specs.Standing.{Stands}
 use Rattle.ccr_laws.specs.OneFate.{IsHeld, IsTakenBy, HasFate, HasOneFate}
 use Rattle.ccr_laws.proofs.Booleans.{eq-self}
-use Rattle.ccr_laws.proofs.TaskLife.{firing_seated}
+use Rattle.ccr_laws.proofs.Seated.{firing_seated}
 use Rattle.ccr_laws.proofs.HeldBefore.{untaken_of_held, untaken_before}
-use Rattle.ccr_laws.proofs.States.{found_among, is_in, only_in}
+use Rattle.ccr_laws.proofs.States.{is_in, only_in}
 
 -- whether the firing names the message
 abbrev names_it : MsgId → Firing → Bool
 names_it name f = has_message f.messages name
+
+-- a found firing
+found_among : (p : Firing → Bool) (fs : List Firing) (f : Firing) → find p fs ≡ Some f → (Among f fs) × (p f ≡ true)
+found_among p [] f is = absurd (cc)
+found_among p (g ∷ fs) f is = of_test (p g) refl is (found_among p fs f)
+  where
+    of_test : (b : Bool) → p g ≡ b → (if b then Some g else find p fs) ≡ Some f → (find p fs ≡ Some f → (Among f fs) × (p f ≡ true)) → (Among f (g ∷ fs)) × (p f ≡ true)
+    of_test true passes at rest = let same : f ≡ g = cc in (inl same, ap p same ∙ passes)
+    of_test false passes at rest = let more = rest at in (inr more.0, more.1)
 
 -- a message that no firing names isn't taken
 name_out_of_both : (names others : List MsgId) (name : MsgId) → has_message names name ≡ false → has_message others name ≡ false → has_message (names ++ others) name ≡ false

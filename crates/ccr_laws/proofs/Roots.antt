@@ -26,9 +26,9 @@ use Rattle.ccr_model.proofs.Allowing.{same_task-self}
 use Rattle.ccr_laws.specs.AtWork.{is_queued, is_suspended, is_at_work}
 use Rattle.ccr_laws.specs.Interleaves.{is_seat_in, is_of_interleave}
 use Rattle.ccr_laws.proofs.Pushes.{let_in-push}
-use Rattle.ccr_laws.proofs.Booleans.{not_true}
+use Rattle.ccr_laws.proofs.Booleans.{not_true, and_false, refuted, no_both, and_not}
 use Rattle.ccr_laws.proofs.LegalParts.{along_legal}
-use Rattle.ccr_laws.proofs.TaskLists.{has_task-filter, among_left, not_within, any_named}
+use Rattle.ccr_laws.proofs.TaskLists.{of_filter, to_filter, among_left, not_within, any_named}
 use Rattle.ccr_laws.proofs.TaskPlaces.{IsFired, ArePlaced-legal, QueuedFacts-queued, seat_by}
 use Rattle.ccr_laws.proofs.FiringFacts.{FiresSo-allowed, not_new, firing_named-new, before-new, firings-other}
 use Rattle.ccr_laws.proofs.Cutting.{CutFacts-legal}
@@ -122,11 +122,7 @@ abbrev IsOneEach : List Event → Type 0
 IsOneEach h = (t u : TaskId) → IsFired h t → IsFired h u → is_gone_on h t ≡ false → is_gone_on h u ≡ false → root_of h t ≡ root_of h u → t ≡ u
 
 not_gone : (w : Parts) (h : List Event) (e : Event) (t : TaskId) → IsLegal w h → IsAllowed w h e → is_gone_on (h ++ e ∷ []) t ≡ false → is_gone_on h t ≡ false
-not_gone w h e t legal allowed is = of_test (is_gone_on h t) refl
-  where
-    of_test : (b : Bool) → is_gone_on h t ≡ b → b ≡ false
-    of_test false e' = refl
-    of_test true e' = let gone = gone_stays w h e t legal allowed e' in absurd (cc)
+not_gone w h e t legal allowed is = refuted (is_gone_on h t) (λ gone. no_both (gone_stays w h e t legal allowed gone) is)
 
 one_each_old : (w : Parts) (h : List Event) (e : Event) → IsLegal w h → IsAllowed w h e → IsOneEach h → (t u : TaskId) → IsFired h t → IsFired h u → is_gone_on (h ++ e ∷ []) t ≡ false → is_gone_on (h ++ e ∷ []) u ≡ false → root_of (h ++ e ∷ []) t ≡ root_of (h ++ e ∷ []) u → t ≡ u
 one_each_old w h e legal allowed known t u ft fu nt nu same =
@@ -151,10 +147,6 @@ one_each_new w h x (Site b k) ms cs legal allowed known u fu nu same =
     let one : facts.resumes ≡ u = known facts.resumes u (facts.firing, facts.is_firing) fu here (not_gone w h e u legal allowed nu) roots in
     let gone = resumes_gone w h x b k ms cs legal facts in
     cc (subst (λ r. is_gone_on (h ++ e ∷ []) r ≡ true) one gone)
-  where
-    and_false : (a : Bool) → a && not true ≡ false
-    and_false true = refl
-    and_false false = refl
 
 one_each_fire : (w : Parts) (h : List Event) (x : TaskId) (s : Spot) (ms : List MsgId) (cs : List TaskId) → IsLegal w h → IsAllowed w h (Fire x s ms cs) → IsOneEach h → IsOneEach (h ++ Fire x s ms cs ∷ [])
 one_each_fire w h x s ms cs legal allowed known t u ft fu nt nu same =
@@ -286,15 +278,12 @@ pub record AdmittedFacts (w : Parts) (h : List Event) (i : ℕ) (t : TaskId) : T
 
 pub AdmittedFacts-admitted : (w : Parts) (h : List Event) (i : ℕ) (t : TaskId) → has_task (admitted w h i) t ≡ true → AdmittedFacts w h i t
 AdmittedFacts-admitted w h i t is =
-    let parts = both (has_task (let_in h) t) (is_in_arbiter w h i t && not (is_over h t)) (sym (has_task-filter (λ u. is_in_arbiter w h i u && not (is_over h u)) (let_in h) t) ∙ is) in
+    let parts = of_filter (λ u. is_in_arbiter w h i u && not (is_over h u)) (let_in h) t is in
     let tests = both (is_in_arbiter w h i t) (not (is_over h t)) parts.1 in
     record { entered = parts.0; within = tests.0; lasts = not_true (is_over h t) tests.1 }
 
 pub admitted_whole : (w : Parts) (h : List Event) (i : ℕ) (t : TaskId) → has_task (let_in h) t ≡ true → is_in_arbiter w h i t ≡ true → is_over h t ≡ false → has_task (admitted w h i) t ≡ true
-admitted_whole w h i t entered within lasts = has_task-filter (λ u. is_in_arbiter w h i u && not (is_over h u)) (let_in h) t ∙ all_three (has_task (let_in h) t) (is_in_arbiter w h i t) (is_over h t) entered within lasts
-  where
-    all_three : (a b c : Bool) → a ≡ true → b ≡ true → c ≡ false → a && (b && not c) ≡ true
-    all_three a b c is_a is_b is_c = rw (is_a, is_b, is_c) refl
+admitted_whole w h i t entered within lasts = to_filter (λ u. is_in_arbiter w h i u && not (is_over h u)) (let_in h) t entered (and_not (is_in_arbiter w h i t) (is_over h t) within lasts)
 
 -- who of an Interleave is at work has a root that was admitted and isn't over
 pub at_work_admitted : (w : Parts) (h : List Event) → IsLegal w h → (i : ℕ) (t : TaskId) → is_of_interleave w h i t ≡ true → IsAtWork h t → has_task (admitted w h i) (root_of h t) ≡ true

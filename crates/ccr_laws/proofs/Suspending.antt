@@ -26,9 +26,9 @@ use Rattle.ccr_model.proofs.Covered.{some_map, or_left, or_right}
 use Rattle.ccr_model.proofs.Allowing.{same_task-self}
 use Rattle.ccr_laws.specs.AtWork.{is_suspended}
 use Rattle.ccr_laws.proofs.Pushes.{yielded-push}
-use Rattle.ccr_laws.proofs.Booleans.{not_true}
+use Rattle.ccr_laws.proofs.Booleans.{not_true, and_not}
 use Rattle.ccr_laws.proofs.LegalParts.{along_legal}
-use Rattle.ccr_laws.proofs.TaskLists.{has_task-filter, has_task-append, filter_on, filter_append, distinct-filter, has_oldest, of_more, of_one, has_task-drop, distinct-drop, drop_behind, drop_one_more, drop_some}
+use Rattle.ccr_laws.proofs.TaskLists.{of_filter, has_task-append, filter_on, filter_append, distinct-filter, has_oldest, of_more, of_one, has_task-drop, distinct-drop, drop_behind, drop_one_more, drop_some}
 use Rattle.ccr_laws.proofs.TaskPlaces.{IsFired, ArePlaced-legal}
 use Rattle.ccr_laws.proofs.FiringFacts.{FiresSo-allowed, firings-other}
 use Rattle.ccr_laws.proofs.Ending.{AreEnded-legal, RunningFacts-allowed}
@@ -75,7 +75,7 @@ ResumeFacts-allowed w h t b k ms cs allowed =
     let live = (FiresSo-allowed w h t (Site b k) ms cs allowed).live in
     let head = not_empty (suspended h (Site b k)) live in
     let among : has_task (suspended h (Site b k)) head.0 ≡ true = has_oldest (suspended h (Site b k)) head.1 head.0 head.2 in
-    let yields = both (has_task (yielded h) head.0) (yields_at h (Site b k) head.0) (sym (has_task-filter (yields_at h (Site b k)) (yielded h) head.0) ∙ has_task-drop (length (fired_at h (Site b k))) (yielded_at h (Site b k)) head.0 among) in
+    let yields = of_filter (yields_at h (Site b k)) (yielded h) head.0 (has_task-drop (length (fired_at h (Site b k))) (yielded_at h (Site b k)) head.0 among) in
     let at = some_of (λ spot. same_spot (next_site spot) (Site b k)) (spot_of h head.0) yields.1 in
     let fired = some_map (λ (f : Firing). f.spot) (firing_named h head.0) at.0 at.1 in
     let there : Some fired.0.spot ≡ Some at.0 = sym (ap (λ o. option_map (λ (f : Firing). f.spot) o) fired.1) ∙ at.1 in
@@ -182,7 +182,7 @@ was_suspended w h (Fire x (Site c l) ms cs) b k t legal allowed yields is = of_t
         subst (λ s. has_task (suspended h s) t ≡ true) site (rw facts.is_first (or_right (same_task t facts.resumes) (has_task facts.others t) behind))
 was_suspended w h (End x how) b k t legal allowed yields is =
     of_more (suspended h (Site b k)) (filter (yields_at h (Site b k)) (yielded_by (End x how))) t (has_task (suspended h (Site b k)) t ≡ true) (subst (λ ts. has_task ts t ≡ true) (suspended-other w h (End x how) b k refl legal (end_fired w h x how legal allowed)) is) (λ old. old)
-    (λ new. absurd (never (both (has_task (yielded_by (End x how)) t) (yields_at h (Site b k) t) (sym (has_task-filter (yields_at h (Site b k)) (yielded_by (End x how)) t) ∙ new)).0))
+    (λ new. absurd (never (of_filter (yields_at h (Site b k)) (yielded_by (End x how)) t new).0))
   where
     ends_now : (how : EndHow) → has_task (yielded_by (End x how)) t ≡ true → t ≡ x
     ends_now ends.Yield among = of_one x t among
@@ -214,7 +214,7 @@ pub suspended_yielded : (h : List Event) (t : TaskId) → is_suspended h t ≡ t
 suspended_yielded h t is =
     let at = some_of (λ spot. has_task (suspended h (next_site spot)) t) (spot_of h t) is in
     let among = has_task-drop (length (fired_at h (next_site at.0))) (yielded_at h (next_site at.0)) t at.2 in
-    (both (has_task (yielded h) t) (yields_at h (next_site at.0) t) (sym (has_task-filter (yields_at h (next_site at.0)) (yielded h) t) ∙ among)).0
+    (of_filter (yields_at h (next_site at.0)) (yielded h) t among).0
 
 -- for whom another went on, he stays so
 pub gone_stays : (w : Parts) (h : List Event) (e : Event) (t : TaskId) → IsLegal w h → IsAllowed w h e → is_gone_on h t ≡ true → is_gone_on (h ++ e ∷ []) t ≡ true
@@ -227,9 +227,6 @@ gone_stays w h e t legal allowed gone =
     let still : is_suspended (h ++ e ∷ []) t ≡ false = now ∙ of_test (branch_of fired.0.spot) (segment_of fired.0.spot) parts.0 out _ refl in
     and_not (has_task (yielded (h ++ e ∷ [])) t) (is_suspended (h ++ e ∷ []) t) longer still
   where
-    and_not : (a b : Bool) → a ≡ true → b ≡ false → a && not b ≡ true
-    and_not a b is out = rw (is, out) refl
-
     of_test : (b k : ℕ) → has_task (yielded h) t ≡ true → has_task (suspended h (Site b k)) t ≡ false → (d : Bool) → has_task (suspended (h ++ e ∷ []) (Site b k)) t ≡ d → d ≡ false
     of_test b k yields out false is = refl
     of_test b k yields out true is = let was = was_suspended w h e b k t legal allowed yields is in absurd (cc)

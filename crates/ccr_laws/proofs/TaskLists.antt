@@ -12,7 +12,7 @@ use Rattle.ccr_model.proofs.PostNames.{both}
 use Rattle.ccr_model.proofs.Quiet.{first_is}
 use Rattle.ccr_model.proofs.Covered.{same_task-is, or_left, or_right, head_rest}
 use Rattle.ccr_model.proofs.Allowing.{same_task-self}
-use Rattle.ccr_laws.proofs.Booleans.{not_true, not_false, neither, either}
+use Rattle.ccr_laws.proofs.Booleans.{not_true, not_false, neither, either, refuted, no_both}
 
 pub same_task-sym : (s t : TaskId) → same_task s t ≡ same_task t s
 same_task-sym s t = grind (arith, nat_tests)
@@ -38,6 +38,22 @@ has_task-filter p (x ∷ ts) t = of_tests (same_task t x) (p x) refl refl (has_t
 
 pub has_task-without : (ts gone : List TaskId) (t : TaskId) → has_task (without ts gone) t ≡ has_task ts t && not (has_task gone t)
 has_task-without ts gone t = has_task-filter (λ u. not (has_task gone u)) ts t
+
+-- a member of those that pass is a member and passes, and the other way round
+pub of_filter : (p : TaskId → Bool) (ts : List TaskId) (t : TaskId) → has_task (filter p ts) t ≡ true → (has_task ts t ≡ true) × (p t ≡ true)
+of_filter p ts t is = both (has_task ts t) (p t) (sym (has_task-filter p ts t) ∙ is)
+
+pub to_filter : (p : TaskId → Bool) (ts : List TaskId) (t : TaskId) → has_task ts t ≡ true → p t ≡ true → has_task (filter p ts) t ≡ true
+to_filter p ts t is passes = rw (has_task-filter p ts t, is) passes
+
+-- and of those that are left
+pub of_without : (ts gone : List TaskId) (t : TaskId) → has_task (without ts gone) t ≡ true → (has_task ts t ≡ true) × (has_task gone t ≡ false)
+of_without ts gone t is =
+    let parts = of_filter (λ u. not (has_task gone u)) ts t is in
+    (parts.0, not_true (has_task gone t) parts.1)
+
+pub to_without : (ts gone : List TaskId) (t : TaskId) → has_task ts t ≡ true → has_task gone t ≡ false → has_task (without ts gone) t ≡ true
+to_without ts gone t is out = to_filter (λ u. not (has_task gone u)) ts t is (not_false (has_task gone t) out)
 
 -- what two lists leave
 pub without_both : (ts gone more : List TaskId) → without ts (gone ++ more) ≡ without (without ts gone) more
@@ -141,19 +157,11 @@ of_one t u is = of_test (same_task u t) refl is
 
 -- not in a list of one
 pub not_one : (t u : TaskId) (ts : List TaskId) → has_task ts t ≡ false → has_task ts u ≡ true → has_task (t ∷ []) u ≡ false
-not_one t u ts out within = of_test (has_task (t ∷ []) u) refl
-  where
-    of_test : (b : Bool) → has_task (t ∷ []) u ≡ b → b ≡ false
-    of_test false e = refl
-    of_test true e = let one : u ≡ t = of_one t u e in absurd (cc)
+not_one t u ts out within = refuted (has_task (t ∷ []) u) (λ is. no_both (subst (λ x. has_task ts x ≡ true) (of_one t u is) within) out)
 
 -- not in a list whose members would be in another
 pub not_within : (ts us : List TaskId) (t : TaskId) → (has_task ts t ≡ true → has_task us t ≡ true) → has_task us t ≡ false → has_task ts t ≡ false
-not_within ts us t within out = of_test (has_task ts t) refl
-  where
-    of_test : (b : Bool) → has_task ts t ≡ b → b ≡ false
-    of_test false e = refl
-    of_test true e = let there = within e in absurd (cc)
+not_within ts us t within out = refuted (has_task ts t) (λ is. no_both (within is) out)
 
 -- out of a longer list, out of its first part
 pub out_left : (ts us : List TaskId) (t : TaskId) → has_task (ts ++ us) t ≡ false → has_task ts t ≡ false
