@@ -20,6 +20,10 @@ pub either : (a b : Bool) → a || b ≡ true → (C : Type 0) → (a ≡ true �
 either true b is C one other = one refl
 either false b is C one other = other is
 
+pub or_assoc : (a b c : Bool) → a || (b || c) ≡ (a || b) || c
+or_assoc true b c = refl
+or_assoc false b c = refl
+
 pub and_not : (a b : Bool) → a ≡ true → b ≡ false → a && not b ≡ true
 and_not a b is out = rw (is, out) refl
 

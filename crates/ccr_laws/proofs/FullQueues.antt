@@ -24,7 +24,7 @@ use Rattle.ccr_model.specs.Rules.{drop_at, drop_by}
 use Rattle.ccr_model.specs.Legal.{IsAllowed, IsLegal}
 use Rattle.ccr_model.proofs.Quiet.{some_of}
 use Rattle.ccr_model.proofs.Allowing.{same_task-self}
-use Rattle.ccr_model.proofs.TaskSteps.{firings-push, queued-start, queued-put, queued-fire}
+use Rattle.ccr_model.proofs.TaskSteps.{queued-start, queued-put, queued-fire}
 use Rattle.ccr_laws.specs.Standing.{Stands}
 use Rattle.ccr_laws.specs.Drops.{DropsOldest}
 use Rattle.ccr_laws.proofs.Allowed.{allowed_at, legal_past}
@@ -33,7 +33,7 @@ use Rattle.ccr_laws.proofs.LegalParts.{along_legal}
 use Rattle.ccr_laws.proofs.TaskLists.{not_more, not_within}
 use Rattle.ccr_laws.proofs.DropFacts.{put_allowed, drop_allowed}
 use Rattle.ccr_laws.proofs.TaskPlaces.{ArePlaced-legal, PutFacts-allowed, new_drop}
-use Rattle.ccr_laws.proofs.FiringFacts.{FiresSo-allowed, fired_has}
+use Rattle.ccr_laws.proofs.FiringFacts.{FiresSo-allowed, fired_has, firings-other}
 
 -- a policy's number is at least 1
 some_most : (w : Parts) → IsValid w → (q n : ℕ) → policy_of w q ≡ Discard n → 1 ≤ n
@@ -52,7 +52,7 @@ few_left p (t ∷ ts) = grind (arith, few_left p ts)
 
 queued_other : (w : Parts) (h : List Event) (q : ℕ) (e : Event) → firing_of e ≡ [] → put_by e ≡ [] → started_by e ≡ [] → dropped_by e ≡ [] → queued w (h ++ e ∷ []) q ≡ queued w h q
 queued_other w h q e fires puts starts drops =
-    let fs : firings (h ++ e ∷ []) ≡ firings h = firings-push h e ∙ ap (λ xs. firings h ++ xs) fires ∙ append-nil (firings h) in
+    let fs : firings (h ++ e ∷ []) ≡ firings h = firings-other h e fires in
     let ps : put (h ++ e ∷ []) ≡ put h = put-push h e ∙ ap (λ xs. put h ++ xs) puts ∙ append-nil (put h) in
     let ss : started (h ++ e ∷ []) ≡ started h = started-push h e ∙ ap (λ xs. started h ++ xs) starts ∙ append-nil (started h) in
     let ds : dropped (h ++ e ∷ []) ≡ dropped h = dropped-push h e ∙ ap (λ xs. dropped h ++ xs) drops ∙ append-nil (dropped h) in

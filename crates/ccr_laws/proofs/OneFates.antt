@@ -1,5 +1,5 @@
 -- Each posted message has exactly one fate.
-use Rattle.std.proofs.Common.{◌≡◌, suc, inl, inr, Bool, true, false, not, ◌||◌, List, [], ◌∷◌, ◌++◌, filter, Option, Some, None, refl, sym, ap, ◌∙◌, arith, subst}
+use Rattle.std.proofs.Common.{◌≡◌, suc, inl, inr, Bool, true, false, not, List, [], ◌∷◌, ◌++◌, filter, Option, Some, None, refl, sym, ap, ◌∙◌, arith, subst}
 use Rattle.std.specs.Prelude.{◌==◌, if◌then◌else◌, find, Contains}
 use Rattle.std.specs.Option.{option_map, option_map_or}
 use Rattle.std.proofs.lemmas.Grind.{common_steps}
@@ -23,9 +23,9 @@ use Rattle.ccr_model.proofs.Stable.{firings-append}
 use Rattle.ccr_model.proofs.Allowing.{OneName-legal}
 use Rattle.ccr_laws.specs.Standing.{Stands}
 use Rattle.ccr_laws.specs.OneFate.{IsHeld, IsTakenBy, HasFate, HasOneFate}
-use Rattle.ccr_laws.proofs.Booleans.{eq-self}
+use Rattle.ccr_laws.proofs.Booleans.{eq-self, neither}
 use Rattle.ccr_laws.proofs.Seated.{firing_seated}
-use Rattle.ccr_laws.proofs.HeldBefore.{untaken_of_held, untaken_before}
+use Rattle.ccr_laws.proofs.HeldBefore.{untaken_of_held, untaken_before, has_message-append}
 use Rattle.ccr_laws.proofs.States.{is_in, only_in}
 
 -- whether the firing names the message
@@ -43,20 +43,10 @@ found_among p (g ∷ fs) f is = of_test (p g) refl is (found_among p fs f)
 
 -- a message that no firing names isn't taken
 name_out_of_both : (names others : List MsgId) (name : MsgId) → has_message names name ≡ false → has_message others name ≡ false → has_message (names ++ others) name ≡ false
-name_out_of_both [] others name out away = away
-name_out_of_both (n ∷ names) others name out away = of_test (same_message name n) out (name_out_of_both names others name)
-  where
-    of_test : (b : Bool) → b || has_message names name ≡ false → (has_message names name ≡ false → has_message others name ≡ false → has_message (names ++ others) name ≡ false) → b || has_message (names ++ others) name ≡ false
-    of_test true at rest = absurd (cc)
-    of_test false at rest = rest at away
+name_out_of_both names others name out away = rw (has_message-append names others name, out) away
 
 name_out_of_front : (names others : List MsgId) (name : MsgId) → has_message (names ++ others) name ≡ false → (has_message names name ≡ false) × (has_message others name ≡ false)
-name_out_of_front [] others name out = (refl, out)
-name_out_of_front (n ∷ names) others name out = of_test (same_message name n) out (name_out_of_front names others name)
-  where
-    of_test : (b : Bool) → b || has_message (names ++ others) name ≡ false → (has_message (names ++ others) name ≡ false → (has_message names name ≡ false) × (has_message others name ≡ false)) → (b || has_message names name ≡ false) × (has_message others name ≡ false)
-    of_test true at rest = absurd (cc)
-    of_test false at rest = rest at
+name_out_of_front names others name out = neither (has_message names name) (has_message others name) (sym (has_message-append names others name) ∙ out)
 
 untaken_by_none : (h : List Event) (name : MsgId) → find (names_it name) (firings h) ≡ None → has_message (taken h) name ≡ false
 untaken_by_none [] name none = refl

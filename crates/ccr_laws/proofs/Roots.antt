@@ -194,23 +194,16 @@ one_at_work w h legal t u work_t work_u same =
 
 -- the root of who is at work isn't over
 not_over : (w : Parts) (h : List Event) → IsLegal w h → (t : TaskId) → IsAtWork h t → is_over h (root_of h t) ≡ false
-not_over w h legal t work = of_test (is_over h (root_of h t)) refl
+not_over w h legal t work = refuted (is_over h (root_of h t)) over
   where
-    of_test : (b : Bool) → is_over h (root_of h t) ≡ b → b ≡ false
-    of_test false e = refl
-    of_test true e =
-        let last = any_named (λ u. same_task (root_of h u) (root_of h t)) (last_segments h) e in
+    over : is_over h (root_of h t) ≡ true → ⊥
+    over is =
+        let last = any_named (λ u. same_task (root_of h u) (root_of h t)) (last_segments h) is in
         let fired = (ArePlaced-legal w h legal).all_fired t work.put_so in
-        let unyielded : has_task (yielded h) last.0 ≡ false = not_yielded last.0 last.1 (has_task (yielded h) last.0) refl in
+        let unyielded : has_task (yielded h) last.0 ≡ false = refuted (has_task (yielded h) last.0) (λ yields. no_both last.1 ((AreEnded-legal w h legal).not_both last.0 yields)) in
         let latest : is_gone_on h last.0 ≡ false = rw unyielded refl in
         let one : last.0 ≡ t = IsOneEach-legal w h legal last.0 t (last_fired w h legal last.0 last.1) fired latest work.latest (same_task-is (root_of h last.0) (root_of h t) last.2) in
-        let there : has_task (last_segments h) t ≡ true = subst (λ u. has_task (last_segments h) u ≡ true) one last.1 in
-        let never = work.not_last in
-        absurd (cc)
-      where
-        not_yielded : (u : TaskId) → has_task (last_segments h) u ≡ true → (b : Bool) → has_task (yielded h) u ≡ b → b ≡ false
-        not_yielded u is false f = refl
-        not_yielded u is true f = let out = (AreEnded-legal w h legal).not_both u f in absurd (cc)
+        no_both (subst (λ u. has_task (last_segments h) u ≡ true) one last.1) work.not_last
 
 -- a task of a site has a root that was admitted, where its branch is one of an Interleave
 abbrev AreLetIn : Parts → List Event → Type 0

@@ -12,7 +12,7 @@ use Rattle.ccr_model.proofs.PostNames.{both}
 use Rattle.ccr_model.proofs.Quiet.{first_is}
 use Rattle.ccr_model.proofs.Covered.{same_task-is, or_left, or_right, head_rest}
 use Rattle.ccr_model.proofs.Allowing.{same_task-self}
-use Rattle.ccr_laws.proofs.Booleans.{not_true, not_false, neither, either, refuted, no_both}
+use Rattle.ccr_laws.proofs.Booleans.{not_true, not_false, neither, either, refuted, no_both, or_assoc}
 
 pub same_task-sym : (s t : TaskId) → same_task s t ≡ same_task t s
 same_task-sym s t = grind (arith, nat_tests)
@@ -21,10 +21,6 @@ same_task-sym s t = grind (arith, nat_tests)
 pub has_task-append : (ts us : List TaskId) (t : TaskId) → has_task (ts ++ us) t ≡ has_task ts t || has_task us t
 has_task-append [] us t = refl
 has_task-append (x ∷ ts) us t = rw (has_task-append ts us t) (or_assoc (same_task t x) (has_task ts t) (has_task us t))
-  where
-    or_assoc : (a b c : Bool) → a || (b || c) ≡ (a || b) || c
-    or_assoc true b c = refl
-    or_assoc false b c = refl
 
 pub has_task-filter : (p : TaskId → Bool) (ts : List TaskId) (t : TaskId) → has_task (filter p ts) t ≡ has_task ts t && p t
 has_task-filter p [] t = refl
