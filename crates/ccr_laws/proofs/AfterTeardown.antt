@@ -1,8 +1,7 @@
 -- After a task of a teardown branch has started, no task of another root of its Interleave starts.
-use Rattle.std.proofs.Common.{◌≡◌, ℕ, Bool, true, false, List, [], ◌∷◌, ◌++◌, map, Some, ◌⊎◌, inl, inr, refl, sym, arith, ap, ◌∙◌, subst, append-nil, append_assoc}
+use Rattle.std.proofs.Common.{◌≡◌, ℕ, Bool, true, false, List, [], ◌∷◌, ◌++◌, map, Some, ◌⊎◌, inl, inr, refl, sym, ap, ◌∙◌, subst, append-nil, append_assoc}
 use Rattle.std.specs.Prelude.{◌==◌, if◌then◌else◌}
 use Rattle.std.specs.Option.{option_map_or}
-use Rattle.std.proofs.lemmas.Bool.Decides.{nat_tests}
 use Rattle.ccr_base.specs.declared.names.TaskId.{TaskId}
 use Rattle.ccr_base.specs.declared.names.MsgId.{MsgId}
 use Rattle.ccr_base.specs.declared.names.Spot.{Spot}
@@ -24,7 +23,7 @@ use Rattle.ccr_model.proofs.PostNames.{both}
 use Rattle.ccr_model.proofs.Quiet.{some_of}
 use Rattle.ccr_model.proofs.Stable.{firing_named-append}
 use Rattle.ccr_laws.specs.Interleaves.{is_seat_in, is_teardown_in, is_exclusive_in, tears_down, is_of_interleave, is_of_teardown, is_of_exclusive}
-use Rattle.ccr_laws.proofs.Booleans.{refuted, no_both, and_not}
+use Rattle.ccr_laws.proofs.Booleans.{refuted, no_both, and_not, same_number}
 use Rattle.ccr_laws.proofs.Pushes.{started-push, cut-push, let_in-push, last-push}
 use Rattle.ccr_laws.proofs.LegalParts.{along_legal, onward, Parted-legal}
 use Rattle.ccr_laws.proofs.TaskLists.{has_oldest, of_more, among_left, of_one, out_left, out_right, any_named, any_has}
@@ -62,7 +61,7 @@ cuts_all : (w : Parts) (h : List Event) (i : ℕ) (s : Spot) → tears_down w i 
 cuts_all w h i s tears =
     let facts = BranchFacts-where w (is_teardown_in i) s tears in
     let parts = both (is_seat_in i facts.place) (is_teardown facts.place.branch.group) facts.passes in
-    let number : facts.place.arbiter ≡ i = grind (arith, nat_tests, (both (is_interleave facts.place.kind) (facts.place.arbiter == i) parts.0).1) in
+    let number = same_number facts.place.arbiter i (both (is_interleave facts.place.kind) (facts.place.arbiter == i) parts.0).1 in
     at_branch facts parts.1 ∙ ap (λ n. waiting w h n) number
   where
     at_branch : (facts : BranchFacts w (is_teardown_in i) s) → is_teardown facts.place.branch.group ≡ true → cuts_at w h s ≡ waiting w h facts.place.arbiter
@@ -180,7 +179,7 @@ none_else_kept w groups_fit i r f h e legal allowed named tears known t is = of_
         let place : seat_of w (h ++ Admit x ∷ []) x ≡ Some facts.place = seat_stays w h (Admit x ∷ []) x (seat_fired w h x facts.place facts.is_place) ∙ facts.is_place in
         let within_x : is_in_arbiter w (h ++ Admit x ∷ []) i x ≡ true = subst (λ y. is_in_arbiter w (h ++ Admit x ∷ []) i y ≡ true) one within in
         let there : (facts.place.arbiter == i) ≡ true = sym (ap (λ o. option_map_or (λ (s : Seat). s.arbiter == i) o false) place) ∙ within_x in
-        let number : facts.place.arbiter ≡ i = grind (arith, nat_tests, there) in
+        let number = same_number facts.place.arbiter i there in
         one ∙ IsTornDown-legal w groups_fit i h legal r f named tears x (subst (λ n. has_task (waiting w h n) x ≡ true) number facts.waits)
     by_event (Post m) allowed' new within = absurd (cc)
     by_event (Fire x s ms cs) allowed' new within = absurd (cc)

@@ -1,4 +1,4 @@
--- Over Booleans: what a test that doesn't hold says, and that it can't be both.
+-- Over Booleans: what a test says, and that it can't be both.
 use Rattle.std.proofs.Common.{◌≡◌, ℕ, Bool, true, false, not, ◌&&◌, ◌||◌, refl, arith}
 use Rattle.std.specs.Prelude.{◌==◌}
 use Rattle.std.proofs.lemmas.Bool.Decides.{nat_tests}
@@ -41,3 +41,7 @@ no_both within out = absurd (cc (within, out))
 
 pub eq-self : (n : ℕ) → (n == n) ≡ true
 eq-self n = grind (arith, nat_tests)
+
+-- equal by the test, equal
+pub same_number : (a b : ℕ) → (a == b) ≡ true → a ≡ b
+same_number a b is = grind (arith, nat_tests, is)

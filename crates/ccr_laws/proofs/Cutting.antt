@@ -30,12 +30,12 @@ use Rattle.ccr_model.proofs.Quiet.{some_of}
 use Rattle.ccr_model.proofs.Stable.{firing_named-append}
 use Rattle.ccr_model.proofs.Allowing.{OneName, OneName-legal}
 use Rattle.ccr_laws.specs.Interleaves.{is_seat_in, is_teardown_in, tears_down, fired_in}
-use Rattle.ccr_laws.proofs.Booleans.{refuted, no_both}
+use Rattle.ccr_laws.proofs.Booleans.{refuted, no_both, same_number}
 use Rattle.ccr_laws.proofs.Pushes.{put-push, cut-push, let_in-push}
 use Rattle.ccr_laws.proofs.LegalParts.{along_legal, onward, Parted-legal}
 use Rattle.ccr_laws.proofs.TaskLists.{first_rest, has_oldest, of_more, among_left, not_more, of_one, not_one, not_within}
 use Rattle.ccr_laws.proofs.TaskPlaces.{IsFired, ArePlaced, ArePlaced-legal, PutFacts, PutFacts-allowed}
-use Rattle.ccr_laws.proofs.FiringFacts.{FiresSo-allowed, BranchFacts, BranchFacts-where, WaitingFacts, WaitingFacts-waiting, fired_by_has, firing_named-new, waits_outside}
+use Rattle.ccr_laws.proofs.FiringFacts.{FiresSo-allowed, BranchFacts-where, WaitingFacts, WaitingFacts-waiting, fired_by_has, firing_named-new, waits_outside, live_at}
 
 -- an event later, a list longer
 pub fired_by-append : (w : Parts) (test : Seat → Bool) (h es : List Event) → fired_by w test (h ++ es) ≡ fired_by w test h ++ fired_by w test es
@@ -62,17 +62,14 @@ pub dead : (w : Parts) → HasGroups w → (i : ℕ) (h : List Event) (t : TaskI
 dead w groups_fit i h t f s is tears live branch =
     let facts = BranchFacts-where w (is_seat_in i) s branch in
     let parts = both (is_interleave facts.place.kind) (facts.place.arbiter == i) facts.passes in
-    let number : facts.place.arbiter ≡ i = grind (arith, nat_tests, parts.1) in
-    let live_here : is_live_in w h facts.number facts.place.arbiter facts.place.branch.group ≡ true = at_branch facts live in
+    let number = same_number facts.place.arbiter i parts.1 in
+    let live_here : is_live_in w h facts.number facts.place.arbiter facts.place.branch.group ≡ true = live_at w h (is_seat_in i) s facts live in
     let none = ends_live w h facts.number facts.place.arbiter facts.place.kind facts.place.branch.group (groups_fit facts.number facts.place facts.is_place) parts.0 live_here in
     let tore = BranchFacts-where w (is_teardown_in i) f.spot tears in
     let tore_parts = both (is_interleave tore.place.kind && (tore.place.arbiter == i)) (is_teardown tore.place.branch.group) tore.passes in
     let tore_number = (both (is_interleave tore.place.kind) (tore.place.arbiter == i) tore_parts.0).1 in
     let passes : is_branch_where w (λ z. (z.arbiter == i) && is_teardown z.branch.group) f.spot ≡ true = rw (tore.is_branch, tore.is_place, tore_number, tore_parts.1) refl in
     none_has (fired_by w (λ z. (z.arbiter == i) && is_teardown z.branch.group) h) t (fired_by_has w (λ z. (z.arbiter == i) && is_teardown z.branch.group) h t f is passes) (subst (λ n. is_none_of (fired_by w (λ z. (z.arbiter == n) && is_teardown z.branch.group) h) ≡ true) number none)
-  where
-    at_branch : (facts : BranchFacts w (is_seat_in i) s) → is_live w h s ≡ true → is_live_in w h facts.number facts.place.arbiter facts.place.branch.group ≡ true
-    at_branch facts live = rw (facts.is_branch, facts.is_place) at live
 
 -- who fired at the teardown
 fired_then : (w : Parts) (before : List Event) (t : TaskId) (s : Spot) (ms : List MsgId) (cs : List TaskId) (done : List Event) → IsAllowed w before (Fire t s ms cs) → firing_named ((before ++ Fire t s ms cs ∷ []) ++ done) t ≡ Some (record { task = t; spot = s; messages = ms; cuts = cs })

@@ -14,7 +14,7 @@ use Rattle.ccr_model.specs.declared.history.Event.TheVariants.{Post, Fire, Admit
 use Rattle.ccr_model.specs.Firings.{Firing, firing_of, firings, fired, firing_named, cut, let_in}
 use Rattle.ccr_model.specs.Sites.{before}
 use Rattle.ccr_model.specs.Tasks.{is_interleave, is_branch_where, fired_by, waiting}
-use Rattle.ccr_model.specs.Live.{is_live, has_room}
+use Rattle.ccr_model.specs.Live.{is_live, is_live_in, has_room}
 use Rattle.ccr_model.specs.Choice.{is_choice}
 use Rattle.ccr_model.specs.Rules.{is_new, cuts_at, needs_no_admission}
 use Rattle.ccr_model.specs.Legal.{IsAllowed}
@@ -149,6 +149,10 @@ BranchFacts-where w test (Branch b) is =
     let found = some_of test (seat w b) is in
     record { number = b; is_branch = refl; place = found.0; is_place = found.1; passes = found.2 }
 BranchFacts-where w test (Site b k) is = absurd (cc)
+
+-- it is live where the spot is
+pub live_at : (w : Parts) (h : List Event) (test : Seat → Bool) (s : Spot) → (facts : BranchFacts w test s) → is_live w h s ≡ true → is_live_in w h facts.number facts.place.arbiter facts.place.branch.group ≡ true
+live_at w h test s facts live = rw (facts.is_branch, facts.is_place) at live
 
 -- a waiting task is one that fired there, neither admitted nor cut
 pub waits_parts : (w : Parts) (h : List Event) (i : ℕ) (t : TaskId) → has_task (waiting w h i) t ≡ true → (has_task (fired_by w (is_seat_in i) h) t ≡ true) × (has_task (let_in h) t ≡ false) × (has_task (cut h) t ≡ false)

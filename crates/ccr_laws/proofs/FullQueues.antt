@@ -27,6 +27,7 @@ use Rattle.ccr_model.proofs.Allowing.{same_task-self}
 use Rattle.ccr_model.proofs.TaskSteps.{queued-start, queued-put, queued-fire}
 use Rattle.ccr_laws.specs.Standing.{Stands}
 use Rattle.ccr_laws.specs.Drops.{DropsOldest}
+use Rattle.ccr_laws.proofs.Booleans.{same_number}
 use Rattle.ccr_laws.proofs.Allowed.{allowed_at, legal_past}
 use Rattle.ccr_laws.proofs.Pushes.{put-push, started-push, dropped-push}
 use Rattle.ccr_laws.proofs.LegalParts.{along_legal}
@@ -94,7 +95,7 @@ one_comes n ts t d some few is = of_test (nat_le n (length ts)) refl is
 drop_on : (w : Parts) (h : List Event) (q n : ℕ) (t : TaskId) → policy_of w q ≡ Discard n → is_for_queue w h q t ≡ true → drop_at w h t ≡ drop_by (Discard n) (queued w h q)
 drop_on w h q n t policy is =
     let found = some_of (λ (s : Seat). s.branch.queue == q) (seat_of w h t) is in
-    let same : found.0.branch.queue ≡ q = grind (arith, nat_tests, found.2) in
+    let same = same_number found.0.branch.queue q found.2 in
     ap (λ o. option_and_then (λ (s : Seat). drop_by (policy_of w s.branch.queue) (queued w h s.branch.queue)) o) found.1 ∙ ap (λ k. drop_by (policy_of w k) (queued w h k)) same ∙ ap (λ p. drop_by p (queued w h q)) policy
 
 put_within : (w : Parts) (q n : ℕ) → 1 ≤ n → policy_of w q ≡ Discard n → (h : List Event) (t : TaskId) (d : Option TaskId) → IsLegal w h → IsAllowed w h (Put t d) → length (queued w h q) ≤ n → length (queued w (h ++ Put t d ∷ []) q) ≤ n

@@ -2,7 +2,6 @@
 use Rattle.std.proofs.Common.{◌≡◌, ℕ, ◌⊎◌, inl, inr, Bool, true, false, not, ◌||◌, List, [], ◌∷◌, ◌++◌, flat_map, Some, refl, sym, arith, ◌∙◌, subst}
 use Rattle.std.specs.Prelude.{◌==◌, All, Contains}
 use Rattle.std.specs.List.{slice_get, AllZip}
-use Rattle.std.proofs.lemmas.Bool.Decides.{nat_tests}
 use Rattle.std.proofs.lemmas.List.Elements.{All-head, All-tail, All-filter, All-contains, filter_passes}
 use Rattle.ccr_base.specs.declared.names.MsgId.{MsgId}
 use Rattle.ccr_base.specs.declared.names.TaskId.{TaskId}
@@ -24,7 +23,7 @@ use Rattle.ccr_model.proofs.PostNames.{same_message-is}
 use Rattle.ccr_laws.specs.Standing.{Stands}
 use Rattle.ccr_laws.specs.WholePattern.{FillsSlot, FillsPattern, TakesWhole}
 use Rattle.ccr_laws.specs.OneFate.{IsHeld}
-use Rattle.ccr_laws.proofs.Booleans.{or_assoc, either}
+use Rattle.ccr_laws.proofs.Booleans.{or_assoc, either, same_number}
 use Rattle.ccr_laws.proofs.WholePatterns.{whole_pattern}
 
 -- over plain lists: names
@@ -41,7 +40,7 @@ port_of_held h port m among =
     let untaken : Msg → Bool = λ m. not (has_message (taken h) m.id) in
     let of_port : Msg → Bool = λ m. m.port == port in
     let passes : (m.port == port) ≡ true = All-contains (λ m. of_port m ≡ true) (held h port) m (All-filter untaken (λ m. of_port m ≡ true) (posted h port) (filter_passes of_port (posts h))) among in
-    grind (arith, nat_tests, passes)
+    same_number m.port port passes
 
 pub untaken_of_held : (h : List Event) (port : ℕ) (m : Msg) → Contains (held h port) m → has_message (taken h) m.id ≡ false
 untaken_of_held h port m among =

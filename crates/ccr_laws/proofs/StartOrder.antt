@@ -2,7 +2,6 @@
 use Rattle.std.proofs.Common.{◌≡◌, ℕ, Bool, true, false, not, ◌&&◌, ◌||◌, List, [], ◌∷◌, ◌++◌, filter, Option, option_to_list, ◌⊎◌, inl, inr, refl, sym, arith, ap, ◌∙◌, subst, append_assoc, append-nil}
 use Rattle.std.specs.Prelude.{◌==◌, if◌then◌else◌}
 use Rattle.std.proofs.lemmas.Grind.{common_steps}
-use Rattle.std.proofs.lemmas.Bool.Decides.{nat_tests}
 use Rattle.ccr_base.specs.declared.names.TaskId.{TaskId}
 use Rattle.ccr_wiring.specs.declared.parts.Parts.{Parts}
 use Rattle.ccr_model.specs.declared.history.Event.{Event}
@@ -15,7 +14,7 @@ use Rattle.ccr_model.specs.Consequences.{are_distinct_tasks}
 use Rattle.ccr_model.proofs.PostNames.{along, both}
 use Rattle.ccr_model.proofs.Covered.{same_task-is, or_left, or_right}
 use Rattle.ccr_laws.specs.Queues.{put_into, started_from, stands_before}
-use Rattle.ccr_laws.proofs.Booleans.{and_false, refuted, no_both}
+use Rattle.ccr_laws.proofs.Booleans.{and_false, refuted, no_both, same_number}
 use Rattle.ccr_laws.proofs.Pushes.{put-push, started-push, dropped-push}
 use Rattle.ccr_laws.proofs.TaskLists.{has_task-filter, has_task-without, filter_append, filter_swap, filter_on, without-append, without_both, without_none, without_other, without_first, distinct-filter, of_more, not_more, of_filter, of_without, not_within}
 use Rattle.ccr_laws.proofs.TaskPlaces.{IsFired, AreApart, ArePlaced, ArePlaced_kept, ArePlaced-none, ArePlaced-legal, StartFacts, StartFacts-allowed, PutFacts-allowed, QueuedFacts-queued, put_fired, seat_stays, new_drop}
@@ -85,7 +84,7 @@ order_start w q h t a allowed known is =
     oldest : (facts : StartFacts w h t) → is_for_queue w h q t ≡ true → queued w h q ≡ t ∷ facts.others
     oldest facts passes =
         let there : (facts.place.branch.queue == q) ≡ true = rw facts.is_place at passes in
-        let same : facts.place.branch.queue ≡ q = grind (arith, nat_tests, there) in
+        let same = same_number facts.place.branch.queue q there in
         subst (λ n. queued w h n ≡ t ∷ facts.others) same facts.is_oldest
 
 order_put : (w : Parts) (q : ℕ) (h : List Event) (t : TaskId) (d : Option TaskId) → IsAllowed w h (Put t d) → ArePlaced h → IsOrderOf w q h → IsOrder (is_for_queue w h q) (put (h ++ Put t d ∷ [])) (started (h ++ Put t d ∷ [])) (dropped (h ++ Put t d ∷ []))

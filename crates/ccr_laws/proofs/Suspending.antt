@@ -26,12 +26,17 @@ use Rattle.ccr_model.proofs.Covered.{some_map, or_left, or_right}
 use Rattle.ccr_model.proofs.Allowing.{same_task-self}
 use Rattle.ccr_laws.specs.AtWork.{is_suspended}
 use Rattle.ccr_laws.proofs.Pushes.{yielded-push}
-use Rattle.ccr_laws.proofs.Booleans.{not_true, and_not}
+use Rattle.ccr_laws.proofs.Booleans.{not_true, and_not, same_number}
 use Rattle.ccr_laws.proofs.LegalParts.{along_legal}
 use Rattle.ccr_laws.proofs.TaskLists.{of_filter, has_task-append, filter_on, filter_append, distinct-filter, has_oldest, of_more, of_one, has_task-drop, distinct-drop, drop_behind, drop_one_more, drop_some}
 use Rattle.ccr_laws.proofs.TaskPlaces.{IsFired, ArePlaced-legal}
 use Rattle.ccr_laws.proofs.FiringFacts.{FiresSo-allowed, firings-other}
 use Rattle.ccr_laws.proofs.Ending.{AreEnded-legal, RunningFacts-allowed}
+
+same_site : (c l b k : ℕ) → (c == b) && (l == k) ≡ true → Site c l ≡ Site b k
+same_site c l b k is =
+    let numbers = both (c == b) (l == k) is in
+    ap (λ n. Site n l) (same_number c b numbers.0) ∙ ap (λ n. Site b n) (same_number l k numbers.1)
 
 -- who was suspended fired
 yielded_fired : (w : Parts) (h : List Event) → IsLegal w h → (t : TaskId) → has_task (yielded h) t ≡ true → IsFired h t
@@ -88,8 +93,8 @@ ResumeFacts-allowed w h t b k ms cs allowed =
       yielded_so = yields.0;
       firing = fired.0;
       is_firing = fired.1;
-      same_branch = grind (arith, nat_tests, numbers.0);
-      same_segment = grind (arith, nat_tests, numbers.1);
+      same_branch = same_number (branch_of fired.0.spot) b numbers.0;
+      same_segment = same_number (segment_of fired.0.spot) k numbers.1;
     }
 
 -- at each site at most as many firings as suspensions
@@ -125,11 +130,8 @@ AreEnough-fire w h t (Site c l) ms cs legal allowed enough b k = rw (fired_at-fi
     of_test : (d : Bool) → (c == b) && (l == k) ≡ d → length (fired_at h (Site b k) ++ (if d then t ∷ [] else [])) ≤ length (yielded_at h (Site b k))
     of_test false e = rw (append-nil (fired_at h (Site b k))) (enough b k)
     of_test true e =
-        let numbers = both (c == b) (l == k) e in
-        let cb : c ≡ b = grind (arith, nat_tests, numbers.0) in
-        let lk : l ≡ k = grind (arith, nat_tests, numbers.1) in
         let facts = ResumeFacts-allowed w h t c l ms cs allowed in
-        let first : suspended h (Site b k) ≡ facts.resumes ∷ facts.others = subst (λ s. suspended h s ≡ facts.resumes ∷ facts.others) (ap (λ n. Site n l) cb ∙ ap (λ n. Site b n) lk) facts.is_first in
+        let first : suspended h (Site b k) ≡ facts.resumes ∷ facts.others = subst (λ s. suspended h s ≡ facts.resumes ∷ facts.others) (same_site c l b k e) facts.is_first in
         let less = drop_some (length (fired_at h (Site b k))) (yielded_at h (Site b k)) facts.others facts.resumes first in
         omega (arith, less, length-append (fired_at h (Site b k)) (t ∷ []))
 
@@ -172,10 +174,7 @@ was_suspended w h (Fire x (Site c l) ms cs) b k t legal allowed yields is = of_t
     of_test : (d : Bool) → (c == b) && (l == k) ≡ d → has_task (suspended h (Site b k)) t ≡ true
     of_test false e = rw (suspended-elsewhere w h x c l ms cs b k legal e) at is
     of_test true e =
-        let numbers = both (c == b) (l == k) e in
-        let cb : c ≡ b = grind (arith, nat_tests, numbers.0) in
-        let lk : l ≡ k = grind (arith, nat_tests, numbers.1) in
-        let site : Site c l ≡ Site b k = ap (λ n. Site n l) cb ∙ ap (λ n. Site b n) lk in
+        let site = same_site c l b k e in
         let facts = ResumeFacts-allowed w h x c l ms cs allowed in
         let now : has_task (suspended (h ++ Fire x (Site c l) ms cs ∷ []) (Site c l)) t ≡ true = subst (λ s. has_task (suspended (h ++ Fire x (Site c l) ms cs ∷ []) s) t ≡ true) (sym site) is in
         let behind : has_task facts.others t ≡ true = rw (suspended-here w h x c l ms cs legal facts) at now in
