@@ -1,8 +1,7 @@
 -- After a task of a teardown branch has started, no task of another root of its Interleave starts.
-use Rattle.std.proofs.Common.{◌≡◌, ℕ, Bool, true, false, not, ◌&&◌, List, [], ◌∷◌, ◌++◌, map, Some, ◌⊎◌, inl, inr, refl, sym, arith, ap, ◌∙◌, subst, append-nil, append_assoc}
+use Rattle.std.proofs.Common.{◌≡◌, ℕ, Bool, true, false, List, [], ◌∷◌, ◌++◌, map, Some, ◌⊎◌, inl, inr, refl, sym, ap, ◌∙◌, subst, append-nil, append_assoc}
 use Rattle.std.specs.Prelude.{◌==◌, if◌then◌else◌}
 use Rattle.std.specs.Option.{option_map_or}
-use Rattle.std.proofs.lemmas.Bool.Decides.{nat_tests}
 use Rattle.ccr_base.specs.declared.names.TaskId.{TaskId}
 use Rattle.ccr_base.specs.declared.names.MsgId.{MsgId}
 use Rattle.ccr_base.specs.declared.names.Spot.{Spot}
@@ -24,12 +23,13 @@ use Rattle.ccr_model.proofs.PostNames.{both}
 use Rattle.ccr_model.proofs.Quiet.{some_of}
 use Rattle.ccr_model.proofs.Stable.{firing_named-append}
 use Rattle.ccr_laws.specs.Interleaves.{is_seat_in, is_teardown_in, is_exclusive_in, tears_down, is_of_interleave, is_of_teardown, is_of_exclusive}
+use Rattle.ccr_laws.proofs.Booleans.{refuted, no_both, and_not, same_number}
+use Rattle.ccr_laws.proofs.Pushes.{started-push, cut-push, let_in-push, last-push}
 use Rattle.ccr_laws.proofs.LegalParts.{along_legal, onward, Parted-legal}
 use Rattle.ccr_laws.proofs.TaskLists.{has_oldest, of_more, among_left, of_one, out_left, out_right, any_named, any_has}
-use Rattle.ccr_laws.proofs.TaskPlaces.{IsFired, IsFired-append, AreFired, ArePlaced-legal, StartFacts-allowed, started-push, seat_fired, seat_stays, seat_by}
+use Rattle.ccr_laws.proofs.TaskPlaces.{IsFired, IsFired-append, AreFired, ArePlaced-legal, StartFacts-allowed, seat_fired, seat_stays, seat_by}
 use Rattle.ccr_laws.proofs.FiringFacts.{FiresSo, FiresSo-allowed, BranchFacts, BranchFacts-where, waits_parts, waits_whole}
-use Rattle.ccr_laws.proofs.Cutting.{fired_by-append, cut-push, let_in-push, dead, AdmitFacts-allowed}
-use Rattle.ccr_laws.proofs.Ending.{last-push}
+use Rattle.ccr_laws.proofs.Cutting.{fired_by-append, dead, AdmitFacts-allowed}
 use Rattle.ccr_laws.proofs.Roots.{root_stays, of_firing, other_firing, AreRooted-legal, last_fired, queued_works, at_work_admitted, seat_of_root, AdmittedFacts-admitted, admitted_whole}
 use Rattle.ccr_laws.proofs.Exclusion.{alone}
 
@@ -61,7 +61,7 @@ cuts_all : (w : Parts) (h : List Event) (i : ℕ) (s : Spot) → tears_down w i 
 cuts_all w h i s tears =
     let facts = BranchFacts-where w (is_teardown_in i) s tears in
     let parts = both (is_seat_in i facts.place) (is_teardown facts.place.branch.group) facts.passes in
-    let number : facts.place.arbiter ≡ i = grind (arith, nat_tests, (both (is_interleave facts.place.kind) (facts.place.arbiter == i) parts.0).1) in
+    let number = same_number facts.place.arbiter i (both (is_interleave facts.place.kind) (facts.place.arbiter == i) parts.0).1 in
     at_branch facts parts.1 ∙ ap (λ n. waiting w h n) number
   where
     at_branch : (facts : BranchFacts w (is_teardown_in i) s) → is_teardown facts.place.branch.group ≡ true → cuts_at w h s ≡ waiting w h facts.place.arbiter
@@ -125,11 +125,7 @@ over_stays w h e t legal is =
     any_has (λ u. same_task (root_of (h ++ e ∷ []) u) t) (last_segments (h ++ e ∷ [])) last.0 there still
 
 not_over_before : (w : Parts) (h : List Event) (e : Event) (t : TaskId) → IsLegal w h → is_over (h ++ e ∷ []) t ≡ false → is_over h t ≡ false
-not_over_before w h e t legal is = of_test (is_over h t) refl
-  where
-    of_test : (b : Bool) → is_over h t ≡ b → b ≡ false
-    of_test false e' = refl
-    of_test true e' = let over = over_stays w h e t legal e' in absurd (cc)
+not_over_before w h e t legal is = refuted (is_over h t) (λ over. no_both (over_stays w h e t legal over) is)
 
 -- who is admitted after one more event was so before it, or enters by it
 admitted_before : (w : Parts) (h : List Event) (e : Event) (i : ℕ) (t : TaskId) → IsLegal w h → IsAllowed w h e → has_task (admitted w (h ++ e ∷ []) i) t ≡ true → (has_task (admitted w h i) t ≡ true) ⊎ ((has_task (admitted_by e) t ≡ true) × (is_in_arbiter w (h ++ e ∷ []) i t ≡ true))
@@ -144,7 +140,7 @@ torn_exclusive : (w : Parts) (h : List Event) (i : ℕ) (t : TaskId) → is_of_t
 torn_exclusive w h i t is =
     let found = some_of (is_teardown_in i) (seat_of w h t) is in
     let parts = both (is_seat_in i found.0) (is_teardown found.0.branch.group) found.2 in
-    ap (λ o. option_map_or (is_exclusive_in i) o false) found.1 ∙ of_parts (is_seat_in i found.0) (is_concurrent found.0.branch.group) parts.0 (of_group found.0.branch.group parts.1)
+    ap (λ o. option_map_or (is_exclusive_in i) o false) found.1 ∙ and_not (is_seat_in i found.0) (is_concurrent found.0.branch.group) parts.0 (of_group found.0.branch.group parts.1)
   where
     of_group : (g : Group) → is_teardown g ≡ true → is_concurrent g ≡ false
     of_group groups.Teardown e = refl
@@ -153,9 +149,6 @@ torn_exclusive w h i t is =
     of_group groups.Choice e = refl
     of_group groups.Exclusive e = refl
     of_group groups.Concurrent e = absurd (cc)
-
-    of_parts : (a b : Bool) → a ≡ true → b ≡ false → a && not b ≡ true
-    of_parts a b is_a is_b = rw (is_a, is_b) refl
 
 torn_within : (w : Parts) (h : List Event) (i : ℕ) (t : TaskId) → is_of_teardown w h i t ≡ true → is_of_interleave w h i t ≡ true
 torn_within w h i t is =
@@ -186,7 +179,7 @@ none_else_kept w groups_fit i r f h e legal allowed named tears known t is = of_
         let place : seat_of w (h ++ Admit x ∷ []) x ≡ Some facts.place = seat_stays w h (Admit x ∷ []) x (seat_fired w h x facts.place facts.is_place) ∙ facts.is_place in
         let within_x : is_in_arbiter w (h ++ Admit x ∷ []) i x ≡ true = subst (λ y. is_in_arbiter w (h ++ Admit x ∷ []) i y ≡ true) one within in
         let there : (facts.place.arbiter == i) ≡ true = sym (ap (λ o. option_map_or (λ (s : Seat). s.arbiter == i) o false) place) ∙ within_x in
-        let number : facts.place.arbiter ≡ i = grind (arith, nat_tests, there) in
+        let number = same_number facts.place.arbiter i there in
         one ∙ IsTornDown-legal w groups_fit i h legal r f named tears x (subst (λ n. has_task (waiting w h n) x ≡ true) number facts.waits)
     by_event (Post m) allowed' new within = absurd (cc)
     by_event (Fire x s ms cs) allowed' new within = absurd (cc)

@@ -30,20 +30,16 @@ use Rattle.ccr_model.proofs.Quiet.{some_of}
 use Rattle.ccr_model.proofs.Stable.{firing_named-append}
 use Rattle.ccr_model.proofs.Allowing.{OneName, OneName-legal}
 use Rattle.ccr_laws.specs.Interleaves.{is_seat_in, is_teardown_in, tears_down, fired_in}
+use Rattle.ccr_laws.proofs.Booleans.{refuted, no_both, same_number}
+use Rattle.ccr_laws.proofs.Pushes.{put-push, cut-push, let_in-push}
 use Rattle.ccr_laws.proofs.LegalParts.{along_legal, onward, Parted-legal}
-use Rattle.ccr_laws.proofs.TaskLists.{first_rest, has_oldest, of_more, among_left, not_more, of_one, not_one}
-use Rattle.ccr_laws.proofs.TaskPlaces.{IsFired, ArePlaced, ArePlaced-legal, PutFacts, PutFacts-allowed, put-push}
-use Rattle.ccr_laws.proofs.FiringFacts.{FiresSo-allowed, BranchFacts, BranchFacts-where, WaitingFacts, WaitingFacts-waiting, fired_by_has, firing_named-new}
+use Rattle.ccr_laws.proofs.TaskLists.{first_rest, has_oldest, of_more, among_left, not_more, of_one, not_one, not_within}
+use Rattle.ccr_laws.proofs.TaskPlaces.{IsFired, ArePlaced, ArePlaced-legal, PutFacts, PutFacts-allowed}
+use Rattle.ccr_laws.proofs.FiringFacts.{FiresSo-allowed, BranchFacts-where, WaitingFacts, WaitingFacts-waiting, fired_by_has, firing_named-new, waits_outside, live_at}
 
 -- an event later, a list longer
 pub fired_by-append : (w : Parts) (test : Seat → Bool) (h es : List Event) → fired_by w test (h ++ es) ≡ fired_by w test h ++ fired_by w test es
 fired_by-append w test h es = grind (arith, common_steps)
-
-pub cut-push : (h : List Event) (e : Event) → cut (h ++ e ∷ []) ≡ cut h ++ cut (e ∷ [])
-cut-push h e = grind (arith, common_steps)
-
-pub let_in-push : (h : List Event) (e : Event) → let_in (h ++ e ∷ []) ≡ let_in h ++ admitted_by e
-let_in-push h e = grind (arith, common_steps)
 
 -- a branch of an Interleave may fire while no teardown of it fired
 ends_live : (w : Parts) (h : List Event) (b i : ℕ) (k : Kind) (g : Group) → may_have k g ≡ true → is_interleave k ≡ true → is_live_in w h b i g ≡ true → is_none_of (fired_by w (λ s. (s.arbiter == i) && is_teardown s.branch.group) h) ≡ true
@@ -66,17 +62,14 @@ pub dead : (w : Parts) → HasGroups w → (i : ℕ) (h : List Event) (t : TaskI
 dead w groups_fit i h t f s is tears live branch =
     let facts = BranchFacts-where w (is_seat_in i) s branch in
     let parts = both (is_interleave facts.place.kind) (facts.place.arbiter == i) facts.passes in
-    let number : facts.place.arbiter ≡ i = grind (arith, nat_tests, parts.1) in
-    let live_here : is_live_in w h facts.number facts.place.arbiter facts.place.branch.group ≡ true = at_branch facts live in
+    let number = same_number facts.place.arbiter i parts.1 in
+    let live_here : is_live_in w h facts.number facts.place.arbiter facts.place.branch.group ≡ true = live_at w h (is_seat_in i) s facts live in
     let none = ends_live w h facts.number facts.place.arbiter facts.place.kind facts.place.branch.group (groups_fit facts.number facts.place facts.is_place) parts.0 live_here in
     let tore = BranchFacts-where w (is_teardown_in i) f.spot tears in
     let tore_parts = both (is_interleave tore.place.kind && (tore.place.arbiter == i)) (is_teardown tore.place.branch.group) tore.passes in
     let tore_number = (both (is_interleave tore.place.kind) (tore.place.arbiter == i) tore_parts.0).1 in
     let passes : is_branch_where w (λ z. (z.arbiter == i) && is_teardown z.branch.group) f.spot ≡ true = rw (tore.is_branch, tore.is_place, tore_number, tore_parts.1) refl in
     none_has (fired_by w (λ z. (z.arbiter == i) && is_teardown z.branch.group) h) t (fired_by_has w (λ z. (z.arbiter == i) && is_teardown z.branch.group) h t f is passes) (subst (λ n. is_none_of (fired_by w (λ z. (z.arbiter == n) && is_teardown z.branch.group) h) ≡ true) number none)
-  where
-    at_branch : (facts : BranchFacts w (is_seat_in i) s) → is_live w h s ≡ true → is_live_in w h facts.number facts.place.arbiter facts.place.branch.group ≡ true
-    at_branch facts live = rw (facts.is_branch, facts.is_place) at live
 
 -- who fired at the teardown
 fired_then : (w : Parts) (before : List Event) (t : TaskId) (s : Spot) (ms : List MsgId) (cs : List TaskId) (done : List Event) → IsAllowed w before (Fire t s ms cs) → firing_named ((before ++ Fire t s ms cs ∷ []) ++ done) t ≡ Some (record { task = t; spot = s; messages = ms; cuts = cs })
@@ -137,19 +130,8 @@ cuts_wait w h (Branch b) t among = of_option (seat w b) among
         of_test false is' = absurd (cc)
 
 -- a waiting task wasn't put
-waits_unput : (w : Parts) (h : List Event) (i : ℕ) (t : TaskId) → CutFacts w h → WaitingFacts w h i t → has_task (put h) t ≡ false
-waits_unput w h i t known waits = of_test (has_task (put h) t) refl
-  where
-    of_test : (b : Bool) → has_task (put h) t ≡ b → b ≡ false
-    of_test false e = refl
-    of_test true e =
-        let branch = BranchFacts-where w (is_seat_in i) waits.firing.spot waits.is_branch in
-        let parts = both (is_interleave branch.place.kind) (branch.place.arbiter == i) branch.passes in
-        let needs : needs_no_admission w waits.firing.spot ≡ false = rw (branch.is_branch, branch.is_place, parts.0) refl in
-        let entered = known.entered t waits.firing e waits.is_firing in
-        let was_let_in : has_task (let_in h) t ≡ true = rw needs at entered in
-        let never = waits.not_let_in in
-        absurd (cc)
+pub waits_unput : (w : Parts) (h : List Event) (i : ℕ) (t : TaskId) → CutFacts w h → WaitingFacts w h i t → has_task (put h) t ≡ false
+waits_unput w h i t known waits = refuted (has_task (put h) t) (λ is. no_both (known.entered t waits.firing is waits.is_firing) (waits_outside w h i t waits))
 
 -- the firing of a task that fired before
 pub firing_back : (h es : List Event) (t : TaskId) (f : Firing) → IsFired h t → firing_named (h ++ es) t ≡ Some f → firing_named h t ≡ Some f
@@ -202,7 +184,7 @@ CutFacts-put w h t d placed allowed known =
       entered = λ u f among is. rw (let_in-push h (Put t d), append-nil (let_in h)) (of_more (put h) (t ∷ []) u (needs_no_admission w f.spot || has_task (let_in h) u ≡ true) (subst (λ ts. has_task ts u ≡ true) (put-push h (Put t d)) among) (λ old. known.entered u f old (firing_back h (Put t d ∷ []) u f (placed.all_fired u old) is)) (λ new. this facts u f new is));
     }
   where
-    this : PutFacts w h t d → (u : TaskId) (f : Firing) → has_task (t ∷ []) u ≡ true → firing_named (h ++ Put t d ∷ []) u ≡ Some f → needs_no_admission w f.spot || has_task (let_in h) u ≡ true
+    this : PutFacts w h t → (u : TaskId) (f : Firing) → has_task (t ∷ []) u ≡ true → firing_named (h ++ Put t d ∷ []) u ≡ Some f → needs_no_admission w f.spot || has_task (let_in h) u ≡ true
     this facts u f new is =
         let one : u ≡ t = of_one t u new in
         let found : firing_named h t ≡ Some f = firing_back h (Put t d ∷ []) t f (facts.firing, facts.is_firing) (subst (λ x. firing_named (h ++ Put t d ∷ []) x ≡ Some f) one is) in
@@ -242,8 +224,4 @@ pub cut_not_put : (w : Parts) (h : List Event) → IsLegal w h → (t : TaskId) 
 cut_not_put w h legal = (CutFacts-legal w h legal).not_put
 
 pub cut_not_started : (w : Parts) (h : List Event) → IsLegal w h → (t : TaskId) → has_task (cut h) t ≡ true → has_task (started h) t ≡ false
-cut_not_started w h legal t is = of_test (has_task (started h) t) refl
-  where
-    of_test : (b : Bool) → has_task (started h) t ≡ b → b ≡ false
-    of_test false e = refl
-    of_test true e = let never = cut_not_put w h legal t is in let there = (ArePlaced-legal w h legal).lists.put_started t e in absurd (cc)
+cut_not_started w h legal t is = not_within (started h) (put h) t ((ArePlaced-legal w h legal).lists.put_started t) (cut_not_put w h legal t is)

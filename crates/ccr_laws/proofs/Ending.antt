@@ -1,6 +1,5 @@
 -- Who ended, and how, along a legal history.
-use Rattle.std.proofs.Common.{◌≡◌, Bool, true, false, not, List, [], ◌∷◌, ◌++◌, ◌⊎◌, inl, inr, refl, sym, arith, ◌∙◌, append-nil, option_to_list}
-use Rattle.std.proofs.lemmas.Grind.{common_steps}
+use Rattle.std.proofs.Common.{◌≡◌, true, false, List, [], ◌∷◌, ◌++◌, ◌⊎◌, inl, inr, refl, append-nil, option_to_list}
 use Rattle.ccr_base.specs.declared.names.TaskId.{TaskId}
 use Rattle.ccr_base.specs.Names.{has_task}
 use Rattle.ccr_wiring.specs.declared.parts.Parts.{Parts}
@@ -12,19 +11,12 @@ use Rattle.ccr_model.specs.Firings.{started, started_by, dropped, dropped_by, en
 use Rattle.ccr_model.specs.Tasks.{running}
 use Rattle.ccr_model.specs.Legal.{IsAllowed, IsLegal}
 use Rattle.ccr_model.specs.Consequences.{are_distinct_tasks}
-use Rattle.ccr_model.proofs.PostNames.{both, refused_not}
+use Rattle.ccr_model.proofs.PostNames.{refused_not}
+use Rattle.ccr_laws.proofs.Pushes.{started-push, dropped-push, ended-push, yielded-push, last-push}
+use Rattle.ccr_laws.proofs.Booleans.{refuted, no_both}
 use Rattle.ccr_laws.proofs.LegalParts.{along_legal}
-use Rattle.ccr_laws.proofs.TaskLists.{has_task-without, not_true, distinct-push, of_more, among_left, among_right, not_more, of_one, not_one, not_within}
-use Rattle.ccr_laws.proofs.TaskPlaces.{ArePlaced-legal, PutFacts-allowed, QueuedFacts-queued, started-push, dropped-push}
-
-pub ended-push : (h : List Event) (e : Event) → ended (h ++ e ∷ []) ≡ ended h ++ ended_by e
-ended-push h e = grind (arith, common_steps)
-
-pub yielded-push : (h : List Event) (e : Event) → yielded (h ++ e ∷ []) ≡ yielded h ++ yielded_by e
-yielded-push h e = grind (arith, common_steps)
-
-pub last-push : (h : List Event) (e : Event) → last_segments (h ++ e ∷ []) ≡ last_segments h ++ last_by e
-last-push h e = grind (arith, common_steps)
+use Rattle.ccr_laws.proofs.TaskLists.{of_without, distinct-push, of_more, among_left, among_right, not_more, of_one, not_one, not_within}
+use Rattle.ccr_laws.proofs.TaskPlaces.{ArePlaced-legal, new_drop}
 
 -- a running task started and didn't end
 pub record RunningFacts (h : List Event) (t : TaskId) : Type 0 where
@@ -33,8 +25,8 @@ pub record RunningFacts (h : List Event) (t : TaskId) : Type 0 where
 
 pub RunningFacts-running : (h : List Event) (t : TaskId) → has_task (running h) t ≡ true → RunningFacts h t
 RunningFacts-running h t is =
-    let parts = both (has_task (started h) t) (not (has_task (ended h) t)) (sym (has_task-without (started h) (ended h) t) ∙ is) in
-    record { started_so = parts.0; not_ended = not_true (has_task (ended h) t) parts.1 }
+    let parts = of_without (started h) (ended h) t is in
+    record { started_so = parts.0; not_ended = parts.1 }
 
 pub RunningFacts-allowed : (w : Parts) (h : List Event) (t : TaskId) (how : EndHow) → IsAllowed w h (End t how) → RunningFacts h t
 RunningFacts-allowed w h t how allowed = RunningFacts-running h t (refused_not (has_task (running h) t) 15 _ allowed).0
@@ -62,16 +54,12 @@ EndLists-put ss ds es ys ls more fresh known = record {
   ended_yielded = known.ended_yielded;
   once = known.once;
   last_ends = λ u among. of_more ls more u ((has_task es u ≡ true) ⊎ (has_task (ds ++ more) u ≡ true)) among (λ old. wider u (known.last_ends u old)) (λ new. inr (among_right ds more u new));
-  not_both = λ u among. not_more ls more u (known.not_both u among) (out u (known.started_ended u (known.ended_yielded u among)) (has_task more u) refl);
+  not_both = λ u among. not_more ls more u (known.not_both u among) (refuted (has_task more u) (λ is. no_both (known.started_ended u (known.ended_yielded u among)) (fresh u is)));
 }
   where
     wider : (u : TaskId) → (has_task es u ≡ true) ⊎ (has_task ds u ≡ true) → (has_task es u ≡ true) ⊎ (has_task (ds ++ more) u ≡ true)
     wider u (inl e) = inl e
     wider u (inr d) = inr (among_left ds more u d)
-
-    out : (u : TaskId) → has_task ss u ≡ true → (b : Bool) → has_task more u ≡ b → b ≡ false
-    out u there false e = refl
-    out u there true e = let never = fresh u e in absurd (cc)
 
 ended_more : (es ds : List TaskId) (t u : TaskId) → (has_task es u ≡ true) ⊎ (has_task ds u ≡ true) → (has_task (es ++ t ∷ []) u ≡ true) ⊎ (has_task ds u ≡ true)
 ended_more es ds t u (inl e) = inl (among_left es (t ∷ []) u e)
@@ -118,8 +106,7 @@ AreEnded_kept : (w : Parts) (h : List Event) (e : Event) → IsLegal w h → IsA
 AreEnded_kept w h (Start t a) legal allowed known =
     rw (started-push, dropped-push, ended-push, yielded-push, last-push, append-nil (dropped h), append-nil (ended h), append-nil (yielded h), append-nil (last_segments h)) (EndLists-start (started h) (dropped h) (ended h) (yielded h) (last_segments h) t known)
 AreEnded_kept w h (Put t d) legal allowed known =
-    let facts = PutFacts-allowed w h t d allowed in
-    rw (started-push, dropped-push, ended-push, yielded-push, last-push, append-nil (started h), append-nil (ended h), append-nil (yielded h)) (EndLists-put (started h) (dropped h) (ended h) (yielded h) (last_segments h) (option_to_list d) (λ u one. (let there = facts.drops u one in (QueuedFacts-queued w h there.0 u there.1).not_started)) known)
+    rw (started-push, dropped-push, ended-push, yielded-push, last-push, append-nil (started h), append-nil (ended h), append-nil (yielded h)) (EndLists-put (started h) (dropped h) (ended h) (yielded h) (last_segments h) (option_to_list d) (λ u one. (new_drop w h (Put t d) u allowed one).1.not_started) known)
 AreEnded_kept w h (End t ends.Yield) legal allowed known =
     let runs = RunningFacts-allowed w h t ends.Yield allowed in
     rw (started-push, dropped-push, ended-push, yielded-push, last-push, append-nil (started h), append-nil (dropped h), append-nil (last_segments h)) (EndLists-yield (started h) (dropped h) (ended h) (yielded h) (last_segments h) t runs.started_so ((ArePlaced-legal w h legal).lists.not_both t runs.started_so) runs.not_ended known)

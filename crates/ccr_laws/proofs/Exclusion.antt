@@ -24,7 +24,8 @@ use Rattle.ccr_model.proofs.Allowing.{same_task-self}
 use Rattle.ccr_model.proofs.Alone.{is_alone-legal}
 use Rattle.ccr_laws.specs.AtWork.{is_at_work}
 use Rattle.ccr_laws.specs.Interleaves.{is_seat_in, is_exclusive_in, is_of_interleave, is_of_exclusive}
-use Rattle.ccr_laws.proofs.TaskLists.{has_task-append, not_true, of_one, only_one, passes_all}
+use Rattle.ccr_laws.proofs.Booleans.{not_true}
+use Rattle.ccr_laws.proofs.TaskLists.{has_task-append, of_one, only_one, passes_all}
 use Rattle.ccr_laws.proofs.TaskPlaces.{ArePlaced-legal}
 use Rattle.ccr_laws.proofs.Roots.{IsAtWork, at_work_admitted, one_at_work, work_so, seat_of_root, admitted_whole}
 

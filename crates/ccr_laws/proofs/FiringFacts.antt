@@ -1,6 +1,6 @@
 -- What an allowed firing says, and who fired where.
-use Rattle.std.proofs.Common.{◌≡◌, ℕ, Bool, true, false, not, ◌&&◌, ◌||◌, List, [], ◌∷◌, ◌++◌, map, filter, Some, None, inl, inr, refl, sym, arith, ap, ◌∙◌, subst, append-nil}
-use Rattle.std.specs.Prelude.{if◌then◌else◌, find, nat_le}
+use Rattle.std.proofs.Common.{◌≡◌, ℕ, Bool, true, false, not, ◌||◌, List, [], ◌∷◌, ◌++◌, map, filter, Some, None, inl, inr, refl, sym, arith, ap, ◌∙◌, subst, append-nil}
+use Rattle.std.specs.Prelude.{◌==◌, if◌then◌else◌, find, nat_le}
 use Rattle.std.proofs.lemmas.Bool.Decides.{nat_tests}
 use Rattle.ccr_base.specs.declared.names.TaskId.{TaskId}
 use Rattle.ccr_base.specs.declared.names.MsgId.{MsgId}
@@ -13,10 +13,10 @@ use Rattle.ccr_model.specs.declared.history.Event.{Event}
 use Rattle.ccr_model.specs.declared.history.Event.TheVariants.{Post, Fire, Admit, Put, Start, End}
 use Rattle.ccr_model.specs.Firings.{Firing, firing_of, firings, fired, firing_named, cut, let_in}
 use Rattle.ccr_model.specs.Sites.{before}
-use Rattle.ccr_model.specs.Tasks.{is_branch_where, fired_by, waiting}
-use Rattle.ccr_model.specs.Live.{is_live, has_room}
+use Rattle.ccr_model.specs.Tasks.{is_interleave, is_branch_where, fired_by, waiting}
+use Rattle.ccr_model.specs.Live.{is_live, is_live_in, has_room}
 use Rattle.ccr_model.specs.Choice.{is_choice}
-use Rattle.ccr_model.specs.Rules.{is_new, cuts_at}
+use Rattle.ccr_model.specs.Rules.{is_new, cuts_at, needs_no_admission}
 use Rattle.ccr_model.specs.Legal.{IsAllowed}
 use Rattle.ccr_model.proofs.PostNames.{both, refused_not}
 use Rattle.ccr_model.proofs.Quiet.{Among, some_of}
@@ -24,7 +24,8 @@ use Rattle.ccr_model.proofs.TaskSteps.{firings-push}
 use Rattle.ccr_model.proofs.Covered.{same_task-is, or_left, or_right}
 use Rattle.ccr_model.proofs.Allowing.{same_task-self, OneName}
 use Rattle.ccr_laws.specs.Interleaves.{is_seat_in}
-use Rattle.ccr_laws.proofs.TaskLists.{same_task-sym, has_task-append, has_task-without, not_true, neither}
+use Rattle.ccr_laws.proofs.Booleans.{not_true, neither, refuted, no_both}
+use Rattle.ccr_laws.proofs.TaskLists.{same_task-sym, of_without, to_without, not_more, out_left, out_right}
 use Rattle.ccr_laws.proofs.TaskPlaces.{IsFired}
 
 same_tasks-is : (ts us : List TaskId) → same_lists same_task ts us ≡ true → ts ≡ us
@@ -72,14 +73,6 @@ found_named (g ∷ fs) t f test is passes = of_test (same_task g.task t) refl is
         let here : test g ≡ true = rw one passes in
         rw here (or_left (same_task t g.task) _ (same_task-sym t g.task ∙ e))
 
-pub found_task : (fs : List Firing) (t : TaskId) (f : Firing) → find (λ (g : Firing). same_task g.task t) fs ≡ Some f → f.task ≡ t
-found_task [] t f is = absurd (cc)
-found_task (g ∷ fs) t f is = of_test (same_task g.task t) refl is (found_task fs t f)
-  where
-    of_test : (b : Bool) → same_task g.task t ≡ b → (if b then Some g else find (λ (x : Firing). same_task x.task t) fs) ≡ Some f → (find (λ (x : Firing). same_task x.task t) fs ≡ Some f → f.task ≡ t) → f.task ≡ t
-    of_test false e at rest = rest at
-    of_test true e at rest = let one : g ≡ f = cc in rw (← one) (same_task-is g.task t e)
-
 all_pass : (fs : List Firing) → filter (λ (f : Firing). true) fs ≡ fs
 all_pass [] = refl
 all_pass (f ∷ fs) = ap (λ gs. f ∷ gs) (all_pass fs)
@@ -90,11 +83,7 @@ fired_has h t found = subst (λ fs. has_task (map (λ (f : Firing). f.task) fs) 
 
 -- a new task isn't one that fired
 pub not_new : (h : List Event) (t u : TaskId) → has_task (fired h) t ≡ false → IsFired h u → same_task t u ≡ false
-not_new h t u new found = of_test (same_task t u) refl
-  where
-    of_test : (b : Bool) → same_task t u ≡ b → b ≡ false
-    of_test false e = refl
-    of_test true e = let one : t ≡ u = same_task-is t u e in let there = fired_has h u found in absurd (cc)
+not_new h t u new found = refuted (same_task t u) (λ same. no_both (subst (λ x. has_task (fired h) x ≡ true) (sym (same_task-is t u same)) (fired_has h u found)) new)
 
 -- the firing of a new task
 find_last : (t : TaskId) (fs : List Firing) (g : Firing) → g.task ≡ t → has_task (map (λ (f : Firing). f.task) fs) t ≡ false → find (λ (f : Firing). same_task f.task t) (fs ++ g ∷ []) ≡ Some g
@@ -161,18 +150,18 @@ BranchFacts-where w test (Branch b) is =
     record { number = b; is_branch = refl; place = found.0; is_place = found.1; passes = found.2 }
 BranchFacts-where w test (Site b k) is = absurd (cc)
 
+-- it is live where the spot is
+pub live_at : (w : Parts) (h : List Event) (test : Seat → Bool) (s : Spot) → (facts : BranchFacts w test s) → is_live w h s ≡ true → is_live_in w h facts.number facts.place.arbiter facts.place.branch.group ≡ true
+live_at w h test s facts live = rw (facts.is_branch, facts.is_place) at live
+
 -- a waiting task is one that fired there, neither admitted nor cut
 pub waits_parts : (w : Parts) (h : List Event) (i : ℕ) (t : TaskId) → has_task (waiting w h i) t ≡ true → (has_task (fired_by w (is_seat_in i) h) t ≡ true) × (has_task (let_in h) t ≡ false) × (has_task (cut h) t ≡ false)
 waits_parts w h i t is =
-    let parts = both (has_task (fired_by w (is_seat_in i) h) t) (not (has_task (let_in h ++ cut h) t)) (sym (has_task-without (fired_by w (is_seat_in i) h) (let_in h ++ cut h) t) ∙ is) in
-    let outs = neither (has_task (let_in h) t) (has_task (cut h) t) (sym (has_task-append (let_in h) (cut h) t) ∙ not_true (has_task (let_in h ++ cut h) t) parts.1) in
-    (parts.0, outs.0, outs.1)
+    let parts = of_without (fired_by w (is_seat_in i) h) (let_in h ++ cut h) t is in
+    (parts.0, out_left (let_in h) (cut h) t parts.1, out_right (let_in h) (cut h) t parts.1)
 
 pub waits_whole : (w : Parts) (h : List Event) (i : ℕ) (t : TaskId) → has_task (fired_by w (is_seat_in i) h) t ≡ true → has_task (let_in h) t ≡ false → has_task (cut h) t ≡ false → has_task (waiting w h i) t ≡ true
-waits_whole w h i t fired_so not_let_in not_cut = has_task-without (fired_by w (is_seat_in i) h) (let_in h ++ cut h) t ∙ all_three (has_task (let_in h ++ cut h) t) (rw (has_task-append (let_in h) (cut h) t, not_let_in) not_cut)
-  where
-    all_three : (b : Bool) → b ≡ false → has_task (fired_by w (is_seat_in i) h) t && not b ≡ true
-    all_three b is = rw (is, fired_so) refl
+waits_whole w h i t fired_so not_let_in not_cut = to_without (fired_by w (is_seat_in i) h) (let_in h ++ cut h) t fired_so (not_more (let_in h) (cut h) t not_let_in not_cut)
 
 -- a waiting task: a branch of the Interleave fired it, and it was neither admitted nor cut
 pub record WaitingFacts (w : Parts) (h : List Event) (i : ℕ) (t : TaskId) : Type 0 where
@@ -187,3 +176,11 @@ WaitingFacts-waiting w h i t one is =
     let parts = waits_parts w h i t is in
     let found = fired_by_named w (is_seat_in i) h t one parts.0 in
     record { firing = found.0; is_firing = found.1; is_branch = found.2; not_let_in = parts.1; not_cut = parts.2 }
+
+-- a waiting task needs an admission, and has none
+pub waits_outside : (w : Parts) (h : List Event) (i : ℕ) (t : TaskId) → (waits : WaitingFacts w h i t) → needs_no_admission w waits.firing.spot || has_task (let_in h) t ≡ false
+waits_outside w h i t waits =
+    let branch = BranchFacts-where w (is_seat_in i) waits.firing.spot waits.is_branch in
+    let parts = both (is_interleave branch.place.kind) (branch.place.arbiter == i) branch.passes in
+    let needs : needs_no_admission w waits.firing.spot ≡ false = rw (branch.is_branch, branch.is_place, parts.0) refl in
+    rw (needs, waits.not_let_in) refl

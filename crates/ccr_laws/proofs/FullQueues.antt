@@ -1,6 +1,6 @@
 -- A `discard n` queue never holds more than n tasks, so a put that drops finds exactly n.
-use Rattle.std.proofs.Common.{◌≡◌, ℕ, suc, ◌<◌, ◌≤◌, Bool, true, false, not, List, [], ◌∷◌, ◌++◌, length, map, filter, Option, Some, None, option_to_list, refl, sym, ap, ◌∙◌, arith, subst, append-nil, length-append}
-use Rattle.std.specs.Prelude.{◌==◌, if◌then◌else◌, nat_le, find, option_and_then}
+use Rattle.std.proofs.Common.{◌≡◌, ℕ, suc, ◌<◌, ◌≤◌, Bool, true, false, not, List, [], ◌∷◌, ◌++◌, length, filter, Option, Some, None, option_to_list, refl, sym, ap, ◌∙◌, arith, subst, append-nil, length-append}
+use Rattle.std.specs.Prelude.{◌==◌, if◌then◌else◌, nat_le, option_and_then}
 use Rattle.std.specs.List.{slice_get}
 use Rattle.std.specs.Option.{option_map_or}
 use Rattle.std.proofs.lemmas.List.Elements.{filter_agree}
@@ -16,22 +16,25 @@ use Rattle.ccr_wiring.proofs.Lists.{none_at}
 use Rattle.ccr_wiring.proofs.Validity.{no_codes, within}
 use Rattle.ccr_model.specs.declared.history.Event.{Event}
 use Rattle.ccr_model.specs.declared.history.Event.TheVariants.{Post, Fire, Admit, Put, Start, End}
-use Rattle.ccr_base.specs.Names.{same_task, has_task, without}
-use Rattle.ccr_model.specs.Firings.{Firing, firings, firing_of, fired, put, put_by, dropped, dropped_by, started, started_by}
+use Rattle.ccr_base.specs.Names.{has_task, without}
+use Rattle.ccr_model.specs.Firings.{firings, firing_of, fired, put, put_by, dropped, dropped_by, started, started_by}
 use Rattle.ccr_model.specs.TaskData.{seat_of}
 use Rattle.ccr_model.specs.Tasks.{is_for_queue, queued}
-use Rattle.ccr_model.specs.Rules.{is_new, drop_at, drop_by}
+use Rattle.ccr_model.specs.Rules.{drop_at, drop_by}
 use Rattle.ccr_model.specs.Legal.{IsAllowed, IsLegal}
-use Rattle.ccr_model.proofs.PostNames.{refused_not}
 use Rattle.ccr_model.proofs.Quiet.{some_of}
 use Rattle.ccr_model.proofs.Allowing.{same_task-self}
-use Rattle.ccr_model.proofs.Covered.{same_task-is, or_left, or_right}
-use Rattle.ccr_model.proofs.TaskSteps.{firings-push, queued-start, queued-put, queued-fire}
+use Rattle.ccr_model.proofs.TaskSteps.{queued-start, queued-put, queued-fire}
 use Rattle.ccr_laws.specs.Standing.{Stands}
 use Rattle.ccr_laws.specs.Drops.{DropsOldest}
+use Rattle.ccr_laws.proofs.Booleans.{same_number}
 use Rattle.ccr_laws.proofs.Allowed.{allowed_at, legal_past}
-use Rattle.ccr_laws.proofs.Steps.{along_legal, out_of_both, new_drop, put_allowed, drop_allowed}
-use Rattle.ccr_laws.proofs.TaskLife.{refuted, no_both, put-push, started-push, dropped-push, started_put, dropped_put, put_might_go, may_put-facts}
+use Rattle.ccr_laws.proofs.Pushes.{put-push, started-push, dropped-push}
+use Rattle.ccr_laws.proofs.LegalParts.{along_legal}
+use Rattle.ccr_laws.proofs.TaskLists.{not_more, not_within}
+use Rattle.ccr_laws.proofs.DropFacts.{put_allowed, drop_allowed}
+use Rattle.ccr_laws.proofs.TaskPlaces.{ArePlaced-legal, PutFacts-allowed, new_drop}
+use Rattle.ccr_laws.proofs.FiringFacts.{FiresSo-allowed, fired_has, firings-other}
 
 -- a policy's number is at least 1
 some_most : (w : Parts) → IsValid w → (q n : ℕ) → policy_of w q ≡ Discard n → 1 ≤ n
@@ -50,37 +53,25 @@ few_left p (t ∷ ts) = grind (arith, few_left p ts)
 
 queued_other : (w : Parts) (h : List Event) (q : ℕ) (e : Event) → firing_of e ≡ [] → put_by e ≡ [] → started_by e ≡ [] → dropped_by e ≡ [] → queued w (h ++ e ∷ []) q ≡ queued w h q
 queued_other w h q e fires puts starts drops =
-    let fs : firings (h ++ e ∷ []) ≡ firings h = firings-push h e ∙ ap (λ xs. firings h ++ xs) fires ∙ append-nil (firings h) in
+    let fs : firings (h ++ e ∷ []) ≡ firings h = firings-other h e fires in
     let ps : put (h ++ e ∷ []) ≡ put h = put-push h e ∙ ap (λ xs. put h ++ xs) puts ∙ append-nil (put h) in
     let ss : started (h ++ e ∷ []) ≡ started h = started-push h e ∙ ap (λ xs. started h ++ xs) starts ∙ append-nil (started h) in
     let ds : dropped (h ++ e ∷ []) ≡ dropped h = dropped-push h e ∙ ap (λ xs. dropped h ++ xs) drops ∙ append-nil (dropped h) in
     filter_agree (is_for_queue w (h ++ e ∷ []) q) (is_for_queue w h q) (λ u. rw fs refl) (without (put (h ++ e ∷ [])) (started (h ++ e ∷ []) ++ dropped (h ++ e ∷ []))) ∙ rw (ps, ss, ds) refl
 
--- the task of a firing fired
-named_fired : (fs : List Firing) (t : TaskId) (f : Firing) → find (λ (g : Firing). same_task g.task t) fs ≡ Some f → has_task (map (λ (g : Firing). g.task) fs) t ≡ true
-named_fired [] t f is = absurd (cc)
-named_fired (g ∷ fs) t f is = of_test (same_task g.task t) refl is (named_fired fs t f)
-  where
-    of_test : (b : Bool) → same_task g.task t ≡ b → (if b then Some g else find (λ (x : Firing). same_task x.task t) fs) ≡ Some f → (find (λ (x : Firing). same_task x.task t) fs ≡ Some f → has_task (map (λ (x : Firing). x.task) fs) t ≡ true) → has_task (map (λ (x : Firing). x.task) (g ∷ fs)) t ≡ true
-    of_test true same at rest = let one : g.task ≡ t = same_task-is g.task t same in rw one (or_left (same_task t t) (has_task (map (λ (x : Firing). x.task) fs) t) (same_task-self t))
-    of_test false same at rest = or_right (same_task t g.task) (has_task (map (λ (x : Firing). x.task) fs) t) (rest at)
-
 -- a new task wasn't put
-new_unput : (w : Parts) (h : List Event) (t : TaskId) → IsLegal w h → is_new h t ≡ true → has_task (put h) t ≡ false
-new_unput w h t legal new = refuted (has_task (put h) t) (λ is. (let go = put_might_go w h legal t is in contrary (named_fired (firings h) t go.its go.found)))
-  where
-    contrary : has_task (fired h) t ≡ true → ⊥
-    contrary before = let out : is_new h t ≡ false = rw before refl in no_both new out
+new_unput : (w : Parts) (h : List Event) (t : TaskId) → IsLegal w h → has_task (fired h) t ≡ false → has_task (put h) t ≡ false
+new_unput w h t legal new = not_within (put h) (fired h) t (λ is. fired_has h t ((ArePlaced-legal w h legal).all_fired t is)) new
 
 -- a task that may be put neither started nor was dropped, and isn't the one that is dropped
 put_fresh : (w : Parts) (h : List Event) (t : TaskId) (d : Option TaskId) → IsLegal w h → IsAllowed w h (Put t d) → has_task (started h ++ (dropped h ++ option_to_list d)) t ≡ false
 put_fresh w h t d legal allowed =
-    let facts = may_put-facts w h t (put_allowed w h t d allowed).0 in
-    out_of_both (started h) (dropped h ++ option_to_list d) t
-    (refuted (has_task (started h) t) (λ is. no_both (started_put w h legal t is) facts.unput))
-    (out_of_both (dropped h) (option_to_list d) t
-    (refuted (has_task (dropped h) t) (λ is. no_both (dropped_put w h legal t is) facts.unput))
-    (refuted (has_task (option_to_list d) t) (λ is. no_both (new_drop w h (Put t d) t allowed is).was_put facts.unput)))
+    let new = (PutFacts-allowed w h t d allowed).new_put in
+    let lists = (ArePlaced-legal w h legal).lists in
+    let unstarted = not_within (started h) (put h) t (lists.put_started t) new in
+    let undropped = not_within (dropped h) (put h) t (lists.put_dropped t) new in
+    let other = not_within (option_to_list d) (put h) t (λ is. (new_drop w h (Put t d) t allowed is).1.put_so) new in
+    not_more (started h) (dropped h ++ option_to_list d) t unstarted (not_more (dropped h) (option_to_list d) t undropped other)
 
 -- over plain lists: one comes, and where there are as many as there may be, the oldest goes
 one_comes : (n : ℕ) (ts : List TaskId) (t : TaskId) (d : Option TaskId) → 1 ≤ n → length ts ≤ n → d ≡ (if nat_le n (length ts) then slice_get ts 0 else None) → length (without ts (option_to_list d) ++ t ∷ []) ≤ n
@@ -104,7 +95,7 @@ one_comes n ts t d some few is = of_test (nat_le n (length ts)) refl is
 drop_on : (w : Parts) (h : List Event) (q n : ℕ) (t : TaskId) → policy_of w q ≡ Discard n → is_for_queue w h q t ≡ true → drop_at w h t ≡ drop_by (Discard n) (queued w h q)
 drop_on w h q n t policy is =
     let found = some_of (λ (s : Seat). s.branch.queue == q) (seat_of w h t) is in
-    let same : found.0.branch.queue ≡ q = grind (arith, nat_tests, found.2) in
+    let same = same_number found.0.branch.queue q found.2 in
     ap (λ o. option_and_then (λ (s : Seat). drop_by (policy_of w s.branch.queue) (queued w h s.branch.queue)) o) found.1 ∙ ap (λ k. drop_by (policy_of w k) (queued w h k)) same ∙ ap (λ p. drop_by p (queued w h q)) policy
 
 put_within : (w : Parts) (q n : ℕ) → 1 ≤ n → policy_of w q ≡ Discard n → (h : List Event) (t : TaskId) (d : Option TaskId) → IsLegal w h → IsAllowed w h (Put t d) → length (queued w h q) ≤ n → length (queued w (h ++ Put t d ∷ []) q) ≤ n
@@ -121,13 +112,13 @@ few_queued w valid q n policy = along_legal w (λ g. length (queued w g q) ≤ n
     same : (h : List Event) (e : Event) → queued w (h ++ e ∷ []) q ≡ queued w h q → length (queued w h q) ≤ n → length (queued w (h ++ e ∷ []) q) ≤ n
     same h e is few = subst (λ ts. length ts ≤ n) (sym is) few
 
-    kept : (h : List Event) (e : Event) → IsLegal w h → length (queued w h q) ≤ n → IsAllowed w h e → length (queued w (h ++ e ∷ []) q) ≤ n
-    kept h (Post m) legal few allowed = same h (Post m) (queued_other w h q (Post m) refl refl refl refl) few
-    kept h (Admit t) legal few allowed = same h (Admit t) (queued_other w h q (Admit t) refl refl refl refl) few
-    kept h (End t how) legal few allowed = same h (End t how) (queued_other w h q (End t how) refl refl refl refl) few
-    kept h (Fire t s ms cs) legal few allowed = same h (Fire t s ms cs) (queued-fire w h q t s ms cs (new_unput w h t legal (refused_not (is_new h t) 4 _ allowed).0)) few
-    kept h (Put t d) legal few allowed = put_within w q n (some_most w valid q n policy) policy h t d legal allowed few
-    kept h (Start t a) legal few allowed = subst (λ ts. length ts ≤ n) (sym (queued-start w h q t a)) (omega (arith, few_left (λ u. not (has_task (t ∷ []) u)) (queued w h q), few))
+    kept : (h : List Event) (e : Event) → IsLegal w h → IsAllowed w h e → length (queued w h q) ≤ n → length (queued w (h ++ e ∷ []) q) ≤ n
+    kept h (Post m) legal allowed few = same h (Post m) (queued_other w h q (Post m) refl refl refl refl) few
+    kept h (Admit t) legal allowed few = same h (Admit t) (queued_other w h q (Admit t) refl refl refl refl) few
+    kept h (End t how) legal allowed few = same h (End t how) (queued_other w h q (End t how) refl refl refl refl) few
+    kept h (Fire t s ms cs) legal allowed few = same h (Fire t s ms cs) (queued-fire w h q t s ms cs (new_unput w h t legal (FiresSo-allowed w h t s ms cs allowed).new_name)) few
+    kept h (Put t d) legal allowed few = put_within w q n (some_most w valid q n policy) policy h t d legal allowed few
+    kept h (Start t a) legal allowed few = subst (λ ts. length ts ≤ n) (sym (queued-start w h q t a)) (omega (arith, few_left (λ u. not (has_task (t ∷ []) u)) (queued w h q), few))
 
 -- a put drops the oldest of as many tasks as its queue's policy says
 pub drops_oldest : (w : Parts) → IsValid w → (h : List Event) → IsLegal w h → (past : List Event) (t x : TaskId) → Stands h past (Put t (Some x)) → DropsOldest w past t x

@@ -1,8 +1,7 @@
 -- What a firing names was held before it, and so untaken.
-use Rattle.std.proofs.Common.{◌≡◌, ℕ, ◌⊎◌, inl, inr, Bool, true, false, not, ◌||◌, List, [], ◌∷◌, ◌++◌, flat_map, Some, refl, sym, arith, subst}
+use Rattle.std.proofs.Common.{◌≡◌, ℕ, ◌⊎◌, inl, inr, Bool, true, false, not, ◌||◌, List, [], ◌∷◌, ◌++◌, flat_map, Some, refl, sym, arith, ◌∙◌, subst}
 use Rattle.std.specs.Prelude.{◌==◌, All, Contains}
 use Rattle.std.specs.List.{slice_get, AllZip}
-use Rattle.std.proofs.lemmas.Bool.Decides.{nat_tests}
 use Rattle.std.proofs.lemmas.List.Elements.{All-head, All-tail, All-filter, All-contains, filter_passes}
 use Rattle.ccr_base.specs.declared.names.MsgId.{MsgId}
 use Rattle.ccr_base.specs.declared.names.TaskId.{TaskId}
@@ -24,16 +23,16 @@ use Rattle.ccr_model.proofs.PostNames.{same_message-is}
 use Rattle.ccr_laws.specs.Standing.{Stands}
 use Rattle.ccr_laws.specs.WholePattern.{FillsSlot, FillsPattern, TakesWhole}
 use Rattle.ccr_laws.specs.OneFate.{IsHeld}
+use Rattle.ccr_laws.proofs.Booleans.{or_assoc, either, same_number}
 use Rattle.ccr_laws.proofs.WholePatterns.{whole_pattern}
 
 -- over plain lists: names
+pub has_message-append : (names others : List MsgId) (name : MsgId) → has_message (names ++ others) name ≡ has_message names name || has_message others name
+has_message-append [] others name = refl
+has_message-append (n ∷ names) others name = rw (has_message-append names others name) (or_assoc (same_message name n) (has_message names name) (has_message others name))
+
 name_in_either : (names others : List MsgId) (name : MsgId) → has_message (names ++ others) name ≡ true → (has_message names name ≡ true) ⊎ (has_message others name ≡ true)
-name_in_either [] others name is = inr is
-name_in_either (n ∷ names) others name is = of_test (same_message name n) is (name_in_either names others name)
-  where
-    of_test : (b : Bool) → b || has_message (names ++ others) name ≡ true → (has_message (names ++ others) name ≡ true → (has_message names name ≡ true) ⊎ (has_message others name ≡ true)) → (b || has_message names name ≡ true) ⊎ (has_message others name ≡ true)
-    of_test true at rest = inl refl
-    of_test false at rest = rest at
+name_in_either names others name is = either (has_message names name) (has_message others name) (sym (has_message-append names others name) ∙ is) ((has_message names name ≡ true) ⊎ (has_message others name ≡ true)) (λ one. inl one) (λ other. inr other)
 
 -- what a port holds was posted to it, and is untaken
 port_of_held : (h : List Event) (port : ℕ) (m : Msg) → Contains (held h port) m → m.port ≡ port
@@ -41,7 +40,7 @@ port_of_held h port m among =
     let untaken : Msg → Bool = λ m. not (has_message (taken h) m.id) in
     let of_port : Msg → Bool = λ m. m.port == port in
     let passes : (m.port == port) ≡ true = All-contains (λ m. of_port m ≡ true) (held h port) m (All-filter untaken (λ m. of_port m ≡ true) (posted h port) (filter_passes of_port (posts h))) among in
-    grind (arith, nat_tests, passes)
+    same_number m.port port passes
 
 pub untaken_of_held : (h : List Event) (port : ℕ) (m : Msg) → Contains (held h port) m → has_message (taken h) m.id ≡ false
 untaken_of_held h port m among =

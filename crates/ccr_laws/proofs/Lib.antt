@@ -1,8 +1,10 @@
+pub mod Booleans
+pub mod Pushes
 pub mod Allowed
 pub mod WholePatterns
 pub mod SingleFirings
-pub mod Steps
-pub mod TaskLife
+pub mod DropFacts
+pub mod Seated
 pub mod FullQueues
 pub mod DroppingPuts
 pub mod HeldBefore

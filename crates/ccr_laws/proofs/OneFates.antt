@@ -1,9 +1,8 @@
 -- Each posted message has exactly one fate.
-use Rattle.std.proofs.Common.{◌≡◌, ℕ, suc, inl, inr, Bool, true, false, not, ◌||◌, List, [], ◌∷◌, ◌++◌, filter, Option, Some, None, refl, sym, ap, ◌∙◌, arith, subst}
+use Rattle.std.proofs.Common.{◌≡◌, suc, inl, inr, Bool, true, false, not, List, [], ◌∷◌, ◌++◌, filter, Option, Some, None, refl, sym, ap, ◌∙◌, arith, subst}
 use Rattle.std.specs.Prelude.{◌==◌, if◌then◌else◌, find, Contains}
 use Rattle.std.specs.Option.{option_map, option_map_or}
 use Rattle.std.proofs.lemmas.Grind.{common_steps}
-use Rattle.std.proofs.lemmas.Bool.Decides.{nat_tests}
 use Rattle.ccr_base.specs.declared.names.MsgId.{MsgId}
 use Rattle.ccr_base.specs.declared.names.TaskId.{TaskId}
 use Rattle.ccr_base.specs.declared.messages.Msg.{Msg}
@@ -24,30 +23,30 @@ use Rattle.ccr_model.proofs.Stable.{firings-append}
 use Rattle.ccr_model.proofs.Allowing.{OneName-legal}
 use Rattle.ccr_laws.specs.Standing.{Stands}
 use Rattle.ccr_laws.specs.OneFate.{IsHeld, IsTakenBy, HasFate, HasOneFate}
-use Rattle.ccr_laws.proofs.TaskLife.{firing_seated}
-use Rattle.ccr_laws.proofs.HeldBefore.{untaken_of_held, untaken_before}
-use Rattle.ccr_laws.proofs.States.{found_among, is_in, only_in}
+use Rattle.ccr_laws.proofs.Booleans.{eq-self, neither}
+use Rattle.ccr_laws.proofs.Seated.{firing_seated}
+use Rattle.ccr_laws.proofs.HeldBefore.{untaken_of_held, untaken_before, has_message-append}
+use Rattle.ccr_laws.proofs.States.{is_in, only_in}
 
 -- whether the firing names the message
 abbrev names_it : MsgId → Firing → Bool
 names_it name f = has_message f.messages name
 
+-- a found firing
+found_among : (p : Firing → Bool) (fs : List Firing) (f : Firing) → find p fs ≡ Some f → (Among f fs) × (p f ≡ true)
+found_among p [] f is = absurd (cc)
+found_among p (g ∷ fs) f is = of_test (p g) refl is (found_among p fs f)
+  where
+    of_test : (b : Bool) → p g ≡ b → (if b then Some g else find p fs) ≡ Some f → (find p fs ≡ Some f → (Among f fs) × (p f ≡ true)) → (Among f (g ∷ fs)) × (p f ≡ true)
+    of_test true passes at rest = let same : f ≡ g = cc in (inl same, ap p same ∙ passes)
+    of_test false passes at rest = let more = rest at in (inr more.0, more.1)
+
 -- a message that no firing names isn't taken
 name_out_of_both : (names others : List MsgId) (name : MsgId) → has_message names name ≡ false → has_message others name ≡ false → has_message (names ++ others) name ≡ false
-name_out_of_both [] others name out away = away
-name_out_of_both (n ∷ names) others name out away = of_test (same_message name n) out (name_out_of_both names others name)
-  where
-    of_test : (b : Bool) → b || has_message names name ≡ false → (has_message names name ≡ false → has_message others name ≡ false → has_message (names ++ others) name ≡ false) → b || has_message (names ++ others) name ≡ false
-    of_test true at rest = absurd (cc)
-    of_test false at rest = rest at away
+name_out_of_both names others name out away = rw (has_message-append names others name, out) away
 
 name_out_of_front : (names others : List MsgId) (name : MsgId) → has_message (names ++ others) name ≡ false → (has_message names name ≡ false) × (has_message others name ≡ false)
-name_out_of_front [] others name out = (refl, out)
-name_out_of_front (n ∷ names) others name out = of_test (same_message name n) out (name_out_of_front names others name)
-  where
-    of_test : (b : Bool) → b || has_message (names ++ others) name ≡ false → (has_message (names ++ others) name ≡ false → (has_message names name ≡ false) × (has_message others name ≡ false)) → (b || has_message names name ≡ false) × (has_message others name ≡ false)
-    of_test true at rest = absurd (cc)
-    of_test false at rest = rest at
+name_out_of_front names others name out = neither (has_message names name) (has_message others name) (sym (has_message-append names others name) ∙ out)
 
 untaken_by_none : (h : List Event) (name : MsgId) → find (names_it name) (firings h) ≡ None → has_message (taken h) name ≡ false
 untaken_by_none [] name none = refl
@@ -136,9 +135,6 @@ Contains-among : (ms : List Msg) (m : Msg) → Among m ms → Contains ms m
 Contains-among [] m among = absurd among
 Contains-among (x ∷ ms) m (inl same) = (0, omega arith, sym same)
 Contains-among (x ∷ ms) m (inr more) = let rest = Contains-among ms m more in (suc rest.0, omega (arith, rest.1), rest.2)
-
-eq-self : (n : ℕ) → (n == n) ≡ true
-eq-self n = grind (arith, nat_tests)
 
 held_by_untaken : (h past : List Event) (m : Msg) → Stands h past (Post m) → has_message (taken h) m.id ≡ false → IsHeld h m.id
 held_by_untaken h past m stands out =

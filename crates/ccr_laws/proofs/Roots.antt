@@ -25,11 +25,13 @@ use Rattle.ccr_model.proofs.Covered.{same_task-is}
 use Rattle.ccr_model.proofs.Allowing.{same_task-self}
 use Rattle.ccr_laws.specs.AtWork.{is_queued, is_suspended, is_at_work}
 use Rattle.ccr_laws.specs.Interleaves.{is_seat_in, is_of_interleave}
+use Rattle.ccr_laws.proofs.Pushes.{let_in-push}
+use Rattle.ccr_laws.proofs.Booleans.{not_true, and_false, refuted, no_both, and_not}
 use Rattle.ccr_laws.proofs.LegalParts.{along_legal}
-use Rattle.ccr_laws.proofs.TaskLists.{has_task-filter, among_left, not_within, any_named, not_true}
+use Rattle.ccr_laws.proofs.TaskLists.{of_filter, to_filter, among_left, not_within, any_named}
 use Rattle.ccr_laws.proofs.TaskPlaces.{IsFired, ArePlaced-legal, QueuedFacts-queued, seat_by}
 use Rattle.ccr_laws.proofs.FiringFacts.{FiresSo-allowed, not_new, firing_named-new, before-new, firings-other}
-use Rattle.ccr_laws.proofs.Cutting.{CutFacts-legal, let_in-push}
+use Rattle.ccr_laws.proofs.Cutting.{CutFacts-legal}
 use Rattle.ccr_laws.proofs.Ending.{AreEnded-legal, RunningFacts-running}
 use Rattle.ccr_laws.proofs.Suspending.{ResumeFacts, ResumeFacts-allowed, is_gone_on, gone_stays, resumes_suspended, resumes_gone, suspended_yielded}
 
@@ -120,11 +122,7 @@ abbrev IsOneEach : List Event → Type 0
 IsOneEach h = (t u : TaskId) → IsFired h t → IsFired h u → is_gone_on h t ≡ false → is_gone_on h u ≡ false → root_of h t ≡ root_of h u → t ≡ u
 
 not_gone : (w : Parts) (h : List Event) (e : Event) (t : TaskId) → IsLegal w h → IsAllowed w h e → is_gone_on (h ++ e ∷ []) t ≡ false → is_gone_on h t ≡ false
-not_gone w h e t legal allowed is = of_test (is_gone_on h t) refl
-  where
-    of_test : (b : Bool) → is_gone_on h t ≡ b → b ≡ false
-    of_test false e' = refl
-    of_test true e' = let gone = gone_stays w h e t legal allowed e' in absurd (cc)
+not_gone w h e t legal allowed is = refuted (is_gone_on h t) (λ gone. no_both (gone_stays w h e t legal allowed gone) is)
 
 one_each_old : (w : Parts) (h : List Event) (e : Event) → IsLegal w h → IsAllowed w h e → IsOneEach h → (t u : TaskId) → IsFired h t → IsFired h u → is_gone_on (h ++ e ∷ []) t ≡ false → is_gone_on (h ++ e ∷ []) u ≡ false → root_of (h ++ e ∷ []) t ≡ root_of (h ++ e ∷ []) u → t ≡ u
 one_each_old w h e legal allowed known t u ft fu nt nu same =
@@ -149,10 +147,6 @@ one_each_new w h x (Site b k) ms cs legal allowed known u fu nu same =
     let one : facts.resumes ≡ u = known facts.resumes u (facts.firing, facts.is_firing) fu here (not_gone w h e u legal allowed nu) roots in
     let gone = resumes_gone w h x b k ms cs legal facts in
     cc (subst (λ r. is_gone_on (h ++ e ∷ []) r ≡ true) one gone)
-  where
-    and_false : (a : Bool) → a && not true ≡ false
-    and_false true = refl
-    and_false false = refl
 
 one_each_fire : (w : Parts) (h : List Event) (x : TaskId) (s : Spot) (ms : List MsgId) (cs : List TaskId) → IsLegal w h → IsAllowed w h (Fire x s ms cs) → IsOneEach h → IsOneEach (h ++ Fire x s ms cs ∷ [])
 one_each_fire w h x s ms cs legal allowed known t u ft fu nt nu same =
@@ -200,23 +194,16 @@ one_at_work w h legal t u work_t work_u same =
 
 -- the root of who is at work isn't over
 not_over : (w : Parts) (h : List Event) → IsLegal w h → (t : TaskId) → IsAtWork h t → is_over h (root_of h t) ≡ false
-not_over w h legal t work = of_test (is_over h (root_of h t)) refl
+not_over w h legal t work = refuted (is_over h (root_of h t)) over
   where
-    of_test : (b : Bool) → is_over h (root_of h t) ≡ b → b ≡ false
-    of_test false e = refl
-    of_test true e =
-        let last = any_named (λ u. same_task (root_of h u) (root_of h t)) (last_segments h) e in
+    over : is_over h (root_of h t) ≡ true → ⊥
+    over is =
+        let last = any_named (λ u. same_task (root_of h u) (root_of h t)) (last_segments h) is in
         let fired = (ArePlaced-legal w h legal).all_fired t work.put_so in
-        let unyielded : has_task (yielded h) last.0 ≡ false = not_yielded last.0 last.1 (has_task (yielded h) last.0) refl in
+        let unyielded : has_task (yielded h) last.0 ≡ false = refuted (has_task (yielded h) last.0) (λ yields. no_both last.1 ((AreEnded-legal w h legal).not_both last.0 yields)) in
         let latest : is_gone_on h last.0 ≡ false = rw unyielded refl in
         let one : last.0 ≡ t = IsOneEach-legal w h legal last.0 t (last_fired w h legal last.0 last.1) fired latest work.latest (same_task-is (root_of h last.0) (root_of h t) last.2) in
-        let there : has_task (last_segments h) t ≡ true = subst (λ u. has_task (last_segments h) u ≡ true) one last.1 in
-        let never = work.not_last in
-        absurd (cc)
-      where
-        not_yielded : (u : TaskId) → has_task (last_segments h) u ≡ true → (b : Bool) → has_task (yielded h) u ≡ b → b ≡ false
-        not_yielded u is false f = refl
-        not_yielded u is true f = let out = (AreEnded-legal w h legal).not_both u f in absurd (cc)
+        no_both (subst (λ u. has_task (last_segments h) u ≡ true) one last.1) work.not_last
 
 -- a task of a site has a root that was admitted, where its branch is one of an Interleave
 abbrev AreLetIn : Parts → List Event → Type 0
@@ -284,15 +271,12 @@ pub record AdmittedFacts (w : Parts) (h : List Event) (i : ℕ) (t : TaskId) : T
 
 pub AdmittedFacts-admitted : (w : Parts) (h : List Event) (i : ℕ) (t : TaskId) → has_task (admitted w h i) t ≡ true → AdmittedFacts w h i t
 AdmittedFacts-admitted w h i t is =
-    let parts = both (has_task (let_in h) t) (is_in_arbiter w h i t && not (is_over h t)) (sym (has_task-filter (λ u. is_in_arbiter w h i u && not (is_over h u)) (let_in h) t) ∙ is) in
+    let parts = of_filter (λ u. is_in_arbiter w h i u && not (is_over h u)) (let_in h) t is in
     let tests = both (is_in_arbiter w h i t) (not (is_over h t)) parts.1 in
     record { entered = parts.0; within = tests.0; lasts = not_true (is_over h t) tests.1 }
 
 pub admitted_whole : (w : Parts) (h : List Event) (i : ℕ) (t : TaskId) → has_task (let_in h) t ≡ true → is_in_arbiter w h i t ≡ true → is_over h t ≡ false → has_task (admitted w h i) t ≡ true
-admitted_whole w h i t entered within lasts = has_task-filter (λ u. is_in_arbiter w h i u && not (is_over h u)) (let_in h) t ∙ all_three (has_task (let_in h) t) (is_in_arbiter w h i t) (is_over h t) entered within lasts
-  where
-    all_three : (a b c : Bool) → a ≡ true → b ≡ true → c ≡ false → a && (b && not c) ≡ true
-    all_three a b c is_a is_b is_c = rw (is_a, is_b, is_c) refl
+admitted_whole w h i t entered within lasts = to_filter (λ u. is_in_arbiter w h i u && not (is_over h u)) (let_in h) t entered (and_not (is_in_arbiter w h i t) (is_over h t) within lasts)
 
 -- who of an Interleave is at work has a root that was admitted and isn't over
 pub at_work_admitted : (w : Parts) (h : List Event) → IsLegal w h → (i : ℕ) (t : TaskId) → is_of_interleave w h i t ≡ true → IsAtWork h t → has_task (admitted w h i) (root_of h t) ≡ true

@@ -1,5 +1,5 @@
 -- A choice, a once receiver and the teardowns of an Interleave fire at most once.
-use Rattle.std.proofs.Common.{◌≡◌, ℕ, zero, suc, ◌+◌, ◌≤◌, ◌⊎◌, inl, inr, Bool, true, false, ◌&&◌, List, [], ◌∷◌, ◌++◌, length, map, filter, Option, Some, None, refl, sym, ap, ◌∙◌, arith, subst, append-nil}
+use Rattle.std.proofs.Common.{◌≡◌, ℕ, zero, suc, ◌+◌, ◌≤◌, ◌⊎◌, inl, inr, Bool, true, false, ◌&&◌, List, [], ◌∷◌, ◌++◌, length, map, filter, Option, Some, None, refl, sym, ap, ◌∙◌, arith, subst}
 use Rattle.std.specs.Prelude.{◌==◌, if◌then◌else◌}
 use Rattle.std.specs.List.{slice_get}
 use Rattle.std.specs.Option.{option_map, option_map_or}
@@ -28,10 +28,11 @@ use Rattle.ccr_model.specs.Tasks.{fired_by, is_branch_where, is_teardown}
 use Rattle.ccr_model.specs.Live.{is_live, is_live_in, is_none_of}
 use Rattle.ccr_model.specs.Legal.{IsAllowed, IsLegal}
 use Rattle.ccr_model.proofs.PostNames.{along, both}
-use Rattle.ccr_model.proofs.Quiet.{some_of}
 use Rattle.ccr_model.proofs.TaskSteps.{firings-push}
 use Rattle.ccr_model.proofs.TakenOnce.{FireFacts-allowed}
 use Rattle.ccr_laws.specs.Times.{times_fired, times_any_fired, times_torn_down}
+use Rattle.ccr_laws.proofs.FiringFacts.{BranchFacts-where, live_at, firings-other}
+use Rattle.ccr_laws.proofs.Booleans.{same_number}
 
 -- the tasks that fired at spots that pass the test
 abbrev fired_on : (Spot → Bool) → List Event → List TaskId
@@ -43,7 +44,7 @@ one_more test [] f = grind arith
 one_more test (g ∷ fs) f = grind (arith, one_more test fs f)
 
 same_firings : (test : Spot → Bool) (h : List Event) (e : Event) → firing_of e ≡ [] → length (fired_on test h) ≤ 1 → length (fired_on test (h ++ e ∷ [])) ≤ 1
-same_firings test h e none few = rw (firings-push h e, none, append-nil) few
+same_firings test h e none few = rw (firings-other h e none) few
 
 more_firings : (test : Spot → Bool) (h : List Event) (t : TaskId) (s : Spot) (ms : List MsgId) (cs : List TaskId) → (test s ≡ true → length (fired_on test h) ≡ 0) → length (fired_on test h) ≤ 1 → length (fired_on test (h ++ Fire t s ms cs ∷ [])) ≤ 1
 more_firings test h t s ms cs first few =
@@ -72,14 +73,6 @@ at_most_once w test first = along w (λ g. length (fired_on test g) ≤ 1) kept 
 
 none_there : (ts : List TaskId) → is_none_of ts ≡ true → length ts ≡ 0
 none_there ts is = grind (arith, nat_tests, is)
-
--- a live branch whose seat passes the test
-live_branch : (w : Parts) (h : List Event) (test : Seat → Bool) (s : Spot) → is_live w h s ≡ true → is_branch_where w test s ≡ true → (b : ℕ) × (its : Seat) × (seat w b ≡ Some its) × (is_live_in w h b its.arbiter its.branch.group ≡ true) × (test its ≡ true)
-live_branch w h test (Site b k) live is = absurd (cc)
-live_branch w h test (Branch b) live is =
-    let found = some_of test (seat w b) is in
-    let at : option_map_or (λ (s : Seat). is_live_in w h b s.arbiter s.branch.group) (Some found.0) false ≡ true = subst (λ o. option_map_or (λ (s : Seat). is_live_in w h b s.arbiter s.branch.group) o false ≡ true) found.1 live in
-    (b, found.0, found.1, at, found.2)
 
 -- the branch of a choice or a receiver stands with an arbiter of its kind
 at_either : {X : Type 0} (xs ys : List X) (i : ℕ) (x : X) → slice_get (xs ++ ys) i ≡ Some x → (slice_get xs i ≡ Some x) ⊎ ((j : ℕ) × (slice_get ys j ≡ Some x))
@@ -121,16 +114,14 @@ choice_group kinds.Choice groups.Teardown is may = absurd (cc)
 choice_group kinds.Choice groups.Exclusive is may = absurd (cc)
 choice_group kinds.Choice groups.Concurrent is may = absurd (cc)
 
-same_number : (a b : ℕ) → (a == b) ≡ true → a ≡ b
-same_number a b is = grind (arith, nat_tests, is)
-
 choice_first : (w : Parts) → IsValid w → (number : ℕ) (arbiter : ArbiterPart) → slice_get w.arbiters number ≡ Some arbiter → arbiter.kind ≡ kinds.Choice → (h : List Event) (s : Spot) → is_live w h s ≡ true → is_branch_where w (λ (s : Seat). s.arbiter == number) s ≡ true → length (fired_by w (λ (s : Seat). s.arbiter == number) h) ≡ 0
 choice_first w valid number arbiter at kind h s live is =
-    let found = live_branch w h (λ (s : Seat). s.arbiter == number) s live is in
-    let its = found.1 in
-    let same : its.arbiter ≡ number = same_number its.arbiter number found.4 in
-    let group : its.branch.group ≡ groups.Choice = choice_group its.kind its.branch.group (kind_of w number arbiter found.0 its at found.2 same ∙ kind) ((sound w valid).groups found.0 its found.2) in
-    let none : is_live_in w h found.0 number groups.Choice ≡ true = subst (λ n. is_live_in w h found.0 n groups.Choice ≡ true) same (subst (λ g. is_live_in w h found.0 its.arbiter g ≡ true) group found.3) in
+    let at_branch = BranchFacts-where w (λ (s : Seat). s.arbiter == number) s is in
+    let its = at_branch.place in
+    let live_so = live_at w h (λ (s : Seat). s.arbiter == number) s at_branch live in
+    let same : its.arbiter ≡ number = same_number its.arbiter number at_branch.passes in
+    let group : its.branch.group ≡ groups.Choice = choice_group its.kind its.branch.group (kind_of w number arbiter at_branch.number its at at_branch.is_place same ∙ kind) ((sound w valid).groups at_branch.number its at_branch.is_place) in
+    let none : is_live_in w h at_branch.number number groups.Choice ≡ true = subst (λ n. is_live_in w h at_branch.number n groups.Choice ≡ true) same (subst (λ g. is_live_in w h at_branch.number its.arbiter g ≡ true) group live_so) in
     none_there (fired_by w (λ (s : Seat). s.arbiter == number) h) none
 
 pub choice_once : (w : Parts) → IsValid w → (h : List Event) → IsLegal w h → (number : ℕ) (arbiter : ArbiterPart) → slice_get w.arbiters number ≡ Some arbiter → arbiter.kind ≡ kinds.Choice → times_any_fired w h number ≤ 1
@@ -160,12 +151,13 @@ teardown_group groups.Concurrent is = absurd (cc)
 
 teardown_first : (w : Parts) (i : ℕ) (h : List Event) (s : Spot) → is_live w h s ≡ true → is_branch_where w (λ (s : Seat). (s.arbiter == i) && is_teardown s.branch.group) s ≡ true → length (fired_by w (λ (s : Seat). (s.arbiter == i) && is_teardown s.branch.group) h) ≡ 0
 teardown_first w i h s live is =
-    let found = live_branch w h (λ (s : Seat). (s.arbiter == i) && is_teardown s.branch.group) s live is in
-    let its = found.1 in
-    let parts = both (its.arbiter == i) (is_teardown its.branch.group) found.4 in
+    let at_branch = BranchFacts-where w (λ (s : Seat). (s.arbiter == i) && is_teardown s.branch.group) s is in
+    let its = at_branch.place in
+    let live_so = live_at w h (λ (s : Seat). (s.arbiter == i) && is_teardown s.branch.group) s at_branch live in
+    let parts = both (its.arbiter == i) (is_teardown its.branch.group) at_branch.passes in
     let same : its.arbiter ≡ i = same_number its.arbiter i parts.0 in
     let group : its.branch.group ≡ groups.Teardown = teardown_group its.branch.group parts.1 in
-    let none : is_live_in w h found.0 i groups.Teardown ≡ true = subst (λ n. is_live_in w h found.0 n groups.Teardown ≡ true) same (subst (λ g. is_live_in w h found.0 its.arbiter g ≡ true) group found.3) in
+    let none : is_live_in w h at_branch.number i groups.Teardown ≡ true = subst (λ n. is_live_in w h at_branch.number n groups.Teardown ≡ true) same (subst (λ g. is_live_in w h at_branch.number its.arbiter g ≡ true) group live_so) in
     none_there (fired_by w (λ (s : Seat). (s.arbiter == i) && is_teardown s.branch.group) h) none
 
 pub teardown_once : (w : Parts) (h : List Event) → IsLegal w h → (i : ℕ) → times_torn_down w h i ≤ 1

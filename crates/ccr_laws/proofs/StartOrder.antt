@@ -2,7 +2,6 @@
 use Rattle.std.proofs.Common.{◌≡◌, ℕ, Bool, true, false, not, ◌&&◌, ◌||◌, List, [], ◌∷◌, ◌++◌, filter, Option, option_to_list, ◌⊎◌, inl, inr, refl, sym, arith, ap, ◌∙◌, subst, append_assoc, append-nil}
 use Rattle.std.specs.Prelude.{◌==◌, if◌then◌else◌}
 use Rattle.std.proofs.lemmas.Grind.{common_steps}
-use Rattle.std.proofs.lemmas.Bool.Decides.{nat_tests}
 use Rattle.ccr_base.specs.declared.names.TaskId.{TaskId}
 use Rattle.ccr_wiring.specs.declared.parts.Parts.{Parts}
 use Rattle.ccr_model.specs.declared.history.Event.{Event}
@@ -15,8 +14,10 @@ use Rattle.ccr_model.specs.Consequences.{are_distinct_tasks}
 use Rattle.ccr_model.proofs.PostNames.{along, both}
 use Rattle.ccr_model.proofs.Covered.{same_task-is, or_left, or_right}
 use Rattle.ccr_laws.specs.Queues.{put_into, started_from, stands_before}
-use Rattle.ccr_laws.proofs.TaskLists.{has_task-filter, has_task-without, filter_append, filter_swap, filter_on, without-append, without_both, without_none, without_other, without_first, distinct-filter, of_more, not_more}
-use Rattle.ccr_laws.proofs.TaskPlaces.{IsFired, AreApart, ArePlaced, ArePlaced_kept, ArePlaced-none, ArePlaced-legal, StartFacts, StartFacts-allowed, PutFacts-allowed, QueuedFacts-queued, put_fired, seat_stays, put-push, started-push, dropped-push}
+use Rattle.ccr_laws.proofs.Booleans.{and_false, refuted, no_both, same_number}
+use Rattle.ccr_laws.proofs.Pushes.{put-push, started-push, dropped-push}
+use Rattle.ccr_laws.proofs.TaskLists.{has_task-filter, has_task-without, filter_append, filter_swap, filter_on, without-append, without_both, without_none, without_other, without_first, distinct-filter, of_more, not_more, of_filter, of_without, not_within}
+use Rattle.ccr_laws.proofs.TaskPlaces.{IsFired, AreApart, ArePlaced, ArePlaced_kept, ArePlaced-none, ArePlaced-legal, StartFacts, StartFacts-allowed, PutFacts-allowed, QueuedFacts-queued, put_fired, seat_stays, new_drop}
 
 -- who of the tested ones started, then who is queued: who was put and not dropped
 abbrev IsOrder : (TaskId → Bool) → List TaskId → List TaskId → List TaskId → Type 0
@@ -37,10 +38,6 @@ IsOrder-start p ps ss ds t known oldest is = rw (lists_start p ps ss ds t, filte
     of_test false e oldest' =
         let out : has_task (filter p (without ps (ss ++ ds))) t ≡ false = rw (has_task-filter p (without ps (ss ++ ds)) t, e) (and_false _) in
         rw (append-nil (filter p ss), without_other (filter p (without ps (ss ++ ds))) t out) is
-      where
-        and_false : (a : Bool) → a && false ≡ false
-        and_false true = refl
-        and_false false = refl
     of_test true e oldest' =
         let head = oldest' e in
         let distinct : are_distinct_tasks (t ∷ head.0) ≡ true = subst (λ ts. are_distinct_tasks ts ≡ true) head.1 (distinct-filter p (without ps (ss ++ ds)) (distinct-filter (λ u. not (has_task (ss ++ ds) u)) ps known.once)) in
@@ -50,35 +47,24 @@ IsOrder-start p ps ss ds t known oldest is = rw (lists_start p ps ss ds t, filte
 -- one more put, and some of the queued ones dropped
 IsOrder-put : (p : TaskId → Bool) (ps ss ds more : List TaskId) (t : TaskId) → AreApart ps ss ds → has_task ps t ≡ false → ((u : TaskId) → has_task more u ≡ true → (has_task ps u ≡ true) × (has_task ss u ≡ false)) → IsOrder p ps ss ds → IsOrder p (ps ++ t ∷ []) ss (ds ++ more)
 IsOrder-put p ps ss ds more t known new drops is =
-    let out_more = none_of more (λ u among. (drops u among).0) in
-    let out_dropped = none_of ds known.put_dropped in
-    let out_started = none_of ss known.put_started in
+    let out_more = not_within more ps t (λ among. (drops t among).0) new in
+    let out_dropped = not_within ds ps t (known.put_dropped t) new in
+    let out_started = not_within ss ps t (known.put_started t) new in
     let gone : has_task (ds ++ more) t ≡ false = not_more ds more t out_dropped out_more in
     let all_gone : has_task (ss ++ (ds ++ more)) t ≡ false = not_more ss (ds ++ more) t out_started gone in
     let left : filter p (without (ps ++ t ∷ []) (ss ++ (ds ++ more))) ≡ without (filter p (without ps (ss ++ ds))) more ++ filter p (t ∷ []) =
     rw (without-append ps (t ∷ []) (ss ++ (ds ++ more)), all_gone, ← (append_assoc ss ds more), without_both ps (ss ++ ds) more, filter_append, filter_swap p (λ u. not (has_task more u)) (without ps (ss ++ ds))) refl in
     let right : filter p (without (ps ++ t ∷ []) (ds ++ more)) ≡ without (filter p (without ps ds)) more ++ filter p (t ∷ []) =
     rw (without-append ps (t ∷ []) (ds ++ more), gone, without_both ps ds more, filter_append, filter_swap p (λ u. not (has_task more u)) (without ps ds)) refl in
-    let stays : without (filter p ss) more ≡ filter p ss = without_none (filter p ss) more (λ u among. of_drop u (both (has_task ss u) (p u) (sym (has_task-filter p ss u) ∙ among)).0 (has_task more u) refl) in
+    let stays : without (filter p ss) more ≡ filter p ss = without_none (filter p ss) more (λ u among. refuted (has_task more u) (λ gone. no_both (of_filter p ss u among).0 (drops u gone).1)) in
     let both_sides : without (filter p (without ps ds)) more ≡ filter p ss ++ without (filter p (without ps (ss ++ ds))) more =
     sym (ap (λ ts. without ts more) is) ∙ (without-append (filter p ss) (filter p (without ps (ss ++ ds))) more ∙ ap (λ ts. ts ++ without (filter p (without ps (ss ++ ds))) more) stays) in
     rw (left, right, both_sides, append_assoc (filter p ss) (without (filter p (without ps (ss ++ ds))) more) (filter p (t ∷ []))) refl
-  where
-    none_of : (ts : List TaskId) → ((u : TaskId) → has_task ts u ≡ true → has_task ps u ≡ true) → has_task ts t ≡ false
-    none_of ts all = of_test (has_task ts t) refl
-      where
-        of_test : (b : Bool) → has_task ts t ≡ b → b ≡ false
-        of_test false e = refl
-        of_test true e = let there = all t e in absurd (cc)
-
-    of_drop : (u : TaskId) → has_task ss u ≡ true → (b : Bool) → has_task more u ≡ b → b ≡ false
-    of_drop u among false e = refl
-    of_drop u among true e = let out = (drops u e).1 in absurd (cc)
 
 -- another test that agrees on who was put
 IsOrder-test : (p q : TaskId → Bool) (ps ss ds : List TaskId) → AreApart ps ss ds → ((u : TaskId) → has_task ps u ≡ true → q u ≡ p u) → IsOrder p ps ss ds → IsOrder q ps ss ds
 IsOrder-test p q ps ss ds known same is =
-    rw (filter_on q p ss (λ u among. same u (known.put_started u among)), filter_on q p (without ps (ss ++ ds)) (λ u among. same u (both (has_task ps u) (not (has_task (ss ++ ds) u)) (sym (has_task-without ps (ss ++ ds) u) ∙ among)).0), filter_on q p (without ps ds) (λ u among. same u (both (has_task ps u) (not (has_task ds u)) (sym (has_task-without ps ds u) ∙ among)).0)) is
+    rw (filter_on q p ss (λ u among. same u (known.put_started u among)), filter_on q p (without ps (ss ++ ds)) (λ u among. same u (of_without ps (ss ++ ds) u among).0), filter_on q p (without ps ds) (λ u among. same u (of_without ps ds u among).0)) is
 
 for_queue_stays : (w : Parts) (h es : List Event) (q : ℕ) (t : TaskId) → IsFired h t → is_for_queue w (h ++ es) q t ≡ is_for_queue w h q t
 for_queue_stays w h es q t fired = rw (seat_stays w h es t fired) refl
@@ -98,13 +84,13 @@ order_start w q h t a allowed known is =
     oldest : (facts : StartFacts w h t) → is_for_queue w h q t ≡ true → queued w h q ≡ t ∷ facts.others
     oldest facts passes =
         let there : (facts.place.branch.queue == q) ≡ true = rw facts.is_place at passes in
-        let same : facts.place.branch.queue ≡ q = grind (arith, nat_tests, there) in
+        let same = same_number facts.place.branch.queue q there in
         subst (λ n. queued w h n ≡ t ∷ facts.others) same facts.is_oldest
 
 order_put : (w : Parts) (q : ℕ) (h : List Event) (t : TaskId) (d : Option TaskId) → IsAllowed w h (Put t d) → ArePlaced h → IsOrderOf w q h → IsOrder (is_for_queue w h q) (put (h ++ Put t d ∷ [])) (started (h ++ Put t d ∷ [])) (dropped (h ++ Put t d ∷ []))
 order_put w q h t d allowed known is =
     let facts = PutFacts-allowed w h t d allowed in
-    rw (put-push, started-push, dropped-push, append-nil (started h)) (IsOrder-put (is_for_queue w h q) (put h) (started h) (dropped h) (option_to_list d) t known.lists facts.new_put (λ u one. (let there = facts.drops u one in let f = QueuedFacts-queued w h there.0 u there.1 in (f.put_so, f.not_started))) is)
+    rw (put-push, started-push, dropped-push, append-nil (started h)) (IsOrder-put (is_for_queue w h q) (put h) (started h) (dropped h) (option_to_list d) t known.lists facts.new_put (λ u one. (let was = new_drop w h (Put t d) u allowed one in (was.1.put_so, was.1.not_started))) is)
 
 order_by : (w : Parts) (q : ℕ) (h : List Event) (e : Event) → IsAllowed w h e → ArePlaced h → IsOrderOf w q h → IsOrder (is_for_queue w h q) (put (h ++ e ∷ [])) (started (h ++ e ∷ [])) (dropped (h ++ e ∷ []))
 order_by w q h (Start t a) allowed known is = order_start w q h t a allowed known is
@@ -169,11 +155,7 @@ pub starts_earlier : (w : Parts) (h : List Event) → IsLegal w h → (q : ℕ) 
 starts_earlier w h legal q t u earlier runs = of_test (has_task (dropped h) t) refl
   where
     not_queued : has_task (queued w h q) u ≡ false
-    not_queued = of_queued (has_task (queued w h q) u) refl
-      where
-        of_queued : (b : Bool) → has_task (queued w h q) u ≡ b → b ≡ false
-        of_queued false e = refl
-        of_queued true e = let facts = QueuedFacts-queued w h q u e in let out = facts.not_started in absurd (cc)
+    not_queued = refuted (has_task (queued w h q) u) (λ is. no_both runs (QueuedFacts-queued w h q u is).not_started)
 
     of_test : (b : Bool) → has_task (dropped h) t ≡ b → (stands_before t u (started_from w h q) ≡ true) ⊎ (b ≡ true)
     of_test true e = inr refl

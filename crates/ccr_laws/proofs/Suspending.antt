@@ -25,11 +25,18 @@ use Rattle.ccr_model.proofs.Stable.{firing_named-append}
 use Rattle.ccr_model.proofs.Covered.{some_map, or_left, or_right}
 use Rattle.ccr_model.proofs.Allowing.{same_task-self}
 use Rattle.ccr_laws.specs.AtWork.{is_suspended}
+use Rattle.ccr_laws.proofs.Pushes.{yielded-push}
+use Rattle.ccr_laws.proofs.Booleans.{not_true, and_not, same_number}
 use Rattle.ccr_laws.proofs.LegalParts.{along_legal}
-use Rattle.ccr_laws.proofs.TaskLists.{has_task-filter, has_task-append, filter_on, filter_append, distinct-filter, not_true, has_oldest, of_more, of_one, has_task-drop, distinct-drop, drop_behind, drop_one_more, drop_some}
+use Rattle.ccr_laws.proofs.TaskLists.{of_filter, has_task-append, filter_on, filter_append, distinct-filter, has_oldest, of_more, of_one, has_task-drop, distinct-drop, drop_behind, drop_one_more, drop_some}
 use Rattle.ccr_laws.proofs.TaskPlaces.{IsFired, ArePlaced-legal}
 use Rattle.ccr_laws.proofs.FiringFacts.{FiresSo-allowed, firings-other}
-use Rattle.ccr_laws.proofs.Ending.{AreEnded-legal, RunningFacts-allowed, yielded-push}
+use Rattle.ccr_laws.proofs.Ending.{AreEnded-legal, RunningFacts-allowed}
+
+same_site : (c l b k : ℕ) → (c == b) && (l == k) ≡ true → Site c l ≡ Site b k
+same_site c l b k is =
+    let numbers = both (c == b) (l == k) is in
+    ap (λ n. Site n l) (same_number c b numbers.0) ∙ ap (λ n. Site b n) (same_number l k numbers.1)
 
 -- who was suspended fired
 yielded_fired : (w : Parts) (h : List Event) → IsLegal w h → (t : TaskId) → has_task (yielded h) t ≡ true → IsFired h t
@@ -73,7 +80,7 @@ ResumeFacts-allowed w h t b k ms cs allowed =
     let live = (FiresSo-allowed w h t (Site b k) ms cs allowed).live in
     let head = not_empty (suspended h (Site b k)) live in
     let among : has_task (suspended h (Site b k)) head.0 ≡ true = has_oldest (suspended h (Site b k)) head.1 head.0 head.2 in
-    let yields = both (has_task (yielded h) head.0) (yields_at h (Site b k) head.0) (sym (has_task-filter (yields_at h (Site b k)) (yielded h) head.0) ∙ has_task-drop (length (fired_at h (Site b k))) (yielded_at h (Site b k)) head.0 among) in
+    let yields = of_filter (yields_at h (Site b k)) (yielded h) head.0 (has_task-drop (length (fired_at h (Site b k))) (yielded_at h (Site b k)) head.0 among) in
     let at = some_of (λ spot. same_spot (next_site spot) (Site b k)) (spot_of h head.0) yields.1 in
     let fired = some_map (λ (f : Firing). f.spot) (firing_named h head.0) at.0 at.1 in
     let there : Some fired.0.spot ≡ Some at.0 = sym (ap (λ o. option_map (λ (f : Firing). f.spot) o) fired.1) ∙ at.1 in
@@ -86,8 +93,8 @@ ResumeFacts-allowed w h t b k ms cs allowed =
       yielded_so = yields.0;
       firing = fired.0;
       is_firing = fired.1;
-      same_branch = grind (arith, nat_tests, numbers.0);
-      same_segment = grind (arith, nat_tests, numbers.1);
+      same_branch = same_number (branch_of fired.0.spot) b numbers.0;
+      same_segment = same_number (segment_of fired.0.spot) k numbers.1;
     }
 
 -- at each site at most as many firings as suspensions
@@ -123,11 +130,8 @@ AreEnough-fire w h t (Site c l) ms cs legal allowed enough b k = rw (fired_at-fi
     of_test : (d : Bool) → (c == b) && (l == k) ≡ d → length (fired_at h (Site b k) ++ (if d then t ∷ [] else [])) ≤ length (yielded_at h (Site b k))
     of_test false e = rw (append-nil (fired_at h (Site b k))) (enough b k)
     of_test true e =
-        let numbers = both (c == b) (l == k) e in
-        let cb : c ≡ b = grind (arith, nat_tests, numbers.0) in
-        let lk : l ≡ k = grind (arith, nat_tests, numbers.1) in
         let facts = ResumeFacts-allowed w h t c l ms cs allowed in
-        let first : suspended h (Site b k) ≡ facts.resumes ∷ facts.others = subst (λ s. suspended h s ≡ facts.resumes ∷ facts.others) (ap (λ n. Site n l) cb ∙ ap (λ n. Site b n) lk) facts.is_first in
+        let first : suspended h (Site b k) ≡ facts.resumes ∷ facts.others = subst (λ s. suspended h s ≡ facts.resumes ∷ facts.others) (same_site c l b k e) facts.is_first in
         let less = drop_some (length (fired_at h (Site b k))) (yielded_at h (Site b k)) facts.others facts.resumes first in
         omega (arith, less, length-append (fired_at h (Site b k)) (t ∷ []))
 
@@ -170,17 +174,14 @@ was_suspended w h (Fire x (Site c l) ms cs) b k t legal allowed yields is = of_t
     of_test : (d : Bool) → (c == b) && (l == k) ≡ d → has_task (suspended h (Site b k)) t ≡ true
     of_test false e = rw (suspended-elsewhere w h x c l ms cs b k legal e) at is
     of_test true e =
-        let numbers = both (c == b) (l == k) e in
-        let cb : c ≡ b = grind (arith, nat_tests, numbers.0) in
-        let lk : l ≡ k = grind (arith, nat_tests, numbers.1) in
-        let site : Site c l ≡ Site b k = ap (λ n. Site n l) cb ∙ ap (λ n. Site b n) lk in
+        let site = same_site c l b k e in
         let facts = ResumeFacts-allowed w h x c l ms cs allowed in
         let now : has_task (suspended (h ++ Fire x (Site c l) ms cs ∷ []) (Site c l)) t ≡ true = subst (λ s. has_task (suspended (h ++ Fire x (Site c l) ms cs ∷ []) s) t ≡ true) (sym site) is in
         let behind : has_task facts.others t ≡ true = rw (suspended-here w h x c l ms cs legal facts) at now in
         subst (λ s. has_task (suspended h s) t ≡ true) site (rw facts.is_first (or_right (same_task t facts.resumes) (has_task facts.others t) behind))
 was_suspended w h (End x how) b k t legal allowed yields is =
     of_more (suspended h (Site b k)) (filter (yields_at h (Site b k)) (yielded_by (End x how))) t (has_task (suspended h (Site b k)) t ≡ true) (subst (λ ts. has_task ts t ≡ true) (suspended-other w h (End x how) b k refl legal (end_fired w h x how legal allowed)) is) (λ old. old)
-    (λ new. absurd (never (both (has_task (yielded_by (End x how)) t) (yields_at h (Site b k) t) (sym (has_task-filter (yields_at h (Site b k)) (yielded_by (End x how)) t) ∙ new)).0))
+    (λ new. absurd (never (of_filter (yields_at h (Site b k)) (yielded_by (End x how)) t new).0))
   where
     ends_now : (how : EndHow) → has_task (yielded_by (End x how)) t ≡ true → t ≡ x
     ends_now ends.Yield among = of_one x t among
@@ -212,7 +213,7 @@ pub suspended_yielded : (h : List Event) (t : TaskId) → is_suspended h t ≡ t
 suspended_yielded h t is =
     let at = some_of (λ spot. has_task (suspended h (next_site spot)) t) (spot_of h t) is in
     let among = has_task-drop (length (fired_at h (next_site at.0))) (yielded_at h (next_site at.0)) t at.2 in
-    (both (has_task (yielded h) t) (yields_at h (next_site at.0) t) (sym (has_task-filter (yields_at h (next_site at.0)) (yielded h) t) ∙ among)).0
+    (of_filter (yields_at h (next_site at.0)) (yielded h) t among).0
 
 -- for whom another went on, he stays so
 pub gone_stays : (w : Parts) (h : List Event) (e : Event) (t : TaskId) → IsLegal w h → IsAllowed w h e → is_gone_on h t ≡ true → is_gone_on (h ++ e ∷ []) t ≡ true
@@ -225,9 +226,6 @@ gone_stays w h e t legal allowed gone =
     let still : is_suspended (h ++ e ∷ []) t ≡ false = now ∙ of_test (branch_of fired.0.spot) (segment_of fired.0.spot) parts.0 out _ refl in
     and_not (has_task (yielded (h ++ e ∷ [])) t) (is_suspended (h ++ e ∷ []) t) longer still
   where
-    and_not : (a b : Bool) → a ≡ true → b ≡ false → a && not b ≡ true
-    and_not a b is out = rw (is, out) refl
-
     of_test : (b k : ℕ) → has_task (yielded h) t ≡ true → has_task (suspended h (Site b k)) t ≡ false → (d : Bool) → has_task (suspended (h ++ e ∷ []) (Site b k)) t ≡ d → d ≡ false
     of_test b k yields out false is = refl
     of_test b k yields out true is = let was = was_suspended w h e b k t legal allowed yields is in absurd (cc)

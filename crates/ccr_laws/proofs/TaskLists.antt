@@ -12,30 +12,15 @@ use Rattle.ccr_model.proofs.PostNames.{both}
 use Rattle.ccr_model.proofs.Quiet.{first_is}
 use Rattle.ccr_model.proofs.Covered.{same_task-is, or_left, or_right, head_rest}
 use Rattle.ccr_model.proofs.Allowing.{same_task-self}
+use Rattle.ccr_laws.proofs.Booleans.{not_true, not_false, neither, either, refuted, no_both, or_assoc}
 
 pub same_task-sym : (s t : TaskId) → same_task s t ≡ same_task t s
 same_task-sym s t = grind (arith, nat_tests)
-
-pub not_true : (b : Bool) → not b ≡ true → b ≡ false
-not_true false is = refl
-not_true true is = absurd (cc)
-
-pub not_false : (b : Bool) → b ≡ false → not b ≡ true
-not_false false is = refl
-not_false true is = absurd (cc)
-
-pub neither : (a b : Bool) → a || b ≡ false → (a ≡ false) × (b ≡ false)
-neither false b is = (refl, is)
-neither true b is = absurd (cc)
 
 -- who stands in the list is one of it
 pub has_task-append : (ts us : List TaskId) (t : TaskId) → has_task (ts ++ us) t ≡ has_task ts t || has_task us t
 has_task-append [] us t = refl
 has_task-append (x ∷ ts) us t = rw (has_task-append ts us t) (or_assoc (same_task t x) (has_task ts t) (has_task us t))
-  where
-    or_assoc : (a b c : Bool) → a || (b || c) ≡ (a || b) || c
-    or_assoc true b c = refl
-    or_assoc false b c = refl
 
 pub has_task-filter : (p : TaskId → Bool) (ts : List TaskId) (t : TaskId) → has_task (filter p ts) t ≡ has_task ts t && p t
 has_task-filter p [] t = refl
@@ -49,6 +34,22 @@ has_task-filter p (x ∷ ts) t = of_tests (same_task t x) (p x) refl refl (has_t
 
 pub has_task-without : (ts gone : List TaskId) (t : TaskId) → has_task (without ts gone) t ≡ has_task ts t && not (has_task gone t)
 has_task-without ts gone t = has_task-filter (λ u. not (has_task gone u)) ts t
+
+-- a member of those that pass is a member and passes, and the other way round
+pub of_filter : (p : TaskId → Bool) (ts : List TaskId) (t : TaskId) → has_task (filter p ts) t ≡ true → (has_task ts t ≡ true) × (p t ≡ true)
+of_filter p ts t is = both (has_task ts t) (p t) (sym (has_task-filter p ts t) ∙ is)
+
+pub to_filter : (p : TaskId → Bool) (ts : List TaskId) (t : TaskId) → has_task ts t ≡ true → p t ≡ true → has_task (filter p ts) t ≡ true
+to_filter p ts t is passes = rw (has_task-filter p ts t, is) passes
+
+-- and of those that are left
+pub of_without : (ts gone : List TaskId) (t : TaskId) → has_task (without ts gone) t ≡ true → (has_task ts t ≡ true) × (has_task gone t ≡ false)
+of_without ts gone t is =
+    let parts = of_filter (λ u. not (has_task gone u)) ts t is in
+    (parts.0, not_true (has_task gone t) parts.1)
+
+pub to_without : (ts gone : List TaskId) (t : TaskId) → has_task ts t ≡ true → has_task gone t ≡ false → has_task (without ts gone) t ≡ true
+to_without ts gone t is out = to_filter (λ u. not (has_task gone u)) ts t is (not_false (has_task gone t) out)
 
 -- what two lists leave
 pub without_both : (ts gone more : List TaskId) → without ts (gone ++ more) ≡ without (without ts gone) more
@@ -129,11 +130,6 @@ without_first ts t is =
 pub has_oldest : (ts us : List TaskId) (t : TaskId) → ts ≡ t ∷ us → has_task ts t ≡ true
 has_oldest ts us t is = rw (is, same_task-self) refl
 
--- one or the other
-pub either : (a b : Bool) → a || b ≡ true → (C : Type 0) → (a ≡ true → C) → (b ≡ true → C) → C
-either true b is C one other = one refl
-either false b is C one other = other is
-
 -- one of a longer list is one of the first or one of those behind
 pub of_more : (ts us : List TaskId) (t : TaskId) (C : Type 0) → has_task (ts ++ us) t ≡ true → (has_task ts t ≡ true → C) → (has_task us t ≡ true → C) → C
 of_more ts us t C is one other = either (has_task ts t) (has_task us t) (sym (has_task-append ts us t) ∙ is) C one other
@@ -157,19 +153,11 @@ of_one t u is = of_test (same_task u t) refl is
 
 -- not in a list of one
 pub not_one : (t u : TaskId) (ts : List TaskId) → has_task ts t ≡ false → has_task ts u ≡ true → has_task (t ∷ []) u ≡ false
-not_one t u ts out within = of_test (has_task (t ∷ []) u) refl
-  where
-    of_test : (b : Bool) → has_task (t ∷ []) u ≡ b → b ≡ false
-    of_test false e = refl
-    of_test true e = let one : u ≡ t = of_one t u e in absurd (cc)
+not_one t u ts out within = refuted (has_task (t ∷ []) u) (λ is. no_both (subst (λ x. has_task ts x ≡ true) (of_one t u is) within) out)
 
 -- not in a list whose members would be in another
 pub not_within : (ts us : List TaskId) (t : TaskId) → (has_task ts t ≡ true → has_task us t ≡ true) → has_task us t ≡ false → has_task ts t ≡ false
-not_within ts us t within out = of_test (has_task ts t) refl
-  where
-    of_test : (b : Bool) → has_task ts t ≡ b → b ≡ false
-    of_test false e = refl
-    of_test true e = let there = within e in absurd (cc)
+not_within ts us t within out = refuted (has_task ts t) (λ is. no_both (within is) out)
 
 -- out of a longer list, out of its first part
 pub out_left : (ts us : List TaskId) (t : TaskId) → has_task (ts ++ us) t ≡ false → has_task ts t ≡ false

@@ -1,28 +1,27 @@
 -- Who was put, who started and who was dropped, along a legal history.
-use Rattle.std.proofs.Common.{◌≡◌, ℕ, Bool, true, false, not, ◌&&◌, ◌||◌, List, [], ◌∷◌, ◌++◌, Option, Some, None, refl, sym, arith, ap, ◌∙◌, subst, append-nil, option_to_list}
-use Rattle.std.specs.Prelude.{if◌then◌else◌, nat_le, option_map}
+use Rattle.std.proofs.Common.{◌≡◌, ℕ, true, false, not, ◌&&◌, ◌||◌, List, [], ◌∷◌, ◌++◌, Option, Some, None, refl, sym, ap, ◌∙◌, subst, append-nil, option_to_list}
+use Rattle.std.specs.Prelude.{option_map}
 use Rattle.std.specs.Option.{option_map_or}
-use Rattle.std.proofs.lemmas.Grind.{common_steps}
 use Rattle.ccr_base.specs.declared.names.TaskId.{TaskId}
-use Rattle.ccr_base.specs.declared.policies.Policy.{Policy}
-use Rattle.ccr_base.specs.declared.policies.Policy.TheVariants.{Unbounded, Discard, Throttle}
 use Rattle.ccr_wiring.specs.declared.parts.Parts.{Parts}
 use Rattle.ccr_model.specs.declared.history.Event.{Event}
 use Rattle.ccr_model.specs.declared.history.Event.TheVariants.{Post, Fire, Admit, Put, Start, End}
-use Rattle.ccr_base.specs.Names.{same_task, same_options, has_task, without}
-use Rattle.ccr_wiring.specs.Wirings.{Seat, seat, branch_of, policy_of}
+use Rattle.ccr_base.specs.Names.{has_task, without}
+use Rattle.ccr_wiring.specs.Wirings.{Seat, seat, branch_of}
 use Rattle.ccr_model.specs.Firings.{Firing, firing_named, spot_of, cut, let_in, put, put_by, started, started_by, dropped, dropped_by}
 use Rattle.ccr_model.specs.TaskData.{seat_of}
 use Rattle.ccr_model.specs.Tasks.{is_for_queue, queued}
-use Rattle.ccr_model.specs.Rules.{is_first, needs_no_admission, may_put, drop_at, drop_by, is_oldest_queued}
+use Rattle.ccr_model.specs.Rules.{is_first, needs_no_admission, may_put, is_oldest_queued}
 use Rattle.ccr_model.specs.Legal.{IsAllowed, IsLegal}
 use Rattle.ccr_model.specs.Consequences.{are_distinct_tasks}
 use Rattle.ccr_model.proofs.PostNames.{along, both, refused_not}
 use Rattle.ccr_model.proofs.Quiet.{some_of, some_then}
 use Rattle.ccr_model.proofs.Stable.{firing_named-append}
-use Rattle.ccr_model.proofs.Covered.{same_task-is, some_map, or_left}
-use Rattle.ccr_model.proofs.Allowing.{same_task-self}
-use Rattle.ccr_laws.proofs.TaskLists.{has_task-append, has_task-filter, has_task-without, not_true, neither, first_rest, distinct-push, has_oldest, of_more, among_left, not_more, of_one}
+use Rattle.ccr_model.proofs.Covered.{some_map, head_rest}
+use Rattle.ccr_laws.proofs.DropFacts.{put_allowed, drop_allowed}
+use Rattle.ccr_laws.proofs.Pushes.{put-push, started-push, dropped-push}
+use Rattle.ccr_laws.proofs.Booleans.{not_true, refuted, no_both}
+use Rattle.ccr_laws.proofs.TaskLists.{first_rest, distinct-push, has_oldest, of_more, among_left, not_more, of_one, of_filter, of_without, out_left, out_right}
 
 -- the task fired
 abbrev pub IsFired : List Event → TaskId → Type 0
@@ -49,15 +48,6 @@ seat_by w h t f is = rw is refl
 pub seat_stays : (w : Parts) (h es : List Event) (t : TaskId) → IsFired h t → seat_of w (h ++ es) t ≡ seat_of w h t
 seat_stays w h es t fired = rw (firing_named-append h es t fired.0 fired.1, fired.1) refl
 
-pub put-push : (h : List Event) (e : Event) → put (h ++ e ∷ []) ≡ put h ++ put_by e
-put-push h e = grind (arith, common_steps)
-
-pub started-push : (h : List Event) (e : Event) → started (h ++ e ∷ []) ≡ started h ++ started_by e
-started-push h e = grind (arith, common_steps)
-
-pub dropped-push : (h : List Event) (e : Event) → dropped (h ++ e ∷ []) ≡ dropped h ++ dropped_by e
-dropped-push h e = grind (arith, common_steps)
-
 -- a queued task was put, and neither started nor dropped
 pub record QueuedFacts (w : Parts) (h : List Event) (q : ℕ) (t : TaskId) : Type 0 where
   pub put_so : has_task (put h) t ≡ true
@@ -67,10 +57,9 @@ pub record QueuedFacts (w : Parts) (h : List Event) (q : ℕ) (t : TaskId) : Typ
 
 pub QueuedFacts-queued : (w : Parts) (h : List Event) (q : ℕ) (t : TaskId) → has_task (queued w h q) t ≡ true → QueuedFacts w h q t
 QueuedFacts-queued w h q t is =
-    let parts = both (has_task (without (put h) (started h ++ dropped h)) t) (is_for_queue w h q t) (sym (has_task-filter (is_for_queue w h q) (without (put h) (started h ++ dropped h)) t) ∙ is) in
-    let inner = both (has_task (put h) t) (not (has_task (started h ++ dropped h) t)) (sym (has_task-without (put h) (started h ++ dropped h) t) ∙ parts.0) in
-    let outs = neither (has_task (started h) t) (has_task (dropped h) t) (sym (has_task-append (started h) (dropped h) t) ∙ not_true (has_task (started h ++ dropped h) t) inner.1) in
-    record { put_so = inner.0; not_started = outs.0; not_dropped = outs.1; for_queue = parts.1 }
+    let parts = of_filter (is_for_queue w h q) (without (put h) (started h ++ dropped h)) t is in
+    let inner = of_without (put h) (started h ++ dropped h) t parts.0 in
+    record { put_so = inner.0; not_started = out_left (started h) (dropped h) t inner.1; not_dropped = out_right (started h) (dropped h) t inner.1; for_queue = parts.1 }
 
 -- what an allowed start says
 pub record StartFacts (w : Parts) (h : List Event) (t : TaskId) : Type 0 where
@@ -89,49 +78,18 @@ StartFacts-allowed w h t a allowed =
 pub StartFacts-queued : (w : Parts) (h : List Event) (t : TaskId) → (s : StartFacts w h t) → QueuedFacts w h s.place.branch.queue t
 StartFacts-queued w h t s = QueuedFacts-queued w h s.place.branch.queue t (has_oldest (queued w h s.place.branch.queue) s.others t s.is_oldest)
 
--- what an allowed put says
-pub record PutFacts (w : Parts) (h : List Event) (t : TaskId) (d : Option TaskId) : Type 0 where
+-- what may be put
+pub record PutFacts (w : Parts) (h : List Event) (t : TaskId) : Type 0 where
   pub new_put : has_task (put h) t ≡ false
   pub not_cut : has_task (cut h) t ≡ false
   pub firing : Firing
   pub is_firing : firing_named h t ≡ Some firing
   pub entered : needs_no_admission w firing.spot || has_task (let_in h) t ≡ true
-  pub drops : (u : TaskId) → has_task (option_to_list d) u ≡ true → (q : ℕ) × (has_task (queued w h q) u ≡ true)
 
-drop_first : (p : Policy) (ts : List TaskId) (t : TaskId) → drop_by p ts ≡ Some t → has_task ts t ≡ true
-drop_first Unbounded ts t is = absurd (cc)
-drop_first (Throttle n) ts t is = absurd (cc)
-drop_first (Discard n) [] t is = of_test (nat_le n 0) is
-  where
-    of_test : (b : Bool) → (if b then None else None) ≡ Some t → has_task [] t ≡ true
-    of_test true e = absurd (cc)
-    of_test false e = absurd (cc)
-drop_first (Discard n) (x ∷ ts) t is = of_test (nat_le n _) is
-  where
-    of_test : (b : Bool) → (if b then Some x else None) ≡ Some t → has_task (x ∷ ts) t ≡ true
-    of_test true e = let one : t ≡ x = cc in or_left (same_task t x) (has_task ts t) (rw one (same_task-self x))
-    of_test false e = absurd (cc)
-
-drop_queued : (w : Parts) (h : List Event) (t : TaskId) (d : Option TaskId) → same_options same_task d (drop_at w h t) ≡ true → (u : TaskId) → has_task (option_to_list d) u ≡ true → (q : ℕ) × (has_task (queued w h q) u ≡ true)
-drop_queued w h t None is u among = absurd (cc)
-drop_queued w h t (Some x) is u among = of_option (drop_at w h t) refl is (same_task u x) refl among
-  where
-    of_option : (o : Option TaskId) → drop_at w h t ≡ o → same_options same_task (Some x) o ≡ true → (b : Bool) → same_task u x ≡ b → b || false ≡ true → (q : ℕ) × (has_task (queued w h q) u ≡ true)
-    of_option None e same b f one = absurd (cc)
-    of_option (Some y) e same false f one = absurd (cc)
-    of_option (Some y) e same true f one =
-        let found = some_then (λ (s : Seat). drop_by (policy_of w s.branch.queue) (queued w h s.branch.queue)) (seat_of w h t) y e in
-        let among = drop_first (policy_of w found.0.branch.queue) (queued w h found.0.branch.queue) y found.2 in
-        let xy : x ≡ y = same_task-is x y same in
-        let ux : u ≡ x = same_task-is u x f in
-        (found.0.branch.queue, rw (ux, xy) among)
-
-pub PutFacts-allowed : (w : Parts) (h : List Event) (t : TaskId) (d : Option TaskId) → IsAllowed w h (Put t d) → PutFacts w h t d
-PutFacts-allowed w h t d allowed =
-    let a = refused_not (may_put w h t) 11 _ allowed in
-    let b = refused_not (same_options same_task d (drop_at w h t)) 12 None a.1 in
+pub PutFacts-may : (w : Parts) (h : List Event) (t : TaskId) → may_put w h t ≡ true → PutFacts w h t
+PutFacts-may w h t may =
     let enters = option_map_or (λ spot. needs_no_admission w spot || has_task (let_in h) t) (spot_of h t) false in
-    let parts = both (not (has_task (put h) t) && not (has_task (cut h) t)) enters a.0 in
+    let parts = both (not (has_task (put h) t) && not (has_task (cut h) t)) enters may in
     let outs = both (not (has_task (put h) t)) (not (has_task (cut h) t)) parts.0 in
     let at = some_of (λ spot. needs_no_admission w spot || has_task (let_in h) t) (spot_of h t) parts.1 in
     let fired = some_map (λ (f : Firing). f.spot) (firing_named h t) at.0 at.1 in
@@ -143,8 +101,24 @@ PutFacts-allowed w h t d allowed =
       firing = fired.0;
       is_firing = fired.1;
       entered = rw same at.2;
-      drops = drop_queued w h t d b.0;
     }
+
+pub PutFacts-allowed : (w : Parts) (h : List Event) (t : TaskId) (d : Option TaskId) → IsAllowed w h (Put t d) → PutFacts w h t
+PutFacts-allowed w h t d allowed = PutFacts-may w h t (put_allowed w h t d allowed).0
+
+-- who is dropped was queued
+pub new_drop : (w : Parts) (h : List Event) (e : Event) (u : TaskId) → IsAllowed w h e → has_task (dropped_by e) u ≡ true → (q : ℕ) × QueuedFacts w h q u
+new_drop w h (Put t None) u allowed is = absurd (cc)
+new_drop w h (Put t (Some x)) u allowed is =
+    let facts = drop_allowed w h t x allowed in
+    let q = facts.its.branch.queue in
+    let head = head_rest (queued w h q) x facts.oldest in
+    (q, subst (QueuedFacts w h q) (sym (of_one x u is)) (QueuedFacts-queued w h q x (has_oldest (queued w h q) head.0 x head.1)))
+new_drop w h (Post m) u allowed is = absurd (cc)
+new_drop w h (Fire t s ms cs) u allowed is = absurd (cc)
+new_drop w h (Admit t) u allowed is = absurd (cc)
+new_drop w h (Start t a) u allowed is = absurd (cc)
+new_drop w h (End t how) u allowed is = absurd (cc)
 
 -- no task is put twice; who started or was dropped was put, and not both
 pub record AreApart (ps ss ds : List TaskId) : Type 0 where
@@ -166,12 +140,8 @@ AreApart-put ps ss ds more t known new drops = record {
   once = distinct-push ps t known.once new;
   put_started = λ u among. among_left ps (t ∷ []) u (known.put_started u among);
   put_dropped = λ u among. among_left ps (t ∷ []) u (of_more ds more u (has_task ps u ≡ true) among (known.put_dropped u) (λ one. (drops u one).0));
-  not_both = λ u among. not_more ds more u (known.not_both u among) (of_test u among (has_task more u) refl);
+  not_both = λ u among. not_more ds more u (known.not_both u among) (refuted (has_task more u) (λ is. no_both among (drops u is).1));
 }
-  where
-    of_test : (u : TaskId) → has_task ss u ≡ true → (b : Bool) → has_task more u ≡ b → b ≡ false
-    of_test u among false e = refl
-    of_test u among true e = let out = (drops u e).1 in absurd (cc)
 
 -- what is known along a legal history
 pub record ArePlaced (h : List Event) : Type 0 where
@@ -202,7 +172,7 @@ lists_kept w h (Start t a) known allowed =
     rw (put-push, started-push, dropped-push, append-nil (put h), append-nil (dropped h)) (AreApart-start (put h) (started h) (dropped h) t known facts.put_so facts.not_dropped)
 lists_kept w h (Put t d) known allowed =
     let facts = PutFacts-allowed w h t d allowed in
-    rw (put-push, started-push, dropped-push, append-nil (started h)) (AreApart-put (put h) (started h) (dropped h) (option_to_list d) t known facts.new_put (λ u one. (let there = facts.drops u one in let q = QueuedFacts-queued w h there.0 u there.1 in (q.put_so, q.not_started))))
+    rw (put-push, started-push, dropped-push, append-nil (started h)) (AreApart-put (put h) (started h) (dropped h) (option_to_list d) t known facts.new_put (λ u one. (let was = new_drop w h (Put t d) u allowed one in (was.1.put_so, was.1.not_started))))
 lists_kept w h (Post m) known allowed = lists_other h (Post m) refl refl refl known
 lists_kept w h (Fire t s ms cs) known allowed = lists_other h (Fire t s ms cs) refl refl refl known
 lists_kept w h (Admit t) known allowed = lists_other h (Admit t) refl refl refl known

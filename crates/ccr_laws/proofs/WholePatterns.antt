@@ -24,6 +24,7 @@ use Rattle.ccr_wiring.proofs.Soundness.{sound}
 use Rattle.ccr_model.specs.Posts.{held}
 use Rattle.ccr_model.specs.Choice.{names_of, joined, choice_of_slots, are_first, are_split, is_choice_of, are_oldest, is_choice}
 use Rattle.ccr_model.specs.Legal.{IsLegal}
+use Rattle.ccr_model.proofs.FirstNames.{names_of-append, length-names_of}
 use Rattle.ccr_model.proofs.PostNames.{both, same_message-is}
 use Rattle.ccr_model.proofs.Quiet.{some_of}
 use Rattle.ccr_model.proofs.TakenOnce.{FireFacts-allowed}
@@ -41,14 +42,6 @@ same_names (m ∷ ms) (n ∷ names) is =
     let one : n ≡ m.id = sym (same_message-is m.id n parts.0) in
     let others : names ≡ names_of ms = same_names ms names parts.1 in
     cc
-
-names_of-append : (ms ns : List Msg) → names_of (ms ++ ns) ≡ names_of ms ++ names_of ns
-names_of-append [] ns = refl
-names_of-append (m ∷ ms) ns = ap (λ names. m.id ∷ names) (names_of-append ms ns)
-
-length-names_of : (ms : List Msg) → length (names_of ms) ≡ length ms
-length-names_of [] = refl
-length-names_of (m ∷ ms) = grind (arith, length-names_of ms)
 
 -- what is taken of those that fit
 taken_slot : (past : List Event) (slot : Slot) → IsSlotFilled slot → is_choosable slot (held past slot.port) ≡ true → FillsSlot past slot (take slot.most (fitting slot.pred (held past slot.port)))

@@ -1,5 +1,4 @@
-use Rattle.ccr_laws.proofs.TaskLife.{dropped_unstarted, dropped_once}
-use Rattle.ccr_laws.proofs.DroppingPuts.{some_put}
+use Rattle.ccr_laws.proofs.DroppingPuts.{dropped_unstarted, dropped_once, some_put}
 use Rattle.ccr_laws.proofs.FullQueues.{drops_oldest}
 use Rattle.ccr_laws.proofs.drops.drops_are_by_policy_alone.Goals as goal
 

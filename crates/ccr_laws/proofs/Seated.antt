@@ -1,0 +1,51 @@
+-- Each firing's branch has a seat.
+use Rattle.std.proofs.Common.{◌≡◌, ℕ, ◌⊎◌, inl, inr, true, List, [], ◌∷◌, ◌++◌, Option, Some, None, ap, ◌∙◌, refl, subst}
+use Rattle.std.specs.List.{slice_get}
+use Rattle.std.specs.Option.{option_map_or}
+use Rattle.ccr_base.specs.declared.names.MsgId.{MsgId}
+use Rattle.ccr_base.specs.declared.names.Spot.{Spot}
+use Rattle.ccr_base.specs.declared.names.Spot.TheVariants.{Branch, Site}
+use Rattle.ccr_wiring.specs.declared.parts.Parts.{Parts}
+use Rattle.ccr_model.specs.declared.history.Event.{Event}
+use Rattle.ccr_model.specs.declared.history.Event.TheVariants.{Post, Fire, Admit, Put, Start, End}
+use Rattle.ccr_wiring.specs.Wirings.{Seat, seat, branch_of, site_port, awaited, actions_of}
+use Rattle.ccr_model.specs.Firings.{Firing, firings, firing_of}
+use Rattle.ccr_model.specs.Live.{is_live}
+use Rattle.ccr_model.specs.Posts.{held}
+use Rattle.ccr_model.specs.Choice.{is_choice, are_oldest}
+use Rattle.ccr_model.specs.Legal.{IsAllowed, IsLegal}
+use Rattle.ccr_model.proofs.Quiet.{Among, some_of}
+use Rattle.ccr_model.proofs.TaskSteps.{firings-push}
+use Rattle.ccr_model.proofs.TakenOnce.{FireFacts-allowed}
+use Rattle.ccr_laws.proofs.LegalParts.{along_legal}
+
+Among-either : {X : Type 0} (x : X) (xs ys : List X) → Among x (xs ++ ys) → Among x xs ⊎ Among x ys
+Among-either x [] ys h = inr h
+Among-either x (y ∷ xs) ys (inl e) = inl (inl e)
+Among-either x (y ∷ xs) ys (inr h) = elim (Among-either x xs ys h) [ inl l ↦ inl (inr l) | inr r ↦ inr r ]
+
+spot_seated : (w : Parts) (h : List Event) (s : Spot) (ms : List MsgId) → is_live w h s ≡ true → is_choice w h s ms ≡ true → (r : Seat) × (seat w (branch_of s) ≡ Some r)
+spot_seated w h (Branch b) ms live is = let found = some_of _ (seat w b) live in (found.0, found.1)
+spot_seated w h (Site b k) ms live is = let found = some_of (λ port. are_oldest (held h port) ms) (site_port w b k) is in of_option (seat w b) refl found.0 found.1
+  where
+    of_option : (o : Option Seat) → seat w b ≡ o → (port : ℕ) → option_map_or (λ (r : Seat). slice_get (awaited (actions_of w r.branch.handler)) k) o None ≡ Some port → (r : Seat) × (seat w b ≡ Some r)
+    of_option None at port found = absurd (cc)
+    of_option (Some r) at port found = (r, at)
+
+new_seat : (w : Parts) (h : List Event) (e : Event) (f : Firing) → IsAllowed w h e → Among f (firing_of e) → (r : Seat) × (seat w (branch_of f.spot) ≡ Some r)
+new_seat w h (Fire t s ms cs) f allowed (inl same) =
+    let facts = FireFacts-allowed w h t s ms cs allowed in
+    let found = spot_seated w h s ms facts.live facts.choice_made in
+    (found.0, ap (λ (g : Firing). seat w (branch_of g.spot)) same ∙ found.1)
+new_seat w h (Fire t s ms cs) f allowed (inr more) = absurd more
+new_seat w h (Post m) f allowed among = absurd among
+new_seat w h (Admit t) f allowed among = absurd among
+new_seat w h (Put t d) f allowed among = absurd among
+new_seat w h (Start t a) f allowed among = absurd among
+new_seat w h (End t how) f allowed among = absurd among
+
+pub firing_seated : (w : Parts) (h : List Event) → IsLegal w h → (f : Firing) → Among f (firings h) → (r : Seat) × (seat w (branch_of f.spot) ≡ Some r)
+firing_seated w = along_legal w (λ g. (f : Firing) → Among f (firings g) → (r : Seat) × (seat w (branch_of f.spot) ≡ Some r)) kept (λ f among. absurd among)
+  where
+    kept : (h : List Event) (e : Event) → IsLegal w h → IsAllowed w h e → ((f : Firing) → Among f (firings h) → (r : Seat) × (seat w (branch_of f.spot) ≡ Some r)) → (f : Firing) → Among f (firings (h ++ e ∷ [])) → (r : Seat) × (seat w (branch_of f.spot) ≡ Some r)
+    kept h e legal allowed all f among = elim (Among-either f (firings h) (firing_of e) (subst (λ fs. Among f fs) (firings-push h e) among)) [ inl old ↦ all f old | inr new ↦ new_seat w h e f allowed new ]
