@@ -38,10 +38,6 @@ pub one_more : {X : Type 0} (xs : List X) (x : X) → length (xs ++ x ∷ []) �
 one_more [] x = omega arith
 one_more (y ∷ ys) x = let rest = one_more ys x in omega arith
 
-map_push : {X : Type 0} (f : X → List ℕ) (xs : List X) (x : X) (rest : List (List ℕ)) → map f (xs ++ x ∷ []) ++ rest ≡ map f xs ++ f x ∷ rest
-map_push f [] x rest = refl
-map_push f (y ∷ ys) x rest = ap (λ (t : List (List ℕ)). f y ∷ t) (map_push f ys x rest)
-
 pub flat_push : {X Y : Type 0} (f : X → List Y) (xs : List X) (x : X) → flat_map f (xs ++ x ∷ []) ≡ flat_map f xs ++ f x
 flat_push f [] x = append-nil (f x)
 flat_push f (y ∷ ys) x = rw (flat_push f ys x) (sym (append_assoc (f y) (flat_map f ys) (f x)))
