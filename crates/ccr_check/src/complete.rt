@@ -1,10 +1,11 @@
 //! Whether everything that was to be posted was posted.
 
 ghost use Rattle.std.specs.Prelude.{◌≡◌, ◌<◌, ◌^◌, length};
-ghost use Rattle.ccr_model.specs.Legal.{are_whole_from, has_shed, is_complete, is_shed_end};
+ghost use Rattle.ccr_model.specs.Legal.{are_whole_from, is_complete};
 
+use ccr_model::Event;
+use ccr_model::firings::has_shed;
 use ccr_model::posts::{posts_of_poster, posts_of_tasks};
-use ccr_model::{EndHow, Event};
 use ccr_wiring::{Wiring, valid_wirings_are_sound};
 
 /// Whether each poster has made as many posts as its script has.
@@ -19,25 +20,6 @@ fn are_whole(wiring: &Wiring, events: &[Event]) -> bool
         }
     }
     true
-}
-
-fn is_shed_end(event: &Event) -> bool
-    ensures { result ≡ is_shed_end event.now }
-{
-    match event {
-        Event::End {
-            how: EndHow::Shed,
-            ..
-        } => true,
-        _ => false,
-    }
-}
-
-/// Whether some task was shed.
-fn has_shed(events: &[Event]) -> bool
-    ensures { result ≡ has_shed events.now }
-{
-    events.iter().any(is_shed_end)
 }
 
 /// Whether each poster has made its whole script, and the budget is spent where a task was shed.

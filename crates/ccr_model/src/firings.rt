@@ -4,6 +4,7 @@ ghost use Rattle.std.specs.Prelude.{◌≡◌, [], IfOk, flat_map, option_to_lis
 ghost use Rattle.std.specs.Option.{option_map_or};
 ghost use Rattle.ccr_base.specs.Names.{has_task, without};
 ghost use Rattle.ccr_model.specs.Firings.{fired, cut, let_in, put, dropped, started, ended, yielded, last_segments, last_by, fired_at, spot_of, firing_named};
+ghost use Rattle.ccr_model.specs.Legal.{has_shed, is_shed_end};
 ghost use Rattle.ccr_model.specs.Sites.{before, is_firing_of};
 ghost use Rattle.ccr_model.specs.Tasks.{started_as};
 
@@ -260,4 +261,23 @@ pub(crate) fn messages_of(events: &[Event], task: TaskId) -> &[MsgId]
         }
     }
     &[]
+}
+
+fn is_shed_end(event: &Event) -> bool
+    ensures { result ≡ is_shed_end event.now }
+{
+    match event {
+        Event::End {
+            how: EndHow::Shed,
+            ..
+        } => true,
+        _ => false,
+    }
+}
+
+/// Whether a task was shed.
+pub fn has_shed(events: &[Event]) -> bool
+    ensures { result ≡ has_shed events.now }
+{
+    events.iter().any(is_shed_end)
 }
