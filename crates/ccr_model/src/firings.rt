@@ -78,7 +78,7 @@ pub(crate) fn spot_of(events: &[Event], task: TaskId) -> Option<Spot>
 }
 
 /// The tasks that firings cut, in order.
-pub(crate) fn cut(alloc: Global, events: &[Event]) -> Result<Vec<TaskId>, OutOfMemory>
+pub fn cut(alloc: Global, events: &[Event]) -> Result<Vec<TaskId>, OutOfMemory>
     ensures { IfOk result (λ tasks. tasks.items ≡ cut events.now) }
 {
     let mut tasks = Vec::new(alloc);
@@ -104,7 +104,7 @@ pub(crate) fn let_in(alloc: Global, events: &[Event]) -> Result<Vec<TaskId>, Out
 }
 
 /// The tasks that were put, in order.
-pub(crate) fn put(alloc: Global, events: &[Event]) -> Result<Vec<TaskId>, OutOfMemory>
+pub fn put(alloc: Global, events: &[Event]) -> Result<Vec<TaskId>, OutOfMemory>
     ensures { IfOk result (λ tasks. tasks.items ≡ put events.now) }
 {
     let mut tasks = Vec::new(alloc);
@@ -117,7 +117,7 @@ pub(crate) fn put(alloc: Global, events: &[Event]) -> Result<Vec<TaskId>, OutOfM
 }
 
 /// The tasks that puts dropped, in order.
-pub(crate) fn dropped(alloc: Global, events: &[Event]) -> Result<Vec<TaskId>, OutOfMemory>
+pub fn dropped(alloc: Global, events: &[Event]) -> Result<Vec<TaskId>, OutOfMemory>
     ensures { IfOk result (λ tasks. tasks.items ≡ dropped events.now) }
 {
     let mut tasks = Vec::new(alloc);

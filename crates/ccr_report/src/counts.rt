@@ -4,9 +4,10 @@ ghost use Rattle.std.specs.Prelude.{◌≡◌, IfOk, length, filter};
 ghost use Rattle.ccr_model.specs.Counts.{totals, is_done, is_failed, is_shed, is_yield};
 ghost use Rattle.ccr_model.specs.Firings.{firings};
 
-use crate::messages::{held_ports, posted_ports, taken};
-use crate::tasks::{cut, dropped};
+use crate::messages::{held_ports, posted_ports};
 use ccr_base::OutOfMemory;
+use ccr_model::firings::{cut, dropped};
+use ccr_model::posts::taken;
 use ccr_model::{EndHow, Event, History, Totals};
 use ccr_wiring::Wiring;
 use std::alloc::Global;

@@ -1,4 +1,4 @@
-//! The messages of a history: where they were posted, and which of them were taken.
+//! The messages of a history: where they were posted, and which of them are held.
 
 ghost use Rattle.std.specs.Prelude.{◌≡◌, IfOk, filter, not};
 ghost use Rattle.std.specs.HashSet.{contains};
@@ -6,25 +6,12 @@ ghost use Rattle.ccr_base.specs.declared.names.MsgId.{MsgId as Name};
 ghost use Rattle.ccr_base.specs.declared.messages.Msg.{Msg as Message};
 ghost use Rattle.ccr_base.specs.Names.{same_message, has_message};
 ghost use Rattle.ccr_report.specs.Counting.{ports_of};
-ghost use Rattle.ccr_model.specs.Posts.{posts, taken};
+ghost use Rattle.ccr_model.specs.Posts.{posts};
 
 use ccr_base::{MsgId, OutOfMemory, PortNo};
 use ccr_model::Event;
 use std::alloc::Global;
 use std::collections::HashSet;
-
-/// The names of the messages that firings took, in order.
-pub fn taken(alloc: Global, events: &[Event]) -> Result<Vec<MsgId>, OutOfMemory>
-    ensures { IfOk result (λ names. names.items ≡ taken events.now) }
-{
-    let mut names = Vec::new(alloc);
-    for event in events {
-        if let Event::Fire { messages, .. } = event {
-            names.extend_from_slice(messages.as_slice())?;
-        }
-    }
-    Ok(names)
-}
 
 /// The ports of the posts, in order.
 pub fn posted_ports(alloc: Global, events: &[Event]) -> Result<Vec<PortNo>, OutOfMemory>

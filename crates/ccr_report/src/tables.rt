@@ -8,11 +8,13 @@ ghost use Rattle.ccr_wiring.specs.Wirings.{branch_of};
 ghost use Rattle.ccr_model.specs.Posts.{posted, held};
 ghost use Rattle.ccr_report.specs.Counting.{times, put_at, dropped_at, branch_queues};
 
-use crate::messages::{held_ports, posted_ports, taken};
+use crate::messages::{held_ports, posted_ports};
 use crate::tally::tally;
-use crate::tasks::{branch_queues, dropped, put, queues_of, spots_of_tasks};
+use crate::tasks::{branch_queues, queues_of, spots_of_tasks};
 use ccr_base::{OutOfMemory, Spot, TaskId};
 use ccr_model::Event;
+use ccr_model::firings::{dropped, put};
+use ccr_model::posts::taken;
 use ccr_wiring::Parts;
 use std::alloc::Global;
 use std::collections::HashMap;

@@ -1,4 +1,4 @@
-//! The tasks of a history: what puts did with them, and which queues they belong to.
+//! The tasks of a history: where they fired, and which queues they belong to.
 
 ghost use Rattle.std.specs.Prelude.{◌≡◌, [], ◌∷◌, ◌++◌, IfOk, OnOk, map, flat_map, option_map, option_to_list, option_and_then, Some, None, if◌then◌else◌};
 ghost use Rattle.std.specs.List.{slice_get};
@@ -7,7 +7,7 @@ ghost use Rattle.std.specs.HashMap.{get};
 ghost use Rattle.ccr_base.specs.declared.names.TaskId.{TaskId as Named};
 ghost use Rattle.ccr_base.specs.Names.{same_task};
 ghost use Rattle.ccr_wiring.specs.Wirings.{branch_of};
-ghost use Rattle.ccr_model.specs.Firings.{cut, put, dropped, spot_of};
+ghost use Rattle.ccr_model.specs.Firings.{spot_of};
 ghost use Rattle.ccr_report.specs.Counting.{branch_queues, queues_in};
 
 use ccr_base::{BranchNo, OutOfMemory, QueueNo, Spot, TaskId};
@@ -15,49 +15,6 @@ use ccr_model::Event;
 use ccr_wiring::{ArbiterPart, Parts};
 use std::alloc::Global;
 use std::collections::HashMap;
-
-/// The tasks that firings cut, in order.
-pub fn cut(alloc: Global, events: &[Event]) -> Result<Vec<TaskId>, OutOfMemory>
-    ensures { IfOk result (λ tasks. tasks.items ≡ cut events.now) }
-{
-    let mut tasks = Vec::new(alloc);
-    for event in events {
-        if let Event::Fire { cuts, .. } = event {
-            tasks.extend_from_slice(cuts.as_slice())?;
-        }
-    }
-    Ok(tasks)
-}
-
-/// The tasks that were put, in order.
-pub fn put(alloc: Global, events: &[Event]) -> Result<Vec<TaskId>, OutOfMemory>
-    ensures { IfOk result (λ tasks. tasks.items ≡ put events.now) }
-{
-    let mut tasks = Vec::new(alloc);
-    for event in events {
-        if let Event::Put { task, .. } = event {
-            tasks.push(*task)?;
-        }
-    }
-    Ok(tasks)
-}
-
-/// The tasks that puts dropped, in order.
-pub fn dropped(alloc: Global, events: &[Event]) -> Result<Vec<TaskId>, OutOfMemory>
-    ensures { IfOk result (λ tasks. tasks.items ≡ dropped events.now) }
-{
-    let mut tasks = Vec::new(alloc);
-    for event in events {
-        if let Event::Put {
-            dropped: Some(task),
-            ..
-        } = event
-        {
-            tasks.push(*task)?;
-        }
-    }
-    Ok(tasks)
-}
 
 /// Where each task fired.
 pub fn spots_of_tasks(alloc: Global, events: &[Event]) -> Result<HashMap<TaskId, Spot>, OutOfMemory>
