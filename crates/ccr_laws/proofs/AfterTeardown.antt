@@ -20,17 +20,19 @@ use Rattle.ccr_model.specs.Tasks.{is_interleave, is_teardown, is_concurrent, is_
 use Rattle.ccr_model.specs.Rules.{cuts_at}
 use Rattle.ccr_model.specs.Legal.{IsAllowed, IsLegal}
 use Rattle.ccr_model.proofs.PostNames.{both}
-use Rattle.ccr_model.proofs.Quiet.{some_of}
 use Rattle.ccr_model.proofs.Stable.{firing_named-append}
+use Rattle.ccr_model.proofs.Booleans.{and_not, refuted, no_both, same_number}
+use Rattle.ccr_model.proofs.Pushes.{started-push, last-push, let_in-push, cut-push}
+use Rattle.ccr_model.proofs.LegalParts.{along_legal, onward, Parted-legal}
+use Rattle.ccr_model.proofs.TasksLeft.{out_left}
+use Rattle.ccr_model.proofs.Options.{some_of}
+use Rattle.ccr_model.proofs.FiredTasks.{IsFired, AreFired, IsFired-append, seat_fired, seat_stays, root_stays}
 use Rattle.ccr_laws.specs.Interleaves.{is_seat_in, is_teardown_in, is_exclusive_in, tears_down, is_of_interleave, is_of_teardown, is_of_exclusive}
-use Rattle.ccr_laws.proofs.Booleans.{refuted, no_both, and_not, same_number}
-use Rattle.ccr_laws.proofs.Pushes.{started-push, cut-push, let_in-push, last-push}
-use Rattle.ccr_laws.proofs.LegalParts.{along_legal, onward, Parted-legal}
-use Rattle.ccr_laws.proofs.TaskLists.{has_oldest, of_more, among_left, of_one, out_left, out_right, any_named, any_has}
-use Rattle.ccr_laws.proofs.TaskPlaces.{IsFired, IsFired-append, AreFired, ArePlaced-legal, StartFacts-allowed, seat_fired, seat_stays, seat_by}
+use Rattle.ccr_laws.proofs.TaskLists.{has_oldest, of_more, among_left, of_one, out_right, any_named, any_has}
+use Rattle.ccr_laws.proofs.TaskPlaces.{ArePlaced-legal, StartFacts-allowed, seat_by}
 use Rattle.ccr_laws.proofs.FiringFacts.{FiresSo, FiresSo-allowed, BranchFacts, BranchFacts-where, waits_parts, waits_whole}
 use Rattle.ccr_laws.proofs.Cutting.{fired_by-append, dead, AdmitFacts-allowed}
-use Rattle.ccr_laws.proofs.Roots.{root_stays, of_firing, other_firing, AreRooted-legal, last_fired, queued_works, at_work_admitted, seat_of_root, AdmittedFacts-admitted, admitted_whole}
+use Rattle.ccr_laws.proofs.Roots.{of_firing, other_firing, AreRooted-legal, last_fired, queued_works, at_work_admitted, seat_of_root, AdmittedFacts-admitted, admitted_whole}
 use Rattle.ccr_laws.proofs.Exclusion.{alone}
 
 -- who waits after one more event waited before it, or fired by it; the event didn't cut him

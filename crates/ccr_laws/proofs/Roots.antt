@@ -8,7 +8,7 @@ use Rattle.ccr_base.specs.declared.names.Spot.{Spot}
 use Rattle.ccr_base.specs.declared.names.Spot.TheVariants.{Branch, Site}
 use Rattle.ccr_base.specs.Names.{same_task, has_task}
 use Rattle.ccr_wiring.specs.declared.parts.Parts.{Parts}
-use Rattle.ccr_wiring.specs.Wirings.{Seat, seat, branch_of, segment_of}
+use Rattle.ccr_wiring.specs.Wirings.{Seat, seat, branch_of}
 use Rattle.ccr_model.specs.declared.history.Event.{Event}
 use Rattle.ccr_model.specs.declared.history.Event.TheVariants.{Post, Fire, Admit, Put, Start, End}
 use Rattle.ccr_model.specs.Firings.{Firing, firing_of, fired, firing_named, let_in, admitted_by, put, started, dropped, ended, yielded, last_segments}
@@ -18,26 +18,22 @@ use Rattle.ccr_model.specs.Tasks.{is_interleave, is_in_arbiter, is_over, admitte
 use Rattle.ccr_model.specs.Rules.{needs_no_admission}
 use Rattle.ccr_model.specs.Legal.{IsAllowed, IsLegal}
 use Rattle.ccr_model.proofs.PostNames.{both}
-use Rattle.ccr_model.proofs.Quiet.{some_of}
 use Rattle.ccr_model.proofs.TaskSteps.{firing_named-fire}
 use Rattle.ccr_model.proofs.Stable.{firing_named-append, root_at-append}
-use Rattle.ccr_model.proofs.Covered.{same_task-is}
-use Rattle.ccr_model.proofs.Allowing.{same_task-self}
+use Rattle.ccr_model.proofs.Booleans.{not_true, and_not, and_false, refuted, no_both}
+use Rattle.ccr_model.proofs.Pushes.{let_in-push}
+use Rattle.ccr_model.proofs.LegalParts.{along_legal}
+use Rattle.ccr_model.proofs.SameTasks.{same_task-is, same_task-self}
+use Rattle.ccr_model.proofs.Options.{some_of}
+use Rattle.ccr_model.proofs.FiredTasks.{IsFired, root_stays}
 use Rattle.ccr_laws.specs.AtWork.{is_queued, is_suspended, is_at_work}
 use Rattle.ccr_laws.specs.Interleaves.{is_seat_in, is_of_interleave}
-use Rattle.ccr_laws.proofs.Pushes.{let_in-push}
-use Rattle.ccr_laws.proofs.Booleans.{not_true, and_false, refuted, no_both, and_not}
-use Rattle.ccr_laws.proofs.LegalParts.{along_legal}
 use Rattle.ccr_laws.proofs.TaskLists.{of_filter, to_filter, among_left, not_within, any_named}
-use Rattle.ccr_laws.proofs.TaskPlaces.{IsFired, ArePlaced-legal, QueuedFacts-queued, seat_by}
+use Rattle.ccr_laws.proofs.TaskPlaces.{ArePlaced-legal, QueuedFacts-queued, seat_by}
 use Rattle.ccr_laws.proofs.FiringFacts.{FiresSo-allowed, not_new, firing_named-new, before-new, firings-other}
 use Rattle.ccr_laws.proofs.Cutting.{CutFacts-legal}
 use Rattle.ccr_laws.proofs.Ending.{AreEnded-legal, RunningFacts-running}
 use Rattle.ccr_laws.proofs.Suspending.{ResumeFacts, ResumeFacts-allowed, is_gone_on, gone_stays, resumes_suspended, resumes_gone, suspended_yielded}
-
--- the root of a task that fired stays
-pub root_stays : (h es : List Event) (t : TaskId) → IsFired h t → root_of (h ++ es) t ≡ root_of h t
-root_stays h es t fired = rw (firing_named-append h es t fired.0 fired.1, fired.1, root_at-append h es (branch_of fired.0.spot) (segment_of fired.0.spot) t fired.0 fired.1) refl
 
 -- a branch's task is its own root
 pub root_own : (h : List Event) (t : TaskId) (f : Firing) (b : ℕ) → firing_named h t ≡ Some f → f.spot ≡ Branch b → root_of h t ≡ t

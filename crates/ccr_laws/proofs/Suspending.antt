@@ -20,16 +20,17 @@ use Rattle.ccr_model.specs.Live.{is_none_of}
 use Rattle.ccr_model.specs.Legal.{IsAllowed, IsLegal}
 use Rattle.ccr_model.specs.Consequences.{are_distinct_tasks}
 use Rattle.ccr_model.proofs.PostNames.{both}
-use Rattle.ccr_model.proofs.Quiet.{some_of}
 use Rattle.ccr_model.proofs.Stable.{firing_named-append}
-use Rattle.ccr_model.proofs.Covered.{some_map, or_left, or_right}
-use Rattle.ccr_model.proofs.Allowing.{same_task-self}
+use Rattle.ccr_model.proofs.Booleans.{not_true, or_left, or_right, and_not, same_number}
+use Rattle.ccr_model.proofs.Pushes.{yielded-push}
+use Rattle.ccr_model.proofs.LegalParts.{along_legal}
+use Rattle.ccr_model.proofs.SameTasks.{same_task-self}
+use Rattle.ccr_model.proofs.TasksLeft.{filter_on}
+use Rattle.ccr_model.proofs.Options.{some_of, some_map}
+use Rattle.ccr_model.proofs.FiredTasks.{IsFired}
 use Rattle.ccr_laws.specs.AtWork.{is_suspended}
-use Rattle.ccr_laws.proofs.Pushes.{yielded-push}
-use Rattle.ccr_laws.proofs.Booleans.{not_true, and_not, same_number}
-use Rattle.ccr_laws.proofs.LegalParts.{along_legal}
-use Rattle.ccr_laws.proofs.TaskLists.{of_filter, has_task-append, filter_on, filter_append, distinct-filter, has_oldest, of_more, of_one, has_task-drop, distinct-drop, drop_behind, drop_one_more, drop_some}
-use Rattle.ccr_laws.proofs.TaskPlaces.{IsFired, ArePlaced-legal}
+use Rattle.ccr_laws.proofs.TaskLists.{of_filter, has_task-append, filter_append, distinct-filter, has_oldest, of_more, of_one, has_task-drop, distinct-drop, drop_behind, drop_one_more, drop_some}
+use Rattle.ccr_laws.proofs.TaskPlaces.{ArePlaced-legal}
 use Rattle.ccr_laws.proofs.FiringFacts.{FiresSo-allowed, firings-other}
 use Rattle.ccr_laws.proofs.Ending.{AreEnded-legal, RunningFacts-allowed}
 

@@ -3,19 +3,15 @@ use Rattle.std.proofs.Common.{◌≡◌, ℕ, zero, suc, ◌<◌, ◌≤◌, Boo
 use Rattle.std.specs.Prelude.{if◌then◌else◌}
 use Rattle.std.specs.List.{list_any, list_all}
 use Rattle.std.proofs.lemmas.Grind.{common_steps}
-use Rattle.std.proofs.lemmas.Bool.Decides.{nat_tests}
 use Rattle.ccr_base.specs.declared.names.TaskId.{TaskId}
 use Rattle.ccr_base.specs.Names.{same_task, has_task, without}
 use Rattle.ccr_model.specs.Consequences.{are_distinct_tasks}
 use Rattle.ccr_model.specs.Rules.{is_first}
 use Rattle.ccr_model.proofs.PostNames.{both}
 use Rattle.ccr_model.proofs.Quiet.{first_is}
-use Rattle.ccr_model.proofs.Covered.{same_task-is, or_left, or_right, head_rest}
-use Rattle.ccr_model.proofs.Allowing.{same_task-self}
-use Rattle.ccr_laws.proofs.Booleans.{not_true, not_false, neither, either, refuted, no_both, or_assoc}
-
-pub same_task-sym : (s t : TaskId) → same_task s t ≡ same_task t s
-same_task-sym s t = grind (arith, nat_tests)
+use Rattle.ccr_model.proofs.Booleans.{not_true, not_false, neither, or_left, or_right, either, or_assoc, refuted, no_both}
+use Rattle.ccr_model.proofs.SameTasks.{same_task-is, same_task-self, same_task-sym}
+use Rattle.ccr_model.proofs.Options.{head_rest}
 
 -- who stands in the list is one of it
 pub has_task-append : (ts us : List TaskId) (t : TaskId) → has_task (ts ++ us) t ≡ has_task ts t || has_task us t
@@ -42,19 +38,8 @@ of_filter p ts t is = both (has_task ts t) (p t) (sym (has_task-filter p ts t) �
 pub to_filter : (p : TaskId → Bool) (ts : List TaskId) (t : TaskId) → has_task ts t ≡ true → p t ≡ true → has_task (filter p ts) t ≡ true
 to_filter p ts t is passes = rw (has_task-filter p ts t, is) passes
 
--- and of those that are left
-pub of_without : (ts gone : List TaskId) (t : TaskId) → has_task (without ts gone) t ≡ true → (has_task ts t ≡ true) × (has_task gone t ≡ false)
-of_without ts gone t is =
-    let parts = of_filter (λ u. not (has_task gone u)) ts t is in
-    (parts.0, not_true (has_task gone t) parts.1)
-
 pub to_without : (ts gone : List TaskId) (t : TaskId) → has_task ts t ≡ true → has_task gone t ≡ false → has_task (without ts gone) t ≡ true
 to_without ts gone t is out = to_filter (λ u. not (has_task gone u)) ts t is (not_false (has_task gone t) out)
-
--- what two lists leave
-pub without_both : (ts gone more : List TaskId) → without ts (gone ++ more) ≡ without (without ts gone) more
-without_both [] gone more = refl
-without_both (t ∷ ts) gone more = grind (arith, common_steps, without_both ts gone more)
 
 pub without-append : (ts us gone : List TaskId) → without (ts ++ us) gone ≡ without ts gone ++ without us gone
 without-append ts us gone = grind (arith, common_steps)
@@ -72,14 +57,6 @@ filter_swap p q (x ∷ ts) = of_tests (p x) (q x) refl refl (filter_swap p q ts)
     of_tests true false e f rest = rw (f, rest) refl
     of_tests false true e f rest = rw (e, rest) refl
     of_tests false false e f rest = rest
-
--- a test that agrees on the members
-pub filter_on : (p q : TaskId → Bool) (ts : List TaskId) → ((u : TaskId) → has_task ts u ≡ true → p u ≡ q u) → filter p ts ≡ filter q ts
-filter_on p q [] same = refl
-filter_on p q (x ∷ ts) same =
-    let here = same x (or_left (same_task x x) (has_task ts x) (same_task-self x)) in
-    let later = filter_on p q ts (λ u is. same u (or_right (same_task u x) (has_task ts u) is)) in
-    rw (here, later) refl
 
 -- a test that all pass
 pub filter_all : (p : TaskId → Bool) (ts : List TaskId) → ((u : TaskId) → has_task ts u ≡ true → p u ≡ true) → filter p ts ≡ ts
@@ -158,10 +135,6 @@ not_one t u ts out within = refuted (has_task (t ∷ []) u) (λ is. no_both (sub
 -- not in a list whose members would be in another
 pub not_within : (ts us : List TaskId) (t : TaskId) → (has_task ts t ≡ true → has_task us t ≡ true) → has_task us t ≡ false → has_task ts t ≡ false
 not_within ts us t within out = refuted (has_task ts t) (λ is. no_both (within is) out)
-
--- out of a longer list, out of its first part
-pub out_left : (ts us : List TaskId) (t : TaskId) → has_task (ts ++ us) t ≡ false → has_task ts t ≡ false
-out_left ts us t is = (neither (has_task ts t) (has_task us t) (sym (has_task-append ts us t) ∙ is)).0
 
 pub out_right : (ts us : List TaskId) (t : TaskId) → has_task (ts ++ us) t ≡ false → has_task us t ≡ false
 out_right ts us t is = (neither (has_task ts t) (has_task us t) (sym (has_task-append ts us t) ∙ is)).1

@@ -1,7 +1,5 @@
 -- Each legal history is covered.
-use Rattle.std.proofs.Common.{◌≡◌, ℕ, ◌+◌, ◌-◌, ◌≤◌, ◌⊎◌, inl, inr, Bool, true, false, not, ◌&&◌, ◌||◌, List, [], ◌∷◌, ◌++◌, length, filter, Option, Some, None, refl, sym, arith, ◌∙◌, subst, append-nil}
-use Rattle.std.specs.List.{slice_get}
-use Rattle.std.specs.Option.{option_map}
+use Rattle.std.proofs.Common.{◌≡◌, ℕ, ◌+◌, ◌-◌, ◌≤◌, ◌⊎◌, inl, inr, Bool, true, false, not, ◌&&◌, List, [], ◌∷◌, ◌++◌, length, filter, Some, None, refl, sym, arith, ◌∙◌, subst, append-nil}
 use Rattle.std.proofs.lemmas.Grind.{common_steps}
 use Rattle.std.proofs.lemmas.Bool.Decides.{nat_tests}
 use Rattle.ccr_base.specs.declared.names.TaskId.{TaskId}
@@ -22,10 +20,15 @@ use Rattle.ccr_model.specs.Tasks.{queued, is_for_queue, running, has_post_left, 
 use Rattle.ccr_model.specs.Rules.{is_first, is_oldest_queued, may_end, may_shed, is_shed}
 use Rattle.ccr_model.specs.Legal.{IsAllowed, IsLegal, has_shed, is_shed_end}
 use Rattle.ccr_model.proofs.PostNames.{along, both, refused_not}
-use Rattle.ccr_model.proofs.Quiet.{some_of, some_then, first_is}
+use Rattle.ccr_model.proofs.Quiet.{first_is}
 use Rattle.ccr_model.proofs.TaskSteps.{running-post, running-fire, running-admit, running-put, running-end}
 use Rattle.ccr_model.proofs.Stable.{firing_named-append, play_of-append}
-use Rattle.ccr_model.proofs.Allowing.{head_passes, same_task-self}
+use Rattle.ccr_model.proofs.Allowing.{head_passes}
+use Rattle.ccr_model.proofs.Booleans.{not_true, or_left, or_right}
+use Rattle.ccr_model.proofs.Pushes.{started-push}
+use Rattle.ccr_model.proofs.SameTasks.{same_task-is, same_task-self, same_task-sym}
+use Rattle.ccr_model.proofs.TasksLeft.{filter_on}
+use Rattle.ccr_model.proofs.Options.{some_of, some_then, some_map, head_rest}
 
 -- no name stands twice
 abbrev pub are_distinct : List TaskId → Bool
@@ -37,12 +40,6 @@ pub record AreStarted (h : List Event) : Type 0 where
   pub named : (t : TaskId) → has_task (started h) t ≡ true → (f : Firing) × (firing_named h t ≡ Some f)
   pub once : are_distinct (started h) ≡ true
 
-pub same_task-is : (s t : TaskId) → same_task s t ≡ true → s ≡ t
-same_task-is s t is = grind (arith, nat_tests)
-
-same_task-sym : (s t : TaskId) → same_task s t ≡ same_task t s
-same_task-sym s t = grind (arith, nat_tests)
-
 no_member : (ts : List TaskId) (x u : TaskId) → has_task ts x ≡ false → has_task ts u ≡ true → same_task x u ≡ false
 no_member ts x u out within = of_test (same_task x u) refl
   where
@@ -50,32 +47,12 @@ no_member ts x u out within = of_test (same_task x u) refl
     of_test false e = e
     of_test true e = let same : x ≡ u = same_task-is x u e in absurd (cc (rw same at out, within))
 
-pub or_left : (a b : Bool) → a ≡ true → a || b ≡ true
-or_left true b is = refl
-or_left false b is = absurd (cc)
-
-pub or_right : (a b : Bool) → b ≡ true → a || b ≡ true
-or_right true b is = refl
-or_right false b is = is
-
--- over plain lists: a test that agrees on the members
-filter_on : (p q : TaskId → Bool) (ts : List TaskId) → ((u : TaskId) → has_task ts u ≡ true → p u ≡ q u) → filter p ts ≡ filter q ts
-filter_on p q [] same = refl
-filter_on p q (x ∷ ts) same =
-    let here = same x (or_left (same_task x x) (has_task ts x) (same_task-self x)) in
-    let later = filter_on p q ts (λ u is. same u (or_right (same_task u x) (has_task ts u) is)) in
-    rw (here, later) refl
-
-out_of : (b : Bool) → not b ≡ true → b ≡ false
-out_of false is = refl
-out_of true is = absurd (cc)
-
 -- a test that changes at one member alone
 one_changes : (p q : TaskId → Bool) (t : TaskId) (ts : List TaskId) → are_distinct ts ≡ true → ((u : TaskId) → has_task ts u ≡ true → same_task t u ≡ false → p u ≡ q u) → length (filter p ts) ≤ length (filter q ts) + 1
 one_changes p q t [] distinct same = omega arith
 one_changes p q t (x ∷ ts) distinct same =
     let parts = both (not (has_task ts x)) (are_distinct ts) distinct in
-    let out = out_of (has_task ts x) parts.0 in
+    let out = not_true (has_task ts x) parts.0 in
     of_test (same_task t x) refl (one_changes p q t ts parts.1 (λ u is. same u (or_right (same_task u x) (has_task ts u) is)))
     (λ e. filter_on p q ts (λ u is. same u (or_right (same_task u x) (has_task ts u) is) (let one : t ≡ x = same_task-is t x e in rw one (no_member ts x u out is))))
     (λ e. same x (or_left (same_task x x) (has_task ts x) (same_task-self x)) e)
@@ -96,13 +73,13 @@ are_distinct-filter : (p : TaskId → Bool) (ts : List TaskId) → are_distinct 
 are_distinct-filter p [] is = refl
 are_distinct-filter p (x ∷ ts) is =
     let parts = both (not (has_task ts x)) (are_distinct ts) is in
-    grind (arith, has_task-filter p ts x, out_of (has_task ts x) parts.0, are_distinct-filter p ts parts.1)
+    grind (arith, has_task-filter p ts x, not_true (has_task ts x) parts.0, are_distinct-filter p ts parts.1)
 
 are_distinct-push : (ts : List TaskId) (t : TaskId) → are_distinct ts ≡ true → has_task ts t ≡ false → are_distinct (ts ++ t ∷ []) ≡ true
 are_distinct-push [] t is out = refl
 are_distinct-push (x ∷ ts) t is out =
     let parts = both (not (has_task ts x)) (are_distinct ts) is in
-    grind (arith, common_steps, same_task-sym t x, are_distinct-push ts t parts.1, out_of (has_task ts x) parts.0)
+    grind (arith, common_steps, same_task-sym t x, are_distinct-push ts t parts.1, not_true (has_task ts x) parts.0)
 
 filter_twice : (p r : TaskId → Bool) (ts : List TaskId) → filter p (filter r ts) ≡ filter (λ u. r u && p u) ts
 filter_twice p r [] = refl
@@ -122,18 +99,6 @@ none_goes p t (x ∷ ts) fails = of_test (same_task x t) refl (none_goes p t ts 
     of_test false e rest = grind (arith, e, rest)
 
 -- who started, by one more event
-pub some_map : {X Y : Type 0} (f : X → Y) (o : Option X) (y : Y) → option_map f o ≡ Some y → (x : X) × (o ≡ Some x)
-some_map f None y is = absurd (cc)
-some_map f (Some x) y is = (x, refl)
-
-pub head_rest : (ts : List TaskId) (t : TaskId) → slice_get ts 0 ≡ Some t → (rest : List TaskId) × (ts ≡ t ∷ rest)
-head_rest [] t is = absurd (cc)
-head_rest (u ∷ ts) t is = (ts, cc)
-
-not_either : (a b : Bool) → not (a || b) ≡ true → a ≡ false
-not_either false b is = refl
-not_either true b is = absurd (cc)
-
 queued_head : (w : Parts) (h : List Event) (t : TaskId) → is_oldest_queued w h t ≡ true → ((f : Firing) × (firing_named h t ≡ Some f)) × (has_task (started h) t ≡ false)
 queued_head w h t is =
     let found = some_of (λ (s : Seat). is_first (queued w h s.branch.queue) t) (seat_of w h t) is in
@@ -145,9 +110,6 @@ queued_head w h t is =
     let passes = head_passes test (put h) t head.0 (sym (filter_twice (is_for_queue w h q) (λ u. not (has_task (started h ++ dropped h) u)) (put h)) ∙ head.1) in
     let parts = both (not (has_task (started h ++ dropped h) t)) (is_for_queue w h q t) passes in
     (fired_so, grind (arith, common_steps, parts.0))
-
-started-push : (h : List Event) (e : Event) → started (h ++ e ∷ []) ≡ started h ++ started_by e
-started-push h e = grind (arith, common_steps)
 
 AreStarted_other : (h : List Event) (e : Event) → started_by e ≡ [] → AreStarted h → AreStarted (h ++ e ∷ [])
 AreStarted_other h e none known =

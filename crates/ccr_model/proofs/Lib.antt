@@ -2,11 +2,19 @@ mod WorkedParts
 mod WorkedRuns
 mod WorkedTasks
 mod WrongEvents
+pub mod Booleans
+pub mod Options
+pub mod Members
+pub mod SameTasks
+pub mod TasksLeft
+pub mod Pushes
 pub mod HeldSteps
 pub mod PostNames
+pub mod LegalParts
 pub mod TakenOnce
 pub mod TaskSteps
 pub mod Stable
+pub mod FiredTasks
 pub mod Quiet
 pub mod Allowing
 pub mod Covered

@@ -10,9 +10,10 @@ use Rattle.ccr_wiring.specs.declared.parts.Parts.{Parts}
 use Rattle.ccr_model.specs.declared.history.Event.{Event}
 use Rattle.ccr_model.specs.declared.history.Event.TheVariants.{Post, Fire, Admit, Put, Start, End}
 use Rattle.ccr_base.specs.Names.{same_message}
-use Rattle.ccr_model.specs.Posts.{posts, post_of, is_script_of, is_message_of}
+use Rattle.ccr_model.specs.Posts.{posts, is_script_of, is_message_of}
 use Rattle.ccr_model.specs.Rules.{refusal_of_post, refused}
 use Rattle.ccr_model.specs.Legal.{IsAllowed, IsLegal, IsLegalAfter}
+use Rattle.ccr_model.proofs.Pushes.{posts-push}
 
 -- what the empty history has and each allowed event keeps, each legal history has
 along_after : (w : Parts) (P : List Event → Type 0) → ((h : List Event) (e : Event) → P h → IsAllowed w h e → P (h ++ e ∷ [])) → (past es : List Event) → P past → IsLegalAfter w past es → P (past ++ es)
@@ -87,9 +88,6 @@ AreNamed-push ms m named place = record {
     once_push : (name : MsgId) (b : Bool) → same_message m.id name ≡ b → times name (ms ++ m ∷ []) ≤ 1
     once_push name true is = let e : m.id ≡ name = same_message-is m.id name is in subst (λ n. times n (ms ++ m ∷ []) ≤ 1) e (grind (arith, times_more m.id ms m, named.below m.id, named.once m.id, place))
     once_push name false is = grind (arith, times_more name ms m, named.once name)
-
-posts-push : (h : List Event) (e : Event) → posts (h ++ e ∷ []) ≡ posts h ++ post_of e
-posts-push h e = grind (arith, common_steps)
 
 pub named_kept : (w : Parts) (h : List Event) (e : Event) → AreNamed (posts h) → IsAllowed w h e → AreNamed (posts (h ++ e ∷ []))
 named_kept w h (Post m) named allowed = rw posts-push (AreNamed-push (posts h) m named (place_next w h m m.id allowed))

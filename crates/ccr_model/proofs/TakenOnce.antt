@@ -56,7 +56,7 @@ times_at-apart : (name : MsgId) (t : Msg → Bool) (port : ℕ) (ports : List �
 times_at-apart name t port ports apart [] = grind arith
 times_at-apart name t port ports apart (m ∷ ms) = grind (arith, nat_tests, times_at-apart name t port ports apart ms)
 
-joined_some : (a b : Option (List Msg)) (xs : List Msg) → joined a b ≡ Some xs → (front : List Msg) × (back : List Msg) × (a ≡ Some front) × (b ≡ Some back) × (front ++ back ≡ xs)
+pub joined_some : (a b : Option (List Msg)) (xs : List Msg) → joined a b ≡ Some xs → (front : List Msg) × (back : List Msg) × (a ≡ Some front) × (b ≡ Some back) × (front ++ back ≡ xs)
 joined_some (Some front) (Some back) xs is = (front, back, refl, refl, grind (arith, is))
 joined_some None b xs is = absurd (cc)
 joined_some (Some front) None xs is = absurd (cc)

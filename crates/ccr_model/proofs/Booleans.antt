@@ -15,6 +15,14 @@ pub neither : (a b : Bool) → a || b ≡ false → (a ≡ false) × (b ≡ fals
 neither false b is = (refl, is)
 neither true b is = absurd (cc)
 
+pub or_left : (a b : Bool) → a ≡ true → a || b ≡ true
+or_left true b is = refl
+or_left false b is = absurd (cc)
+
+pub or_right : (a b : Bool) → b ≡ true → a || b ≡ true
+or_right true b is = refl
+or_right false b is = is
+
 -- one or the other
 pub either : (a b : Bool) → a || b ≡ true → (C : Type 0) → (a ≡ true → C) → (b ≡ true → C) → C
 either true b is C one other = one refl
