@@ -19,13 +19,12 @@ use Rattle.ccr_model.specs.TaskData.{seat_of}
 use Rattle.ccr_model.specs.Tasks.{is_interleave, is_teardown, is_concurrent, is_branch_where, fired_by, waiting, is_in_arbiter, is_over, admitted, queued}
 use Rattle.ccr_model.specs.Rules.{cuts_at}
 use Rattle.ccr_model.specs.Legal.{IsAllowed, IsLegal}
-use Rattle.ccr_model.proofs.PostNames.{both}
 use Rattle.ccr_model.proofs.Stable.{firing_named-append}
-use Rattle.ccr_model.proofs.Booleans.{and_not, refuted, no_both, same_number}
 use Rattle.ccr_model.proofs.Pushes.{started-push, last-push, let_in-push, cut-push}
 use Rattle.ccr_model.proofs.LegalParts.{along_legal, onward, Parted-legal}
-use Rattle.ccr_model.proofs.TasksLeft.{out_left}
 use Rattle.ccr_model.proofs.Options.{some_of}
+use Rattle.ccr_model.proofs.Booleans.{both, and_not, refuted, no_both, same_number}
+use Rattle.ccr_model.proofs.TasksLeft.{out_left}
 use Rattle.ccr_model.proofs.FiredTasks.{IsFired, AreFired, IsFired-append, seat_fired, seat_stays, root_stays}
 use Rattle.ccr_laws.specs.Interleaves.{is_seat_in, is_teardown_in, is_exclusive_in, tears_down, is_of_interleave, is_of_teardown, is_of_exclusive}
 use Rattle.ccr_laws.proofs.TaskLists.{has_oldest, of_more, among_left, of_one, out_right, any_named, any_has}

@@ -17,15 +17,15 @@ use Rattle.ccr_model.specs.Live.{is_live, is_live_in, has_room}
 use Rattle.ccr_model.specs.Choice.{is_choice}
 use Rattle.ccr_model.specs.Rules.{is_new, cuts_at, needs_no_admission}
 use Rattle.ccr_model.specs.Legal.{IsAllowed}
-use Rattle.ccr_model.proofs.PostNames.{both, refused_not}
+use Rattle.ccr_model.proofs.PostNames.{refused_not}
 use Rattle.ccr_model.proofs.Allowing.{OneName}
-use Rattle.ccr_model.proofs.Booleans.{not_true, neither, or_left, or_right, refuted, no_both}
 use Rattle.ccr_model.proofs.Pushes.{firings-push}
-use Rattle.ccr_model.proofs.SameTasks.{same_task-is, same_task-self, same_task-sym}
-use Rattle.ccr_model.proofs.TasksLeft.{of_without, out_left}
 use Rattle.ccr_model.proofs.Options.{some_of}
 use Rattle.ccr_model.proofs.Members.{Among}
-use Rattle.ccr_model.proofs.FiredTasks.{IsFired, find_last}
+use Rattle.ccr_model.proofs.Booleans.{not_true, both, neither, or_left, or_right, refuted, no_both}
+use Rattle.ccr_model.proofs.SameNames.{same_task-is, same_task-self, same_task-sym}
+use Rattle.ccr_model.proofs.TasksLeft.{of_without, out_left}
+use Rattle.ccr_model.proofs.FiredTasks.{IsFired, find_last, fired_has}
 use Rattle.ccr_laws.specs.Interleaves.{is_seat_in}
 use Rattle.ccr_laws.proofs.TaskLists.{to_without, not_more, out_right}
 
@@ -73,14 +73,6 @@ found_named (g ∷ fs) t f test is passes = of_test (same_task g.task t) refl is
         let one : g ≡ f = cc in
         let here : test g ≡ true = rw one passes in
         rw here (or_left (same_task t g.task) _ (same_task-sym t g.task ∙ e))
-
-all_pass : (fs : List Firing) → filter (λ (f : Firing). true) fs ≡ fs
-all_pass [] = refl
-all_pass (f ∷ fs) = ap (λ gs. f ∷ gs) (all_pass fs)
-
--- who fired is among those that fired
-pub fired_has : (h : List Event) (t : TaskId) → IsFired h t → has_task (fired h) t ≡ true
-fired_has h t found = subst (λ fs. has_task (map (λ (f : Firing). f.task) fs) t ≡ true) (all_pass (firings h)) (found_named (firings h) t found.0 (λ f. true) found.1 refl)
 
 -- a new task isn't one that fired
 pub not_new : (h : List Event) (t u : TaskId) → has_task (fired h) t ≡ false → IsFired h u → same_task t u ≡ false

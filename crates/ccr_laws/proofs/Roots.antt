@@ -17,18 +17,18 @@ use Rattle.ccr_model.specs.TaskData.{seat_of}
 use Rattle.ccr_model.specs.Tasks.{is_interleave, is_in_arbiter, is_over, admitted, queued, running}
 use Rattle.ccr_model.specs.Rules.{needs_no_admission}
 use Rattle.ccr_model.specs.Legal.{IsAllowed, IsLegal}
-use Rattle.ccr_model.proofs.PostNames.{both}
 use Rattle.ccr_model.proofs.TaskSteps.{firing_named-fire}
 use Rattle.ccr_model.proofs.Stable.{firing_named-append, root_at-append}
-use Rattle.ccr_model.proofs.Booleans.{not_true, and_not, and_false, refuted, no_both}
 use Rattle.ccr_model.proofs.Pushes.{let_in-push}
 use Rattle.ccr_model.proofs.LegalParts.{along_legal}
-use Rattle.ccr_model.proofs.SameTasks.{same_task-is, same_task-self}
 use Rattle.ccr_model.proofs.Options.{some_of}
+use Rattle.ccr_model.proofs.Booleans.{not_true, both, and_not, and_false, refuted, no_both}
+use Rattle.ccr_model.proofs.SameNames.{same_task-is, same_task-self}
+use Rattle.ccr_model.proofs.TasksLeft.{of_filter}
 use Rattle.ccr_model.proofs.FiredTasks.{IsFired, root_stays}
 use Rattle.ccr_laws.specs.AtWork.{is_queued, is_suspended, is_at_work}
 use Rattle.ccr_laws.specs.Interleaves.{is_seat_in, is_of_interleave}
-use Rattle.ccr_laws.proofs.TaskLists.{of_filter, to_filter, among_left, not_within, any_named}
+use Rattle.ccr_laws.proofs.TaskLists.{to_filter, among_left, not_within, any_named}
 use Rattle.ccr_laws.proofs.TaskPlaces.{ArePlaced-legal, QueuedFacts-queued, seat_by}
 use Rattle.ccr_laws.proofs.FiringFacts.{FiresSo-allowed, not_new, firing_named-new, before-new, firings-other}
 use Rattle.ccr_laws.proofs.Cutting.{CutFacts-legal}

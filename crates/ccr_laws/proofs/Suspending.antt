@@ -19,17 +19,16 @@ use Rattle.ccr_model.specs.Sites.{yields_at, yielded_at, suspended}
 use Rattle.ccr_model.specs.Live.{is_none_of}
 use Rattle.ccr_model.specs.Legal.{IsAllowed, IsLegal}
 use Rattle.ccr_model.specs.Consequences.{are_distinct_tasks}
-use Rattle.ccr_model.proofs.PostNames.{both}
 use Rattle.ccr_model.proofs.Stable.{firing_named-append}
-use Rattle.ccr_model.proofs.Booleans.{not_true, or_left, or_right, and_not, same_number}
 use Rattle.ccr_model.proofs.Pushes.{yielded-push}
 use Rattle.ccr_model.proofs.LegalParts.{along_legal}
-use Rattle.ccr_model.proofs.SameTasks.{same_task-self}
-use Rattle.ccr_model.proofs.TasksLeft.{filter_on}
 use Rattle.ccr_model.proofs.Options.{some_of, some_map}
+use Rattle.ccr_model.proofs.Booleans.{not_true, both, or_left, or_right, and_not, same_number}
+use Rattle.ccr_model.proofs.SameNames.{same_task-self}
+use Rattle.ccr_model.proofs.TasksLeft.{has_task-append, of_filter, filter_on, distinct-filter}
 use Rattle.ccr_model.proofs.FiredTasks.{IsFired}
 use Rattle.ccr_laws.specs.AtWork.{is_suspended}
-use Rattle.ccr_laws.proofs.TaskLists.{of_filter, has_task-append, filter_append, distinct-filter, has_oldest, of_more, of_one, has_task-drop, distinct-drop, drop_behind, drop_one_more, drop_some}
+use Rattle.ccr_laws.proofs.TaskLists.{filter_append, has_oldest, of_more, of_one, has_task-drop, distinct-drop, drop_behind, drop_one_more, drop_some}
 use Rattle.ccr_laws.proofs.TaskPlaces.{ArePlaced-legal}
 use Rattle.ccr_laws.proofs.FiringFacts.{FiresSo-allowed, firings-other}
 use Rattle.ccr_laws.proofs.Ending.{AreEnded-legal, RunningFacts-allowed}

@@ -1,5 +1,5 @@
 -- Over plain lists of tasks: who stands in a list, in part of it, and in two lists.
-use Rattle.std.proofs.Common.{◌≡◌, ℕ, zero, suc, ◌<◌, ◌≤◌, Bool, true, false, not, ◌&&◌, ◌||◌, List, [], ◌∷◌, ◌++◌, length, drop, filter, refl, sym, arith, ap, ◌∙◌, subst}
+use Rattle.std.proofs.Common.{◌≡◌, ℕ, zero, suc, ◌<◌, ◌≤◌, Bool, true, false, not, ◌||◌, List, [], ◌∷◌, ◌++◌, length, drop, filter, refl, sym, arith, ap, ◌∙◌, subst}
 use Rattle.std.specs.Prelude.{if◌then◌else◌}
 use Rattle.std.specs.List.{list_any, list_all}
 use Rattle.std.proofs.lemmas.Grind.{common_steps}
@@ -7,34 +7,13 @@ use Rattle.ccr_base.specs.declared.names.TaskId.{TaskId}
 use Rattle.ccr_base.specs.Names.{same_task, has_task, without}
 use Rattle.ccr_model.specs.Consequences.{are_distinct_tasks}
 use Rattle.ccr_model.specs.Rules.{is_first}
-use Rattle.ccr_model.proofs.PostNames.{both}
 use Rattle.ccr_model.proofs.Quiet.{first_is}
-use Rattle.ccr_model.proofs.Booleans.{not_true, not_false, neither, or_left, or_right, either, or_assoc, refuted, no_both}
-use Rattle.ccr_model.proofs.SameTasks.{same_task-is, same_task-self, same_task-sym}
 use Rattle.ccr_model.proofs.Options.{head_rest}
+use Rattle.ccr_model.proofs.Booleans.{not_true, not_false, both, neither, or_left, or_right, either, refuted, no_both}
+use Rattle.ccr_model.proofs.SameNames.{same_task-is, same_task-self}
+use Rattle.ccr_model.proofs.TasksLeft.{has_task-append, has_task-filter}
 
--- who stands in the list is one of it
-pub has_task-append : (ts us : List TaskId) (t : TaskId) → has_task (ts ++ us) t ≡ has_task ts t || has_task us t
-has_task-append [] us t = refl
-has_task-append (x ∷ ts) us t = rw (has_task-append ts us t) (or_assoc (same_task t x) (has_task ts t) (has_task us t))
-
-pub has_task-filter : (p : TaskId → Bool) (ts : List TaskId) (t : TaskId) → has_task (filter p ts) t ≡ has_task ts t && p t
-has_task-filter p [] t = refl
-has_task-filter p (x ∷ ts) t = of_tests (same_task t x) (p x) refl refl (has_task-filter p ts t)
-  where
-    of_tests : (a b : Bool) → same_task t x ≡ a → p x ≡ b → has_task (filter p ts) t ≡ has_task ts t && p t → has_task (if b then x ∷ filter p ts else filter p ts) t ≡ (a || has_task ts t) && p t
-    of_tests true true e f rest = let one : t ≡ x = same_task-is t x e in rw (one, same_task-self x, f) refl
-    of_tests true false e f rest = let one : t ≡ x = same_task-is t x e in let out : p t ≡ false = rw one f in grind (arith, rest, out)
-    of_tests false true e f rest = rw e rest
-    of_tests false false e f rest = rest
-
-pub has_task-without : (ts gone : List TaskId) (t : TaskId) → has_task (without ts gone) t ≡ has_task ts t && not (has_task gone t)
-has_task-without ts gone t = has_task-filter (λ u. not (has_task gone u)) ts t
-
--- a member of those that pass is a member and passes, and the other way round
-pub of_filter : (p : TaskId → Bool) (ts : List TaskId) (t : TaskId) → has_task (filter p ts) t ≡ true → (has_task ts t ≡ true) × (p t ≡ true)
-of_filter p ts t is = both (has_task ts t) (p t) (sym (has_task-filter p ts t) ∙ is)
-
+-- a member that passes is a member of those that pass
 pub to_filter : (p : TaskId → Bool) (ts : List TaskId) (t : TaskId) → has_task ts t ≡ true → p t ≡ true → has_task (filter p ts) t ≡ true
 to_filter p ts t is passes = rw (has_task-filter p ts t, is) passes
 
@@ -74,24 +53,6 @@ without_other ts t out = without_none ts (t ∷ []) (λ u is. of_test u (same_ta
     of_test : (u : TaskId) (b : Bool) → same_task u t ≡ b → has_task ts u ≡ true → same_task u t || false ≡ false
     of_test u false e is = rw e refl
     of_test u true e is = let one : u ≡ t = same_task-is u t e in absurd (cc)
-
--- nobody stands twice in a part
-pub distinct-filter : (p : TaskId → Bool) (ts : List TaskId) → are_distinct_tasks ts ≡ true → are_distinct_tasks (filter p ts) ≡ true
-distinct-filter p [] is = refl
-distinct-filter p (x ∷ ts) is =
-    let parts = both (not (has_task ts x)) (are_distinct_tasks ts) is in
-    of_test (p x) (not_true (has_task ts x) parts.0) (distinct-filter p ts parts.1)
-  where
-    of_test : (b : Bool) → has_task ts x ≡ false → are_distinct_tasks (filter p ts) ≡ true → are_distinct_tasks (if b then x ∷ filter p ts else filter p ts) ≡ true
-    of_test true out rest = rw (has_task-filter p ts x, out) rest
-    of_test false out rest = rest
-
-pub distinct-push : (ts : List TaskId) (t : TaskId) → are_distinct_tasks ts ≡ true → has_task ts t ≡ false → are_distinct_tasks (ts ++ t ∷ []) ≡ true
-distinct-push [] t is out = refl
-distinct-push (x ∷ ts) t is out =
-    let parts = both (not (has_task ts x)) (are_distinct_tasks ts) is in
-    let outs = neither (same_task t x) (has_task ts t) out in
-    rw (has_task-append ts (t ∷ []) x, not_true (has_task ts x) parts.0, same_task-sym x t, outs.0) (distinct-push ts t parts.1 outs.1)
 
 -- the first of a list, and the others
 pub first_rest : (ts : List TaskId) (t : TaskId) → is_first ts t ≡ true → (rest : List TaskId) × (ts ≡ t ∷ rest)

@@ -33,14 +33,14 @@ use Rattle.ccr_model.specs.Choice.{is_choice, is_choice_of, engine_choice, engin
 use Rattle.ccr_model.specs.Rules.{refused, is_post, is_new, may_put, drop_at, cuts_at, has_budget, ends_so, is_shed, may_enter, may_start}
 use Rattle.ccr_model.specs.Legal.{IsAllowed, IsLegal}
 use Rattle.ccr_model.specs.Order.{post_from, script_post, fire_at, fire_from, next_attempt, put_first, run_task, run_with, task_post, how_of, admit_first, admit_from, start_from, first}
-use Rattle.ccr_model.proofs.PostNames.{along, both, refused_not, same_message-self}
+use Rattle.ccr_model.proofs.PostNames.{along, refused_not}
 use Rattle.ccr_model.proofs.Stable.{firing_named-append, firings-append}
-use Rattle.ccr_model.proofs.Booleans.{or_right, eq-self}
-use Rattle.ccr_model.proofs.SameTasks.{same_task-self}
 use Rattle.ccr_model.proofs.Options.{some_of, IfSome-or, some-below, none-above}
 use Rattle.ccr_model.proofs.Members.{Among}
-use Rattle.ccr_model.proofs.FiredTasks.{find_last}
 use Rattle.ccr_model.proofs.FirstNames.{length-names_of}
+use Rattle.ccr_model.proofs.Booleans.{both, or_right, eq-self}
+use Rattle.ccr_model.proofs.SameNames.{same_task-self, same_message-self}
+use Rattle.ccr_model.proofs.FiredTasks.{find_last}
 
 same_list-self : {X : Type 0} (same : X → X → Bool) → ((x : X) → same x x ≡ true) → (xs : List X) → same_lists same xs xs ≡ true
 same_list-self same self [] = refl

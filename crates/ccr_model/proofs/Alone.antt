@@ -23,18 +23,17 @@ use Rattle.ccr_model.specs.Live.{is_none_of}
 use Rattle.ccr_model.specs.Rules.{is_oldest_waiting, is_first, may_enter, may_put, drop_at, drop_by, is_concurrent_task}
 use Rattle.ccr_model.specs.Legal.{IsAllowed, IsLegal}
 use Rattle.ccr_model.specs.Consequences.{is_alone}
-use Rattle.ccr_model.proofs.PostNames.{along, both, refused_not}
-use Rattle.ccr_model.proofs.Stable.{firing_named-append}
+use Rattle.ccr_model.proofs.PostNames.{along, refused_not}
 use Rattle.ccr_model.proofs.Allowing.{head_passes}
 use Rattle.ccr_model.proofs.Covered.{AreStarted, AreStarted_kept, running_started}
-use Rattle.ccr_model.proofs.Booleans.{or_left, or_right}
 use Rattle.ccr_model.proofs.Pushes.{last-push, let_in-push}
-use Rattle.ccr_model.proofs.SameTasks.{same_task-is, same_task-self}
 use Rattle.ccr_model.proofs.Options.{some_of, some_then, head_rest}
-use Rattle.ccr_model.proofs.FiredTasks.{IsFired, AreFired, seat_fired, seat_stays, root_stays}
+use Rattle.ccr_model.proofs.Booleans.{both, or_left, or_right}
+use Rattle.ccr_model.proofs.SameNames.{same_task-is, same_task-self}
+use Rattle.ccr_model.proofs.FiredTasks.{IsFired, AreFired, IsFired-append, seat_fired, seat_stays, root_stays}
 
 AreFired-append : (h es : List Event) (ts : List TaskId) → AreFired h ts → AreFired (h ++ es) ts
-AreFired-append h es ts all t is = let r = all t is in (r.0, firing_named-append h es t r.0 r.1)
+AreFired-append h es ts all t is = IsFired-append h es t (all t is)
 
 AreFired-more : (h : List Event) (ts us : List TaskId) → AreFired h ts → AreFired h us → AreFired h (ts ++ us)
 AreFired-more h [] us all more = more

@@ -11,6 +11,10 @@ pub not_false : (b : Bool) → b ≡ false → not b ≡ true
 not_false false is = refl
 not_false true is = absurd (cc)
 
+pub both : (a b : Bool) → a && b ≡ true → (a ≡ true) × (b ≡ true)
+both true b is = (refl, is)
+both false b is = absurd (cc)
+
 pub neither : (a b : Bool) → a || b ≡ false → (a ≡ false) × (b ≡ false)
 neither false b is = (refl, is)
 neither true b is = absurd (cc)

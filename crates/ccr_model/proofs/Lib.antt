@@ -5,8 +5,9 @@ mod WrongEvents
 pub mod Booleans
 pub mod Options
 pub mod Members
-pub mod SameTasks
+pub mod SameNames
 pub mod TasksLeft
+pub mod Counted
 pub mod Pushes
 pub mod HeldSteps
 pub mod PostNames

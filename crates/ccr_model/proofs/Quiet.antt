@@ -31,10 +31,11 @@ use Rattle.ccr_model.specs.Rules.{refusal_of_post, is_post, is_script_line, is_n
 use Rattle.ccr_model.specs.Legal.{IsAllowed, IsQuiet}
 use Rattle.ccr_model.specs.Order.{first, post_from, script_post, fire_at, fire_from, admit_first, admit_from, put_first, run_task, start_from}
 use Rattle.ccr_wiring.specs.Valid.{HasQueues}
-use Rattle.ccr_model.proofs.PostNames.{both, refused_not}
-use Rattle.ccr_model.proofs.SameTasks.{same_task-is}
+use Rattle.ccr_model.proofs.PostNames.{refused_not}
 use Rattle.ccr_model.proofs.Options.{some_of, some_then, some_map, none_or, none_map, no_head}
 use Rattle.ccr_model.proofs.Members.{Among, Among-left, Among-right, Among-either, Among-at}
+use Rattle.ccr_model.proofs.Booleans.{both}
+use Rattle.ccr_model.proofs.SameNames.{same_task-is}
 
 -- Post of a script
 post_none : (h : List Event) (ps : List PosterPart) (n k : ℕ) (p : PosterPart) → post_from h n ps ≡ None → slice_get ps k ≡ Some p → slice_get p.posts (posts_of_poster h (n + k)) ≡ None

@@ -24,7 +24,9 @@ use Rattle.ccr_model.specs.Live.{is_live, has_room}
 use Rattle.ccr_model.specs.Rules.{is_new}
 use Rattle.ccr_model.specs.Legal.{IsAllowed, IsLegal}
 use Rattle.ccr_wiring.specs.Valid.{has_port, are_apart, slot_ports, names_ports_once, HasPortsApart}
-use Rattle.ccr_model.proofs.PostNames.{times, along, both, refused_not, same_message-is, AreNamed, named_kept}
+use Rattle.ccr_model.proofs.PostNames.{times, along, refused_not, AreNamed, named_kept}
+use Rattle.ccr_model.proofs.Booleans.{both}
+use Rattle.ccr_model.proofs.SameNames.{same_message-is}
 
 -- how often the name stands in the list of names
 abbrev pub named : MsgId → List MsgId → ℕ
@@ -156,9 +158,6 @@ taken_none name gone (m ∷ ms) some = one_more (has_message gone m.id) (same_me
     one_more true b is same rest = rest (grind (arith, is, some))
     one_more false true is same rest = let e : m.id ≡ name = same_message-is m.id name same in rw (← e) is
     one_more false false is same rest = rest (grind (arith, is, same, some))
-
-same_message-sym : (m n : MsgId) → same_message m n ≡ same_message n m
-same_message-sym m n = grind (arith, nat_tests)
 
 named_none : (name : MsgId) (gone : List MsgId) → has_message gone name ≡ false → named name gone ≡ 0
 named_none name [] is = grind arith

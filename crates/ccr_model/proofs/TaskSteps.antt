@@ -13,9 +13,9 @@ use Rattle.ccr_model.specs.declared.history.EndHow.{EndHow}
 use Rattle.ccr_base.specs.Names.{same_task, has_task, without}
 use Rattle.ccr_model.specs.Firings.{Firing, firings, firing_named, put, started, ended, dropped}
 use Rattle.ccr_model.specs.Tasks.{is_for_queue, queued, running}
-use Rattle.ccr_model.proofs.Booleans.{neither}
 use Rattle.ccr_model.proofs.Pushes.{firings-push, put-push, started-push, dropped-push}
-use Rattle.ccr_model.proofs.TasksLeft.{without_both, lists_start}
+use Rattle.ccr_model.proofs.Booleans.{neither}
+use Rattle.ccr_model.proofs.TasksLeft.{has_task-without, without_both, lists_start}
 
 -- running, one lemma an event
 pub running-start : (h : List Event) (t : TaskId) (a : ℕ) → has_task (ended h) t ≡ false → running (h ++ Start t a ∷ []) ≡ running h ++ t ∷ []
@@ -82,10 +82,6 @@ filter_fire w h q t s ms cs (u ∷ ts) fresh =
     let parts = neither (same_task t u) (has_task ts t) fresh in
     grind (arith, is_for_queue-fire w h q t u s ms cs parts.0, filter_fire w h q t s ms cs ts parts.1)
 
-has_task-without : (ts gone : List TaskId) (t : TaskId) → has_task ts t ≡ false → has_task (without ts gone) t ≡ false
-has_task-without [] gone t is = refl
-has_task-without (u ∷ ts) gone t is = grind (arith, has_task-without ts gone t)
-
 pub queued-fire : (w : Parts) (h : List Event) (q : ℕ) (t : TaskId) (s : Spot) (ms : List MsgId) (cs : List TaskId) → has_task (put h) t ≡ false → queued w (h ++ Fire t s ms cs ∷ []) q ≡ queued w h q
 queued-fire w h q t s ms cs fresh =
-    rw (put-push, started-push, dropped-push, append-nil, append-nil, append-nil) (filter_fire w h q t s ms cs (without (put h) (started h ++ dropped h)) (has_task-without (put h) (started h ++ dropped h) t fresh))
+    rw (put-push, started-push, dropped-push, append-nil, append-nil, append-nil) (filter_fire w h q t s ms cs (without (put h) (started h ++ dropped h)) (rw (has_task-without (put h) (started h ++ dropped h) t, fresh) refl))

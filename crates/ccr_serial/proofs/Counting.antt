@@ -1,11 +1,10 @@
 -- Tasks that came, and those of them that went on: each goes on once.
-use Rattle.std.proofs.Common.{◌≡◌, ◌+◌, ◌≤◌, Bool, true, false, not, ◌||◌, List, [], ◌∷◌, ◌++◌, length, map, filter, Some, refl, arith, length-append}
-use Rattle.std.specs.Prelude.{if◌then◌else◌, find}
+use Rattle.std.proofs.Common.{◌≡◌, ◌+◌, ◌≤◌, Bool, true, false, not, ◌||◌, List, [], ◌∷◌, ◌++◌, length, filter, refl, arith, length-append}
+use Rattle.std.specs.Prelude.{if◌then◌else◌}
 use Rattle.std.proofs.lemmas.Grind.{common_steps}
 use Rattle.ccr_base.specs.declared.names.TaskId.{TaskId}
 use Rattle.ccr_base.specs.Names.{same_task, has_task, without}
-use Rattle.ccr_model.specs.Firings.{Firing}
-use Rattle.ccr_model.proofs.SameTasks.{same_task-is, same_task-self}
+use Rattle.ccr_model.proofs.SameNames.{same_task-is, same_task-self}
 
 -- a stronger test keeps no more
 pub length-filter_stronger : {X : Type 0} (p q : X → Bool) → ((x : X) → q x ≡ true → p x ≡ true) → (xs : List X) → length (filter q xs) ≤ length (filter p xs)
@@ -49,12 +48,3 @@ Fits-came came gone t fits = record { few = grind (arith, common_steps, fits.few
 
 pub Fits-gone : (came gone : List TaskId) (t : TaskId) → Fits came gone → has_task came t ≡ true → has_task gone t ≡ false → Fits came (gone ++ t ∷ [])
 Fits-gone came gone t fits is out = record { few = omega (arith, fits.few, less_left came gone t is out, length-append gone (t ∷ [])) }
-
--- who is found has fired
-pub found_member : (fs : List Firing) (t : TaskId) (f : Firing) → find (λ (g : Firing). same_task g.task t) fs ≡ Some f → has_task (map (λ (g : Firing). g.task) fs) t ≡ true
-found_member [] t f is = absurd (cc)
-found_member (g ∷ fs) t f is = of_test (same_task g.task t) refl is (found_member fs t f)
-  where
-    of_test : (b : Bool) → same_task g.task t ≡ b → (if b then Some g else find (λ (g : Firing). same_task g.task t) fs) ≡ Some f → (find (λ (g : Firing). same_task g.task t) fs ≡ Some f → has_task (map (λ (g : Firing). g.task) fs) t ≡ true) → same_task t g.task || has_task (map (λ (g : Firing). g.task) fs) t ≡ true
-    of_test true same at rest = let one : g.task ≡ t = same_task-is g.task t same in rw (one, same_task-self t) refl
-    of_test false same at rest = grind (arith, rest at)

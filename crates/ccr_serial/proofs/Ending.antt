@@ -7,7 +7,7 @@ use Rattle.ccr_base.specs.declared.names.MsgId.{MsgId}
 use Rattle.ccr_base.specs.declared.messages.Msg.{Msg}
 use Rattle.ccr_base.specs.declared.names.Spot.{Spot}
 use Rattle.ccr_wiring.specs.declared.parts.Parts.{Parts}
-use Rattle.ccr_wiring.specs.Wirings.{Seat, seat, branch_of}
+use Rattle.ccr_wiring.specs.Wirings.{Seat}
 use Rattle.ccr_model.specs.declared.history.Event.{Event}
 use Rattle.ccr_model.specs.declared.history.Event.TheVariants.{Post, Fire, Admit, Put, Start, End}
 use Rattle.ccr_model.specs.declared.history.EndHow.{EndHow}
@@ -18,15 +18,17 @@ use Rattle.ccr_model.specs.TaskData.{seat_of}
 use Rattle.ccr_model.specs.Tasks.{is_interleave, fired_by, waiting, is_for_queue, queued, running}
 use Rattle.ccr_model.specs.Rules.{is_first, is_oldest_waiting, may_put, is_oldest_queued}
 use Rattle.ccr_model.specs.Legal.{IsAllowed, IsLegal}
-use Rattle.ccr_model.proofs.PostNames.{along, both, refused_not}
+use Rattle.ccr_model.proofs.PostNames.{along, refused_not}
 use Rattle.ccr_model.proofs.Quiet.{first_is}
 use Rattle.ccr_model.proofs.Allowing.{head_passes}
 use Rattle.ccr_model.proofs.TakenOnce.{FireFacts-allowed}
 use Rattle.ccr_model.proofs.Pushes.{firings-push, fired-fire, put-push, started-push, ended-push, let_in-push}
+use Rattle.ccr_model.proofs.Options.{some_of, some_map, head_rest}
+use Rattle.ccr_model.proofs.Booleans.{both}
 use Rattle.ccr_model.proofs.TasksLeft.{of_without, out_left}
-use Rattle.ccr_model.proofs.Options.{some_of, some_then, some_map, head_rest}
+use Rattle.ccr_model.proofs.FiredTasks.{fired_has, seat_fired}
 use Rattle.ccr_serial.specs.Potential.{TakesSome, most_events}
-use Rattle.ccr_serial.proofs.Counting.{Fits, Fits-came, Fits-gone, head_member, found_member}
+use Rattle.ccr_serial.proofs.Counting.{Fits, Fits-came, Fits-gone, head_member}
 use Rattle.ccr_serial.proofs.Taking.{untaken, untaken_post, untaken_fire}
 use Rattle.ccr_serial.proofs.Lines.{few_posts}
 
@@ -40,10 +42,7 @@ pub record AreFew (h : List Event) : Type 0 where
 
 -- who has a spot has fired
 spot_fired : (h : List Event) (t : TaskId) (s : Spot) → spot_of h t ≡ Some s → has_task (fired h) t ≡ true
-spot_fired h t s is = let found = some_map (λ (f : Firing). f.spot) (firing_named h t) s is in found_member (firings h) t found.0 found.1
-
-seat_fired : (w : Parts) (h : List Event) (t : TaskId) (s : Seat) → seat_of w h t ≡ Some s → has_task (fired h) t ≡ true
-seat_fired w h t s is = let placed = some_then (λ spot. seat w (branch_of spot)) (spot_of h t) s is in spot_fired h t placed.0 placed.1
+spot_fired h t s is = fired_has h t (some_map (λ (f : Firing). f.spot) (firing_named h t) s is)
 
 -- who is admitted fired, and wasn't admitted
 admit_next : (w : Parts) (h : List Event) (t : TaskId) → is_oldest_waiting w h t ≡ true → (has_task (fired h) t ≡ true) × (has_task (let_in h) t ≡ false)
@@ -53,7 +52,7 @@ admit_next w h t is =
     let head = head_rest (waiting w h n) t (first_is (waiting w h n) t found.2) in
     let passes = head_passes (λ u. not (has_task (let_in h ++ cut h) u)) (fired_by w (λ s. is_interleave s.kind && (s.arbiter == n)) h) t head.0 head.1 in
     let out : has_task (let_in h ++ cut h) t ≡ false = grind (arith, passes) in
-    (seat_fired w h t found.0 found.1, out_left (let_in h) (cut h) t out)
+    (fired_has h t (seat_fired w h t found.0 found.1), out_left (let_in h) (cut h) t out)
 
 -- who is put fired, and wasn't put
 put_next : (w : Parts) (h : List Event) (t : TaskId) → may_put w h t ≡ true → (has_task (fired h) t ≡ true) × (has_task (put h) t ≡ false)

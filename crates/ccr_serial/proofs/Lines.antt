@@ -18,10 +18,10 @@ use Rattle.ccr_model.specs.declared.history.Event.TheVariants.{Post, Fire, Admit
 use Rattle.ccr_model.specs.Posts.{posts, is_script_of, is_task_message, posts_of_poster}
 use Rattle.ccr_model.specs.Rules.{refusal_of_post, is_post, is_script_line, is_play_post, has_budget}
 use Rattle.ccr_model.specs.Legal.{IsAllowed, IsLegal}
-use Rattle.ccr_model.proofs.PostNames.{along, both, refused_not}
-use Rattle.ccr_model.proofs.Booleans.{eq-self}
+use Rattle.ccr_model.proofs.PostNames.{along, refused_not}
 use Rattle.ccr_model.proofs.Pushes.{posts-push}
 use Rattle.ccr_model.proofs.Options.{some_of, some_then, some-below}
+use Rattle.ccr_model.proofs.Booleans.{both, eq-self}
 
 -- how many posts of the poster stand among the messages
 abbrev pub lines_of : List Msg → ℕ → ℕ

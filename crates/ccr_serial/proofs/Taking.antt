@@ -20,10 +20,10 @@ use Rattle.ccr_base.specs.Choice.{fitting, is_choosable, choice}
 use Rattle.ccr_wiring.specs.Wirings.{Seat, seat, site_port}
 use Rattle.ccr_model.specs.Posts.{posts, taken, held}
 use Rattle.ccr_model.specs.Choice.{names_of, choice_of_slots, are_first, are_split, is_choice_of, are_oldest, is_choice}
-use Rattle.ccr_model.proofs.PostNames.{both}
 use Rattle.ccr_model.proofs.Allowing.{filter_head}
 use Rattle.ccr_model.proofs.Members.{Among, Among-left, Among-right}
 use Rattle.ccr_model.proofs.TakenOnce.{joined_some}
+use Rattle.ccr_model.proofs.Booleans.{both, either}
 use Rattle.ccr_serial.specs.Potential.{takes_some, TakesSome}
 use Rattle.ccr_serial.proofs.Counting.{length-filter_stronger}
 
