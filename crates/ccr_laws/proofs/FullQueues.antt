@@ -26,8 +26,8 @@ use Rattle.ccr_model.proofs.TaskSteps.{queued-start, queued-put, queued-fire}
 use Rattle.ccr_model.proofs.Pushes.{put-push, started-push, dropped-push}
 use Rattle.ccr_model.proofs.LegalParts.{along_legal}
 use Rattle.ccr_model.proofs.Options.{some_of}
-use Rattle.ccr_model.proofs.Booleans.{same_number}
 use Rattle.ccr_model.proofs.SameNames.{same_task-self}
+use Rattle.ccr_model.proofs.Booleans.{same_number}
 use Rattle.ccr_model.proofs.FiredTasks.{fired_has}
 use Rattle.ccr_laws.specs.Standing.{Stands}
 use Rattle.ccr_laws.specs.Drops.{DropsOldest}

@@ -20,8 +20,8 @@ use Rattle.ccr_model.specs.Legal.{IsLegal}
 use Rattle.ccr_model.proofs.Stable.{firings-append}
 use Rattle.ccr_model.proofs.Allowing.{OneName-legal}
 use Rattle.ccr_model.proofs.Members.{Among, Among-right}
-use Rattle.ccr_model.proofs.Booleans.{neither, eq-self}
 use Rattle.ccr_model.proofs.SameNames.{same_message-self}
+use Rattle.ccr_model.proofs.Booleans.{neither, eq-self}
 use Rattle.ccr_laws.specs.Standing.{Stands}
 use Rattle.ccr_laws.specs.OneFate.{IsHeld, IsTakenBy, HasFate, HasOneFate}
 use Rattle.ccr_laws.proofs.Seated.{firing_seated}

@@ -22,10 +22,11 @@ use Rattle.ccr_model.proofs.Stable.{firing_named-append, root_at-append}
 use Rattle.ccr_model.proofs.Pushes.{let_in-push}
 use Rattle.ccr_model.proofs.LegalParts.{along_legal}
 use Rattle.ccr_model.proofs.Options.{some_of}
-use Rattle.ccr_model.proofs.Booleans.{not_true, both, and_not, and_false, refuted, no_both}
 use Rattle.ccr_model.proofs.SameNames.{same_task-is, same_task-self}
 use Rattle.ccr_model.proofs.TasksLeft.{of_filter}
+use Rattle.ccr_model.proofs.Booleans.{not_true, both, and_not, and_false, refuted, no_both}
 use Rattle.ccr_model.proofs.FiredTasks.{IsFired, root_stays}
+use Rattle.ccr_model.proofs.Alone.{lasts_fired}
 use Rattle.ccr_laws.specs.AtWork.{is_queued, is_suspended, is_at_work}
 use Rattle.ccr_laws.specs.Interleaves.{is_seat_in, is_of_interleave}
 use Rattle.ccr_laws.proofs.TaskLists.{to_filter, among_left, not_within, any_named}
@@ -169,13 +170,6 @@ IsOneEach_kept w h (End x how) legal allowed known = one_each_other w h (End x h
 pub IsOneEach-legal : (w : Parts) (h : List Event) → IsLegal w h → IsOneEach h
 IsOneEach-legal w h legal = along_legal w IsOneEach (IsOneEach_kept w) (λ t u ft fu nt nu same. absurd (cc)) h legal
 
-pub last_fired : (w : Parts) (h : List Event) → IsLegal w h → (t : TaskId) → has_task (last_segments h) t ≡ true → IsFired h t
-last_fired w h legal t is = of_case ((AreEnded-legal w h legal).last_ends t is)
-  where
-    of_case : (has_task (ended h) t ≡ true) ⊎ (has_task (dropped h) t ≡ true) → IsFired h t
-    of_case (inl e) = let placed = ArePlaced-legal w h legal in placed.all_fired t (placed.lists.put_started t ((AreEnded-legal w h legal).started_ended t e))
-    of_case (inr d) = let placed = ArePlaced-legal w h legal in placed.all_fired t (placed.lists.put_dropped t d)
-
 -- who is at work: was put, is no last segment, and no other goes on for it
 pub record IsAtWork (h : List Event) (t : TaskId) : Type 0 where
   pub put_so : has_task (put h) t ≡ true
@@ -198,7 +192,7 @@ not_over w h legal t work = refuted (is_over h (root_of h t)) over
         let fired = (ArePlaced-legal w h legal).all_fired t work.put_so in
         let unyielded : has_task (yielded h) last.0 ≡ false = refuted (has_task (yielded h) last.0) (λ yields. no_both last.1 ((AreEnded-legal w h legal).not_both last.0 yields)) in
         let latest : is_gone_on h last.0 ≡ false = rw unyielded refl in
-        let one : last.0 ≡ t = IsOneEach-legal w h legal last.0 t (last_fired w h legal last.0 last.1) fired latest work.latest (same_task-is (root_of h last.0) (root_of h t) last.2) in
+        let one : last.0 ≡ t = IsOneEach-legal w h legal last.0 t (lasts_fired w h legal last.0 last.1) fired latest work.latest (same_task-is (root_of h last.0) (root_of h t) last.2) in
         no_both (subst (λ u. has_task (last_segments h) u ≡ true) one last.1) work.not_last
 
 -- a task of a site has a root that was admitted, where its branch is one of an Interleave

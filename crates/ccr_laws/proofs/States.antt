@@ -20,8 +20,8 @@ use Rattle.ccr_model.specs.Rules.{needs_no_admission, may_put}
 use Rattle.ccr_model.specs.Fates.{end_of, state_of_started, state_of}
 use Rattle.ccr_model.specs.Legal.{IsLegal}
 use Rattle.ccr_model.proofs.Allowing.{OneName-legal}
-use Rattle.ccr_model.proofs.Booleans.{neither, refuted, no_both, eq-self}
 use Rattle.ccr_model.proofs.SameNames.{same_task-is, same_task-self, same_task-sym}
+use Rattle.ccr_model.proofs.Booleans.{neither, refuted, no_both, eq-self}
 use Rattle.ccr_laws.specs.Interleaves.{is_seat_in}
 use Rattle.ccr_laws.specs.OneFate.{Waits, IsQueued, HasEnded, IsIn}
 use Rattle.ccr_laws.proofs.Allowed.{allowed_at}

@@ -1,6 +1,5 @@
 -- Over plain lists of tasks: who stands in a list, in part of it, and in two lists.
 use Rattle.std.proofs.Common.{◌≡◌, ℕ, zero, suc, ◌<◌, ◌≤◌, Bool, true, false, not, ◌||◌, List, [], ◌∷◌, ◌++◌, length, drop, filter, refl, sym, arith, ap, ◌∙◌, subst}
-use Rattle.std.specs.Prelude.{if◌then◌else◌}
 use Rattle.std.specs.List.{list_any, list_all}
 use Rattle.std.proofs.lemmas.Grind.{common_steps}
 use Rattle.ccr_base.specs.declared.names.TaskId.{TaskId}
@@ -9,9 +8,9 @@ use Rattle.ccr_model.specs.Consequences.{are_distinct_tasks}
 use Rattle.ccr_model.specs.Rules.{is_first}
 use Rattle.ccr_model.proofs.Quiet.{first_is}
 use Rattle.ccr_model.proofs.Options.{head_rest}
-use Rattle.ccr_model.proofs.Booleans.{not_true, not_false, both, neither, or_left, or_right, either, refuted, no_both}
 use Rattle.ccr_model.proofs.SameNames.{same_task-is, same_task-self}
 use Rattle.ccr_model.proofs.TasksLeft.{has_task-append, has_task-filter}
+use Rattle.ccr_model.proofs.Booleans.{not_true, not_false, both, neither, or_left, or_right, either, refuted, no_both}
 
 -- a member that passes is a member of those that pass
 pub to_filter : (p : TaskId → Bool) (ts : List TaskId) (t : TaskId) → has_task ts t ≡ true → p t ≡ true → has_task (filter p ts) t ≡ true
@@ -25,17 +24,6 @@ without-append ts us gone = grind (arith, common_steps)
 
 pub filter_append : (p : TaskId → Bool) (ts us : List TaskId) → filter p (ts ++ us) ≡ filter p ts ++ filter p us
 filter_append p ts us = grind (arith, common_steps)
-
--- two tests, one after the other, in either order
-pub filter_swap : (p q : TaskId → Bool) (ts : List TaskId) → filter p (filter q ts) ≡ filter q (filter p ts)
-filter_swap p q [] = refl
-filter_swap p q (x ∷ ts) = of_tests (p x) (q x) refl refl (filter_swap p q ts)
-  where
-    of_tests : (a b : Bool) → p x ≡ a → q x ≡ b → filter p (filter q ts) ≡ filter q (filter p ts) → filter p (if b then x ∷ filter q ts else filter q ts) ≡ filter q (if a then x ∷ filter p ts else filter p ts)
-    of_tests true true e f rest = rw (e, f, rest) refl
-    of_tests true false e f rest = rw (f, rest) refl
-    of_tests false true e f rest = rw (e, rest) refl
-    of_tests false false e f rest = rest
 
 -- a test that all pass
 pub filter_all : (p : TaskId → Bool) (ts : List TaskId) → ((u : TaskId) → has_task ts u ≡ true → p u ≡ true) → filter p ts ≡ ts

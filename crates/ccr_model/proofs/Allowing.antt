@@ -38,8 +38,8 @@ use Rattle.ccr_model.proofs.Stable.{firing_named-append, firings-append}
 use Rattle.ccr_model.proofs.Options.{some_of, IfSome-or, some-below, none-above}
 use Rattle.ccr_model.proofs.Members.{Among}
 use Rattle.ccr_model.proofs.FirstNames.{length-names_of}
-use Rattle.ccr_model.proofs.Booleans.{both, or_right, eq-self}
 use Rattle.ccr_model.proofs.SameNames.{same_task-self, same_message-self}
+use Rattle.ccr_model.proofs.Booleans.{both, or_right, eq-self}
 use Rattle.ccr_model.proofs.FiredTasks.{find_last}
 
 same_list-self : {X : Type 0} (same : X → X → Bool) → ((x : X) → same x x ≡ true) → (xs : List X) → same_lists same xs xs ≡ true

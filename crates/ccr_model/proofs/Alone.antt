@@ -28,9 +28,9 @@ use Rattle.ccr_model.proofs.Allowing.{head_passes}
 use Rattle.ccr_model.proofs.Covered.{AreStarted, AreStarted_kept, running_started}
 use Rattle.ccr_model.proofs.Pushes.{last-push, let_in-push}
 use Rattle.ccr_model.proofs.Options.{some_of, some_then, head_rest}
-use Rattle.ccr_model.proofs.Booleans.{both, or_left, or_right}
 use Rattle.ccr_model.proofs.SameNames.{same_task-is, same_task-self}
-use Rattle.ccr_model.proofs.FiredTasks.{IsFired, AreFired, IsFired-append, seat_fired, seat_stays, root_stays}
+use Rattle.ccr_model.proofs.Booleans.{both, or_left, or_right}
+use Rattle.ccr_model.proofs.FiredTasks.{IsFired, AreFired, IsFired-append, none_fired, seat_fired, seat_stays, root_stays}
 
 AreFired-append : (h es : List Event) (ts : List TaskId) → AreFired h ts → AreFired (h ++ es) ts
 AreFired-append h es ts all t is = IsFired-append h es t (all t is)
@@ -76,9 +76,6 @@ end_fired h t (ends.Failed v) fired = AreFired-one h t fired
 end_fired h t ends.Shed fired = AreFired-one h t fired
 end_fired h t ends.Yield fired = λ u is. absurd (cc)
 
-none_fired : (h : List Event) → AreFired h []
-none_fired h t is = absurd (cc)
-
 last_fired : (w : Parts) (h : List Event) (e : Event) → AreStarted h → IsAllowed w h e → AreFired h (last_by e)
 last_fired w h (End t how) known allowed = let a = refused_not (has_task (running h) t) 15 _ allowed in end_fired h t how (known.named t (running_started h t a.0))
 last_fired w h (Put t d) known allowed = let a = refused_not (may_put w h t) 11 _ allowed in drop_fired w h t d (refused_not (same_options same_task d (drop_at w h t)) 12 None a.1).0
@@ -109,7 +106,7 @@ any_more p q (x ∷ ts) us same is =
     of_test false e at rest = or_right (q x) (list_any q (ts ++ us)) (rest at)
 
 -- who is over stays over
-over_stays : (h : List Event) (e : Event) (t : TaskId) → AreFired h (last_segments h) → is_over h t ≡ true → is_over (h ++ e ∷ []) t ≡ true
+pub over_stays : (h : List Event) (e : Event) (t : TaskId) → AreFired h (last_segments h) → is_over h t ≡ true → is_over (h ++ e ∷ []) t ≡ true
 over_stays h e t all is = rw last-push (any_more (λ u. same_task (root_of h u) t) (λ u. same_task (root_of (h ++ e ∷ []) u) t) (last_segments h) (last_by e) (λ u among. ap (λ r. same_task r t) (sym (root_stays h (e ∷ []) u (all u among)))) is)
 
 -- over plain lists: a narrower test keeps all-or-one
@@ -229,6 +226,16 @@ Known_kept w h e known allowed = record {
     alone_kept w h (Start t a) known allowed = alone_other w h (Start t a) (other h (Start t a) refl) known
     alone_kept w h (End t how) known allowed = alone_other w h (End t how) (other h (End t how) refl) known
 
+Known-legal : (w : Parts) (h : List Event) → IsLegal w h → Known w h
+Known-legal w h legal = along w (Known w) (Known_kept w) (record { starts = record { named = λ t is. absurd (cc); once = refl }; lasts = none_fired []; lets = none_fired []; alone = λ i. refl }) h legal
+
+pub lasts_fired : (w : Parts) (h : List Event) → IsLegal w h → AreFired h (last_segments h)
+lasts_fired w h legal = (Known-legal w h legal).lasts
+
+-- who was admitted fired
+pub let_in_fired : (w : Parts) (h : List Event) → IsLegal w h → AreFired h (let_in h)
+let_in_fired w h legal = (Known-legal w h legal).lets
+
 -- exclusion, first part
 pub is_alone-legal : (w : Parts) (h : List Event) → IsLegal w h → (i : ℕ) → is_alone w h i ≡ true
-is_alone-legal w h legal = (along w (Known w) (Known_kept w) (record { starts = record { named = λ t is. absurd (cc); once = refl }; lasts = none_fired []; lets = none_fired []; alone = λ i. refl }) h legal).alone
+is_alone-legal w h legal = (Known-legal w h legal).alone

@@ -25,6 +25,9 @@ AreFired h ts = (t : TaskId) → has_task ts t ≡ true → IsFired h t
 pub IsFired-append : (h es : List Event) (t : TaskId) → IsFired h t → IsFired (h ++ es) t
 IsFired-append h es t fired = (fired.0, firing_named-append h es t fired.0 fired.1)
 
+pub none_fired : (h : List Event) → AreFired h []
+none_fired h t is = absurd (cc)
+
 -- the firing of a new task
 pub find_last : (t : TaskId) (fs : List Firing) (g : Firing) → g.task ≡ t → has_task (map (λ (f : Firing). f.task) fs) t ≡ false → find (λ (f : Firing). same_task f.task t) (fs ++ g ∷ []) ≡ Some g
 find_last t [] g e new = rw (e, same_task-self t) refl

@@ -7,7 +7,7 @@ pub mod Options
 pub mod Members
 pub mod SameNames
 pub mod TasksLeft
-pub mod Counted
+pub mod Filters
 pub mod Pushes
 pub mod HeldSteps
 pub mod PostNames

@@ -25,8 +25,8 @@ use Rattle.ccr_model.specs.Rules.{is_new}
 use Rattle.ccr_model.specs.Legal.{IsAllowed, IsLegal}
 use Rattle.ccr_wiring.specs.Valid.{has_port, are_apart, slot_ports, names_ports_once, HasPortsApart}
 use Rattle.ccr_model.proofs.PostNames.{times, along, refused_not, AreNamed, named_kept}
-use Rattle.ccr_model.proofs.Booleans.{both}
 use Rattle.ccr_model.proofs.SameNames.{same_message-is}
+use Rattle.ccr_model.proofs.Booleans.{both}
 
 -- how often the name stands in the list of names
 abbrev pub named : MsgId → List MsgId → ℕ
@@ -132,6 +132,7 @@ named-choice_of name t ms (Gather total first second) names apart is =
     let parts = both (length names == total) (are_split (at t ms first) (at t ms second) names) is in
     omega (arith, named-split name (at t ms first) (at t ms second) names parts.1, times-two name t first second apart ms)
 
+-- the messages that no firing took, of all ports
 abbrev pub untaken : List Event → List Msg
 untaken h = filter (λ (m : Msg). not (has_message (taken h) m.id)) (posts h)
 

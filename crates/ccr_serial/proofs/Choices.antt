@@ -15,7 +15,7 @@ use Rattle.ccr_model.specs.Choice.{names_of}
 use Rattle.ccr_model.specs.Enough.{can_fire}
 use Rattle.ccr_model.specs.Order.{fire_at}
 use Rattle.ccr_model.proofs.CanFire.{some_fire_at}
-use Rattle.ccr_model.proofs.Counted.{length-kept}
+use Rattle.ccr_model.proofs.Filters.{length-kept}
 use Rattle.ccr_serial.proofs.Ending.{all_kinds}
 
 -- a port holds no more messages than there are events

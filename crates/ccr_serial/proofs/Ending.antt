@@ -21,15 +21,15 @@ use Rattle.ccr_model.specs.Legal.{IsAllowed, IsLegal}
 use Rattle.ccr_model.proofs.PostNames.{along, refused_not}
 use Rattle.ccr_model.proofs.Quiet.{first_is}
 use Rattle.ccr_model.proofs.Allowing.{head_passes}
-use Rattle.ccr_model.proofs.TakenOnce.{FireFacts-allowed}
+use Rattle.ccr_model.proofs.TakenOnce.{FireFacts-allowed, untaken}
 use Rattle.ccr_model.proofs.Pushes.{firings-push, fired-fire, put-push, started-push, ended-push, let_in-push}
 use Rattle.ccr_model.proofs.Options.{some_of, some_map, head_rest}
-use Rattle.ccr_model.proofs.Booleans.{both}
 use Rattle.ccr_model.proofs.TasksLeft.{of_without, out_left}
+use Rattle.ccr_model.proofs.Booleans.{both}
 use Rattle.ccr_model.proofs.FiredTasks.{fired_has, seat_fired}
 use Rattle.ccr_serial.specs.Potential.{TakesSome, most_events}
 use Rattle.ccr_serial.proofs.Counting.{Fits, Fits-came, Fits-gone, head_member}
-use Rattle.ccr_serial.proofs.Taking.{untaken, untaken_post, untaken_fire}
+use Rattle.ccr_serial.proofs.Taking.{untaken_post, untaken_fire}
 use Rattle.ccr_serial.proofs.Lines.{few_posts}
 
 -- what is known of the numbers of events of each kind

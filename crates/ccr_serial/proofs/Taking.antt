@@ -22,7 +22,7 @@ use Rattle.ccr_model.specs.Posts.{posts, taken, held}
 use Rattle.ccr_model.specs.Choice.{names_of, choice_of_slots, are_first, are_split, is_choice_of, are_oldest, is_choice}
 use Rattle.ccr_model.proofs.Allowing.{filter_head}
 use Rattle.ccr_model.proofs.Members.{Among, Among-left, Among-right}
-use Rattle.ccr_model.proofs.TakenOnce.{joined_some}
+use Rattle.ccr_model.proofs.TakenOnce.{joined_some, untaken}
 use Rattle.ccr_model.proofs.Booleans.{both, either}
 use Rattle.ccr_serial.specs.Potential.{takes_some, TakesSome}
 use Rattle.ccr_serial.proofs.Counting.{length-filter_stronger}
@@ -117,10 +117,6 @@ choice_named w some h (Site b k) names is = of_option (site_port w b k) is
     of_option : (o : Option ℕ) → option_map_or (λ port. are_oldest (held h port) names) o false ≡ true → NamesOne (held h) names
     of_option None chosen = absurd (cc)
     of_option (Some port) chosen = oldest_named (held h) port names chosen
-
--- the messages that no firing took, of all ports
-abbrev pub untaken : List Event → List Msg
-untaken h = filter (λ (m : Msg). not (has_message (taken h) m.id)) (posts h)
 
 -- a test that fails for one more of a port's messages keeps fewer of all
 one_less : (port : ℕ) (p q : Msg → Bool) → ((x : Msg) → q x ≡ true → p x ≡ true) → (m : Msg) → q m ≡ false → (ms : List Msg) → Among m (filter p (filter (λ (x : Msg). x.port == port) ms)) → length (filter q ms) + 1 ≤ length (filter p ms)
