@@ -97,15 +97,6 @@ any_named p (x ∷ ts) is = of_test (p x) refl is (any_named p ts)
     of_test true e at rest = (x, or_left (same_task x x) (has_task ts x) (same_task-self x), e)
     of_test false e at rest = let r = rest at in (r.0, or_right (same_task r.0 x) (has_task ts r.0) r.1, r.2)
 
--- some member passes the test
-pub any_has : (p : TaskId → Bool) (ts : List TaskId) (t : TaskId) → has_task ts t ≡ true → p t ≡ true → list_any p ts ≡ true
-any_has p [] t is passes = absurd (cc)
-any_has p (x ∷ ts) t is passes = of_test (same_task t x) refl is (λ rest. any_has p ts t rest passes)
-  where
-    of_test : (b : Bool) → same_task t x ≡ b → b || has_task ts t ≡ true → (has_task ts t ≡ true → list_any p ts ≡ true) → list_any p (x ∷ ts) ≡ true
-    of_test true e at rest = or_left (p x) (list_any p ts) (subst (λ y. p y ≡ true) (same_task-is t x e) passes)
-    of_test false e at rest = or_right (p x) (list_any p ts) (rest at)
-
 -- the only one of at most one
 pub only_one : (ts : List TaskId) (t : TaskId) → has_task ts t ≡ true → length ts ≤ 1 → ts ≡ t ∷ []
 only_one [] t is few = absurd (cc)

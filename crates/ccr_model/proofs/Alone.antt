@@ -229,6 +229,7 @@ Known_kept w h e known allowed = record {
 Known-legal : (w : Parts) (h : List Event) → IsLegal w h → Known w h
 Known-legal w h legal = along w (Known w) (Known_kept w) (record { starts = record { named = λ t is. absurd (cc); once = refl }; lasts = none_fired []; lets = none_fired []; alone = λ i. refl }) h legal
 
+-- the tasks of the last segments fired
 pub lasts_fired : (w : Parts) (h : List Event) → IsLegal w h → AreFired h (last_segments h)
 lasts_fired w h legal = (Known-legal w h legal).lasts
 
