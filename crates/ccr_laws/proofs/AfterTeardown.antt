@@ -7,30 +7,32 @@ use Rattle.ccr_base.specs.declared.names.MsgId.{MsgId}
 use Rattle.ccr_base.specs.declared.names.Spot.{Spot}
 use Rattle.ccr_base.specs.declared.policies.Group.{Group}
 use Rattle.ccr_base.specs.declared.policies.Group.TheVariants as groups
-use Rattle.ccr_base.specs.Names.{same_task, has_task}
+use Rattle.ccr_base.specs.Names.{has_task}
 use Rattle.ccr_wiring.specs.declared.parts.Parts.{Parts}
 use Rattle.ccr_wiring.specs.Valid.{HasGroups}
 use Rattle.ccr_wiring.specs.Wirings.{Seat, seat, branch_of}
 use Rattle.ccr_model.specs.declared.history.Event.{Event}
 use Rattle.ccr_model.specs.declared.history.Event.TheVariants.{Post, Fire, Admit, Put, Start, End}
-use Rattle.ccr_model.specs.Firings.{Firing, firing_of, firing_named, fired, cut, let_in, admitted_by, started, started_by, last_segments, last_by}
+use Rattle.ccr_model.specs.Firings.{Firing, firing_of, firing_named, fired, cut, let_in, admitted_by, started, started_by}
 use Rattle.ccr_model.specs.Sites.{root_of}
 use Rattle.ccr_model.specs.TaskData.{seat_of}
 use Rattle.ccr_model.specs.Tasks.{is_interleave, is_teardown, is_concurrent, is_branch_where, fired_by, waiting, is_in_arbiter, is_over, admitted, queued}
 use Rattle.ccr_model.specs.Rules.{cuts_at}
 use Rattle.ccr_model.specs.Legal.{IsAllowed, IsLegal}
-use Rattle.ccr_model.proofs.PostNames.{both}
-use Rattle.ccr_model.proofs.Quiet.{some_of}
 use Rattle.ccr_model.proofs.Stable.{firing_named-append}
+use Rattle.ccr_model.proofs.Pushes.{started-push, let_in-push, cut-push}
+use Rattle.ccr_model.proofs.LegalParts.{along_legal, onward, Parted-legal}
+use Rattle.ccr_model.proofs.Options.{some_of}
+use Rattle.ccr_model.proofs.TasksLeft.{out_left}
+use Rattle.ccr_model.proofs.Booleans.{both, and_not, refuted, no_both, same_number}
+use Rattle.ccr_model.proofs.FiredTasks.{IsFired, IsFired-append, seat_fired, seat_stays, root_stays}
+use Rattle.ccr_model.proofs.Alone.{over_stays, lasts_fired, let_in_fired}
 use Rattle.ccr_laws.specs.Interleaves.{is_seat_in, is_teardown_in, is_exclusive_in, tears_down, is_of_interleave, is_of_teardown, is_of_exclusive}
-use Rattle.ccr_laws.proofs.Booleans.{refuted, no_both, and_not, same_number}
-use Rattle.ccr_laws.proofs.Pushes.{started-push, cut-push, let_in-push, last-push}
-use Rattle.ccr_laws.proofs.LegalParts.{along_legal, onward, Parted-legal}
-use Rattle.ccr_laws.proofs.TaskLists.{has_oldest, of_more, among_left, of_one, out_left, out_right, any_named, any_has}
-use Rattle.ccr_laws.proofs.TaskPlaces.{IsFired, IsFired-append, AreFired, ArePlaced-legal, StartFacts-allowed, seat_fired, seat_stays, seat_by}
+use Rattle.ccr_laws.proofs.TaskLists.{has_oldest, of_more, of_one, out_right}
+use Rattle.ccr_laws.proofs.TaskPlaces.{ArePlaced-legal, StartFacts-allowed, seat_by}
 use Rattle.ccr_laws.proofs.FiringFacts.{FiresSo, FiresSo-allowed, BranchFacts, BranchFacts-where, waits_parts, waits_whole}
 use Rattle.ccr_laws.proofs.Cutting.{fired_by-append, dead, AdmitFacts-allowed}
-use Rattle.ccr_laws.proofs.Roots.{root_stays, of_firing, other_firing, AreRooted-legal, last_fired, queued_works, at_work_admitted, seat_of_root, AdmittedFacts-admitted, admitted_whole}
+use Rattle.ccr_laws.proofs.Roots.{of_firing, other_firing, AreRooted-legal, queued_works, at_work_admitted, seat_of_root, AdmittedFacts-admitted, admitted_whole}
 use Rattle.ccr_laws.proofs.Exclusion.{alone}
 
 -- who waits after one more event waited before it, or fired by it; the event didn't cut him
@@ -101,31 +103,8 @@ IsTornDown_kept w groups_fit i h (End x how) legal allowed known = torn_other w 
 IsTornDown-legal : (w : Parts) → HasGroups w → (i : ℕ) (h : List Event) → IsLegal w h → IsTornDown w i h
 IsTornDown-legal w groups_fit i h legal = along_legal w (IsTornDown w i) (IsTornDown_kept w groups_fit i) (λ t f is tears u waits. absurd (cc)) h legal
 
--- who was admitted fired
-let_in_fired : (w : Parts) (h : List Event) → IsLegal w h → AreFired h (let_in h)
-let_in_fired w h legal = along_legal w (λ g. AreFired g (let_in g)) kept (λ t is. absurd (cc)) h legal
-  where
-    by_event : (g : List Event) (e : Event) → IsAllowed w g e → (t : TaskId) → has_task (admitted_by e) t ≡ true → IsFired g t
-    by_event g (Admit x) allowed t is = let facts = AdmitFacts-allowed w g x allowed in subst (IsFired g) (sym (of_one x t is)) (seat_fired w g x facts.place facts.is_place)
-    by_event g (Post m) allowed t is = absurd (cc)
-    by_event g (Fire x s ms cs) allowed t is = absurd (cc)
-    by_event g (Put x d) allowed t is = absurd (cc)
-    by_event g (Start x a) allowed t is = absurd (cc)
-    by_event g (End x how) allowed t is = absurd (cc)
-
-    kept : (g : List Event) (e : Event) → IsLegal w g → IsAllowed w g e → AreFired g (let_in g) → AreFired (g ++ e ∷ []) (let_in (g ++ e ∷ []))
-    kept g e legal' allowed known t is = IsFired-append g (e ∷ []) t (of_more (let_in g) (admitted_by e) t (IsFired g t) (subst (λ ts. has_task ts t ≡ true) (let_in-push g e) is) (known t) (by_event g e allowed t))
-
--- who is over stays over
-over_stays : (w : Parts) (h : List Event) (e : Event) (t : TaskId) → IsLegal w h → is_over h t ≡ true → is_over (h ++ e ∷ []) t ≡ true
-over_stays w h e t legal is =
-    let last = any_named (λ u. same_task (root_of h u) t) (last_segments h) is in
-    let still : same_task (root_of (h ++ e ∷ []) last.0) t ≡ true = subst (λ r. same_task r t ≡ true) (sym (root_stays h (e ∷ []) last.0 (last_fired w h legal last.0 last.1))) last.2 in
-    let there : has_task (last_segments (h ++ e ∷ [])) last.0 ≡ true = rw (last-push h e) (among_left (last_segments h) (last_by e) last.0 last.1) in
-    any_has (λ u. same_task (root_of (h ++ e ∷ []) u) t) (last_segments (h ++ e ∷ [])) last.0 there still
-
 not_over_before : (w : Parts) (h : List Event) (e : Event) (t : TaskId) → IsLegal w h → is_over (h ++ e ∷ []) t ≡ false → is_over h t ≡ false
-not_over_before w h e t legal is = refuted (is_over h t) (λ over. no_both (over_stays w h e t legal over) is)
+not_over_before w h e t legal is = refuted (is_over h t) (λ over. no_both (over_stays h e t (lasts_fired w h legal) over) is)
 
 -- who is admitted after one more event was so before it, or enters by it
 admitted_before : (w : Parts) (h : List Event) (e : Event) (i : ℕ) (t : TaskId) → IsLegal w h → IsAllowed w h e → has_task (admitted w (h ++ e ∷ []) i) t ≡ true → (has_task (admitted w h i) t ≡ true) ⊎ ((has_task (admitted_by e) t ≡ true) × (is_in_arbiter w (h ++ e ∷ []) i t ≡ true))

@@ -3,8 +3,8 @@ use Rattle.std.proofs.Common.{List, subst}
 use Rattle.ccr_wiring.specs.declared.parts.Parts.{Parts}
 use Rattle.ccr_model.specs.declared.history.Event.{Event}
 use Rattle.ccr_model.specs.Legal.{IsAllowed, IsLegal}
+use Rattle.ccr_model.proofs.LegalParts.{Parted, Parted-legal}
 use Rattle.ccr_laws.specs.Standing.{Stands}
-use Rattle.ccr_laws.proofs.LegalParts.{Parted, Parted-legal}
 
 Parted-standing : (w : Parts) (h past : List Event) (e : Event) → IsLegal w h → (stands : Stands h past e) → Parted w past e stands.more
 Parted-standing w h past e legal stands = Parted-legal w past e stands.more (subst (IsLegal w) stands.whole legal)

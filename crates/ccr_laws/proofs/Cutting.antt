@@ -25,16 +25,17 @@ use Rattle.ccr_model.specs.Tasks.{is_interleave, is_teardown, is_branch_where, f
 use Rattle.ccr_model.specs.Live.{is_live, is_live_in, is_none_of}
 use Rattle.ccr_model.specs.Rules.{is_first, is_oldest_waiting, may_enter, needs_no_admission, cuts_at}
 use Rattle.ccr_model.specs.Legal.{IsAllowed, IsLegal}
-use Rattle.ccr_model.proofs.PostNames.{both, refused_not}
-use Rattle.ccr_model.proofs.Quiet.{some_of}
+use Rattle.ccr_model.proofs.PostNames.{refused_not}
 use Rattle.ccr_model.proofs.Stable.{firing_named-append}
 use Rattle.ccr_model.proofs.Allowing.{OneName, OneName-legal}
+use Rattle.ccr_model.proofs.Pushes.{put-push, let_in-push, cut-push}
+use Rattle.ccr_model.proofs.LegalParts.{along_legal, onward, Parted-legal}
+use Rattle.ccr_model.proofs.Options.{some_of}
+use Rattle.ccr_model.proofs.Booleans.{both, refuted, no_both, same_number}
+use Rattle.ccr_model.proofs.FiredTasks.{IsFired}
 use Rattle.ccr_laws.specs.Interleaves.{is_seat_in, is_teardown_in, tears_down, fired_in}
-use Rattle.ccr_laws.proofs.Booleans.{refuted, no_both, same_number}
-use Rattle.ccr_laws.proofs.Pushes.{put-push, cut-push, let_in-push}
-use Rattle.ccr_laws.proofs.LegalParts.{along_legal, onward, Parted-legal}
 use Rattle.ccr_laws.proofs.TaskLists.{first_rest, has_oldest, of_more, among_left, not_more, of_one, not_one, not_within}
-use Rattle.ccr_laws.proofs.TaskPlaces.{IsFired, ArePlaced, ArePlaced-legal, PutFacts, PutFacts-allowed}
+use Rattle.ccr_laws.proofs.TaskPlaces.{ArePlaced, ArePlaced-legal, PutFacts, PutFacts-allowed}
 use Rattle.ccr_laws.proofs.FiringFacts.{FiresSo-allowed, BranchFacts-where, WaitingFacts, WaitingFacts-waiting, fired_by_has, firing_named-new, waits_outside, live_at}
 
 -- an event later, a list longer

@@ -12,10 +12,11 @@ use Rattle.ccr_model.specs.Tasks.{running}
 use Rattle.ccr_model.specs.Legal.{IsAllowed, IsLegal}
 use Rattle.ccr_model.specs.Consequences.{are_distinct_tasks}
 use Rattle.ccr_model.proofs.PostNames.{refused_not}
-use Rattle.ccr_laws.proofs.Pushes.{started-push, dropped-push, ended-push, yielded-push, last-push}
-use Rattle.ccr_laws.proofs.Booleans.{refuted, no_both}
-use Rattle.ccr_laws.proofs.LegalParts.{along_legal}
-use Rattle.ccr_laws.proofs.TaskLists.{of_without, distinct-push, of_more, among_left, among_right, not_more, of_one, not_one, not_within}
+use Rattle.ccr_model.proofs.Pushes.{started-push, dropped-push, ended-push, yielded-push, last-push}
+use Rattle.ccr_model.proofs.LegalParts.{along_legal}
+use Rattle.ccr_model.proofs.TasksLeft.{of_without, distinct-push}
+use Rattle.ccr_model.proofs.Booleans.{refuted, no_both}
+use Rattle.ccr_laws.proofs.TaskLists.{of_more, among_left, among_right, not_more, of_one, not_one, not_within}
 use Rattle.ccr_laws.proofs.TaskPlaces.{ArePlaced-legal, new_drop}
 
 -- a running task started and didn't end

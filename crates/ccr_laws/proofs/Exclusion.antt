@@ -17,15 +17,14 @@ use Rattle.ccr_model.specs.TaskData.{seat_of}
 use Rattle.ccr_model.specs.Tasks.{is_interleave, is_concurrent, is_in_arbiter, is_over, admitted}
 use Rattle.ccr_model.specs.Rules.{is_concurrent_task}
 use Rattle.ccr_model.specs.Legal.{IsLegal}
-use Rattle.ccr_model.proofs.PostNames.{both}
-use Rattle.ccr_model.proofs.Quiet.{some_of}
-use Rattle.ccr_model.proofs.Covered.{or_left, or_right}
-use Rattle.ccr_model.proofs.Allowing.{same_task-self}
+use Rattle.ccr_model.proofs.Options.{some_of}
+use Rattle.ccr_model.proofs.SameNames.{same_task-self}
+use Rattle.ccr_model.proofs.TasksLeft.{has_task-append}
+use Rattle.ccr_model.proofs.Booleans.{not_true, both, or_left, or_right}
 use Rattle.ccr_model.proofs.Alone.{is_alone-legal}
 use Rattle.ccr_laws.specs.AtWork.{is_at_work}
 use Rattle.ccr_laws.specs.Interleaves.{is_seat_in, is_exclusive_in, is_of_interleave, is_of_exclusive}
-use Rattle.ccr_laws.proofs.Booleans.{not_true}
-use Rattle.ccr_laws.proofs.TaskLists.{has_task-append, of_one, only_one, passes_all}
+use Rattle.ccr_laws.proofs.TaskLists.{of_one, only_one, passes_all}
 use Rattle.ccr_laws.proofs.TaskPlaces.{ArePlaced-legal}
 use Rattle.ccr_laws.proofs.Roots.{IsAtWork, at_work_admitted, one_at_work, work_so, seat_of_root, admitted_whole}
 

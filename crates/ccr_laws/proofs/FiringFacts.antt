@@ -1,7 +1,6 @@
 -- What an allowed firing says, and who fired where.
-use Rattle.std.proofs.Common.{◌≡◌, ℕ, Bool, true, false, not, ◌||◌, List, [], ◌∷◌, ◌++◌, map, filter, Some, None, inl, inr, refl, sym, arith, ap, ◌∙◌, subst, append-nil}
+use Rattle.std.proofs.Common.{◌≡◌, ℕ, Bool, true, false, not, ◌||◌, List, [], ◌∷◌, ◌++◌, map, filter, Some, None, inl, inr, refl, sym, ap, ◌∙◌, subst, append-nil}
 use Rattle.std.specs.Prelude.{◌==◌, if◌then◌else◌, find, nat_le}
-use Rattle.std.proofs.lemmas.Bool.Decides.{nat_tests}
 use Rattle.ccr_base.specs.declared.names.TaskId.{TaskId}
 use Rattle.ccr_base.specs.declared.names.MsgId.{MsgId}
 use Rattle.ccr_base.specs.declared.names.Spot.{Spot}
@@ -18,15 +17,17 @@ use Rattle.ccr_model.specs.Live.{is_live, is_live_in, has_room}
 use Rattle.ccr_model.specs.Choice.{is_choice}
 use Rattle.ccr_model.specs.Rules.{is_new, cuts_at, needs_no_admission}
 use Rattle.ccr_model.specs.Legal.{IsAllowed}
-use Rattle.ccr_model.proofs.PostNames.{both, refused_not}
-use Rattle.ccr_model.proofs.Quiet.{Among, some_of}
-use Rattle.ccr_model.proofs.TaskSteps.{firings-push}
-use Rattle.ccr_model.proofs.Covered.{same_task-is, or_left, or_right}
-use Rattle.ccr_model.proofs.Allowing.{same_task-self, OneName}
+use Rattle.ccr_model.proofs.PostNames.{refused_not}
+use Rattle.ccr_model.proofs.Allowing.{OneName}
+use Rattle.ccr_model.proofs.Pushes.{firings-push}
+use Rattle.ccr_model.proofs.Options.{some_of}
+use Rattle.ccr_model.proofs.Members.{Among}
+use Rattle.ccr_model.proofs.SameNames.{same_task-is, same_task-self, same_task-sym}
+use Rattle.ccr_model.proofs.TasksLeft.{of_without, out_left}
+use Rattle.ccr_model.proofs.Booleans.{not_true, both, neither, or_left, or_right, refuted, no_both}
+use Rattle.ccr_model.proofs.FiredTasks.{IsFired, find_last, fired_has}
 use Rattle.ccr_laws.specs.Interleaves.{is_seat_in}
-use Rattle.ccr_laws.proofs.Booleans.{not_true, neither, refuted, no_both}
-use Rattle.ccr_laws.proofs.TaskLists.{same_task-sym, of_without, to_without, not_more, out_left, out_right}
-use Rattle.ccr_laws.proofs.TaskPlaces.{IsFired}
+use Rattle.ccr_laws.proofs.TaskLists.{to_without, not_more, out_right}
 
 same_tasks-is : (ts us : List TaskId) → same_lists same_task ts us ≡ true → ts ≡ us
 same_tasks-is [] [] is = refl
@@ -73,22 +74,9 @@ found_named (g ∷ fs) t f test is passes = of_test (same_task g.task t) refl is
         let here : test g ≡ true = rw one passes in
         rw here (or_left (same_task t g.task) _ (same_task-sym t g.task ∙ e))
 
-all_pass : (fs : List Firing) → filter (λ (f : Firing). true) fs ≡ fs
-all_pass [] = refl
-all_pass (f ∷ fs) = ap (λ gs. f ∷ gs) (all_pass fs)
-
--- who fired is among those that fired
-pub fired_has : (h : List Event) (t : TaskId) → IsFired h t → has_task (fired h) t ≡ true
-fired_has h t found = subst (λ fs. has_task (map (λ (f : Firing). f.task) fs) t ≡ true) (all_pass (firings h)) (found_named (firings h) t found.0 (λ f. true) found.1 refl)
-
 -- a new task isn't one that fired
 pub not_new : (h : List Event) (t u : TaskId) → has_task (fired h) t ≡ false → IsFired h u → same_task t u ≡ false
 not_new h t u new found = refuted (same_task t u) (λ same. no_both (subst (λ x. has_task (fired h) x ≡ true) (sym (same_task-is t u same)) (fired_has h u found)) new)
-
--- the firing of a new task
-find_last : (t : TaskId) (fs : List Firing) (g : Firing) → g.task ≡ t → has_task (map (λ (f : Firing). f.task) fs) t ≡ false → find (λ (f : Firing). same_task f.task t) (fs ++ g ∷ []) ≡ Some g
-find_last t [] g e new = rw (e, same_task-self t) refl
-find_last t (f ∷ fs) g e new = grind (arith, nat_tests, find_last t fs g e)
 
 pub firing_named-new : (h : List Event) (t : TaskId) (s : Spot) (ms : List MsgId) (cs : List TaskId) → has_task (fired h) t ≡ false → firing_named (h ++ Fire t s ms cs ∷ []) t ≡ Some (record { task = t; spot = s; messages = ms; cuts = cs })
 firing_named-new h t s ms cs new = rw firings-push (find_last t (firings h) _ refl new)

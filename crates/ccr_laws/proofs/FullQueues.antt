@@ -22,19 +22,20 @@ use Rattle.ccr_model.specs.TaskData.{seat_of}
 use Rattle.ccr_model.specs.Tasks.{is_for_queue, queued}
 use Rattle.ccr_model.specs.Rules.{drop_at, drop_by}
 use Rattle.ccr_model.specs.Legal.{IsAllowed, IsLegal}
-use Rattle.ccr_model.proofs.Quiet.{some_of}
-use Rattle.ccr_model.proofs.Allowing.{same_task-self}
 use Rattle.ccr_model.proofs.TaskSteps.{queued-start, queued-put, queued-fire}
+use Rattle.ccr_model.proofs.Pushes.{put-push, started-push, dropped-push}
+use Rattle.ccr_model.proofs.LegalParts.{along_legal}
+use Rattle.ccr_model.proofs.Options.{some_of}
+use Rattle.ccr_model.proofs.SameNames.{same_task-self}
+use Rattle.ccr_model.proofs.Booleans.{same_number}
+use Rattle.ccr_model.proofs.FiredTasks.{fired_has}
 use Rattle.ccr_laws.specs.Standing.{Stands}
 use Rattle.ccr_laws.specs.Drops.{DropsOldest}
-use Rattle.ccr_laws.proofs.Booleans.{same_number}
 use Rattle.ccr_laws.proofs.Allowed.{allowed_at, legal_past}
-use Rattle.ccr_laws.proofs.Pushes.{put-push, started-push, dropped-push}
-use Rattle.ccr_laws.proofs.LegalParts.{along_legal}
 use Rattle.ccr_laws.proofs.TaskLists.{not_more, not_within}
 use Rattle.ccr_laws.proofs.DropFacts.{put_allowed, drop_allowed}
 use Rattle.ccr_laws.proofs.TaskPlaces.{ArePlaced-legal, PutFacts-allowed, new_drop}
-use Rattle.ccr_laws.proofs.FiringFacts.{FiresSo-allowed, fired_has, firings-other}
+use Rattle.ccr_laws.proofs.FiringFacts.{FiresSo-allowed, firings-other}
 
 -- a policy's number is at least 1
 some_most : (w : Parts) → IsValid w → (q n : ℕ) → policy_of w q ≡ Discard n → 1 ≤ n

@@ -19,11 +19,11 @@ use Rattle.ccr_wiring.specs.Valid.{IsValid}
 use Rattle.ccr_model.specs.Posts.{posts, posted, taken, held}
 use Rattle.ccr_model.specs.Choice.{names_of}
 use Rattle.ccr_model.specs.Legal.{IsLegal}
-use Rattle.ccr_model.proofs.PostNames.{same_message-is}
+use Rattle.ccr_model.proofs.SameNames.{same_message-is}
+use Rattle.ccr_model.proofs.Booleans.{either, or_assoc, same_number}
 use Rattle.ccr_laws.specs.Standing.{Stands}
 use Rattle.ccr_laws.specs.WholePattern.{FillsSlot, FillsPattern, TakesWhole}
 use Rattle.ccr_laws.specs.OneFate.{IsHeld}
-use Rattle.ccr_laws.proofs.Booleans.{or_assoc, either, same_number}
 use Rattle.ccr_laws.proofs.WholePatterns.{whole_pattern}
 
 -- over plain lists: names

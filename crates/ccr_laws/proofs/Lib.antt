@@ -1,5 +1,3 @@
-pub mod Booleans
-pub mod Pushes
 pub mod Allowed
 pub mod WholePatterns
 pub mod SingleFirings
@@ -14,7 +12,6 @@ mod WorkedInterleave
 pub mod TaskLists
 pub mod TaskPlaces
 pub mod StartOrder
-pub mod LegalParts
 pub mod FiringFacts
 pub mod Cutting
 pub mod Ending

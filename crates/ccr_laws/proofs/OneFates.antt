@@ -17,13 +17,13 @@ use Rattle.ccr_model.specs.Posts.{posts, posted, held, taken, message_named}
 use Rattle.ccr_model.specs.Firings.{Firing, firings}
 use Rattle.ccr_model.specs.Fates.{state_of, fate_of, fate}
 use Rattle.ccr_model.specs.Legal.{IsLegal}
-use Rattle.ccr_model.proofs.PostNames.{same_message-self}
-use Rattle.ccr_model.proofs.Quiet.{Among, Among-right}
 use Rattle.ccr_model.proofs.Stable.{firings-append}
 use Rattle.ccr_model.proofs.Allowing.{OneName-legal}
+use Rattle.ccr_model.proofs.Members.{Among, Among-right}
+use Rattle.ccr_model.proofs.SameNames.{same_message-self}
+use Rattle.ccr_model.proofs.Booleans.{neither, eq-self}
 use Rattle.ccr_laws.specs.Standing.{Stands}
 use Rattle.ccr_laws.specs.OneFate.{IsHeld, IsTakenBy, HasFate, HasOneFate}
-use Rattle.ccr_laws.proofs.Booleans.{eq-self, neither}
 use Rattle.ccr_laws.proofs.Seated.{firing_seated}
 use Rattle.ccr_laws.proofs.HeldBefore.{untaken_of_held, untaken_before, has_message-append}
 use Rattle.ccr_laws.proofs.States.{is_in, only_in}

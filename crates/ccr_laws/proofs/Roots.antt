@@ -8,7 +8,7 @@ use Rattle.ccr_base.specs.declared.names.Spot.{Spot}
 use Rattle.ccr_base.specs.declared.names.Spot.TheVariants.{Branch, Site}
 use Rattle.ccr_base.specs.Names.{same_task, has_task}
 use Rattle.ccr_wiring.specs.declared.parts.Parts.{Parts}
-use Rattle.ccr_wiring.specs.Wirings.{Seat, seat, branch_of, segment_of}
+use Rattle.ccr_wiring.specs.Wirings.{Seat, seat, branch_of}
 use Rattle.ccr_model.specs.declared.history.Event.{Event}
 use Rattle.ccr_model.specs.declared.history.Event.TheVariants.{Post, Fire, Admit, Put, Start, End}
 use Rattle.ccr_model.specs.Firings.{Firing, firing_of, fired, firing_named, let_in, admitted_by, put, started, dropped, ended, yielded, last_segments}
@@ -17,27 +17,24 @@ use Rattle.ccr_model.specs.TaskData.{seat_of}
 use Rattle.ccr_model.specs.Tasks.{is_interleave, is_in_arbiter, is_over, admitted, queued, running}
 use Rattle.ccr_model.specs.Rules.{needs_no_admission}
 use Rattle.ccr_model.specs.Legal.{IsAllowed, IsLegal}
-use Rattle.ccr_model.proofs.PostNames.{both}
-use Rattle.ccr_model.proofs.Quiet.{some_of}
 use Rattle.ccr_model.proofs.TaskSteps.{firing_named-fire}
 use Rattle.ccr_model.proofs.Stable.{firing_named-append, root_at-append}
-use Rattle.ccr_model.proofs.Covered.{same_task-is}
-use Rattle.ccr_model.proofs.Allowing.{same_task-self}
+use Rattle.ccr_model.proofs.Pushes.{let_in-push}
+use Rattle.ccr_model.proofs.LegalParts.{along_legal}
+use Rattle.ccr_model.proofs.Options.{some_of}
+use Rattle.ccr_model.proofs.SameNames.{same_task-is, same_task-self}
+use Rattle.ccr_model.proofs.TasksLeft.{of_filter}
+use Rattle.ccr_model.proofs.Booleans.{not_true, both, and_not, and_false, refuted, no_both}
+use Rattle.ccr_model.proofs.FiredTasks.{IsFired, root_stays}
+use Rattle.ccr_model.proofs.Alone.{lasts_fired}
 use Rattle.ccr_laws.specs.AtWork.{is_queued, is_suspended, is_at_work}
 use Rattle.ccr_laws.specs.Interleaves.{is_seat_in, is_of_interleave}
-use Rattle.ccr_laws.proofs.Pushes.{let_in-push}
-use Rattle.ccr_laws.proofs.Booleans.{not_true, and_false, refuted, no_both, and_not}
-use Rattle.ccr_laws.proofs.LegalParts.{along_legal}
-use Rattle.ccr_laws.proofs.TaskLists.{of_filter, to_filter, among_left, not_within, any_named}
-use Rattle.ccr_laws.proofs.TaskPlaces.{IsFired, ArePlaced-legal, QueuedFacts-queued, seat_by}
+use Rattle.ccr_laws.proofs.TaskLists.{to_filter, among_left, not_within, any_named}
+use Rattle.ccr_laws.proofs.TaskPlaces.{ArePlaced-legal, QueuedFacts-queued, seat_by}
 use Rattle.ccr_laws.proofs.FiringFacts.{FiresSo-allowed, not_new, firing_named-new, before-new, firings-other}
 use Rattle.ccr_laws.proofs.Cutting.{CutFacts-legal}
 use Rattle.ccr_laws.proofs.Ending.{AreEnded-legal, RunningFacts-running}
 use Rattle.ccr_laws.proofs.Suspending.{ResumeFacts, ResumeFacts-allowed, is_gone_on, gone_stays, resumes_suspended, resumes_gone, suspended_yielded}
-
--- the root of a task that fired stays
-pub root_stays : (h es : List Event) (t : TaskId) → IsFired h t → root_of (h ++ es) t ≡ root_of h t
-root_stays h es t fired = rw (firing_named-append h es t fired.0 fired.1, fired.1, root_at-append h es (branch_of fired.0.spot) (segment_of fired.0.spot) t fired.0 fired.1) refl
 
 -- a branch's task is its own root
 pub root_own : (h : List Event) (t : TaskId) (f : Firing) (b : ℕ) → firing_named h t ≡ Some f → f.spot ≡ Branch b → root_of h t ≡ t
@@ -173,13 +170,6 @@ IsOneEach_kept w h (End x how) legal allowed known = one_each_other w h (End x h
 pub IsOneEach-legal : (w : Parts) (h : List Event) → IsLegal w h → IsOneEach h
 IsOneEach-legal w h legal = along_legal w IsOneEach (IsOneEach_kept w) (λ t u ft fu nt nu same. absurd (cc)) h legal
 
-pub last_fired : (w : Parts) (h : List Event) → IsLegal w h → (t : TaskId) → has_task (last_segments h) t ≡ true → IsFired h t
-last_fired w h legal t is = of_case ((AreEnded-legal w h legal).last_ends t is)
-  where
-    of_case : (has_task (ended h) t ≡ true) ⊎ (has_task (dropped h) t ≡ true) → IsFired h t
-    of_case (inl e) = let placed = ArePlaced-legal w h legal in placed.all_fired t (placed.lists.put_started t ((AreEnded-legal w h legal).started_ended t e))
-    of_case (inr d) = let placed = ArePlaced-legal w h legal in placed.all_fired t (placed.lists.put_dropped t d)
-
 -- who is at work: was put, is no last segment, and no other goes on for it
 pub record IsAtWork (h : List Event) (t : TaskId) : Type 0 where
   pub put_so : has_task (put h) t ≡ true
@@ -202,7 +192,7 @@ not_over w h legal t work = refuted (is_over h (root_of h t)) over
         let fired = (ArePlaced-legal w h legal).all_fired t work.put_so in
         let unyielded : has_task (yielded h) last.0 ≡ false = refuted (has_task (yielded h) last.0) (λ yields. no_both last.1 ((AreEnded-legal w h legal).not_both last.0 yields)) in
         let latest : is_gone_on h last.0 ≡ false = rw unyielded refl in
-        let one : last.0 ≡ t = IsOneEach-legal w h legal last.0 t (last_fired w h legal last.0 last.1) fired latest work.latest (same_task-is (root_of h last.0) (root_of h t) last.2) in
+        let one : last.0 ≡ t = IsOneEach-legal w h legal last.0 t (lasts_fired w h legal last.0 last.1) fired latest work.latest (same_task-is (root_of h last.0) (root_of h t) last.2) in
         no_both (subst (λ u. has_task (last_segments h) u ≡ true) one last.1) work.not_last
 
 -- a task of a site has a root that was admitted, where its branch is one of an Interleave

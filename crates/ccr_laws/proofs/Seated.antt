@@ -1,5 +1,5 @@
 -- Each firing's branch has a seat.
-use Rattle.std.proofs.Common.{◌≡◌, ℕ, ◌⊎◌, inl, inr, true, List, [], ◌∷◌, ◌++◌, Option, Some, None, ap, ◌∙◌, refl, subst}
+use Rattle.std.proofs.Common.{◌≡◌, ℕ, inl, inr, true, List, [], ◌∷◌, ◌++◌, Option, Some, None, ap, ◌∙◌, refl, subst}
 use Rattle.std.specs.List.{slice_get}
 use Rattle.std.specs.Option.{option_map_or}
 use Rattle.ccr_base.specs.declared.names.MsgId.{MsgId}
@@ -14,15 +14,11 @@ use Rattle.ccr_model.specs.Live.{is_live}
 use Rattle.ccr_model.specs.Posts.{held}
 use Rattle.ccr_model.specs.Choice.{is_choice, are_oldest}
 use Rattle.ccr_model.specs.Legal.{IsAllowed, IsLegal}
-use Rattle.ccr_model.proofs.Quiet.{Among, some_of}
-use Rattle.ccr_model.proofs.TaskSteps.{firings-push}
 use Rattle.ccr_model.proofs.TakenOnce.{FireFacts-allowed}
-use Rattle.ccr_laws.proofs.LegalParts.{along_legal}
-
-Among-either : {X : Type 0} (x : X) (xs ys : List X) → Among x (xs ++ ys) → Among x xs ⊎ Among x ys
-Among-either x [] ys h = inr h
-Among-either x (y ∷ xs) ys (inl e) = inl (inl e)
-Among-either x (y ∷ xs) ys (inr h) = elim (Among-either x xs ys h) [ inl l ↦ inl (inr l) | inr r ↦ inr r ]
+use Rattle.ccr_model.proofs.Pushes.{firings-push}
+use Rattle.ccr_model.proofs.LegalParts.{along_legal}
+use Rattle.ccr_model.proofs.Options.{some_of}
+use Rattle.ccr_model.proofs.Members.{Among, Among-either}
 
 spot_seated : (w : Parts) (h : List Event) (s : Spot) (ms : List MsgId) → is_live w h s ≡ true → is_choice w h s ms ≡ true → (r : Seat) × (seat w (branch_of s) ≡ Some r)
 spot_seated w h (Branch b) ms live is = let found = some_of _ (seat w b) live in (found.0, found.1)

@@ -27,12 +27,12 @@ use Rattle.ccr_model.specs.Firings.{Firing, firings, firing_of, fired_where, fir
 use Rattle.ccr_model.specs.Tasks.{fired_by, is_branch_where, is_teardown}
 use Rattle.ccr_model.specs.Live.{is_live, is_live_in, is_none_of}
 use Rattle.ccr_model.specs.Legal.{IsAllowed, IsLegal}
-use Rattle.ccr_model.proofs.PostNames.{along, both}
-use Rattle.ccr_model.proofs.TaskSteps.{firings-push}
+use Rattle.ccr_model.proofs.PostNames.{along}
 use Rattle.ccr_model.proofs.TakenOnce.{FireFacts-allowed}
+use Rattle.ccr_model.proofs.Pushes.{firings-push}
+use Rattle.ccr_model.proofs.Booleans.{both, same_number}
 use Rattle.ccr_laws.specs.Times.{times_fired, times_any_fired, times_torn_down}
 use Rattle.ccr_laws.proofs.FiringFacts.{BranchFacts-where, live_at, firings-other}
-use Rattle.ccr_laws.proofs.Booleans.{same_number}
 
 -- the tasks that fired at spots that pass the test
 abbrev fired_on : (Spot → Bool) → List Event → List TaskId

@@ -1,7 +1,6 @@
 -- Tasks of one queue start in the order of their puts.
-use Rattle.std.proofs.Common.{◌≡◌, ℕ, Bool, true, false, not, ◌&&◌, ◌||◌, List, [], ◌∷◌, ◌++◌, filter, Option, option_to_list, ◌⊎◌, inl, inr, refl, sym, arith, ap, ◌∙◌, subst, append_assoc, append-nil}
+use Rattle.std.proofs.Common.{◌≡◌, ℕ, Bool, true, false, not, ◌&&◌, ◌||◌, List, [], ◌∷◌, ◌++◌, filter, Option, option_to_list, ◌⊎◌, inl, inr, refl, sym, ap, ◌∙◌, subst, append_assoc, append-nil}
 use Rattle.std.specs.Prelude.{◌==◌, if◌then◌else◌}
-use Rattle.std.proofs.lemmas.Grind.{common_steps}
 use Rattle.ccr_base.specs.declared.names.TaskId.{TaskId}
 use Rattle.ccr_wiring.specs.declared.parts.Parts.{Parts}
 use Rattle.ccr_model.specs.declared.history.Event.{Event}
@@ -11,21 +10,20 @@ use Rattle.ccr_model.specs.Firings.{put, put_by, started, started_by, dropped, d
 use Rattle.ccr_model.specs.Tasks.{is_for_queue, queued}
 use Rattle.ccr_model.specs.Legal.{IsAllowed, IsLegal}
 use Rattle.ccr_model.specs.Consequences.{are_distinct_tasks}
-use Rattle.ccr_model.proofs.PostNames.{along, both}
-use Rattle.ccr_model.proofs.Covered.{same_task-is, or_left, or_right}
+use Rattle.ccr_model.proofs.PostNames.{along}
+use Rattle.ccr_model.proofs.Pushes.{put-push, started-push, dropped-push}
+use Rattle.ccr_model.proofs.SameNames.{same_task-is}
+use Rattle.ccr_model.proofs.TasksLeft.{has_task-filter, has_task-without, of_filter, of_without, filter_on, without_both, lists_start, distinct-filter}
+use Rattle.ccr_model.proofs.Booleans.{both, or_left, or_right, and_false, refuted, no_both, same_number}
+use Rattle.ccr_model.proofs.Filters.{filter_swap}
+use Rattle.ccr_model.proofs.FiredTasks.{IsFired, seat_stays}
 use Rattle.ccr_laws.specs.Queues.{put_into, started_from, stands_before}
-use Rattle.ccr_laws.proofs.Booleans.{and_false, refuted, no_both, same_number}
-use Rattle.ccr_laws.proofs.Pushes.{put-push, started-push, dropped-push}
-use Rattle.ccr_laws.proofs.TaskLists.{has_task-filter, has_task-without, filter_append, filter_swap, filter_on, without-append, without_both, without_none, without_other, without_first, distinct-filter, of_more, not_more, of_filter, of_without, not_within}
-use Rattle.ccr_laws.proofs.TaskPlaces.{IsFired, AreApart, ArePlaced, ArePlaced_kept, ArePlaced-none, ArePlaced-legal, StartFacts, StartFacts-allowed, PutFacts-allowed, QueuedFacts-queued, put_fired, seat_stays, new_drop}
+use Rattle.ccr_laws.proofs.TaskLists.{filter_append, without-append, without_none, without_other, without_first, of_more, not_more, not_within}
+use Rattle.ccr_laws.proofs.TaskPlaces.{AreApart, ArePlaced, ArePlaced_kept, ArePlaced-none, ArePlaced-legal, StartFacts, StartFacts-allowed, PutFacts-allowed, QueuedFacts-queued, put_fired, new_drop}
 
 -- who of the tested ones started, then who is queued: who was put and not dropped
 abbrev IsOrder : (TaskId → Bool) → List TaskId → List TaskId → List TaskId → Type 0
 IsOrder p ps ss ds = filter p ss ++ filter p (without ps (ss ++ ds)) ≡ filter p (without ps ds)
-
-lists_start : (p : TaskId → Bool) (ps ss ds : List TaskId) (t : TaskId) → filter p (without ps ((ss ++ t ∷ []) ++ ds)) ≡ without (filter p (without ps (ss ++ ds))) (t ∷ [])
-lists_start p [] ss ds t = refl
-lists_start p (x ∷ ps) ss ds t = grind (arith, common_steps, lists_start p ps ss ds t)
 
 -- one more started: the oldest of the queued ones, where it is one of them
 IsOrder-start : (p : TaskId → Bool) (ps ss ds : List TaskId) (t : TaskId) → AreApart ps ss ds → (p t ≡ true → (rest : List TaskId) × (filter p (without ps (ss ++ ds)) ≡ t ∷ rest)) → IsOrder p ps ss ds → IsOrder p ps (ss ++ t ∷ []) ds

@@ -19,13 +19,13 @@ use Rattle.ccr_model.specs.Tasks.{is_interleave, is_branch_where, is_for_queue}
 use Rattle.ccr_model.specs.Rules.{needs_no_admission, may_put}
 use Rattle.ccr_model.specs.Fates.{end_of, state_of_started, state_of}
 use Rattle.ccr_model.specs.Legal.{IsLegal}
-use Rattle.ccr_model.proofs.Allowing.{same_task-self, OneName-legal}
-use Rattle.ccr_model.proofs.Covered.{same_task-is}
+use Rattle.ccr_model.proofs.Allowing.{OneName-legal}
+use Rattle.ccr_model.proofs.SameNames.{same_task-is, same_task-self, same_task-sym}
+use Rattle.ccr_model.proofs.Booleans.{neither, refuted, no_both, eq-self}
 use Rattle.ccr_laws.specs.Interleaves.{is_seat_in}
 use Rattle.ccr_laws.specs.OneFate.{Waits, IsQueued, HasEnded, IsIn}
 use Rattle.ccr_laws.proofs.Allowed.{allowed_at}
-use Rattle.ccr_laws.proofs.Booleans.{neither, refuted, no_both, eq-self}
-use Rattle.ccr_laws.proofs.TaskLists.{same_task-sym, to_filter, to_without, among_left, not_more, not_within}
+use Rattle.ccr_laws.proofs.TaskLists.{to_filter, to_without, among_left, not_more, not_within}
 use Rattle.ccr_laws.proofs.TaskPlaces.{ArePlaced-legal, QueuedFacts-queued, PutFacts-may}
 use Rattle.ccr_laws.proofs.FiringFacts.{WaitingFacts-waiting, waits_whole, waits_outside, fired_by_has}
 use Rattle.ccr_laws.proofs.Cutting.{CutFacts-legal, cut_not_put, waits_unput}

@@ -19,17 +19,17 @@ use Rattle.ccr_model.specs.Sites.{yields_at, yielded_at, suspended}
 use Rattle.ccr_model.specs.Live.{is_none_of}
 use Rattle.ccr_model.specs.Legal.{IsAllowed, IsLegal}
 use Rattle.ccr_model.specs.Consequences.{are_distinct_tasks}
-use Rattle.ccr_model.proofs.PostNames.{both}
-use Rattle.ccr_model.proofs.Quiet.{some_of}
 use Rattle.ccr_model.proofs.Stable.{firing_named-append}
-use Rattle.ccr_model.proofs.Covered.{some_map, or_left, or_right}
-use Rattle.ccr_model.proofs.Allowing.{same_task-self}
+use Rattle.ccr_model.proofs.Pushes.{yielded-push}
+use Rattle.ccr_model.proofs.LegalParts.{along_legal}
+use Rattle.ccr_model.proofs.Options.{some_of, some_map}
+use Rattle.ccr_model.proofs.SameNames.{same_task-self}
+use Rattle.ccr_model.proofs.TasksLeft.{has_task-append, of_filter, filter_on, distinct-filter}
+use Rattle.ccr_model.proofs.Booleans.{not_true, both, or_left, or_right, and_not, same_number}
+use Rattle.ccr_model.proofs.FiredTasks.{IsFired, none_fired}
 use Rattle.ccr_laws.specs.AtWork.{is_suspended}
-use Rattle.ccr_laws.proofs.Pushes.{yielded-push}
-use Rattle.ccr_laws.proofs.Booleans.{not_true, and_not, same_number}
-use Rattle.ccr_laws.proofs.LegalParts.{along_legal}
-use Rattle.ccr_laws.proofs.TaskLists.{of_filter, has_task-append, filter_on, filter_append, distinct-filter, has_oldest, of_more, of_one, has_task-drop, distinct-drop, drop_behind, drop_one_more, drop_some}
-use Rattle.ccr_laws.proofs.TaskPlaces.{IsFired, ArePlaced-legal}
+use Rattle.ccr_laws.proofs.TaskLists.{filter_append, has_oldest, of_more, of_one, has_task-drop, distinct-drop, drop_behind, drop_one_more, drop_some}
+use Rattle.ccr_laws.proofs.TaskPlaces.{ArePlaced-legal}
 use Rattle.ccr_laws.proofs.FiringFacts.{FiresSo-allowed, firings-other}
 use Rattle.ccr_laws.proofs.Ending.{AreEnded-legal, RunningFacts-allowed}
 
@@ -113,9 +113,6 @@ end_fired w h t how legal allowed u among =
     of_end ends.Done is = absurd (cc)
     of_end (ends.Failed v) is = absurd (cc)
     of_end ends.Shed is = absurd (cc)
-
-none_fired : (h : List Event) (t : TaskId) → has_task [] t ≡ true → IsFired h t
-none_fired h t is = absurd (cc)
 
 enough_more : (n : ℕ) (ts us : List TaskId) → n ≤ length ts → n ≤ length (ts ++ us)
 enough_more n ts us few = omega (arith, few, length-append ts us)

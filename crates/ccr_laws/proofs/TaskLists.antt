@@ -1,85 +1,29 @@
 -- Over plain lists of tasks: who stands in a list, in part of it, and in two lists.
-use Rattle.std.proofs.Common.{◌≡◌, ℕ, zero, suc, ◌<◌, ◌≤◌, Bool, true, false, not, ◌&&◌, ◌||◌, List, [], ◌∷◌, ◌++◌, length, drop, filter, refl, sym, arith, ap, ◌∙◌, subst}
-use Rattle.std.specs.Prelude.{if◌then◌else◌}
+use Rattle.std.proofs.Common.{◌≡◌, ℕ, zero, suc, ◌<◌, ◌≤◌, Bool, true, false, not, ◌||◌, List, [], ◌∷◌, ◌++◌, length, drop, filter, refl, sym, arith, ap, ◌∙◌, subst}
 use Rattle.std.specs.List.{list_any, list_all}
 use Rattle.std.proofs.lemmas.Grind.{common_steps}
-use Rattle.std.proofs.lemmas.Bool.Decides.{nat_tests}
 use Rattle.ccr_base.specs.declared.names.TaskId.{TaskId}
 use Rattle.ccr_base.specs.Names.{same_task, has_task, without}
 use Rattle.ccr_model.specs.Consequences.{are_distinct_tasks}
 use Rattle.ccr_model.specs.Rules.{is_first}
-use Rattle.ccr_model.proofs.PostNames.{both}
 use Rattle.ccr_model.proofs.Quiet.{first_is}
-use Rattle.ccr_model.proofs.Covered.{same_task-is, or_left, or_right, head_rest}
-use Rattle.ccr_model.proofs.Allowing.{same_task-self}
-use Rattle.ccr_laws.proofs.Booleans.{not_true, not_false, neither, either, refuted, no_both, or_assoc}
+use Rattle.ccr_model.proofs.Options.{head_rest}
+use Rattle.ccr_model.proofs.SameNames.{same_task-is, same_task-self}
+use Rattle.ccr_model.proofs.TasksLeft.{has_task-append, has_task-filter}
+use Rattle.ccr_model.proofs.Booleans.{not_true, not_false, both, neither, or_left, or_right, either, refuted, no_both}
 
-pub same_task-sym : (s t : TaskId) → same_task s t ≡ same_task t s
-same_task-sym s t = grind (arith, nat_tests)
-
--- who stands in the list is one of it
-pub has_task-append : (ts us : List TaskId) (t : TaskId) → has_task (ts ++ us) t ≡ has_task ts t || has_task us t
-has_task-append [] us t = refl
-has_task-append (x ∷ ts) us t = rw (has_task-append ts us t) (or_assoc (same_task t x) (has_task ts t) (has_task us t))
-
-pub has_task-filter : (p : TaskId → Bool) (ts : List TaskId) (t : TaskId) → has_task (filter p ts) t ≡ has_task ts t && p t
-has_task-filter p [] t = refl
-has_task-filter p (x ∷ ts) t = of_tests (same_task t x) (p x) refl refl (has_task-filter p ts t)
-  where
-    of_tests : (a b : Bool) → same_task t x ≡ a → p x ≡ b → has_task (filter p ts) t ≡ has_task ts t && p t → has_task (if b then x ∷ filter p ts else filter p ts) t ≡ (a || has_task ts t) && p t
-    of_tests true true e f rest = let one : t ≡ x = same_task-is t x e in rw (one, same_task-self x, f) refl
-    of_tests true false e f rest = let one : t ≡ x = same_task-is t x e in let out : p t ≡ false = rw one f in grind (arith, rest, out)
-    of_tests false true e f rest = rw e rest
-    of_tests false false e f rest = rest
-
-pub has_task-without : (ts gone : List TaskId) (t : TaskId) → has_task (without ts gone) t ≡ has_task ts t && not (has_task gone t)
-has_task-without ts gone t = has_task-filter (λ u. not (has_task gone u)) ts t
-
--- a member of those that pass is a member and passes, and the other way round
-pub of_filter : (p : TaskId → Bool) (ts : List TaskId) (t : TaskId) → has_task (filter p ts) t ≡ true → (has_task ts t ≡ true) × (p t ≡ true)
-of_filter p ts t is = both (has_task ts t) (p t) (sym (has_task-filter p ts t) ∙ is)
-
+-- a member that passes is a member of those that pass
 pub to_filter : (p : TaskId → Bool) (ts : List TaskId) (t : TaskId) → has_task ts t ≡ true → p t ≡ true → has_task (filter p ts) t ≡ true
 to_filter p ts t is passes = rw (has_task-filter p ts t, is) passes
 
--- and of those that are left
-pub of_without : (ts gone : List TaskId) (t : TaskId) → has_task (without ts gone) t ≡ true → (has_task ts t ≡ true) × (has_task gone t ≡ false)
-of_without ts gone t is =
-    let parts = of_filter (λ u. not (has_task gone u)) ts t is in
-    (parts.0, not_true (has_task gone t) parts.1)
-
 pub to_without : (ts gone : List TaskId) (t : TaskId) → has_task ts t ≡ true → has_task gone t ≡ false → has_task (without ts gone) t ≡ true
 to_without ts gone t is out = to_filter (λ u. not (has_task gone u)) ts t is (not_false (has_task gone t) out)
-
--- what two lists leave
-pub without_both : (ts gone more : List TaskId) → without ts (gone ++ more) ≡ without (without ts gone) more
-without_both [] gone more = refl
-without_both (t ∷ ts) gone more = grind (arith, common_steps, without_both ts gone more)
 
 pub without-append : (ts us gone : List TaskId) → without (ts ++ us) gone ≡ without ts gone ++ without us gone
 without-append ts us gone = grind (arith, common_steps)
 
 pub filter_append : (p : TaskId → Bool) (ts us : List TaskId) → filter p (ts ++ us) ≡ filter p ts ++ filter p us
 filter_append p ts us = grind (arith, common_steps)
-
--- two tests, one after the other, in either order
-pub filter_swap : (p q : TaskId → Bool) (ts : List TaskId) → filter p (filter q ts) ≡ filter q (filter p ts)
-filter_swap p q [] = refl
-filter_swap p q (x ∷ ts) = of_tests (p x) (q x) refl refl (filter_swap p q ts)
-  where
-    of_tests : (a b : Bool) → p x ≡ a → q x ≡ b → filter p (filter q ts) ≡ filter q (filter p ts) → filter p (if b then x ∷ filter q ts else filter q ts) ≡ filter q (if a then x ∷ filter p ts else filter p ts)
-    of_tests true true e f rest = rw (e, f, rest) refl
-    of_tests true false e f rest = rw (f, rest) refl
-    of_tests false true e f rest = rw (e, rest) refl
-    of_tests false false e f rest = rest
-
--- a test that agrees on the members
-pub filter_on : (p q : TaskId → Bool) (ts : List TaskId) → ((u : TaskId) → has_task ts u ≡ true → p u ≡ q u) → filter p ts ≡ filter q ts
-filter_on p q [] same = refl
-filter_on p q (x ∷ ts) same =
-    let here = same x (or_left (same_task x x) (has_task ts x) (same_task-self x)) in
-    let later = filter_on p q ts (λ u is. same u (or_right (same_task u x) (has_task ts u) is)) in
-    rw (here, later) refl
 
 -- a test that all pass
 pub filter_all : (p : TaskId → Bool) (ts : List TaskId) → ((u : TaskId) → has_task ts u ≡ true → p u ≡ true) → filter p ts ≡ ts
@@ -97,24 +41,6 @@ without_other ts t out = without_none ts (t ∷ []) (λ u is. of_test u (same_ta
     of_test : (u : TaskId) (b : Bool) → same_task u t ≡ b → has_task ts u ≡ true → same_task u t || false ≡ false
     of_test u false e is = rw e refl
     of_test u true e is = let one : u ≡ t = same_task-is u t e in absurd (cc)
-
--- nobody stands twice in a part
-pub distinct-filter : (p : TaskId → Bool) (ts : List TaskId) → are_distinct_tasks ts ≡ true → are_distinct_tasks (filter p ts) ≡ true
-distinct-filter p [] is = refl
-distinct-filter p (x ∷ ts) is =
-    let parts = both (not (has_task ts x)) (are_distinct_tasks ts) is in
-    of_test (p x) (not_true (has_task ts x) parts.0) (distinct-filter p ts parts.1)
-  where
-    of_test : (b : Bool) → has_task ts x ≡ false → are_distinct_tasks (filter p ts) ≡ true → are_distinct_tasks (if b then x ∷ filter p ts else filter p ts) ≡ true
-    of_test true out rest = rw (has_task-filter p ts x, out) rest
-    of_test false out rest = rest
-
-pub distinct-push : (ts : List TaskId) (t : TaskId) → are_distinct_tasks ts ≡ true → has_task ts t ≡ false → are_distinct_tasks (ts ++ t ∷ []) ≡ true
-distinct-push [] t is out = refl
-distinct-push (x ∷ ts) t is out =
-    let parts = both (not (has_task ts x)) (are_distinct_tasks ts) is in
-    let outs = neither (same_task t x) (has_task ts t) out in
-    rw (has_task-append ts (t ∷ []) x, not_true (has_task ts x) parts.0, same_task-sym x t, outs.0) (distinct-push ts t parts.1 outs.1)
 
 -- the first of a list, and the others
 pub first_rest : (ts : List TaskId) (t : TaskId) → is_first ts t ≡ true → (rest : List TaskId) × (ts ≡ t ∷ rest)
@@ -159,10 +85,6 @@ not_one t u ts out within = refuted (has_task (t ∷ []) u) (λ is. no_both (sub
 pub not_within : (ts us : List TaskId) (t : TaskId) → (has_task ts t ≡ true → has_task us t ≡ true) → has_task us t ≡ false → has_task ts t ≡ false
 not_within ts us t within out = refuted (has_task ts t) (λ is. no_both (within is) out)
 
--- out of a longer list, out of its first part
-pub out_left : (ts us : List TaskId) (t : TaskId) → has_task (ts ++ us) t ≡ false → has_task ts t ≡ false
-out_left ts us t is = (neither (has_task ts t) (has_task us t) (sym (has_task-append ts us t) ∙ is)).0
-
 pub out_right : (ts us : List TaskId) (t : TaskId) → has_task (ts ++ us) t ≡ false → has_task us t ≡ false
 out_right ts us t is = (neither (has_task ts t) (has_task us t) (sym (has_task-append ts us t) ∙ is)).1
 
@@ -174,15 +96,6 @@ any_named p (x ∷ ts) is = of_test (p x) refl is (any_named p ts)
     of_test : (b : Bool) → p x ≡ b → b || list_any p ts ≡ true → (list_any p ts ≡ true → (t : TaskId) × (has_task ts t ≡ true) × (p t ≡ true)) → (t : TaskId) × (has_task (x ∷ ts) t ≡ true) × (p t ≡ true)
     of_test true e at rest = (x, or_left (same_task x x) (has_task ts x) (same_task-self x), e)
     of_test false e at rest = let r = rest at in (r.0, or_right (same_task r.0 x) (has_task ts r.0) r.1, r.2)
-
--- some member passes the test
-pub any_has : (p : TaskId → Bool) (ts : List TaskId) (t : TaskId) → has_task ts t ≡ true → p t ≡ true → list_any p ts ≡ true
-any_has p [] t is passes = absurd (cc)
-any_has p (x ∷ ts) t is passes = of_test (same_task t x) refl is (λ rest. any_has p ts t rest passes)
-  where
-    of_test : (b : Bool) → same_task t x ≡ b → b || has_task ts t ≡ true → (has_task ts t ≡ true → list_any p ts ≡ true) → list_any p (x ∷ ts) ≡ true
-    of_test true e at rest = or_left (p x) (list_any p ts) (subst (λ y. p y ≡ true) (same_task-is t x e) passes)
-    of_test false e at rest = or_right (p x) (list_any p ts) (rest at)
 
 -- the only one of at most one
 pub only_one : (ts : List TaskId) (t : TaskId) → has_task ts t ≡ true → length ts ≤ 1 → ts ≡ t ∷ []

@@ -14,39 +14,18 @@ use Rattle.ccr_model.specs.Tasks.{is_for_queue, queued}
 use Rattle.ccr_model.specs.Rules.{is_first, needs_no_admission, may_put, is_oldest_queued}
 use Rattle.ccr_model.specs.Legal.{IsAllowed, IsLegal}
 use Rattle.ccr_model.specs.Consequences.{are_distinct_tasks}
-use Rattle.ccr_model.proofs.PostNames.{along, both, refused_not}
-use Rattle.ccr_model.proofs.Quiet.{some_of, some_then}
-use Rattle.ccr_model.proofs.Stable.{firing_named-append}
-use Rattle.ccr_model.proofs.Covered.{some_map, head_rest}
+use Rattle.ccr_model.proofs.PostNames.{along, refused_not}
+use Rattle.ccr_model.proofs.Pushes.{put-push, started-push, dropped-push}
+use Rattle.ccr_model.proofs.Options.{some_of, some_map, head_rest}
+use Rattle.ccr_model.proofs.TasksLeft.{of_filter, of_without, out_left, distinct-push}
+use Rattle.ccr_model.proofs.Booleans.{not_true, both, refuted, no_both}
+use Rattle.ccr_model.proofs.FiredTasks.{IsFired, AreFired, IsFired-append}
 use Rattle.ccr_laws.proofs.DropFacts.{put_allowed, drop_allowed}
-use Rattle.ccr_laws.proofs.Pushes.{put-push, started-push, dropped-push}
-use Rattle.ccr_laws.proofs.Booleans.{not_true, refuted, no_both}
-use Rattle.ccr_laws.proofs.TaskLists.{first_rest, distinct-push, has_oldest, of_more, among_left, not_more, of_one, of_filter, of_without, out_left, out_right}
-
--- the task fired
-abbrev pub IsFired : List Event → TaskId → Type 0
-IsFired h t = (f : Firing) × (firing_named h t ≡ Some f)
-
--- all the tasks fired
-abbrev pub AreFired : List Event → List TaskId → Type 0
-AreFired h ts = (t : TaskId) → has_task ts t ≡ true → IsFired h t
-
-pub IsFired-append : (h es : List Event) (t : TaskId) → IsFired h t → IsFired (h ++ es) t
-IsFired-append h es t fired = (fired.0, firing_named-append h es t fired.0 fired.1)
-
--- a task with a seat fired
-pub seat_fired : (w : Parts) (h : List Event) (t : TaskId) (s : Seat) → seat_of w h t ≡ Some s → IsFired h t
-seat_fired w h t s is =
-    let placed = some_then (λ spot. seat w (branch_of spot)) (spot_of h t) s is in
-    some_map (λ (f : Firing). f.spot) (firing_named h t) placed.0 placed.1
+use Rattle.ccr_laws.proofs.TaskLists.{first_rest, has_oldest, of_more, among_left, not_more, of_one, out_right}
 
 -- the seat of a task that fired
 pub seat_by : (w : Parts) (h : List Event) (t : TaskId) (f : Firing) → firing_named h t ≡ Some f → seat_of w h t ≡ seat w (branch_of f.spot)
 seat_by w h t f is = rw is refl
-
--- its seat stays
-pub seat_stays : (w : Parts) (h es : List Event) (t : TaskId) → IsFired h t → seat_of w (h ++ es) t ≡ seat_of w h t
-seat_stays w h es t fired = rw (firing_named-append h es t fired.0 fired.1, fired.1) refl
 
 -- a queued task was put, and neither started nor dropped
 pub record QueuedFacts (w : Parts) (h : List Event) (q : ℕ) (t : TaskId) : Type 0 where

@@ -25,9 +25,10 @@ use Rattle.ccr_model.specs.Posts.{held}
 use Rattle.ccr_model.specs.Choice.{names_of, joined, choice_of_slots, are_first, are_split, is_choice_of, are_oldest, is_choice}
 use Rattle.ccr_model.specs.Legal.{IsLegal}
 use Rattle.ccr_model.proofs.FirstNames.{names_of-append, length-names_of}
-use Rattle.ccr_model.proofs.PostNames.{both, same_message-is}
-use Rattle.ccr_model.proofs.Quiet.{some_of}
 use Rattle.ccr_model.proofs.TakenOnce.{FireFacts-allowed}
+use Rattle.ccr_model.proofs.Options.{some_of}
+use Rattle.ccr_model.proofs.SameNames.{same_message-is}
+use Rattle.ccr_model.proofs.Booleans.{both}
 use Rattle.ccr_laws.specs.Standing.{Stands}
 use Rattle.ccr_laws.specs.WholePattern.{AreFirst, FillsSlot, FillsSlots, FillsGather, FillsPattern, IsOldest, TakesWhole}
 use Rattle.ccr_laws.proofs.Allowed.{allowed_at}

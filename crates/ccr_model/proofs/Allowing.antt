@@ -1,5 +1,5 @@
 -- The event that comes first is allowed.
-use Rattle.std.proofs.Common.{◌≡◌, ℕ, zero, suc, ◌+◌, ◌-◌, ◌<◌, ◌≤◌, ◌⊎◌, inl, inr, Bool, true, false, ◌&&◌, ◌||◌, List, [], ◌∷◌, ◌++◌, length, map, filter, flat_map, take, min, length-append, length-take, Option, Some, None, refl, sym, arith, subst, append-nil}
+use Rattle.std.proofs.Common.{◌≡◌, ℕ, zero, suc, ◌+◌, ◌-◌, ◌≤◌, ◌⊎◌, inl, inr, Bool, true, false, ◌&&◌, List, [], ◌∷◌, ◌++◌, length, map, filter, flat_map, take, min, length-append, length-take, Option, Some, None, refl, sym, arith, subst, append-nil}
 use Rattle.std.specs.Prelude.{◌==◌, if◌then◌else◌, find, nat_lt, nat_le, option_map, option_and_then, IfSome}
 use Rattle.std.specs.List.{slice_get, list_any}
 use Rattle.std.specs.Option.{option_map_or, option_or}
@@ -33,23 +33,18 @@ use Rattle.ccr_model.specs.Choice.{is_choice, is_choice_of, engine_choice, engin
 use Rattle.ccr_model.specs.Rules.{refused, is_post, is_new, may_put, drop_at, cuts_at, has_budget, ends_so, is_shed, may_enter, may_start}
 use Rattle.ccr_model.specs.Legal.{IsAllowed, IsLegal}
 use Rattle.ccr_model.specs.Order.{post_from, script_post, fire_at, fire_from, next_attempt, put_first, run_task, run_with, task_post, how_of, admit_first, admit_from, start_from, first}
-use Rattle.ccr_model.proofs.PostNames.{along, both, refused_not, same_message-self}
-use Rattle.ccr_model.proofs.Quiet.{Among, some_of}
+use Rattle.ccr_model.proofs.PostNames.{along, refused_not}
 use Rattle.ccr_model.proofs.Stable.{firing_named-append, firings-append}
-
-IfSome-or : (P : Event → Type 0) (a b : Option Event) → IfSome a P → IfSome b P → IfSome (option_or a b) P
-IfSome-or P None b p q = q
-IfSome-or P (Some e) b p q = p
+use Rattle.ccr_model.proofs.Options.{some_of, IfSome-or, some-below, none-above}
+use Rattle.ccr_model.proofs.Members.{Among}
+use Rattle.ccr_model.proofs.FirstNames.{length-names_of}
+use Rattle.ccr_model.proofs.SameNames.{same_task-self, same_message-self}
+use Rattle.ccr_model.proofs.Booleans.{both, or_right, eq-self}
+use Rattle.ccr_model.proofs.FiredTasks.{find_last}
 
 same_list-self : {X : Type 0} (same : X → X → Bool) → ((x : X) → same x x ≡ true) → (xs : List X) → same_lists same xs xs ≡ true
 same_list-self same self [] = refl
 same_list-self same self (x ∷ xs) = grind (arith, self x, same_list-self same self xs)
-
-pub same_task-self : (t : TaskId) → same_task t t ≡ true
-same_task-self t = grind (arith, nat_tests)
-
-eq-self : (n : ℕ) → (n == n) ≡ true
-eq-self n = grind (arith, nat_tests)
 
 -- what passes isn't refused
 passed : (b : Bool) (n : ℕ) (o : Option ℕ) → b ≡ true → o ≡ None → refused b n o ≡ None
@@ -84,21 +79,13 @@ are_first-is_split [] b (n ∷ names) is = is
 are_first-is_split (m ∷ a) b [] is = refl
 are_first-is_split (m ∷ a) b (n ∷ names) is = rw is refl
 
-or_right : (a b : Bool) → b ≡ true → a || b ≡ true
-or_right true b is = refl
-or_right false b is = is
-
 split_both : (a b : List Msg) (n k : ℕ) → are_split a b (names_of (take n a ++ take k b)) ≡ true
 split_both a b zero k = are_first-is_split a b (names_of (take k b)) (first-self b k)
 split_both [] b (suc n) k = are_first-is_split [] b (names_of (take k b)) (first-self b k)
 split_both (x ∷ a) b (suc n) k = or_right (are_first b (names_of (take (suc n) (x ∷ a) ++ take k b))) _ (rw (same_message-self x.id) (split_both a b n k))
 
-names-length : (ms : List Msg) → length (names_of ms) ≡ length ms
-names-length [] = refl
-names-length (m ∷ ms) = grind (arith, names-length ms)
-
 takes-length : (a b : List Msg) (n k : ℕ) → length (names_of (take n a ++ take k b)) ≡ min n (length a) + min k (length b)
-takes-length a b n k = rw names-length (omega (arith, length-append (take n a) (take k b), length-take n a, length-take k b))
+takes-length a b n k = rw length-names_of (omega (arith, length-append (take n a) (take k b), length-take n a, length-take k b))
 
 gather_is : (total : ℕ) (a b : List Msg) (n k : ℕ) → min n (length a) + min k (length b) ≡ total → (length (names_of (take n a ++ take k b)) == total) && are_split a b (names_of (take n a ++ take k b)) ≡ true
 gather_is total a b n k e = rw (takes-length a b n k, e, eq-self total, split_both a b n k) refl
@@ -174,16 +161,6 @@ put_allowed w h = of_option (find (may_put w h) (fired h)) refl
     of_option (Some t) is = passed _ 11 _ (find_passes (may_put w h) (fired h) t is) (passed _ 12 None (same_option-self (drop_at w h t)) refl)
 
 -- the next event of the running task
-pub some-below : {X : Type 0} (xs : List X) (n : ℕ) (x : X) → slice_get xs n ≡ Some x → n < length xs
-some-below [] n x is = absurd (cc)
-some-below (y ∷ xs) zero x is = omega arith
-some-below (y ∷ xs) (suc n) x is = omega (arith, some-below xs n x is)
-
-none-above : {X : Type 0} (xs : List X) (n : ℕ) → slice_get xs n ≡ None → length xs ≤ n
-none-above [] n is = omega arith
-none-above (y ∷ xs) zero is = absurd (cc)
-none-above (y ∷ xs) (suc n) is = omega (arith, none-above xs n is)
-
 ends_so-how : (e : PlayEnd) → ends_so (how_of e) e ≡ true
 ends_so-how plays.Done = refl
 ends_so-how (plays.Failed v) = eq-self v
@@ -215,10 +192,6 @@ run_allowed w h t runs = of_option (slice_get (play_of w h t).posts (posts_of_ta
 abbrev pub OneName : List Event → Type 0
 OneName h = (f : Firing) → Among f (firings h) → firing_named h f.task ≡ Some f
 
-find_none : (t : TaskId) (fs : List Firing) (g : Firing) → g.task ≡ t → has_task (map (λ (f : Firing). f.task) fs) t ≡ false → find (λ (f : Firing). same_task f.task t) (fs ++ g ∷ []) ≡ Some g
-find_none t [] g e new = rw (e, same_task-self t) refl
-find_none t (f ∷ fs) g e new = grind (arith, nat_tests, find_none t fs g e)
-
 Among-last : {X : Type 0} (x y : X) (xs : List X) → Among x (xs ++ y ∷ []) → Among x xs ⊎ (x ≡ y)
 Among-last x y [] (inl e) = inr e
 Among-last x y [] (inr h) = absurd h
@@ -230,7 +203,7 @@ OneName_fire h t s ms cs new one f among = of_last (Among-last f _ (firings h) (
   where
     of_last : Among f (firings h) ⊎ (f ≡ record { task = t; spot = s; messages = ms; cuts = cs }) → firing_named (h ++ Fire t s ms cs ∷ []) f.task ≡ Some f
     of_last (inl old) = firing_named-append h (Fire t s ms cs ∷ []) f.task f (one f old)
-    of_last (inr e) = rw e (rw firings-append (find_none t (firings h) _ refl new))
+    of_last (inr e) = rw e (rw firings-append (find_last t (firings h) _ refl new))
 
 OneName_other : (h : List Event) (e : Event) → firing_of e ≡ [] → OneName h → OneName (h ++ e ∷ [])
 OneName_other h e none one f among = rw (firings-append, none, append-nil) (one f (let same : firings (h ++ e ∷ []) ≡ firings h = rw (firings-append, none, append-nil) refl in rw same at among))

@@ -14,8 +14,8 @@ use Rattle.ccr_model.specs.declared.history.Event.TheVariants.{Post, Fire, Admit
 use Rattle.ccr_model.specs.declared.history.EndHow.{EndHow}
 use Rattle.ccr_model.specs.declared.history.EndHow.TheVariants as ends
 use Rattle.ccr_base.specs.Names.{same_task, same_options, has_task, without}
-use Rattle.ccr_wiring.specs.Wirings.{Seat, seat, branch_of, segment_of, policy_of}
-use Rattle.ccr_model.specs.Firings.{Firing, firing_named, spot_of, let_in, admitted_by, last_segments, last_by, started, put, dropped}
+use Rattle.ccr_wiring.specs.Wirings.{Seat, policy_of}
+use Rattle.ccr_model.specs.Firings.{let_in, admitted_by, last_segments, last_by, started, put, dropped}
 use Rattle.ccr_model.specs.Sites.{root_of}
 use Rattle.ccr_model.specs.TaskData.{seat_of}
 use Rattle.ccr_model.specs.Tasks.{waiting, queued, is_for_queue, running, is_over, is_in_arbiter, admitted, is_concurrent}
@@ -23,21 +23,17 @@ use Rattle.ccr_model.specs.Live.{is_none_of}
 use Rattle.ccr_model.specs.Rules.{is_oldest_waiting, is_first, may_enter, may_put, drop_at, drop_by, is_concurrent_task}
 use Rattle.ccr_model.specs.Legal.{IsAllowed, IsLegal}
 use Rattle.ccr_model.specs.Consequences.{is_alone}
-use Rattle.ccr_model.proofs.PostNames.{along, both, refused_not}
-use Rattle.ccr_model.proofs.Quiet.{some_of, some_then}
-use Rattle.ccr_model.proofs.Stable.{firing_named-append, root_at-append}
-use Rattle.ccr_model.proofs.Allowing.{head_passes, same_task-self}
-use Rattle.ccr_model.proofs.Covered.{AreStarted, AreStarted_kept, same_task-is, some_map, running_started, or_left, or_right, head_rest}
-
-abbrev IsFired : List Event → TaskId → Type 0
-IsFired h t = (f : Firing) × (firing_named h t ≡ Some f)
-
--- all the tasks fired
-abbrev AreFired : List Event → List TaskId → Type 0
-AreFired h ts = (t : TaskId) → has_task ts t ≡ true → IsFired h t
+use Rattle.ccr_model.proofs.PostNames.{along, refused_not}
+use Rattle.ccr_model.proofs.Allowing.{head_passes}
+use Rattle.ccr_model.proofs.Covered.{AreStarted, AreStarted_kept, running_started}
+use Rattle.ccr_model.proofs.Pushes.{last-push, let_in-push}
+use Rattle.ccr_model.proofs.Options.{some_of, some_then, head_rest}
+use Rattle.ccr_model.proofs.SameNames.{same_task-is, same_task-self}
+use Rattle.ccr_model.proofs.Booleans.{both, or_left, or_right}
+use Rattle.ccr_model.proofs.FiredTasks.{IsFired, AreFired, IsFired-append, none_fired, seat_fired, seat_stays, root_stays}
 
 AreFired-append : (h es : List Event) (ts : List TaskId) → AreFired h ts → AreFired (h ++ es) ts
-AreFired-append h es ts all t is = let r = all t is in (r.0, firing_named-append h es t r.0 r.1)
+AreFired-append h es ts all t is = IsFired-append h es t (all t is)
 
 AreFired-more : (h : List Event) (ts us : List TaskId) → AreFired h ts → AreFired h us → AreFired h (ts ++ us)
 AreFired-more h [] us all more = more
@@ -49,12 +45,6 @@ AreFired-more h (x ∷ ts) us all more = λ t is. in_either t (same_task t x) re
 
 AreFired-one : (h : List Event) (t : TaskId) → IsFired h t → AreFired h (t ∷ [])
 AreFired-one h t fired u is = let same : t ≡ u = sym (same_task-is u t (grind (arith, is))) in subst (IsFired h) same fired
-
--- a task with a seat fired
-seat_fired : (w : Parts) (h : List Event) (t : TaskId) (s : Seat) → seat_of w h t ≡ Some s → IsFired h t
-seat_fired w h t s is =
-    let placed = some_then (λ spot. seat w (branch_of spot)) (spot_of h t) s is in
-    some_map (λ (f : Firing). f.spot) (firing_named h t) placed.0 placed.1
 
 -- a dropped task fired
 drop_first : (p : Policy) (ts : List TaskId) (t : TaskId) → drop_by p ts ≡ Some t → slice_get ts 0 ≡ Some t
@@ -80,20 +70,11 @@ drop_fired w h t (Some x) is = of_option (drop_at w h t) refl is
         let one : y ≡ x = sym (same_task-is x y same) in
         AreFired-one h x (subst (IsFired h) one (seat_fired w h y placed.0 placed.1))
 
-last-push : (h : List Event) (e : Event) → last_segments (h ++ e ∷ []) ≡ last_segments h ++ last_by e
-last-push h e = grind (arith, common_steps)
-
-let_in-push : (h : List Event) (e : Event) → let_in (h ++ e ∷ []) ≡ let_in h ++ admitted_by e
-let_in-push h e = grind (arith, common_steps)
-
 end_fired : (h : List Event) (t : TaskId) (how : EndHow) → IsFired h t → AreFired h (last_by (End t how))
 end_fired h t ends.Done fired = AreFired-one h t fired
 end_fired h t (ends.Failed v) fired = AreFired-one h t fired
 end_fired h t ends.Shed fired = AreFired-one h t fired
 end_fired h t ends.Yield fired = λ u is. absurd (cc)
-
-none_fired : (h : List Event) → AreFired h []
-none_fired h t is = absurd (cc)
 
 last_fired : (w : Parts) (h : List Event) (e : Event) → AreStarted h → IsAllowed w h e → AreFired h (last_by e)
 last_fired w h (End t how) known allowed = let a = refused_not (has_task (running h) t) 15 _ allowed in end_fired h t how (known.named t (running_started h t a.0))
@@ -114,13 +95,6 @@ let_fired w h (Put t d) allowed = none_fired h
 let_fired w h (Start t a) allowed = none_fired h
 let_fired w h (End t how) allowed = none_fired h
 
--- what stays of a task that fired
-seat_stays : (w : Parts) (h es : List Event) (t : TaskId) → IsFired h t → seat_of w (h ++ es) t ≡ seat_of w h t
-seat_stays w h es t fired = rw (firing_named-append h es t fired.0 fired.1, fired.1) refl
-
-root_stays : (h es : List Event) (t : TaskId) → IsFired h t → root_of (h ++ es) t ≡ root_of h t
-root_stays h es t fired = rw (firing_named-append h es t fired.0 fired.1, fired.1, root_at-append h es (branch_of fired.0.spot) (segment_of fired.0.spot) t fired.0 fired.1) refl
-
 any_more : (p q : TaskId → Bool) (ts us : List TaskId) → ((t : TaskId) → has_task ts t ≡ true → p t ≡ q t) → list_any p ts ≡ true → list_any q (ts ++ us) ≡ true
 any_more p q [] us same is = absurd (cc)
 any_more p q (x ∷ ts) us same is =
@@ -132,7 +106,7 @@ any_more p q (x ∷ ts) us same is =
     of_test false e at rest = or_right (q x) (list_any q (ts ++ us)) (rest at)
 
 -- who is over stays over
-over_stays : (h : List Event) (e : Event) (t : TaskId) → AreFired h (last_segments h) → is_over h t ≡ true → is_over (h ++ e ∷ []) t ≡ true
+pub over_stays : (h : List Event) (e : Event) (t : TaskId) → AreFired h (last_segments h) → is_over h t ≡ true → is_over (h ++ e ∷ []) t ≡ true
 over_stays h e t all is = rw last-push (any_more (λ u. same_task (root_of h u) t) (λ u. same_task (root_of (h ++ e ∷ []) u) t) (last_segments h) (last_by e) (λ u among. ap (λ r. same_task r t) (sym (root_stays h (e ∷ []) u (all u among)))) is)
 
 -- over plain lists: a narrower test keeps all-or-one
@@ -252,6 +226,17 @@ Known_kept w h e known allowed = record {
     alone_kept w h (Start t a) known allowed = alone_other w h (Start t a) (other h (Start t a) refl) known
     alone_kept w h (End t how) known allowed = alone_other w h (End t how) (other h (End t how) refl) known
 
+Known-legal : (w : Parts) (h : List Event) → IsLegal w h → Known w h
+Known-legal w h legal = along w (Known w) (Known_kept w) (record { starts = record { named = λ t is. absurd (cc); once = refl }; lasts = none_fired []; lets = none_fired []; alone = λ i. refl }) h legal
+
+-- the tasks of the last segments fired
+pub lasts_fired : (w : Parts) (h : List Event) → IsLegal w h → AreFired h (last_segments h)
+lasts_fired w h legal = (Known-legal w h legal).lasts
+
+-- who was admitted fired
+pub let_in_fired : (w : Parts) (h : List Event) → IsLegal w h → AreFired h (let_in h)
+let_in_fired w h legal = (Known-legal w h legal).lets
+
 -- exclusion, first part
 pub is_alone-legal : (w : Parts) (h : List Event) → IsLegal w h → (i : ℕ) → is_alone w h i ≡ true
-is_alone-legal w h legal = (along w (Known w) (Known_kept w) (record { starts = record { named = λ t is. absurd (cc); once = refl }; lasts = none_fired []; lets = none_fired []; alone = λ i. refl }) h legal).alone
+is_alone-legal w h legal = (Known-legal w h legal).alone

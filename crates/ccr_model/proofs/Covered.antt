@@ -1,7 +1,5 @@
 -- Each legal history is covered.
-use Rattle.std.proofs.Common.{◌≡◌, ℕ, ◌+◌, ◌-◌, ◌≤◌, ◌⊎◌, inl, inr, Bool, true, false, not, ◌&&◌, ◌||◌, List, [], ◌∷◌, ◌++◌, length, filter, Option, Some, None, refl, sym, arith, ◌∙◌, subst, append-nil}
-use Rattle.std.specs.List.{slice_get}
-use Rattle.std.specs.Option.{option_map}
+use Rattle.std.proofs.Common.{◌≡◌, ℕ, ◌+◌, ◌-◌, ◌≤◌, ◌⊎◌, inl, inr, Bool, true, false, not, ◌&&◌, List, [], ◌∷◌, ◌++◌, length, filter, None, refl, sym, arith, ◌∙◌, subst, append-nil}
 use Rattle.std.proofs.lemmas.Grind.{common_steps}
 use Rattle.std.proofs.lemmas.Bool.Decides.{nat_tests}
 use Rattle.ccr_base.specs.declared.names.TaskId.{TaskId}
@@ -15,33 +13,29 @@ use Rattle.ccr_model.specs.declared.history.EndHow.{EndHow}
 use Rattle.ccr_model.specs.declared.history.EndHow.TheVariants as ends
 use Rattle.ccr_base.specs.Names.{same_task, has_task, without}
 use Rattle.ccr_model.specs.Posts.{posts, posts_of_task, posts_of_tasks}
-use Rattle.ccr_wiring.specs.Wirings.{Seat, seat, branch_of}
-use Rattle.ccr_model.specs.Firings.{Firing, firing_named, spot_of, started, started_by, ended, put, dropped}
+use Rattle.ccr_wiring.specs.Wirings.{Seat}
+use Rattle.ccr_model.specs.Firings.{started, started_by, ended, put, dropped}
 use Rattle.ccr_model.specs.TaskData.{seat_of}
 use Rattle.ccr_model.specs.Tasks.{queued, is_for_queue, running, has_post_left, unfinished, count_unfinished}
 use Rattle.ccr_model.specs.Rules.{is_first, is_oldest_queued, may_end, may_shed, is_shed}
+use Rattle.ccr_model.specs.Consequences.{are_distinct_tasks}
 use Rattle.ccr_model.specs.Legal.{IsAllowed, IsLegal, has_shed, is_shed_end}
-use Rattle.ccr_model.proofs.PostNames.{along, both, refused_not}
-use Rattle.ccr_model.proofs.Quiet.{some_of, some_then, first_is}
+use Rattle.ccr_model.proofs.PostNames.{along, refused_not}
+use Rattle.ccr_model.proofs.Quiet.{first_is}
 use Rattle.ccr_model.proofs.TaskSteps.{running-post, running-fire, running-admit, running-put, running-end}
-use Rattle.ccr_model.proofs.Stable.{firing_named-append, play_of-append}
-use Rattle.ccr_model.proofs.Allowing.{head_passes, same_task-self}
-
--- no name stands twice
-abbrev pub are_distinct : List TaskId → Bool
-are_distinct [] = true
-are_distinct (t ∷ ts) = not (has_task ts t) && are_distinct ts
+use Rattle.ccr_model.proofs.Stable.{play_of-append}
+use Rattle.ccr_model.proofs.Allowing.{head_passes}
+use Rattle.ccr_model.proofs.Pushes.{started-push}
+use Rattle.ccr_model.proofs.Options.{some_of, head_rest}
+use Rattle.ccr_model.proofs.SameNames.{same_task-is, same_task-self, same_task-sym}
+use Rattle.ccr_model.proofs.TasksLeft.{of_without, filter_on, distinct-filter, distinct-push}
+use Rattle.ccr_model.proofs.Booleans.{not_true, both, or_left, or_right}
+use Rattle.ccr_model.proofs.FiredTasks.{IsFired, AreFired, IsFired-append, seat_fired}
 
 -- what is known of the tasks that started
 pub record AreStarted (h : List Event) : Type 0 where
-  pub named : (t : TaskId) → has_task (started h) t ≡ true → (f : Firing) × (firing_named h t ≡ Some f)
-  pub once : are_distinct (started h) ≡ true
-
-pub same_task-is : (s t : TaskId) → same_task s t ≡ true → s ≡ t
-same_task-is s t is = grind (arith, nat_tests)
-
-same_task-sym : (s t : TaskId) → same_task s t ≡ same_task t s
-same_task-sym s t = grind (arith, nat_tests)
+  pub named : AreFired h (started h)
+  pub once : are_distinct_tasks (started h) ≡ true
 
 no_member : (ts : List TaskId) (x u : TaskId) → has_task ts x ≡ false → has_task ts u ≡ true → same_task x u ≡ false
 no_member ts x u out within = of_test (same_task x u) refl
@@ -50,32 +44,12 @@ no_member ts x u out within = of_test (same_task x u) refl
     of_test false e = e
     of_test true e = let same : x ≡ u = same_task-is x u e in absurd (cc (rw same at out, within))
 
-pub or_left : (a b : Bool) → a ≡ true → a || b ≡ true
-or_left true b is = refl
-or_left false b is = absurd (cc)
-
-pub or_right : (a b : Bool) → b ≡ true → a || b ≡ true
-or_right true b is = refl
-or_right false b is = is
-
--- over plain lists: a test that agrees on the members
-filter_on : (p q : TaskId → Bool) (ts : List TaskId) → ((u : TaskId) → has_task ts u ≡ true → p u ≡ q u) → filter p ts ≡ filter q ts
-filter_on p q [] same = refl
-filter_on p q (x ∷ ts) same =
-    let here = same x (or_left (same_task x x) (has_task ts x) (same_task-self x)) in
-    let later = filter_on p q ts (λ u is. same u (or_right (same_task u x) (has_task ts u) is)) in
-    rw (here, later) refl
-
-out_of : (b : Bool) → not b ≡ true → b ≡ false
-out_of false is = refl
-out_of true is = absurd (cc)
-
 -- a test that changes at one member alone
-one_changes : (p q : TaskId → Bool) (t : TaskId) (ts : List TaskId) → are_distinct ts ≡ true → ((u : TaskId) → has_task ts u ≡ true → same_task t u ≡ false → p u ≡ q u) → length (filter p ts) ≤ length (filter q ts) + 1
+one_changes : (p q : TaskId → Bool) (t : TaskId) (ts : List TaskId) → are_distinct_tasks ts ≡ true → ((u : TaskId) → has_task ts u ≡ true → same_task t u ≡ false → p u ≡ q u) → length (filter p ts) ≤ length (filter q ts) + 1
 one_changes p q t [] distinct same = omega arith
 one_changes p q t (x ∷ ts) distinct same =
-    let parts = both (not (has_task ts x)) (are_distinct ts) distinct in
-    let out = out_of (has_task ts x) parts.0 in
+    let parts = both (not (has_task ts x)) (are_distinct_tasks ts) distinct in
+    let out = not_true (has_task ts x) parts.0 in
     of_test (same_task t x) refl (one_changes p q t ts parts.1 (λ u is. same u (or_right (same_task u x) (has_task ts u) is)))
     (λ e. filter_on p q ts (λ u is. same u (or_right (same_task u x) (has_task ts u) is) (let one : t ≡ x = same_task-is t x e in rw one (no_member ts x u out is))))
     (λ e. same x (or_left (same_task x x) (has_task ts x) (same_task-self x)) e)
@@ -84,32 +58,12 @@ one_changes p q t (x ∷ ts) distinct same =
     of_test true e rest all one = let same_rest = all e in grind (arith, same_rest)
     of_test false e rest all one = let same_here = one e in grind (arith, same_here, rest)
 
-has_task-filter : (p : TaskId → Bool) (ts : List TaskId) (u : TaskId) → has_task ts u ≡ false → has_task (filter p ts) u ≡ false
-has_task-filter p [] u is = refl
-has_task-filter p (x ∷ ts) u is = grind (arith, has_task-filter p ts u)
-
-of_filter : (p : TaskId → Bool) (ts : List TaskId) (u : TaskId) → has_task (filter p ts) u ≡ true → has_task ts u ≡ true
-of_filter p [] u is = is
-of_filter p (x ∷ ts) u is = grind (arith, of_filter p ts u)
-
-are_distinct-filter : (p : TaskId → Bool) (ts : List TaskId) → are_distinct ts ≡ true → are_distinct (filter p ts) ≡ true
-are_distinct-filter p [] is = refl
-are_distinct-filter p (x ∷ ts) is =
-    let parts = both (not (has_task ts x)) (are_distinct ts) is in
-    grind (arith, has_task-filter p ts x, out_of (has_task ts x) parts.0, are_distinct-filter p ts parts.1)
-
-are_distinct-push : (ts : List TaskId) (t : TaskId) → are_distinct ts ≡ true → has_task ts t ≡ false → are_distinct (ts ++ t ∷ []) ≡ true
-are_distinct-push [] t is out = refl
-are_distinct-push (x ∷ ts) t is out =
-    let parts = both (not (has_task ts x)) (are_distinct ts) is in
-    grind (arith, common_steps, same_task-sym t x, are_distinct-push ts t parts.1, out_of (has_task ts x) parts.0)
-
 filter_twice : (p r : TaskId → Bool) (ts : List TaskId) → filter p (filter r ts) ≡ filter (λ u. r u && p u) ts
 filter_twice p r [] = refl
 filter_twice p r (x ∷ ts) = grind (arith, filter_twice p r ts)
 
 -- one that goes
-one_goes : (p : TaskId → Bool) (t : TaskId) (ts : List TaskId) → are_distinct ts ≡ true → length (filter p ts) ≤ length (filter p (without ts (t ∷ []))) + 1
+one_goes : (p : TaskId → Bool) (t : TaskId) (ts : List TaskId) → are_distinct_tasks ts ≡ true → length (filter p ts) ≤ length (filter p (without ts (t ∷ []))) + 1
 one_goes p t ts distinct = rw (filter_twice p (λ u. not (has_task (t ∷ []) u)) ts) (one_changes p (λ u. not (has_task (t ∷ []) u) && p u) t ts distinct (λ u is other. grind (arith, other, same_task-sym t u)))
 
 -- one that goes, and didn't pass
@@ -122,46 +76,29 @@ none_goes p t (x ∷ ts) fails = of_test (same_task x t) refl (none_goes p t ts 
     of_test false e rest = grind (arith, e, rest)
 
 -- who started, by one more event
-pub some_map : {X Y : Type 0} (f : X → Y) (o : Option X) (y : Y) → option_map f o ≡ Some y → (x : X) × (o ≡ Some x)
-some_map f None y is = absurd (cc)
-some_map f (Some x) y is = (x, refl)
-
-pub head_rest : (ts : List TaskId) (t : TaskId) → slice_get ts 0 ≡ Some t → (rest : List TaskId) × (ts ≡ t ∷ rest)
-head_rest [] t is = absurd (cc)
-head_rest (u ∷ ts) t is = (ts, cc)
-
-not_either : (a b : Bool) → not (a || b) ≡ true → a ≡ false
-not_either false b is = refl
-not_either true b is = absurd (cc)
-
-queued_head : (w : Parts) (h : List Event) (t : TaskId) → is_oldest_queued w h t ≡ true → ((f : Firing) × (firing_named h t ≡ Some f)) × (has_task (started h) t ≡ false)
+queued_head : (w : Parts) (h : List Event) (t : TaskId) → is_oldest_queued w h t ≡ true → IsFired h t × (has_task (started h) t ≡ false)
 queued_head w h t is =
     let found = some_of (λ (s : Seat). is_first (queued w h s.branch.queue) t) (seat_of w h t) is in
-    let placed = some_then (λ spot. seat w (branch_of spot)) (spot_of h t) found.0 found.1 in
-    let fired_so = some_map (λ (f : Firing). f.spot) (firing_named h t) placed.0 placed.1 in
     let q = found.0.branch.queue in
     let head = head_rest (queued w h q) t (first_is (queued w h q) t found.2) in
     let test : TaskId → Bool = λ u. not (has_task (started h ++ dropped h) u) && is_for_queue w h q u in
     let passes = head_passes test (put h) t head.0 (sym (filter_twice (is_for_queue w h q) (λ u. not (has_task (started h ++ dropped h) u)) (put h)) ∙ head.1) in
     let parts = both (not (has_task (started h ++ dropped h) t)) (is_for_queue w h q t) passes in
-    (fired_so, grind (arith, common_steps, parts.0))
-
-started-push : (h : List Event) (e : Event) → started (h ++ e ∷ []) ≡ started h ++ started_by e
-started-push h e = grind (arith, common_steps)
+    (seat_fired w h t found.0 found.1, grind (arith, common_steps, parts.0))
 
 AreStarted_other : (h : List Event) (e : Event) → started_by e ≡ [] → AreStarted h → AreStarted (h ++ e ∷ [])
 AreStarted_other h e none known =
     let same : started (h ++ e ∷ []) ≡ started h = rw (started-push, none, append-nil) refl in
-    record { named = λ t is. (let r = known.named t (rw same at is) in (r.0, firing_named-append h (e ∷ []) t r.0 r.1)); once = rw same known.once }
+    record { named = λ t is. IsFired-append h (e ∷ []) t (known.named t (rw same at is)); once = rw same known.once }
 
 AreStarted_start : (w : Parts) (h : List Event) (t : TaskId) (a : ℕ) → is_oldest_queued w h t ≡ true → AreStarted h → AreStarted (h ++ Start t a ∷ [])
 AreStarted_start w h t a is known =
     let found = queued_head w h t is in
-    record { named = λ u among. old_or_new u (same_task u t) refl (rw started-push at among) found.0; once = rw started-push (are_distinct-push (started h) t known.once found.1) }
+    record { named = λ u among. old_or_new u (same_task u t) refl (rw started-push at among) found.0; once = rw started-push (distinct-push (started h) t known.once found.1) }
   where
-    old_or_new : (u : TaskId) (b : Bool) → same_task u t ≡ b → has_task (started h ++ t ∷ []) u ≡ true → ((f : Firing) × (firing_named h t ≡ Some f)) → (f : Firing) × (firing_named (h ++ Start t a ∷ []) u ≡ Some f)
-    old_or_new u true e among found = let same : t ≡ u = sym (same_task-is u t e) in (found.0, firing_named-append h (Start t a ∷ []) u found.0 (subst (λ x. firing_named h x ≡ Some found.0) same found.1))
-    old_or_new u false e among found = let old : has_task (started h) u ≡ true = grind (arith, common_steps, e, among) in let r = known.named u old in (r.0, firing_named-append h (Start t a ∷ []) u r.0 r.1)
+    old_or_new : (u : TaskId) (b : Bool) → same_task u t ≡ b → has_task (started h ++ t ∷ []) u ≡ true → IsFired h t → IsFired (h ++ Start t a ∷ []) u
+    old_or_new u true e among found = let same : t ≡ u = sym (same_task-is u t e) in IsFired-append h (Start t a ∷ []) u (subst (IsFired h) same found)
+    old_or_new u false e among found = let old : has_task (started h) u ≡ true = grind (arith, common_steps, e, among) in IsFired-append h (Start t a ∷ []) u (known.named u old)
 
 pub AreStarted_kept : (w : Parts) (h : List Event) (e : Event) → AreStarted h → IsAllowed w h e → AreStarted (h ++ e ∷ [])
 AreStarted_kept w h (Start t a) known allowed = AreStarted_start w h t a (refused_not (is_oldest_queued w h t) 13 _ allowed).0 known
@@ -176,7 +113,7 @@ left_same : (w : Parts) (h : List Event) (e : Event) (u : TaskId) → AreStarted
 left_same w h e u known is same = let f = known.named u is in rw (same, play_of-append w h (e ∷ []) u f.0 f.1) refl
 
 pub running_started : (h : List Event) (u : TaskId) → has_task (running h) u ≡ true → has_task (started h) u ≡ true
-running_started h u is = of_filter (λ t. not (has_task (ended h) t)) (started h) u is
+running_started h u is = (of_without (started h) (ended h) u is).0
 
 -- the same unfinished tasks after an event that starts, ends and posts for no task
 unfinished_same : (w : Parts) (h : List Event) (e : Event) → AreStarted h → running (h ++ e ∷ []) ≡ running h → ((u : TaskId) → posts_of_task (h ++ e ∷ []) u ≡ posts_of_task h u) → unfinished w (h ++ e ∷ []) ≡ unfinished w h
@@ -205,7 +142,7 @@ Covered_script w h m a k is known covered shed =
 Covered_task : (w : Parts) (h : List Event) (m : Msg) (t : TaskId) (k : ℕ) → m.id ≡ Task t k → AreStarted h → IsCovered w h → IsCovered w (h ++ Post m ∷ [])
 Covered_task w h m t k is known covered shed =
     let more : posts_of_tasks (h ++ Post m ∷ []) ≡ posts_of_tasks h + 1 = grind (arith, common_steps, is) in
-    let few : length (unfinished w h) ≤ length (filter (has_post_left w (h ++ Post m ∷ [])) (running h)) + 1 = one_changes (has_post_left w h) (has_post_left w (h ++ Post m ∷ [])) t (running h) (are_distinct-filter (λ u. not (has_task (ended h) u)) (started h) known.once) (λ u among other. sym (left_same w h (Post m) u known (running_started h u among) (grind (arith, common_steps, is, other, same_task-sym t u)))) in
+    let few : length (unfinished w h) ≤ length (filter (has_post_left w (h ++ Post m ∷ [])) (running h)) + 1 = one_changes (has_post_left w h) (has_post_left w (h ++ Post m ∷ [])) t (running h) (distinct-filter (λ u. not (has_task (ended h) u)) (started h) known.once) (λ u among other. sym (left_same w h (Post m) u known (running_started h u among) (grind (arith, common_steps, is, other, same_task-sym t u)))) in
     let old = covered (sym (shed_same h (Post m) refl) ∙ shed) in
     rw (more, running-post h m) (omega (arith, few, old))
 
@@ -232,8 +169,8 @@ Covered_end w h t how known covered allowed shed =
     let a = refused_not (has_task (running h) t) 15 _ allowed in
     let b = (refused_not (may_end w h t how) 16 None a.1).0 in
     let posts_so : posts (h ++ End t how ∷ []) ≡ posts h = grind (arith, common_steps) in
-    let distinct = are_distinct-filter (λ u. not (has_task (ended h) u)) (started h) known.once in
-    let same = filter_on (has_post_left w (h ++ End t how ∷ [])) (has_post_left w h) (without (running h) (t ∷ [])) (λ u is. left_same w h (End t how) u known (running_started h u (of_filter (λ x. not (has_task (t ∷ []) x)) (running h) u is)) (posts_same h (End t how) posts_so u)) in
+    let distinct = distinct-filter (λ u. not (has_task (ended h) u)) (started h) known.once in
+    let same = filter_on (has_post_left w (h ++ End t how ∷ [])) (has_post_left w h) (without (running h) (t ∷ [])) (λ u is. left_same w h (End t how) u known (running_started h u (of_without (running h) (t ∷ []) u is).0) (posts_same h (End t how) posts_so u)) in
     rw (posts_so, running-end h t how, same) (by_how (shed_or_not how) b (one_goes (has_post_left w h) t (running h) distinct))
   where
     by_how : (is_shed how ≡ true) × (how ≡ ends.Shed) ⊎ (is_shed how ≡ false) × ((u : TaskId) → is_shed_end (End u how) ≡ false) → may_end w h t how ≡ true → length (unfinished w h) ≤ length (filter (has_post_left w h) (without (running h) (t ∷ []))) + 1 → w.budget ≤ posts_of_tasks h + length (filter (has_post_left w h) (without (running h) (t ∷ [])))

@@ -2,11 +2,20 @@ mod WorkedParts
 mod WorkedRuns
 mod WorkedTasks
 mod WrongEvents
+pub mod Booleans
+pub mod Options
+pub mod Members
+pub mod SameNames
+pub mod TasksLeft
+pub mod Filters
+pub mod Pushes
 pub mod HeldSteps
 pub mod PostNames
+pub mod LegalParts
 pub mod TakenOnce
 pub mod TaskSteps
 pub mod Stable
+pub mod FiredTasks
 pub mod Quiet
 pub mod Allowing
 pub mod Covered

@@ -1,5 +1,5 @@
 -- No two posts of a legal history have one name.
-use Rattle.std.proofs.Common.{◌≡◌, ℕ, ◌+◌, ◌<◌, ◌≤◌, Bool, true, false, ◌&&◌, List, [], ◌∷◌, ◌++◌, length, filter, Option, None, refl, arith, subst, append_assoc, append-nil}
+use Rattle.std.proofs.Common.{◌≡◌, ℕ, ◌+◌, ◌<◌, ◌≤◌, Bool, true, false, List, [], ◌∷◌, ◌++◌, length, filter, Option, None, refl, arith, subst, append_assoc, append-nil}
 use Rattle.std.specs.Prelude.{if◌then◌else◌}
 use Rattle.std.proofs.lemmas.Grind.{common_steps}
 use Rattle.std.proofs.lemmas.Bool.Decides.{nat_tests}
@@ -10,9 +10,11 @@ use Rattle.ccr_wiring.specs.declared.parts.Parts.{Parts}
 use Rattle.ccr_model.specs.declared.history.Event.{Event}
 use Rattle.ccr_model.specs.declared.history.Event.TheVariants.{Post, Fire, Admit, Put, Start, End}
 use Rattle.ccr_base.specs.Names.{same_message}
-use Rattle.ccr_model.specs.Posts.{posts, post_of, is_script_of, is_message_of}
+use Rattle.ccr_model.specs.Posts.{posts, is_script_of, is_message_of}
 use Rattle.ccr_model.specs.Rules.{refusal_of_post, refused}
 use Rattle.ccr_model.specs.Legal.{IsAllowed, IsLegal, IsLegalAfter}
+use Rattle.ccr_model.proofs.Pushes.{posts-push}
+use Rattle.ccr_model.proofs.SameNames.{same_message-is}
 
 -- what the empty history has and each allowed event keeps, each legal history has
 along_after : (w : Parts) (P : List Event → Type 0) → ((h : List Event) (e : Event) → P h → IsAllowed w h e → P (h ++ e ∷ [])) → (past es : List Event) → P past → IsLegalAfter w past es → P (past ++ es)
@@ -44,24 +46,10 @@ pub refused_not : (b : Bool) (n : ℕ) (o : Option ℕ) → refused b n o ≡ No
 refused_not true n o is = (refl, is)
 refused_not false n o is = absurd (cc)
 
-pub both : (a b : Bool) → a && b ≡ true → (a ≡ true) × (b ≡ true)
-both true b is = (refl, is)
-both false b is = absurd (cc)
-
 -- an allowed post has the place that comes next
 place_next : (w : Parts) (h : List Event) (m : Msg) (name : MsgId) → refusal_of_post w h m name ≡ None → place_of name ≡ sent_by name (posts h)
 place_next w h m (Script a k) is = grind (arith, nat_tests)
 place_next w h m (Task t k) is = grind (arith, nat_tests)
-
-pub same_message-self : (n : MsgId) → same_message n n ≡ true
-same_message-self (Script a k) = grind (arith, nat_tests)
-same_message-self (Task t k) = grind (arith, nat_tests)
-
-pub same_message-is : (m n : MsgId) → same_message m n ≡ true → m ≡ n
-same_message-is (Script a k) (Script b l) is = grind (arith, nat_tests)
-same_message-is (Script a k) (Task t l) is = absurd (cc)
-same_message-is (Task s k) (Script b l) is = absurd (cc)
-same_message-is (Task s k) (Task t l) is = grind (arith, nat_tests)
 
 times_more : (name : MsgId) (ms : List Msg) (m : Msg) → times name (ms ++ m ∷ []) ≡ times name ms + (if same_message m.id name then 1 else 0)
 times_more name ms m = grind (arith, common_steps)
@@ -87,9 +75,6 @@ AreNamed-push ms m named place = record {
     once_push : (name : MsgId) (b : Bool) → same_message m.id name ≡ b → times name (ms ++ m ∷ []) ≤ 1
     once_push name true is = let e : m.id ≡ name = same_message-is m.id name is in subst (λ n. times n (ms ++ m ∷ []) ≤ 1) e (grind (arith, times_more m.id ms m, named.below m.id, named.once m.id, place))
     once_push name false is = grind (arith, times_more name ms m, named.once name)
-
-posts-push : (h : List Event) (e : Event) → posts (h ++ e ∷ []) ≡ posts h ++ post_of e
-posts-push h e = grind (arith, common_steps)
 
 pub named_kept : (w : Parts) (h : List Event) (e : Event) → AreNamed (posts h) → IsAllowed w h e → AreNamed (posts (h ++ e ∷ []))
 named_kept w h (Post m) named allowed = rw posts-push (AreNamed-push (posts h) m named (place_next w h m m.id allowed))

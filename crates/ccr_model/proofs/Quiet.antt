@@ -2,7 +2,7 @@
 use Rattle.std.proofs.Common.{◌≡◌, ℕ, zero, suc, ◌+◌, ◌-◌, ◌<◌, ◌≤◌, ◌⊎◌, inl, inr, Bool, true, false, not, ◌&&◌, ◌||◌, List, [], ◌∷◌, ◌++◌, length, map, take, Option, Some, None, refl, sym, arith, ap, subst}
 use Rattle.std.specs.Prelude.{◌==◌, if◌then◌else◌, find, nat_lt, option_map, option_and_then}
 use Rattle.std.specs.List.{slice_get}
-use Rattle.std.specs.Option.{option_map_or, option_or}
+use Rattle.std.specs.Option.{option_map_or}
 use Rattle.std.proofs.lemmas.Bool.Decides.{nat_tests}
 use Rattle.ccr_base.specs.declared.names.TaskId.{TaskId}
 use Rattle.ccr_base.specs.declared.names.MsgId.{MsgId}
@@ -31,47 +31,11 @@ use Rattle.ccr_model.specs.Rules.{refusal_of_post, is_post, is_script_line, is_n
 use Rattle.ccr_model.specs.Legal.{IsAllowed, IsQuiet}
 use Rattle.ccr_model.specs.Order.{first, post_from, script_post, fire_at, fire_from, admit_first, admit_from, put_first, run_task, start_from}
 use Rattle.ccr_wiring.specs.Valid.{HasQueues}
-use Rattle.ccr_model.proofs.PostNames.{both, refused_not}
-
--- x is a member
-abbrev pub Among : {X : Type 0} → X → List X → Type 0
-Among x [] = ⊥
-Among x (y ∷ ys) = (x ≡ y) ⊎ Among x ys
-
-pub Among-left : {X : Type 0} (x : X) (xs ys : List X) → Among x xs → Among x (xs ++ ys)
-Among-left x [] ys h = absurd h
-Among-left x (y ∷ xs) ys (inl e) = inl e
-Among-left x (y ∷ xs) ys (inr h) = inr (Among-left x xs ys h)
-
-pub Among-right : {X : Type 0} (x : X) (xs ys : List X) → Among x ys → Among x (xs ++ ys)
-Among-right x [] ys h = h
-Among-right x (y ∷ xs) ys h = inr (Among-right x xs ys h)
-
-pub Among-at : {X : Type 0} (xs : List X) (i : ℕ) (x : X) → slice_get xs i ≡ Some x → Among x xs
-Among-at [] i x is = absurd (cc)
-Among-at (y ∷ xs) zero x is = inl (cc)
-Among-at (y ∷ xs) (suc i) x is = inr (Among-at xs i x is)
-
--- a test that passes by an option had something there
-pub some_of : {X : Type 0} (f : X → Bool) (o : Option X) → option_map_or f o false ≡ true → (x : X) × (o ≡ Some x) × (f x ≡ true)
-some_of f None is = absurd (cc)
-some_of f (Some x) is = (x, refl, is)
-
-pub some_then : {X Y : Type 0} (f : X → Option Y) (o : Option X) (y : Y) → option_and_then f o ≡ Some y → (x : X) × (o ≡ Some x) × (f x ≡ Some y)
-some_then f None y is = absurd (cc)
-some_then f (Some x) y is = (x, refl, is)
-
-none_or : {X : Type 0} (a b : Option X) → option_or a b ≡ None → (a ≡ None) × (b ≡ None)
-none_or None b is = (refl, is)
-none_or (Some x) b is = absurd (cc)
-
-none_map : {X Y : Type 0} (f : X → Y) (o : Option X) → option_map f o ≡ None → o ≡ None
-none_map f None is = refl
-none_map f (Some x) is = absurd (cc)
-
-no_head : {X : Type 0} (xs : List X) → slice_get xs 0 ≡ None → xs ≡ []
-no_head [] is = refl
-no_head (x ∷ xs) is = absurd (cc)
+use Rattle.ccr_model.proofs.PostNames.{refused_not}
+use Rattle.ccr_model.proofs.Options.{some_of, some_then, some_map, none_or, none_map, no_head}
+use Rattle.ccr_model.proofs.Members.{Among, Among-left, Among-right, Among-either, Among-at}
+use Rattle.ccr_model.proofs.SameNames.{same_task-is}
+use Rattle.ccr_model.proofs.Booleans.{both}
 
 -- Post of a script
 post_none : (h : List Event) (ps : List PosterPart) (n k : ℕ) (p : PosterPart) → post_from h n ps ≡ None → slice_get ps k ≡ Some p → slice_get p.posts (posts_of_poster h (n + k)) ≡ None
@@ -190,23 +154,15 @@ seats_of_arbiter n a s among = of_list a.branches among
     of_list (b ∷ bs) (inl e) = ap (λ (r : Seat). r.arbiter) e
     of_list (b ∷ bs) (inr h) = of_list bs h
 
-Among-split : {X : Type 0} (x : X) (xs ys : List X) → Among x (xs ++ ys) → Among x xs ⊎ Among x ys
-Among-split x [] ys h = inr h
-Among-split x (y ∷ xs) ys (inl e) = inl (inl e)
-Among-split x (y ∷ xs) ys (inr h) = elim (Among-split x xs ys h) [ inl l ↦ inl (inr l) | inr r ↦ inr r ]
-
 admit_none : (w : Parts) (h : List Event) (n : ℕ) (as' : List ArbiterPart) (s : Seat) → Among s (seats_from n as') → admit_from w h n as' ≡ None → admit_first w h (waiting w h s.arbiter) ≡ None
 admit_none w h n [] s among none = absurd among
 admit_none w h n (a ∷ as') s among none =
     let parts = none_or (admit_first w h (waiting w h n)) (admit_from w h (n + 1) as') none in
-    here_or_later (Among-split s (seats_of n a) (seats_from (n + 1) as') among) parts.0 (λ later. admit_none w h (n + 1) as' s later parts.1)
+    here_or_later (Among-either s (seats_of n a) (seats_from (n + 1) as') among) parts.0 (λ later. admit_none w h (n + 1) as' s later parts.1)
   where
     here_or_later : Among s (seats_of n a) ⊎ Among s (seats_from (n + 1) as') → admit_first w h (waiting w h n) ≡ None → (Among s (seats_from (n + 1) as') → admit_first w h (waiting w h s.arbiter) ≡ None) → admit_first w h (waiting w h s.arbiter) ≡ None
     here_or_later (inl here) is rest = rw (seats_of_arbiter n a s here) is
     here_or_later (inr later) is rest = rest later
-
-same_task-is : (s t : TaskId) → same_task s t ≡ true → s ≡ t
-same_task-is s t is = grind (arith, nat_tests)
 
 pub first_is : (ts : List TaskId) (t : TaskId) → is_first ts t ≡ true → slice_get ts 0 ≡ Some t
 first_is ts t is = let found = some_of (same_task t) (slice_get ts 0) is in rw found.1 (ap (λ u. Some u) (sym (same_task-is t found.0 found.2)))
@@ -254,10 +210,6 @@ no_put w h t d none allowed =
     let placed = some_of _ (spot_of h t) parts.1 in
     let fired_so = some_map (λ (f : Firing). f.spot) (firing_named h t) placed.0 placed.1 in
     find_among (may_put w h) (fired h) t (found_fired (firings h) t fired_so.0 fired_so.1) a.0 (none_map (λ u. Put u (drop_at w h u)) (find (may_put w h) (fired h)) none)
-  where
-    some_map : {X Y : Type 0} (f : X → Y) (o : Option X) (y : Y) → option_map f o ≡ Some y → (x : X) × (o ≡ Some x)
-    some_map f None y is = absurd (cc)
-    some_map f (Some x) y is = (x, refl)
 
 -- Start
 start_none : (w : Parts) (c : ℕ) (h : List Event) (n k : ℕ) (qs : List QueuePart) → start_from w c h n qs ≡ None → k < length qs → slice_get (queued w h (n + k)) 0 ≡ None

@@ -24,7 +24,9 @@ use Rattle.ccr_model.specs.Live.{is_live, has_room}
 use Rattle.ccr_model.specs.Rules.{is_new}
 use Rattle.ccr_model.specs.Legal.{IsAllowed, IsLegal}
 use Rattle.ccr_wiring.specs.Valid.{has_port, are_apart, slot_ports, names_ports_once, HasPortsApart}
-use Rattle.ccr_model.proofs.PostNames.{times, along, both, refused_not, same_message-is, AreNamed, named_kept}
+use Rattle.ccr_model.proofs.PostNames.{times, along, refused_not, AreNamed, named_kept}
+use Rattle.ccr_model.proofs.SameNames.{same_message-is}
+use Rattle.ccr_model.proofs.Booleans.{both}
 
 -- how often the name stands in the list of names
 abbrev pub named : MsgId → List MsgId → ℕ
@@ -56,7 +58,7 @@ times_at-apart : (name : MsgId) (t : Msg → Bool) (port : ℕ) (ports : List �
 times_at-apart name t port ports apart [] = grind arith
 times_at-apart name t port ports apart (m ∷ ms) = grind (arith, nat_tests, times_at-apart name t port ports apart ms)
 
-joined_some : (a b : Option (List Msg)) (xs : List Msg) → joined a b ≡ Some xs → (front : List Msg) × (back : List Msg) × (a ≡ Some front) × (b ≡ Some back) × (front ++ back ≡ xs)
+pub joined_some : (a b : Option (List Msg)) (xs : List Msg) → joined a b ≡ Some xs → (front : List Msg) × (back : List Msg) × (a ≡ Some front) × (b ≡ Some back) × (front ++ back ≡ xs)
 joined_some (Some front) (Some back) xs is = (front, back, refl, refl, grind (arith, is))
 joined_some None b xs is = absurd (cc)
 joined_some (Some front) None xs is = absurd (cc)
@@ -130,6 +132,7 @@ named-choice_of name t ms (Gather total first second) names apart is =
     let parts = both (length names == total) (are_split (at t ms first) (at t ms second) names) is in
     omega (arith, named-split name (at t ms first) (at t ms second) names parts.1, times-two name t first second apart ms)
 
+-- the messages that no firing took, of all ports
 abbrev pub untaken : List Event → List Msg
 untaken h = filter (λ (m : Msg). not (has_message (taken h) m.id)) (posts h)
 
@@ -156,9 +159,6 @@ taken_none name gone (m ∷ ms) some = one_more (has_message gone m.id) (same_me
     one_more true b is same rest = rest (grind (arith, is, some))
     one_more false true is same rest = let e : m.id ≡ name = same_message-is m.id name same in rw (← e) is
     one_more false false is same rest = rest (grind (arith, is, same, some))
-
-same_message-sym : (m n : MsgId) → same_message m n ≡ same_message n m
-same_message-sym m n = grind (arith, nat_tests)
 
 named_none : (name : MsgId) (gone : List MsgId) → has_message gone name ≡ false → named name gone ≡ 0
 named_none name [] is = grind arith

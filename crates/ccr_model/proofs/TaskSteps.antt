@@ -1,5 +1,5 @@
 -- Who is queued and who runs after one more event.
-use Rattle.std.proofs.Common.{◌≡◌, ℕ, Bool, true, false, ◌||◌, List, [], ◌∷◌, ◌++◌, filter, Option, option_to_list, refl, arith, ◌∙◌, append-nil}
+use Rattle.std.proofs.Common.{◌≡◌, ℕ, Bool, false, List, [], ◌∷◌, ◌++◌, filter, Option, option_to_list, refl, arith, ◌∙◌, append-nil}
 use Rattle.std.specs.Prelude.{if◌then◌else◌, find}
 use Rattle.std.proofs.lemmas.Grind.{common_steps}
 use Rattle.ccr_base.specs.declared.names.TaskId.{TaskId}
@@ -11,16 +11,15 @@ use Rattle.ccr_model.specs.declared.history.Event.{Event}
 use Rattle.ccr_model.specs.declared.history.Event.TheVariants.{Post, Fire, Admit, Put, Start, End}
 use Rattle.ccr_model.specs.declared.history.EndHow.{EndHow}
 use Rattle.ccr_base.specs.Names.{same_task, has_task, without}
-use Rattle.ccr_model.specs.Firings.{Firing, firing_of, firings, firing_named, put, put_by, started, started_by, ended, dropped, dropped_by}
+use Rattle.ccr_model.specs.Firings.{Firing, firings, firing_named, put, started, ended, dropped}
 use Rattle.ccr_model.specs.Tasks.{is_for_queue, queued, running}
+use Rattle.ccr_model.proofs.Pushes.{firings-push, put-push, started-push, dropped-push}
+use Rattle.ccr_model.proofs.TasksLeft.{has_task-without, without_both, lists_start}
+use Rattle.ccr_model.proofs.Booleans.{neither}
 
 -- running, one lemma an event
 pub running-start : (h : List Event) (t : TaskId) (a : ℕ) → has_task (ended h) t ≡ false → running (h ++ Start t a ∷ []) ≡ running h ++ t ∷ []
 running-start h t a fresh = grind (arith, common_steps)
-
-without_both : (ts gone more : List TaskId) → without ts (gone ++ more) ≡ without (without ts gone) more
-without_both [] gone more = refl
-without_both (t ∷ ts) gone more = grind (arith, common_steps, without_both ts gone more)
 
 pub running-end : (h : List Event) (t : TaskId) (how : EndHow) → running (h ++ End t how ∷ []) ≡ without (running h) (t ∷ [])
 running-end h t how = grind (arith, common_steps, without_both (started h) (ended h) (t ∷ []))
@@ -38,9 +37,6 @@ pub running-admit : (h : List Event) (t : TaskId) → running (h ++ Admit t ∷ 
 running-admit h t = grind (arith, common_steps)
 
 -- the firings after one more event
-pub firings-push : (h : List Event) (e : Event) → firings (h ++ e ∷ []) ≡ firings h ++ firing_of e
-firings-push h e = grind (arith, common_steps)
-
 find-push : {X : Type 0} (p : X → Bool) (xs : List X) (y : X) → p y ≡ false → find p (xs ++ y ∷ []) ≡ find p xs
 find-push p [] y out = grind arith
 find-push p (x ∷ xs) y out = grind (arith, find-push p xs y out)
@@ -60,20 +56,7 @@ filter_same : {X : Type 0} (p q : X → Bool) (xs : List X) → ((x : X) → p x
 filter_same p q [] same = refl
 filter_same p q (x ∷ xs) same = grind (arith, same x, filter_same p q xs same)
 
-put-push : (h : List Event) (e : Event) → put (h ++ e ∷ []) ≡ put h ++ put_by e
-put-push h e = grind (arith, common_steps)
-
-started-push : (h : List Event) (e : Event) → started (h ++ e ∷ []) ≡ started h ++ started_by e
-started-push h e = grind (arith, common_steps)
-
-dropped-push : (h : List Event) (e : Event) → dropped (h ++ e ∷ []) ≡ dropped h ++ dropped_by e
-dropped-push h e = grind (arith, common_steps)
-
--- over plain lists: one more started, one more put
-lists_start : (f : TaskId → Bool) (ps ss ds : List TaskId) (t : TaskId) → filter f (without ps ((ss ++ t ∷ []) ++ ds)) ≡ without (filter f (without ps (ss ++ ds))) (t ∷ [])
-lists_start f [] ss ds t = refl
-lists_start f (p ∷ ps) ss ds t = grind (arith, common_steps, lists_start f ps ss ds t)
-
+-- over plain lists: one more put
 lists_put : (f : TaskId → Bool) (ps ss ds more : List TaskId) (t : TaskId) → has_task (ss ++ (ds ++ more)) t ≡ false → filter f (without (ps ++ t ∷ []) (ss ++ (ds ++ more))) ≡ without (filter f (without ps (ss ++ ds))) more ++ (if f t then t ∷ [] else [])
 lists_put f [] ss ds more t fresh = grind arith
 lists_put f (p ∷ ps) ss ds more t fresh = grind (arith, common_steps, lists_put f ps ss ds more t fresh)
@@ -98,15 +81,7 @@ filter_fire w h q t s ms cs [] fresh = refl
 filter_fire w h q t s ms cs (u ∷ ts) fresh =
     let parts = neither (same_task t u) (has_task ts t) fresh in
     grind (arith, is_for_queue-fire w h q t u s ms cs parts.0, filter_fire w h q t s ms cs ts parts.1)
-  where
-    neither : (a b : Bool) → a || b ≡ false → (a ≡ false) × (b ≡ false)
-    neither false b is = (refl, is)
-    neither true b is = absurd (cc)
-
-has_task-without : (ts gone : List TaskId) (t : TaskId) → has_task ts t ≡ false → has_task (without ts gone) t ≡ false
-has_task-without [] gone t is = refl
-has_task-without (u ∷ ts) gone t is = grind (arith, has_task-without ts gone t)
 
 pub queued-fire : (w : Parts) (h : List Event) (q : ℕ) (t : TaskId) (s : Spot) (ms : List MsgId) (cs : List TaskId) → has_task (put h) t ≡ false → queued w (h ++ Fire t s ms cs ∷ []) q ≡ queued w h q
 queued-fire w h q t s ms cs fresh =
-    rw (put-push, started-push, dropped-push, append-nil, append-nil, append-nil) (filter_fire w h q t s ms cs (without (put h) (started h ++ dropped h)) (has_task-without (put h) (started h ++ dropped h) t fresh))
+    rw (put-push, started-push, dropped-push, append-nil, append-nil, append-nil) (filter_fire w h q t s ms cs (without (put h) (started h ++ dropped h)) (rw (has_task-without (put h) (started h ++ dropped h) t, fresh) refl))

@@ -1,6 +1,6 @@
 -- A valid wiring's handlers are short.
 use Rattle.std.proofs.Common.{◌≡◌, ℕ, zero, suc, ◌≤◌, Bool, true, false, List, [], ◌∷◌, length, Option, Some, None, refl, arith}
-use Rattle.std.specs.Prelude.{◌||◌, if◌then◌else◌}
+use Rattle.std.specs.Prelude.{if◌then◌else◌}
 use Rattle.std.specs.List.{slice_get, list_any}
 use Rattle.std.proofs.lemmas.Bool.Decides.{nat_tests}
 use Rattle.ccr_wiring.specs.declared.parts.Parts.{Parts}
@@ -8,6 +8,7 @@ use Rattle.ccr_wiring.specs.declared.parts.HandlerPart.{HandlerPart}
 use Rattle.ccr_wiring.specs.Limits.{has_outside, handler_is_outside}
 use Rattle.ccr_wiring.specs.Codes.{code_of}
 use Rattle.ccr_wiring.specs.Valid.{IsValid}
+use Rattle.ccr_model.proofs.Booleans.{neither}
 
 none_outside : (a b c d e : Bool) (rest : Option ℕ) → (if a then Some 3 else if b then Some 6 else if c then Some 7 else if d then Some 8 else if e then Some 10 else rest) ≡ None → e ≡ false
 none_outside true b c d e rest is = absurd cc
@@ -16,10 +17,6 @@ none_outside false false true d e rest is = absurd cc
 none_outside false false false true e rest is = absurd cc
 none_outside false false false false true rest is = absurd cc
 none_outside false false false false false rest is = refl
-
-neither : (a b : Bool) → (a || b) ≡ false → (a ≡ false) × (b ≡ false)
-neither true b is = absurd cc
-neither false b is = (refl, is)
 
 none_any : (parts : List HandlerPart) (k : ℕ) (part : HandlerPart) → list_any handler_is_outside parts ≡ false → slice_get parts k ≡ Some part → handler_is_outside part ≡ false
 none_any [] k part none is = absurd cc

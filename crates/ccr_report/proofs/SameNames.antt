@@ -1,7 +1,6 @@
 -- The tests of names don't tell their sides apart.
-use Rattle.std.proofs.Common.{◌≡◌, Bool, true, false, cond, ◌||◌, ◌+◌, ◌<◌, List, [], ◌∷◌, length, take, get_or, Some, refl, sym, ap, ◌∙◌, arith}
-use Rattle.std.specs.Prelude.{◌==◌, ℕ}
-use Rattle.std.proofs.lemmas.Grind.{common_steps}
+use Rattle.std.proofs.Common.{◌≡◌, Bool, true, false, cond, ◌||◌, ◌+◌, ◌<◌, List, [], ◌∷◌, length, take, get_or, Some, refl, sym, ap, ◌∙◌}
+use Rattle.std.specs.Prelude.{ℕ}
 use Rattle.std.proofs.lemmas.List.{take_more}
 use Rattle.std.proofs.lemmas.List.Folds.{list_any-append}
 use Rattle.ccr_base.specs.declared.names.TaskId.{TaskId}
@@ -9,26 +8,14 @@ use Rattle.ccr_base.specs.declared.names.MsgId.{MsgId}
 use Rattle.ccr_base.specs.declared.names.MsgId.TheVariants.{Script, Task}
 use Rattle.std.specs.List.{list_any}
 use Rattle.std.specs.Map.{lookup}
-use Rattle.std.proofs.lemmas.Bool.Decides.{nat_tests}
 use Rattle.ccr_base.specs.contracts.names.TaskIdPartialEq.TheImpl.{ghosts as tasks}
 use Rattle.ccr_base.specs.contracts.names.MsgIdPartialEq.TheImpl.{ghosts as names}
 use Rattle.ccr_base.specs.Names.{same_task, same_message, has_message}
-
-pub equal-swapped : (m n : ℕ) → (m == n) ≡ (n == m)
-equal-swapped m n = grind (arith, common_steps)
-
-pub same_task-swapped : (s t : TaskId) → same_task s t ≡ same_task t s
-same_task-swapped s t = grind (arith, equal-swapped)
-
-pub same_message-swapped : (a b : MsgId) → same_message a b ≡ same_message b a
-same_message-swapped (Script a k) (Script b l) = grind (arith, equal-swapped)
-same_message-swapped (Script a k) (Task t j) = refl
-same_message-swapped (Task s i) (Script b l) = refl
-same_message-swapped (Task s i) (Task t j) = grind (arith, equal-swapped)
+use Rattle.ccr_model.proofs.SameNames.{same_message-sym}
 
 -- whether a name stands among one name more
 pub has_message-more : (names : List MsgId) (i : ℕ) (d name : MsgId) → i < length names → has_message (take (i + 1) names) name ≡ cond (same_message (get_or names i d) name) true (has_message (take i names) name)
-has_message-more names i d name l = rw (take_more names i d l, list_any-append (same_message name) (take i names) (get_or names i d ∷ [])) (of_test (same_message (get_or names i d) name) (same_message name (get_or names i d)) (has_message (take i names) name) (same_message-swapped name (get_or names i d)))
+has_message-more names i d name l = rw (take_more names i d l, list_any-append (same_message name) (take i names) (get_or names i d ∷ [])) (of_test (same_message (get_or names i d) name) (same_message name (get_or names i d)) (has_message (take i names) name) (same_message-sym name (get_or names i d)))
   where
     of_test : (a b rest : Bool) → b ≡ a → (rest || (b || false)) ≡ cond a true rest
     of_test true true true e = refl
@@ -60,9 +47,6 @@ message_inserted old new key name updates =
 -- the derived comparison of tasks is the test of their names
 pub derived_task : (s t : TaskId) → tasks.eq s t ≡ same_task s t
 derived_task s t = refl
-
-pub same_task-true : (s t : TaskId) → same_task s t ≡ true → s ≡ t
-same_task-true s t same = grind (arith, nat_tests, same)
 
 pub lookup_same : {K X : Type 0} (p q : K → Bool) → ((x : K) → p x ≡ q x) → (entries : List (K × X)) → lookup p entries ≡ lookup q entries
 lookup_same p q same [] = refl

@@ -17,6 +17,7 @@ use Rattle.ccr_model.specs.declared.history.Event.{Event}
 use Rattle.ccr_model.specs.Posts.{posts, posted, taken, held}
 use Rattle.ccr_model.specs.Firings.{spot_of}
 use Rattle.ccr_model.specs.Tasks.{is_for_queue}
+use Rattle.ccr_model.proofs.Filters.{filter_swap}
 use Rattle.ccr_report.specs.Counting.{times, taken_at, ports_of, queues_in, branch_queues}
 
 -- numbers that are counted belong to members that pass a test
@@ -28,21 +29,13 @@ times-map f k (x ∷ xs) = of_test (f x == k) (times-map f k xs)
     of_test true h = ap suc h
     of_test false h = h
 
--- two filters, either first
-pub filter_twice : {X : Type 0} (p q : X → Bool) (xs : List X) → filter p (filter q xs) ≡ filter q (filter p xs)
-filter_twice p q [] = refl
-filter_twice p q (x ∷ xs) = of_tests (p x) (q x) refl refl (filter_twice p q xs)
-  where
-    of_tests : (a b : Bool) → p x ≡ a → q x ≡ b → filter p (filter q xs) ≡ filter q (filter p xs) → filter p (filter q (x ∷ xs)) ≡ filter q (filter p (x ∷ xs))
-    of_tests a b pa qb h = grind (arith, common_steps, pa, qb, h)
-
 pub times-posted : (history : List Event) (k : ℕ) → times k (ports_of (posts history)) ≡ length (posted history k)
 times-posted history k = times-map (λ (message : Msg). message.port) k (posts history)
 
 pub times-held : (history : List Event) (k : ℕ) → times k (ports_of (filter (λ (message : Msg). not (has_message (taken history) message.id)) (posts history))) ≡ length (held history k)
 times-held history k =
     times-map (λ (message : Msg). message.port) k (filter (λ (message : Msg). not (has_message (taken history) message.id)) (posts history))
-    ∙ ap length (filter_twice (λ (message : Msg). message.port == k) (λ (message : Msg). not (has_message (taken history) message.id)) (posts history))
+    ∙ ap length (filter_swap (λ (message : Msg). message.port == k) (λ (message : Msg). not (has_message (taken history) message.id)) (posts history))
 
 -- the same, where some members have no number
 pub times-some : {X : Type 0} (f : X → Option ℕ) (test : X → Bool) (k : ℕ) → ((x : X) → test x ≡ option_map_or (λ n. n == k) (f x) false) → (xs : List X) → times k (flat_map (λ x. option_to_list (f x)) xs) ≡ length (filter test xs)

@@ -2,8 +2,6 @@
 use Rattle.std.proofs.Common.{◌≡◌, ℕ, ◌+◌, ◌≤◌, Bool, true, false, ◌&&◌, List, [], ◌∷◌, ◌++◌, find, Option, Some, None, refl, arith, append-nil}
 use Rattle.std.specs.Prelude.{if◌then◌else◌, option_map, IfSome}
 use Rattle.std.specs.List.{slice_get}
-use Rattle.std.specs.Option.{option_or}
-use Rattle.std.proofs.lemmas.Grind.{common_steps}
 use Rattle.std.proofs.lemmas.Bool.Decides.{nat_tests}
 use Rattle.ccr_base.specs.declared.names.TaskId.{TaskId}
 use Rattle.ccr_base.specs.declared.messages.Msg.{Msg}
@@ -18,23 +16,18 @@ use Rattle.ccr_model.specs.declared.history.Event.{Event}
 use Rattle.ccr_model.specs.declared.history.Event.TheVariants.{Fire, Admit, Put, Start, End}
 use Rattle.ccr_model.specs.declared.history.EndHow.TheVariants as ends
 use Rattle.ccr_model.specs.Posts.{posts_of_poster, posts_of_task}
-use Rattle.ccr_model.specs.Firings.{firings, firing_of, fired}
+use Rattle.ccr_model.specs.Firings.{firing_of, fired}
 use Rattle.ccr_model.specs.TaskData.{play_of}
 use Rattle.ccr_model.specs.Tasks.{waiting, queued, running}
 use Rattle.ccr_model.specs.Live.{is_live, has_room}
 use Rattle.ccr_model.specs.Choice.{engine_choice, names_of}
 use Rattle.ccr_model.specs.Rules.{cuts_at, may_enter, may_put, drop_at, has_budget}
 use Rattle.ccr_model.specs.Order.{first, post_from, script_post, next_attempt, fire_at, fire_from, admit_first, admit_from, put_first, run_task, run_with, task_post, start_from}
+use Rattle.ccr_model.proofs.Pushes.{firings-push, fired-fire}
+use Rattle.ccr_model.proofs.Options.{IfSome-or}
 
 abbrev OneMore : ℕ → List Event → Event → Type 0
 OneMore c h e = next_attempt c (fired (h ++ e ∷ [])) ≤ next_attempt c (fired h) + 1
-
-IfSome-or : (P : Event → Type 0) (a b : Option Event) → IfSome a P → IfSome b P → IfSome (option_or a b) P
-IfSome-or P None b p q = q
-IfSome-or P (Some e) b p q = p
-
-firings-push : (h : List Event) (e : Event) → firings (h ++ e ∷ []) ≡ firings h ++ firing_of e
-firings-push h e = grind (arith, common_steps)
 
 -- an event that is no firing
 other : (c : ℕ) (h : List Event) (e : Event) → firing_of e ≡ [] → OneMore c h e
@@ -43,9 +36,6 @@ other c h e none = rw (firings-push, none, append-nil) (omega arith)
 next_attempt-push : (c n : ℕ) (ts : List TaskId) → next_attempt c ts ≤ n → next_attempt c (ts ++ record { actor = c; attempt = n } ∷ []) ≤ n + 1
 next_attempt-push c n [] le = grind (arith, nat_tests)
 next_attempt-push c n (t ∷ ts) le = grind (arith, nat_tests, next_attempt-push c n ts)
-
-fired-fire : (h : List Event) (t : TaskId) (s : Spot) (ms : List _) (cs : List TaskId) → fired (h ++ Fire t s ms cs ∷ []) ≡ fired h ++ t ∷ []
-fired-fire h t s ms cs = grind (arith, common_steps)
 
 one_more_post : (c : ℕ) (h : List Event) (n : ℕ) (ps : List PosterPart) → IfSome (post_from h n ps) (OneMore c h)
 one_more_post c h n [] = tt

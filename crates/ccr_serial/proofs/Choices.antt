@@ -1,9 +1,8 @@
 -- What ports hold, the names at places, and spots that cannot fire.
-use Rattle.std.proofs.Common.{◌≡◌, ◌∙◌, ℕ, zero, suc, ◌-◌, ◌<◌, ◌≤◌, Bool, false, not, List, ◌∷◌, ◌++◌, length, take, filter, Option, Some, None, refl, arith}
+use Rattle.std.proofs.Common.{◌≡◌, ◌∙◌, ℕ, zero, suc, ◌-◌, ◌<◌, ◌≤◌, false, not, List, ◌∷◌, ◌++◌, length, take, Option, Some, None, refl, arith}
 use Rattle.std.specs.Prelude.{◌==◌, is_some}
 use Rattle.std.specs.List.{slice_get}
 use Rattle.std.specs.Option.{option_map, option_to_list}
-use Rattle.std.proofs.lemmas.List.Sums.{length-filter, count_by-le-length}
 use Rattle.ccr_base.specs.declared.names.MsgId.{MsgId}
 use Rattle.ccr_base.specs.declared.messages.Msg.{Msg}
 use Rattle.ccr_base.specs.declared.names.Spot.{Spot}
@@ -16,10 +15,8 @@ use Rattle.ccr_model.specs.Choice.{names_of}
 use Rattle.ccr_model.specs.Enough.{can_fire}
 use Rattle.ccr_model.specs.Order.{fire_at}
 use Rattle.ccr_model.proofs.CanFire.{some_fire_at}
+use Rattle.ccr_model.proofs.Filters.{length-kept}
 use Rattle.ccr_serial.proofs.Ending.{all_kinds}
-
-length-kept : {X : Type 0} (p : X → Bool) (xs : List X) → length (filter p xs) ≤ length xs
-length-kept p xs = rw length-filter (count_by-le-length p xs)
 
 -- a port holds no more messages than there are events
 pub length-held : (h : List Event) (port : ℕ) → length (held h port) ≤ length h

@@ -1,8 +1,7 @@
 -- Where nothing comes first, the history is complete.
-use Rattle.std.proofs.Common.{◌≡◌, ℕ, zero, suc, ◌+◌, ◌≤◌, Bool, true, false, not, ◌||◌, List, [], ◌∷◌, length, Option, Some, None, refl, arith, subst}
+use Rattle.std.proofs.Common.{◌≡◌, ℕ, suc, ◌+◌, ◌≤◌, Bool, true, false, not, ◌||◌, List, [], ◌∷◌, length, Option, Some, None, refl, arith, subst}
 use Rattle.std.specs.Prelude.{◌==◌, option_map, IfSome}
 use Rattle.std.specs.List.{slice_get}
-use Rattle.std.specs.Option.{option_or}
 use Rattle.std.proofs.lemmas.Bool.Decides.{nat_tests}
 use Rattle.ccr_wiring.specs.declared.parts.Parts.{Parts}
 use Rattle.ccr_wiring.specs.declared.parts.PosterPart.{PosterPart}
@@ -14,24 +13,8 @@ use Rattle.ccr_model.specs.Legal.{IsAllowed, IsLegal, IsQuiet, has_shed, are_who
 use Rattle.ccr_model.specs.Order.{first, post_from, script_post, fire_from, admit_from, put_first, run_task}
 use Rattle.ccr_model.proofs.Allowing.{first_allowed}
 use Rattle.ccr_model.proofs.Covered.{IsCovered-legal}
+use Rattle.ccr_model.proofs.Options.{none_or, none_map, no_head, none-above}
 use Rattle.ccr_serial.proofs.Lines.{ArePosted-legal}
-
-none_or : {X : Type 0} (a b : Option X) → option_or a b ≡ None → (a ≡ None) × (b ≡ None)
-none_or None b is = (refl, is)
-none_or (Some x) b is = absurd (cc)
-
-none_map : {X Y : Type 0} (f : X → Y) (o : Option X) → option_map f o ≡ None → o ≡ None
-none_map f None is = refl
-none_map f (Some x) is = absurd (cc)
-
-no_head : {X : Type 0} (xs : List X) → slice_get xs 0 ≡ None → xs ≡ []
-no_head [] is = refl
-no_head (x ∷ xs) is = absurd (cc)
-
-none-above : {X : Type 0} (xs : List X) (n : ℕ) → slice_get xs n ≡ None → length xs ≤ n
-none-above [] n is = omega arith
-none-above (y ∷ xs) zero is = absurd (cc)
-none-above (y ∷ xs) (suc n) is = omega (arith, none-above xs n is)
 
 -- no script has a line left, and no task runs
 record NoneLeft (w : Parts) (h : List Event) : Type 0 where

@@ -1,12 +1,10 @@
 -- Tasks that came, and those of them that went on: each goes on once.
-use Rattle.std.proofs.Common.{◌≡◌, ◌+◌, ◌≤◌, Bool, true, false, not, ◌||◌, List, [], ◌∷◌, ◌++◌, length, map, filter, Some, refl, arith, length-append}
-use Rattle.std.specs.Prelude.{if◌then◌else◌, find}
+use Rattle.std.proofs.Common.{◌≡◌, ◌+◌, ◌≤◌, Bool, true, false, not, ◌||◌, List, [], ◌∷◌, ◌++◌, length, filter, refl, arith, length-append}
+use Rattle.std.specs.Prelude.{if◌then◌else◌}
 use Rattle.std.proofs.lemmas.Grind.{common_steps}
 use Rattle.ccr_base.specs.declared.names.TaskId.{TaskId}
 use Rattle.ccr_base.specs.Names.{same_task, has_task, without}
-use Rattle.ccr_model.specs.Firings.{Firing}
-use Rattle.ccr_model.proofs.Allowing.{same_task-self}
-use Rattle.ccr_model.proofs.Covered.{same_task-is}
+use Rattle.ccr_model.proofs.SameNames.{same_task-is, same_task-self}
 
 -- a stronger test keeps no more
 pub length-filter_stronger : {X : Type 0} (p q : X → Bool) → ((x : X) → q x ≡ true → p x ≡ true) → (xs : List X) → length (filter q xs) ≤ length (filter p xs)
@@ -16,21 +14,6 @@ length-filter_stronger p q weaker (x ∷ xs) = grind (arith, weaker x, length-fi
 -- as many as went on and as may still go are no more than came
 pub record Fits (came gone : List TaskId) : Type 0 where
   pub few : length gone + length (without came gone) ≤ length came
-
-out_of : (b : Bool) → not b ≡ true → b ≡ false
-out_of false is = refl
-out_of true is = absurd (cc)
-
--- a member of what is left is a member, and isn't gone
-pub left_member : (ts gone : List TaskId) (t : TaskId) → has_task (without ts gone) t ≡ true → (has_task ts t ≡ true) × (has_task gone t ≡ false)
-left_member [] gone t is = absurd (cc)
-left_member (x ∷ ts) gone t is = of_test (has_task gone x) (same_task t x) refl refl is (left_member ts gone t)
-  where
-    of_test : (a b : Bool) → has_task gone x ≡ a → same_task t x ≡ b → has_task (if not a then x ∷ without ts gone else without ts gone) t ≡ true → (has_task (without ts gone) t ≡ true → (has_task ts t ≡ true) × (has_task gone t ≡ false)) → (b || has_task ts t ≡ true) × (has_task gone t ≡ false)
-    of_test true true out same among rest = (refl, (rest among).1)
-    of_test true false out same among rest = rest among
-    of_test false true out same among rest = let one : t ≡ x = same_task-is t x same in (refl, rw one out)
-    of_test false false out same among rest = rest (grind (arith, same, among))
 
 -- the head of what passes is a member
 pub head_member : (p : TaskId → Bool) (ts : List TaskId) (t : TaskId) (rest : List TaskId) → filter p ts ≡ t ∷ rest → has_task ts t ≡ true
@@ -65,12 +48,3 @@ Fits-came came gone t fits = record { few = grind (arith, common_steps, fits.few
 
 pub Fits-gone : (came gone : List TaskId) (t : TaskId) → Fits came gone → has_task came t ≡ true → has_task gone t ≡ false → Fits came (gone ++ t ∷ [])
 Fits-gone came gone t fits is out = record { few = omega (arith, fits.few, less_left came gone t is out, length-append gone (t ∷ [])) }
-
--- who is found has fired
-pub found_member : (fs : List Firing) (t : TaskId) (f : Firing) → find (λ (g : Firing). same_task g.task t) fs ≡ Some f → has_task (map (λ (g : Firing). g.task) fs) t ≡ true
-found_member [] t f is = absurd (cc)
-found_member (g ∷ fs) t f is = of_test (same_task g.task t) refl is (found_member fs t f)
-  where
-    of_test : (b : Bool) → same_task g.task t ≡ b → (if b then Some g else find (λ (g : Firing). same_task g.task t) fs) ≡ Some f → (find (λ (g : Firing). same_task g.task t) fs ≡ Some f → has_task (map (λ (g : Firing). g.task) fs) t ≡ true) → same_task t g.task || has_task (map (λ (g : Firing). g.task) fs) t ≡ true
-    of_test true same at rest = let one : g.task ≡ t = same_task-is g.task t same in rw (one, same_task-self t) refl
-    of_test false same at rest = grind (arith, rest at)

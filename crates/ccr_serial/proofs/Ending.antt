@@ -7,25 +7,29 @@ use Rattle.ccr_base.specs.declared.names.MsgId.{MsgId}
 use Rattle.ccr_base.specs.declared.messages.Msg.{Msg}
 use Rattle.ccr_base.specs.declared.names.Spot.{Spot}
 use Rattle.ccr_wiring.specs.declared.parts.Parts.{Parts}
-use Rattle.ccr_wiring.specs.Wirings.{Seat, seat, branch_of}
+use Rattle.ccr_wiring.specs.Wirings.{Seat}
 use Rattle.ccr_model.specs.declared.history.Event.{Event}
 use Rattle.ccr_model.specs.declared.history.Event.TheVariants.{Post, Fire, Admit, Put, Start, End}
 use Rattle.ccr_model.specs.declared.history.EndHow.{EndHow}
 use Rattle.ccr_base.specs.Names.{has_task, without}
 use Rattle.ccr_model.specs.Posts.{posts}
-use Rattle.ccr_model.specs.Firings.{Firing, firings, firing_of, firing_named, spot_of, fired, let_in, admitted_by, put, put_by, started, started_by, ended, ended_by, dropped, cut}
+use Rattle.ccr_model.specs.Firings.{Firing, firings, firing_of, firing_named, spot_of, fired, let_in, put, started, ended, dropped, cut}
 use Rattle.ccr_model.specs.TaskData.{seat_of}
 use Rattle.ccr_model.specs.Tasks.{is_interleave, fired_by, waiting, is_for_queue, queued, running}
 use Rattle.ccr_model.specs.Rules.{is_first, is_oldest_waiting, may_put, is_oldest_queued}
 use Rattle.ccr_model.specs.Legal.{IsAllowed, IsLegal}
-use Rattle.ccr_model.proofs.PostNames.{along, both, refused_not}
-use Rattle.ccr_model.proofs.Quiet.{some_of, some_then, first_is}
+use Rattle.ccr_model.proofs.PostNames.{along, refused_not}
+use Rattle.ccr_model.proofs.Quiet.{first_is}
 use Rattle.ccr_model.proofs.Allowing.{head_passes}
-use Rattle.ccr_model.proofs.Covered.{some_map, head_rest}
-use Rattle.ccr_model.proofs.TakenOnce.{FireFacts-allowed}
+use Rattle.ccr_model.proofs.TakenOnce.{FireFacts-allowed, untaken}
+use Rattle.ccr_model.proofs.Pushes.{firings-push, fired-fire, put-push, started-push, ended-push, let_in-push}
+use Rattle.ccr_model.proofs.Options.{some_of, some_map, head_rest}
+use Rattle.ccr_model.proofs.TasksLeft.{of_without, out_left}
+use Rattle.ccr_model.proofs.Booleans.{both}
+use Rattle.ccr_model.proofs.FiredTasks.{fired_has, seat_fired}
 use Rattle.ccr_serial.specs.Potential.{TakesSome, most_events}
-use Rattle.ccr_serial.proofs.Counting.{Fits, Fits-came, Fits-gone, left_member, head_member, found_member}
-use Rattle.ccr_serial.proofs.Taking.{untaken, untaken_post, untaken_fire}
+use Rattle.ccr_serial.proofs.Counting.{Fits, Fits-came, Fits-gone, head_member}
+use Rattle.ccr_serial.proofs.Taking.{untaken_post, untaken_fire}
 use Rattle.ccr_serial.proofs.Lines.{few_posts}
 
 -- what is known of the numbers of events of each kind
@@ -36,33 +40,9 @@ pub record AreFew (h : List Event) : Type 0 where
   pub starts : Fits (put h) (started h)
   pub ends : Fits (started h) (ended h)
 
-firings-push : (h : List Event) (e : Event) → firings (h ++ e ∷ []) ≡ firings h ++ firing_of e
-firings-push h e = grind (arith, common_steps)
-
-fired-fire : (h : List Event) (t : TaskId) (s : Spot) (ms : List MsgId) (cs : List TaskId) → fired (h ++ Fire t s ms cs ∷ []) ≡ fired h ++ t ∷ []
-fired-fire h t s ms cs = grind (arith, common_steps)
-
-let_in-push : (h : List Event) (e : Event) → let_in (h ++ e ∷ []) ≡ let_in h ++ admitted_by e
-let_in-push h e = grind (arith, common_steps)
-
-put-push : (h : List Event) (e : Event) → put (h ++ e ∷ []) ≡ put h ++ put_by e
-put-push h e = grind (arith, common_steps)
-
-started-push : (h : List Event) (e : Event) → started (h ++ e ∷ []) ≡ started h ++ started_by e
-started-push h e = grind (arith, common_steps)
-
-ended-push : (h : List Event) (e : Event) → ended (h ++ e ∷ []) ≡ ended h ++ ended_by e
-ended-push h e = grind (arith, common_steps)
-
 -- who has a spot has fired
 spot_fired : (h : List Event) (t : TaskId) (s : Spot) → spot_of h t ≡ Some s → has_task (fired h) t ≡ true
-spot_fired h t s is = let found = some_map (λ (f : Firing). f.spot) (firing_named h t) s is in found_member (firings h) t found.0 found.1
-
-seat_fired : (w : Parts) (h : List Event) (t : TaskId) (s : Seat) → seat_of w h t ≡ Some s → has_task (fired h) t ≡ true
-seat_fired w h t s is = let placed = some_then (λ spot. seat w (branch_of spot)) (spot_of h t) s is in spot_fired h t placed.0 placed.1
-
-in_front : (front back : List TaskId) (t : TaskId) → has_task (front ++ back) t ≡ false → has_task front t ≡ false
-in_front front back t is = grind (arith, common_steps)
+spot_fired h t s is = fired_has h t (some_map (λ (f : Firing). f.spot) (firing_named h t) s is)
 
 -- who is admitted fired, and wasn't admitted
 admit_next : (w : Parts) (h : List Event) (t : TaskId) → is_oldest_waiting w h t ≡ true → (has_task (fired h) t ≡ true) × (has_task (let_in h) t ≡ false)
@@ -72,7 +52,7 @@ admit_next w h t is =
     let head = head_rest (waiting w h n) t (first_is (waiting w h n) t found.2) in
     let passes = head_passes (λ u. not (has_task (let_in h ++ cut h) u)) (fired_by w (λ s. is_interleave s.kind && (s.arbiter == n)) h) t head.0 head.1 in
     let out : has_task (let_in h ++ cut h) t ≡ false = grind (arith, passes) in
-    (seat_fired w h t found.0 found.1, in_front (let_in h) (cut h) t out)
+    (fired_has h t (seat_fired w h t found.0 found.1), out_left (let_in h) (cut h) t out)
 
 -- who is put fired, and wasn't put
 put_next : (w : Parts) (h : List Event) (t : TaskId) → may_put w h t ≡ true → (has_task (fired h) t ≡ true) × (has_task (put h) t ≡ false)
@@ -89,8 +69,8 @@ start_next w h t is =
     let q = found.0.branch.queue in
     let head = head_rest (queued w h q) t (first_is (queued w h q) t found.2) in
     let among = head_member (is_for_queue w h q) (without (put h) (started h ++ dropped h)) t head.0 head.1 in
-    let left = left_member (put h) (started h ++ dropped h) t among in
-    (left.0, in_front (started h) (dropped h) t left.1)
+    let left = of_without (put h) (started h ++ dropped h) t among in
+    (left.0, out_left (started h) (dropped h) t left.1)
 
 few_post : (h : List Event) (m : Msg) → AreFew h → AreFew (h ++ Post m ∷ [])
 few_post h m few =
@@ -157,7 +137,7 @@ few_start w h t a allowed few =
 
 few_end : (w : Parts) (h : List Event) (t : TaskId) (how : EndHow) → IsAllowed w h (End t how) → AreFew h → AreFew (h ++ End t how ∷ [])
 few_end w h t how allowed few =
-    let next = left_member (started h) (ended h) t (refused_not (has_task (running h) t) 15 _ allowed).0 in
+    let next = of_without (started h) (ended h) t (refused_not (has_task (running h) t) 15 _ allowed).0 in
     record {
       fires = same_fires h (End t how) refl (grind (arith, common_steps)) (grind (arith, common_steps)) few;
       admits = rw (firings-push, let_in-push, append-nil, append-nil) few.admits;

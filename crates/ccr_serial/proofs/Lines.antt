@@ -15,12 +15,13 @@ use Rattle.ccr_wiring.specs.declared.parts.PosterPart.{PosterPart}
 use Rattle.ccr_wiring.specs.Limits.{posts_in_all}
 use Rattle.ccr_model.specs.declared.history.Event.{Event}
 use Rattle.ccr_model.specs.declared.history.Event.TheVariants.{Post, Fire, Admit, Put, Start, End}
-use Rattle.ccr_model.specs.Posts.{posts, post_of, is_script_of, is_task_message, posts_of_poster}
+use Rattle.ccr_model.specs.Posts.{posts, is_script_of, is_task_message, posts_of_poster}
 use Rattle.ccr_model.specs.Rules.{refusal_of_post, is_post, is_script_line, is_play_post, has_budget}
 use Rattle.ccr_model.specs.Legal.{IsAllowed, IsLegal}
-use Rattle.ccr_model.proofs.PostNames.{along, both, refused_not}
-use Rattle.ccr_model.proofs.Quiet.{some_of, some_then}
-use Rattle.ccr_model.proofs.Allowing.{some-below}
+use Rattle.ccr_model.proofs.PostNames.{along, refused_not}
+use Rattle.ccr_model.proofs.Pushes.{posts-push}
+use Rattle.ccr_model.proofs.Options.{some_of, some_then, some-below}
+use Rattle.ccr_model.proofs.Booleans.{both, eq-self}
 
 -- how many posts of the poster stand among the messages
 abbrev pub lines_of : List Msg → ℕ → ℕ
@@ -88,9 +89,6 @@ has_line w h a k m is =
     let same : k ≡ posts_of_poster h a = grind (arith, nat_tests, parts.0) in
     record { poster = poster.0; at = poster.1; left = subst (λ i. i < length poster.0.posts) same below }
 
-eq-self : (n : ℕ) → (n == n) ≡ true
-eq-self n = grind (arith, nat_tests)
-
 posted_line : (w : Parts) (ms : List Msg) (m : Msg) (a k : ℕ) → m.id ≡ Script a k → HasLine w ms a → ArePosted w ms → ArePosted w (ms ++ m ∷ [])
 posted_line w ms m a k is line known =
     let own : is_script_of a m.id ≡ true = rw is (eq-self a) in
@@ -131,9 +129,6 @@ posted_next w h m (Task t k) is allowed known =
     let a = refused_not (is_play_post w h t k m) 2 _ allowed in
     let b = refused_not (has_budget w h) 3 None a.1 in
     posted_by_task w (posts h) m t k is (grind (arith, nat_tests, b.0)) known
-
-pub posts-push : (h : List Event) (e : Event) → posts (h ++ e ∷ []) ≡ posts h ++ post_of e
-posts-push h e = grind (arith, common_steps)
 
 ArePosted_kept : (w : Parts) (h : List Event) (e : Event) → ArePosted w (posts h) → IsAllowed w h e → ArePosted w (posts (h ++ e ∷ []))
 ArePosted_kept w h (Post m) known allowed = rw posts-push (posted_next w h m m.id refl allowed known)

@@ -5,10 +5,11 @@ use Rattle.ccr_wiring.specs.declared.parts.Parts.{Parts}
 use Rattle.ccr_wiring.specs.Valid.{IsValid}
 use Rattle.ccr_model.specs.declared.history.Event.{Event}
 use Rattle.ccr_model.specs.Firings.{fired}
-use Rattle.ccr_model.specs.Legal.{IsAllowed, IsLegal, IsLegalAfter, IsQuiet, is_complete}
+use Rattle.ccr_model.specs.Legal.{IsAllowed, IsLegal, IsQuiet, is_complete}
 use Rattle.ccr_model.specs.Order.{first, next_attempt, with_first, IsOrderedAfter, IsFinished}
 use Rattle.ccr_model.proofs.Allowing.{first_allowed}
 use Rattle.ccr_model.proofs.Quiet.{IsQuiet-first}
+use Rattle.ccr_model.proofs.LegalParts.{legal_push}
 use Rattle.ccr_serial.specs.Potential.{TakesSome, potential}
 use Rattle.ccr_serial.specs.Engine.{Engine, next_event, next_engine, IsSound}
 use Rattle.ccr_serial.proofs.Ending.{few_events}
@@ -16,13 +17,9 @@ use Rattle.ccr_serial.proofs.Valid.{TakesSome-valid, HasQueues-valid, most_event
 use Rattle.ccr_serial.proofs.Complete.{is_complete-first}
 use Rattle.ccr_serial.proofs.Attempts.{next_attempt-first}
 
-IsLegalAfter-push : (w : Parts) (past es : List Event) (e : Event) → IsLegalAfter w past es → IsAllowed w (past ++ es) e → IsLegalAfter w past (es ++ e ∷ [])
-IsLegalAfter-push w past [] e legal allowed = (subst (λ h. IsAllowed w h e) (append-nil past) allowed, tt)
-IsLegalAfter-push w past (x ∷ es) e legal allowed = (legal.0, IsLegalAfter-push w (past ++ x ∷ []) es e legal.1 (rw (append_assoc past (x ∷ []) es) allowed))
-
 -- a legal history with an event that is allowed is legal
 pub IsLegal-push : (w : Parts) (h : List Event) (e : Event) → IsLegal w h → IsAllowed w h e → IsLegal w (h ++ e ∷ [])
-IsLegal-push w h e legal allowed = IsLegalAfter-push w [] h e legal allowed
+IsLegal-push w h e legal allowed = legal_push w [] h e legal allowed
 
 IsOrderedAfter-push : (w : Parts) (c : ℕ) (past es : List Event) (e : Event) → IsOrderedAfter w c past es → first w c (past ++ es) ≡ Some e → IsOrderedAfter w c past (es ++ e ∷ [])
 IsOrderedAfter-push w c past [] e ordered is = (subst (λ h. first w c h ≡ Some e) (append-nil past) is, tt)

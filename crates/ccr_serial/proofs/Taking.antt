@@ -19,10 +19,11 @@ use Rattle.ccr_base.specs.Names.{same_message, same_lists, has_message}
 use Rattle.ccr_base.specs.Choice.{fitting, is_choosable, choice}
 use Rattle.ccr_wiring.specs.Wirings.{Seat, seat, site_port}
 use Rattle.ccr_model.specs.Posts.{posts, taken, held}
-use Rattle.ccr_model.specs.Choice.{names_of, joined, choice_of_slots, are_first, are_split, is_choice_of, are_oldest, is_choice}
-use Rattle.ccr_model.proofs.PostNames.{both}
-use Rattle.ccr_model.proofs.Quiet.{Among, Among-left, Among-right}
+use Rattle.ccr_model.specs.Choice.{names_of, choice_of_slots, are_first, are_split, is_choice_of, are_oldest, is_choice}
 use Rattle.ccr_model.proofs.Allowing.{filter_head}
+use Rattle.ccr_model.proofs.Members.{Among, Among-left, Among-right}
+use Rattle.ccr_model.proofs.TakenOnce.{joined_some, untaken}
+use Rattle.ccr_model.proofs.Booleans.{both, either}
 use Rattle.ccr_serial.specs.Potential.{takes_some, TakesSome}
 use Rattle.ccr_serial.proofs.Counting.{length-filter_stronger}
 
@@ -32,12 +33,6 @@ pub record NamesOne (at : ℕ → List Msg) (names : List MsgId) : Type 0 where
   pub message : Msg
   pub there : Among message (at port)
   pub named : has_message names message.id ≡ true
-
--- slots
-joined_some : (a b : Option (List Msg)) (xs : List Msg) → joined a b ≡ Some xs → (front : List Msg) × (back : List Msg) × (a ≡ Some front) × (b ≡ Some back) × (front ++ back ≡ xs)
-joined_some (Some front) (Some back) xs is = (front, back, refl, refl, grind (arith, is))
-joined_some None b xs is = absurd (cc)
-joined_some (Some front) None xs is = absurd (cc)
 
 one_taken : (n least : ℕ) (fit : List Msg) → nat_le 1 least ≡ true → nat_le 1 n ≡ true → nat_le least (length fit) ≡ true → (m : Msg) × (rest : List Msg) × (fit ≡ m ∷ rest) × Among m (take n fit)
 one_taken n least [] some most enough = absurd (grind (arith, nat_tests))
@@ -122,10 +117,6 @@ choice_named w some h (Site b k) names is = of_option (site_port w b k) is
     of_option : (o : Option ℕ) → option_map_or (λ port. are_oldest (held h port) names) o false ≡ true → NamesOne (held h) names
     of_option None chosen = absurd (cc)
     of_option (Some port) chosen = oldest_named (held h) port names chosen
-
--- the messages that no firing took, of all ports
-abbrev pub untaken : List Event → List Msg
-untaken h = filter (λ (m : Msg). not (has_message (taken h) m.id)) (posts h)
 
 -- a test that fails for one more of a port's messages keeps fewer of all
 one_less : (port : ℕ) (p q : Msg → Bool) → ((x : Msg) → q x ≡ true → p x ≡ true) → (m : Msg) → q m ≡ false → (ms : List Msg) → Among m (filter p (filter (λ (x : Msg). x.port == port) ms)) → length (filter q ms) + 1 ≤ length (filter p ms)

@@ -1,8 +1,22 @@
--- What one more event adds to the lists of tasks of a history.
+-- What one more event adds to the lists of a history.
 use Rattle.std.proofs.Common.{◌≡◌, List, [], ◌∷◌, ◌++◌, arith}
 use Rattle.std.proofs.lemmas.Grind.{common_steps}
+use Rattle.ccr_base.specs.declared.names.TaskId.{TaskId}
+use Rattle.ccr_base.specs.declared.names.MsgId.{MsgId}
+use Rattle.ccr_base.specs.declared.names.Spot.{Spot}
 use Rattle.ccr_model.specs.declared.history.Event.{Event}
-use Rattle.ccr_model.specs.Firings.{cut, let_in, admitted_by, put, put_by, dropped, dropped_by, started, started_by, ended, ended_by, yielded, yielded_by, last_segments, last_by}
+use Rattle.ccr_model.specs.declared.history.Event.TheVariants.{Fire}
+use Rattle.ccr_model.specs.Posts.{posts, post_of}
+use Rattle.ccr_model.specs.Firings.{firings, firing_of, fired, cut, let_in, admitted_by, put, put_by, dropped, dropped_by, started, started_by, ended, ended_by, yielded, yielded_by, last_segments, last_by}
+
+pub posts-push : (h : List Event) (e : Event) → posts (h ++ e ∷ []) ≡ posts h ++ post_of e
+posts-push h e = grind (arith, common_steps)
+
+pub firings-push : (h : List Event) (e : Event) → firings (h ++ e ∷ []) ≡ firings h ++ firing_of e
+firings-push h e = grind (arith, common_steps)
+
+pub fired-fire : (h : List Event) (t : TaskId) (s : Spot) (ms : List MsgId) (cs : List TaskId) → fired (h ++ Fire t s ms cs ∷ []) ≡ fired h ++ t ∷ []
+fired-fire h t s ms cs = grind (arith, common_steps)
 
 pub put-push : (h : List Event) (e : Event) → put (h ++ e ∷ []) ≡ put h ++ put_by e
 put-push h e = grind (arith, common_steps)

@@ -11,9 +11,21 @@ pub not_false : (b : Bool) → b ≡ false → not b ≡ true
 not_false false is = refl
 not_false true is = absurd (cc)
 
+pub both : (a b : Bool) → a && b ≡ true → (a ≡ true) × (b ≡ true)
+both true b is = (refl, is)
+both false b is = absurd (cc)
+
 pub neither : (a b : Bool) → a || b ≡ false → (a ≡ false) × (b ≡ false)
 neither false b is = (refl, is)
 neither true b is = absurd (cc)
+
+pub or_left : (a b : Bool) → a ≡ true → a || b ≡ true
+or_left true b is = refl
+or_left false b is = absurd (cc)
+
+pub or_right : (a b : Bool) → b ≡ true → a || b ≡ true
+or_right true b is = refl
+or_right false b is = is
 
 -- one or the other
 pub either : (a b : Bool) → a || b ≡ true → (C : Type 0) → (a ≡ true → C) → (b ≡ true → C) → C

@@ -1,0 +1,27 @@
+-- Who is a member of a list.
+use Rattle.std.proofs.Common.{◌≡◌, ℕ, zero, suc, ◌⊎◌, inl, inr, List, [], ◌∷◌, ◌++◌, Some}
+use Rattle.std.specs.List.{slice_get}
+
+-- x is a member
+abbrev pub Among : {X : Type 0} → X → List X → Type 0
+Among x [] = ⊥
+Among x (y ∷ ys) = (x ≡ y) ⊎ Among x ys
+
+pub Among-left : {X : Type 0} (x : X) (xs ys : List X) → Among x xs → Among x (xs ++ ys)
+Among-left x [] ys h = absurd h
+Among-left x (y ∷ xs) ys (inl e) = inl e
+Among-left x (y ∷ xs) ys (inr h) = inr (Among-left x xs ys h)
+
+pub Among-right : {X : Type 0} (x : X) (xs ys : List X) → Among x ys → Among x (xs ++ ys)
+Among-right x [] ys h = h
+Among-right x (y ∷ xs) ys h = inr (Among-right x xs ys h)
+
+pub Among-either : {X : Type 0} (x : X) (xs ys : List X) → Among x (xs ++ ys) → Among x xs ⊎ Among x ys
+Among-either x [] ys h = inr h
+Among-either x (y ∷ xs) ys (inl e) = inl (inl e)
+Among-either x (y ∷ xs) ys (inr h) = elim (Among-either x xs ys h) [ inl l ↦ inl (inr l) | inr r ↦ inr r ]
+
+pub Among-at : {X : Type 0} (xs : List X) (i : ℕ) (x : X) → slice_get xs i ≡ Some x → Among x xs
+Among-at [] i x is = absurd (cc)
+Among-at (y ∷ xs) zero x is = inl (cc)
+Among-at (y ∷ xs) (suc i) x is = inr (Among-at xs i x is)

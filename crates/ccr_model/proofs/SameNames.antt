@@ -1,0 +1,29 @@
+-- When two names are those of one task or of one message.
+use Rattle.std.proofs.Common.{◌≡◌, true, arith}
+use Rattle.std.proofs.lemmas.Bool.Decides.{nat_tests}
+use Rattle.ccr_base.specs.declared.names.TaskId.{TaskId}
+use Rattle.ccr_base.specs.declared.names.MsgId.{MsgId}
+use Rattle.ccr_base.specs.declared.names.MsgId.TheVariants.{Script, Task}
+use Rattle.ccr_base.specs.Names.{same_task, same_message}
+
+pub same_task-is : (s t : TaskId) → same_task s t ≡ true → s ≡ t
+same_task-is s t is = grind (arith, nat_tests)
+
+pub same_task-self : (t : TaskId) → same_task t t ≡ true
+same_task-self t = grind (arith, nat_tests)
+
+pub same_task-sym : (s t : TaskId) → same_task s t ≡ same_task t s
+same_task-sym s t = grind (arith, nat_tests)
+
+pub same_message-self : (n : MsgId) → same_message n n ≡ true
+same_message-self (Script a k) = grind (arith, nat_tests)
+same_message-self (Task t k) = grind (arith, nat_tests)
+
+pub same_message-is : (m n : MsgId) → same_message m n ≡ true → m ≡ n
+same_message-is (Script a k) (Script b l) is = grind (arith, nat_tests)
+same_message-is (Script a k) (Task t l) is = absurd (cc)
+same_message-is (Task s k) (Script b l) is = absurd (cc)
+same_message-is (Task s k) (Task t l) is = grind (arith, nat_tests)
+
+pub same_message-sym : (m n : MsgId) → same_message m n ≡ same_message n m
+same_message-sym m n = grind (arith, nat_tests)
