@@ -13,6 +13,7 @@ use std::process::Abort;
 use std::test::*;
 
 mod cases;
+mod queries;
 mod wirings;
 
 use cases::{CASES, Case};

@@ -10,30 +10,30 @@ pub struct Case {
     pub wrong: &'static [Wrong],
 }
 
-const A: PortNo = 0;
+pub const A: PortNo = 0;
 
-const B: PortNo = 1;
+pub const B: PortNo = 1;
 
 const C: PortNo = 2;
 
 const D: PortNo = 3;
 
-const TASK_0: TaskId = TaskId {
+pub const TASK_0: TaskId = TaskId {
     actor: 1,
     attempt: 0,
 };
 
-const TASK_1: TaskId = TaskId {
+pub const TASK_1: TaskId = TaskId {
     actor: 1,
     attempt: 1,
 };
 
-const TASK_2: TaskId = TaskId {
+pub const TASK_2: TaskId = TaskId {
     actor: 1,
     attempt: 2,
 };
 
-const TASK_3: TaskId = TaskId {
+pub const TASK_3: TaskId = TaskId {
     actor: 1,
     attempt: 3,
 };
@@ -43,13 +43,13 @@ const OF_ACTOR_33: TaskId = TaskId {
     attempt: 0,
 };
 
-const LINE_0: MsgId = MsgId::Script { actor: 0, place: 0 };
+pub const LINE_0: MsgId = MsgId::Script { actor: 0, place: 0 };
 
-const LINE_1: MsgId = MsgId::Script { actor: 0, place: 1 };
+pub const LINE_1: MsgId = MsgId::Script { actor: 0, place: 1 };
 
-const LINE_2: MsgId = MsgId::Script { actor: 0, place: 2 };
+pub const LINE_2: MsgId = MsgId::Script { actor: 0, place: 2 };
 
-const LINE_3: MsgId = MsgId::Script { actor: 0, place: 3 };
+pub const LINE_3: MsgId = MsgId::Script { actor: 0, place: 3 };
 
 /// The first post of each task, and the second of the first.
 const POST_0: MsgId = MsgId::Task {
@@ -77,9 +77,9 @@ const SECOND_POST_0: MsgId = MsgId::Task {
     place: 1,
 };
 
-const X: Spot = Spot::Branch(0);
+pub const X: Spot = Spot::Branch(0);
 
-const Y: Spot = Spot::Branch(1);
+pub const Y: Spot = Spot::Branch(1);
 
 const Z: Spot = Spot::Branch(2);
 
@@ -214,7 +214,7 @@ const GATHER_WIRED: Wired = Wired {
     posts: &[(A, 1), (B, 2), (B, 3), (A, 4)],
 };
 
-const GATHER: Case = Case {
+pub const GATHER: Case = Case {
     shows: "a gather takes what it can from the lower port",
     wired: GATHER_WIRED,
     steps: &[
@@ -257,7 +257,7 @@ const GATHER_OTHER_SPLIT: Case = Case {
     wrong: &[],
 };
 
-const DISCARD: Case = Case {
+pub const DISCARD: Case = Case {
     shows: "a full discard queue drops its oldest task",
     wired: Wired {
         budget: 10000,
@@ -309,7 +309,7 @@ const DISCARD: Case = Case {
     ],
 };
 
-const THROTTLE: Case = Case {
+pub const THROTTLE: Case = Case {
     shows: "a throttle queue lets fire once there is room",
     wired: Wired {
         budget: 10000,
@@ -403,7 +403,7 @@ const INTERLEAVE_GROUPS: Case = Case {
     ],
 };
 
-const TEARDOWN_CUTS: Case = Case {
+pub const TEARDOWN_CUTS: Case = Case {
     shows: "a teardown cuts the waiting tasks",
     wired: Wired {
         budget: 10000,
@@ -453,7 +453,7 @@ const TEARDOWN_CUTS: Case = Case {
     ],
 };
 
-const AWAIT: Case = Case {
+pub const AWAIT: Case = Case {
     shows: "an exclusive task is suspended and resumed",
     wired: Wired {
         budget: 10000,
@@ -515,7 +515,7 @@ const AWAIT: Case = Case {
     ],
 };
 
-const BUDGET_SHED: Case = Case {
+pub const BUDGET_SHED: Case = Case {
     shows: "a task whose post finds the budget spent is shed",
     wired: Wired {
         budget: 3,

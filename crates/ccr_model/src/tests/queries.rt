@@ -1,0 +1,237 @@
+//! What the queries answer after the first events of some worked runs.
+
+use super::cases::{
+    A, AWAIT, B, DISCARD, GATHER, LINE_0, LINE_1, LINE_2, TASK_0, TASK_1, TASK_2, TASK_3,
+    TEARDOWN_CUTS, THROTTLE, X, Y,
+};
+use super::*;
+use crate::choices::is_choice;
+use crate::data::play_of;
+use crate::enough::can_fire;
+use crate::firings::{cut, dropped, fired, put};
+use crate::live::{has_room, is_live};
+use crate::posts::{held, taken};
+use crate::rules::{cuts_at, drop_at, may_enter, may_put};
+use crate::tasks::{queued, running, waiting};
+
+const SITE: Spot = Spot::Site(0, 0);
+
+/// Which tasks are asked for, of the one Interleave and the one queue.
+#[derive(Clone, Copy)]
+enum Asked {
+    Fired,
+    Cut,
+    Put,
+    Dropped,
+    Waiting,
+    Queued,
+    Running,
+    CutsAt(Spot),
+}
+
+/// What is asked of a spot or a task.
+#[derive(Clone, Copy)]
+enum Question {
+    IsLive(Spot),
+    HasRoom(Spot),
+    CanFire(Spot),
+    Takes(Spot, MsgId),
+    MayEnter(TaskId),
+    MayPut(TaskId),
+}
+
+/// The first events of the case, each a copy.
+fn begun(alloc: Global, case: &Case, count: usize) -> Result<History, Fail> {
+    let mut history = History::new(alloc);
+    for step in case.steps.iter().take(count) {
+        let next = event(alloc, *step)?;
+        history.push(next.copy(alloc)?)?;
+    }
+    Ok(history)
+}
+
+fn wired(alloc: Global, case: &Case) -> Result<Wiring, Fail> {
+    Ok(Wiring::check(alloc, wirings::parts(alloc, &case.wired)?)?)
+}
+
+fn tasks_among(
+    alloc: Global,
+    wiring: &Wiring,
+    events: &[Event],
+    asked: Asked,
+) -> Result<Vec<TaskId>, OutOfMemory> {
+    match asked {
+        Asked::Fired => fired(alloc, events),
+        Asked::Cut => cut(alloc, events),
+        Asked::Put => put(alloc, events),
+        Asked::Dropped => dropped(alloc, events),
+        Asked::Waiting => waiting(alloc, wiring, events, 0),
+        Asked::Queued => queued(alloc, wiring, events, 0),
+        Asked::Running => running(alloc, events),
+        Asked::CutsAt(spot) => cuts_at(alloc, wiring, events, spot),
+    }
+}
+
+fn tasks(alloc: Global, case: &Case, count: usize, asked: Asked) -> Result<Vec<TaskId>, Fail> {
+    let wiring = wired(alloc, case)?;
+    let history = begun(alloc, case, count)?;
+    Ok(tasks_among(alloc, &wiring, history.events(), asked)?)
+}
+
+fn holds_of(
+    alloc: Global,
+    wiring: &Wiring,
+    events: &[Event],
+    question: Question,
+) -> Result<bool, OutOfMemory> {
+    match question {
+        Question::IsLive(spot) => is_live(alloc, wiring, events, spot),
+        Question::HasRoom(spot) => has_room(alloc, wiring, events, spot),
+        Question::CanFire(spot) => can_fire(alloc, wiring, events, spot),
+        Question::Takes(spot, name) => is_choice(alloc, wiring, events, spot, &[name]),
+        Question::MayEnter(task) => may_enter(alloc, wiring, events, task),
+        Question::MayPut(task) => may_put(alloc, wiring, events, task),
+    }
+}
+
+fn holds(alloc: Global, case: &Case, count: usize, question: Question) -> Result<bool, Fail> {
+    let wiring = wired(alloc, case)?;
+    let history = begun(alloc, case, count)?;
+    Ok(holds_of(alloc, &wiring, history.events(), question)?)
+}
+
+#[test]
+fn tasks_of_a_teardown(rt: HostRuntime) -> Result<(), Fail> {
+    let rows: [(usize, Asked, &[TaskId]); 6] = [
+        (5, Asked::Fired, &[TASK_0, TASK_1]),
+        (5, Asked::Waiting, &[TASK_0, TASK_1]),
+        (5, Asked::CutsAt(Y), &[TASK_0, TASK_1]),
+        (5, Asked::CutsAt(X), &[]),
+        (6, Asked::Cut, &[TASK_0, TASK_1]),
+        (9, Asked::Running, &[TASK_2]),
+    ];
+    for (count, asked, wanted) in rows {
+        let found = tasks(rt.alloc(), &TEARDOWN_CUTS, count, asked)?;
+        assert_eq!(rt; found.as_slice(), wanted);
+    }
+    Ok(())
+}
+
+#[test]
+fn tasks_of_a_discard_queue(rt: HostRuntime) -> Result<(), Fail> {
+    let rows: [(usize, Asked, &[TaskId]); 3] = [
+        (11, Asked::Put, &[TASK_0, TASK_1, TASK_2]),
+        (11, Asked::Dropped, &[TASK_0]),
+        (11, Asked::Queued, &[TASK_1, TASK_2]),
+    ];
+    for (count, asked, wanted) in rows {
+        let found = tasks(rt.alloc(), &DISCARD, count, asked)?;
+        assert_eq!(rt; found.as_slice(), wanted);
+    }
+    Ok(())
+}
+
+#[test]
+fn spots_that_may_fire(rt: HostRuntime) -> Result<(), Fail> {
+    let rows: [(&Case, usize, Question, bool); 12] = [
+        (&THROTTLE, 2, Question::HasRoom(X), true),
+        (&THROTTLE, 4, Question::HasRoom(X), false),
+        (&THROTTLE, 4, Question::CanFire(X), false),
+        (&THROTTLE, 5, Question::CanFire(X), true),
+        (&GATHER, 2, Question::CanFire(X), false),
+        (&GATHER, 3, Question::CanFire(X), true),
+        (&GATHER, 5, Question::CanFire(X), false),
+        (&AWAIT, 8, Question::IsLive(SITE), false),
+        (&AWAIT, 9, Question::IsLive(SITE), true),
+        (&AWAIT, 9, Question::CanFire(SITE), true),
+        (&TEARDOWN_CUTS, 3, Question::Takes(X, LINE_0), true),
+        (&TEARDOWN_CUTS, 3, Question::Takes(X, LINE_1), false),
+    ];
+    for (case, count, question, wanted) in rows {
+        let found = holds(rt.alloc(), case, count, question)?;
+        assert_eq!(rt; found, wanted, "{} after {count}", case.shows);
+    }
+    Ok(())
+}
+
+#[test]
+fn tasks_that_may_go_on(rt: HostRuntime) -> Result<(), Fail> {
+    let rows: [(&Case, usize, Question, bool); 4] = [
+        (&AWAIT, 9, Question::MayEnter(TASK_1), false),
+        (&AWAIT, 14, Question::MayEnter(TASK_1), true),
+        (&DISCARD, 11, Question::MayPut(TASK_2), false),
+        (&DISCARD, 11, Question::MayPut(TASK_3), true),
+    ];
+    for (case, count, question, wanted) in rows {
+        let found = holds(rt.alloc(), case, count, question)?;
+        assert_eq!(rt; found, wanted, "{} after {count}", case.shows);
+    }
+    Ok(())
+}
+
+/// The names of the messages that the port holds after the first events of the case.
+fn names_held(alloc: Global, events: &[Event], port: PortNo) -> Result<Vec<MsgId>, Fail> {
+    let mut names = Vec::new(alloc);
+    for message in held(alloc, events, port)? {
+        names.push(message.id)?;
+    }
+    Ok(names)
+}
+
+#[test]
+fn messages_that_are_taken(rt: HostRuntime) -> Result<(), Fail> {
+    let history = begun(rt.alloc(), &TEARDOWN_CUTS, 5)?;
+    let found = taken(rt.alloc(), history.events())?;
+    assert_eq!(rt; found.as_slice(), [LINE_0, LINE_1].as_slice());
+    Ok(())
+}
+
+#[test]
+fn messages_that_are_held(rt: HostRuntime) -> Result<(), Fail> {
+    let history = begun(rt.alloc(), &TEARDOWN_CUTS, 4)?;
+    let rows: [(PortNo, &[MsgId]); 2] = [(A, &[LINE_1]), (B, &[LINE_2])];
+    for (port, wanted) in rows {
+        let found = names_held(rt.alloc(), history.events(), port)?;
+        assert_eq!(rt; found.as_slice(), wanted);
+    }
+    Ok(())
+}
+
+fn drop_of(alloc: Global, case: &Case, count: usize, task: TaskId) -> Result<Option<TaskId>, Fail> {
+    let wiring = wired(alloc, case)?;
+    let history = begun(alloc, case, count)?;
+    Ok(drop_at(alloc, &wiring, history.events(), task)?)
+}
+
+#[test]
+fn task_that_a_put_drops(rt: HostRuntime) -> Result<(), Fail> {
+    let found = drop_of(rt.alloc(), &DISCARD, 9, TASK_1)?;
+    assert_eq!(rt; found, None);
+    let found = drop_of(rt.alloc(), &DISCARD, 11, TASK_3)?;
+    assert_eq!(rt; found, Some(TASK_1));
+    Ok(())
+}
+
+/// The ports and values of the posts of the task's segment.
+fn posts_in(
+    alloc: Global,
+    wiring: &Wiring,
+    history: &History,
+    task: TaskId,
+) -> Result<Vec<(PortNo, Value)>, Fail> {
+    let play = play_of(alloc, wiring, history.events(), task)?;
+    let mut posts = Vec::new(alloc);
+    for sent in play.posts.as_slice() {
+        posts.push((sent.port, sent.value))?;
+    }
+    Ok(posts)
+}
+
+#[test]
+fn posts_of_a_running_task(rt: HostRuntime) -> Result<(), Fail> {
+    let wiring = wired(rt.alloc(), &TEARDOWN_CUTS)?;
+    let history = begun(rt.alloc(), &TEARDOWN_CUTS, 9)?;
+    let found = posts_in(rt.alloc(), &wiring, &history, TASK_2)?;
+    assert_eq!(rt; found.as_slice(), [(A, 9)].as_slice());
+    Ok(())
+}
