@@ -5,12 +5,14 @@ use Rattle.ccr_base.specs.declared.messages.Msg.{Msg}
 use Rattle.ccr_base.specs.declared.patterns.Pred.{Pred}
 use Rattle.ccr_base.specs.declared.patterns.Pred.TheVariants.{Any, Eq, Lt, Ge}
 use Rattle.ccr_base.specs.declared.patterns.Slot.{Slot}
+use Rattle.ccr_base.specs.Values.{first_number}
 
-abbrev pub holds : Pred → ℕ → Bool
+-- whether the first number of the value satisfies the predicate
+abbrev pub holds : Pred → List ℕ → Bool
 holds Any value = true
-holds (Eq n) value = value == n
-holds (Lt n) value = nat_lt value n
-holds (Ge n) value = nat_le n value
+holds (Eq n) value = first_number value == n
+holds (Lt n) value = nat_lt (first_number value) n
+holds (Ge n) value = nat_le n (first_number value)
 
 -- the messages that satisfy the predicate, oldest first
 abbrev pub fitting : Pred → List Msg → List Msg

@@ -1,2 +1,4 @@
 pub mod Names
+pub mod Values
+pub mod Padding
 pub mod Choice

@@ -23,7 +23,7 @@ fn first_places<T: Seen>(
         if left == 0 {
             return Ok(places);
         }
-        if pred.holds(message.value()) {
+        if pred.holds(&message.value()) {
             places.push(place as u32)?;
             left -= 1;
         }
@@ -59,7 +59,7 @@ pub fn can_choose<T: Seen>(items: &[T], slot: &Slot) -> bool
         if left == 0 {
             return true;
         }
-        if slot.pred.holds(message.value()) {
+        if slot.pred.holds(&message.value()) {
             left -= 1;
         }
     }

@@ -2,11 +2,13 @@
 
 use crate::{CauseNo, List, PortNo, Value};
 
-/// A number; the value of the task's message `Arg(k)`, from 0, and 0 where there is none; the sum of all; how many.
+/// A value; the value of the task's message `Arg(k)`, from 0, and 0 where there is none; of the value of message `k` the one
+/// number `Part(k, i)`, from 0, and 0 where there is no such message or number; the sum of all values, place by place; how many.
 #[derive(Clone, Copy, Debug, PartialEq, Eq)]
 pub enum Expr {
     Number(Value),
     Arg(u32),
+    Part(u32, u32),
     Sum,
     Count,
 }

@@ -2,11 +2,8 @@
 
 ghost use Rattle.std.specs.Prelude.{◌≡◌, IfOk, List, [], ◌∷◌, map, refl};
 
-use crate::{CauseNo, List, MsgId, OutOfMemory, PortNo};
+use crate::{CauseNo, List, MsgId, OutOfMemory, PortNo, Value};
 use std::alloc::Global;
-
-/// What a message carries. Sums of values wrap at 2^64.
-pub type Value = u64;
 
 /// A message at its port. Its causes have no member twice.
 #[derive(Debug, Drop)]

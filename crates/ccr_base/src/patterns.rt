@@ -5,24 +5,24 @@ ghost use Rattle.ccr_base.specs.Choice.{holds};
 
 use crate::{List, PortNo, Value};
 
-/// What a slot asks of a message's value.
+/// What a slot asks of the first number of a message's value.
 #[derive(Clone, Copy, Debug, PartialEq, Eq)]
 pub enum Pred {
     Any,
-    Eq(Value),
-    Lt(Value),
-    Ge(Value),
+    Eq(u64),
+    Lt(u64),
+    Ge(u64),
 }
 
 impl Pred {
-    pub fn holds(&self, value: Value) -> bool
-        ensures { result ≡ holds self.now value }
+    pub fn holds(&self, value: &Value) -> bool
+        ensures { result ≡ holds self.now value.now }
     {
         match *self {
             Pred::Any => true,
-            Pred::Eq(n) => value == n,
-            Pred::Lt(n) => value < n,
-            Pred::Ge(n) => value >= n,
+            Pred::Eq(n) => value.first() == n,
+            Pred::Lt(n) => value.first() < n,
+            Pred::Ge(n) => value.first() >= n,
         }
     }
 }

@@ -22,7 +22,7 @@ fn message(alloc: Global, place: u32, value: u64) -> Msg {
     Msg {
         id: MsgId::Script { actor: 0, place },
         port: 0,
-        value,
+        value: Value::one(value),
         causes: List::new(alloc),
     }
 }
@@ -90,7 +90,7 @@ fn copies_are_equal(rt: HostRuntime) -> Result<(), Fail> {
     let original = message(rt.alloc(), 7, 5);
     let copied = original.copy(rt.alloc())?;
     assert_eq!(rt; copied.id, MsgId::Script { actor: 0, place: 7 });
-    assert_eq!(rt; copied.value, 5);
+    assert_eq!(rt; copied.value, Value::one(5));
     let id = TaskId {
         actor: 1,
         attempt: 2,
@@ -101,11 +101,23 @@ fn copies_are_equal(rt: HostRuntime) -> Result<(), Fail> {
         spot: Spot::Branch(0),
         arbiter: 0,
         queue: 0,
-        values: List::from_vec(Vec::from_slice(rt.alloc(), &[5, 6])?),
+        values: List::from_vec(Vec::from_slice(rt.alloc(), &[Value::one(5), Value::one(6)])?),
         causes: List::new(rt.alloc()),
     };
     let copied = task.copy(rt.alloc())?;
     assert_eq!(rt; copied.id, id);
-    assert_eq!(rt; copied.values.as_slice(), [5, 6].as_slice());
+    assert_eq!(rt; copied.values.as_slice(), [Value::one(5), Value::one(6)].as_slice());
+    Ok(())
+}
+
+#[test]
+fn values_are_one_to_eight_numbers(rt: HostRuntime) -> Result<(), Fail> {
+    assert!(rt; Value::of(&[]).is_none());
+    assert!(rt; Value::of(&[1; 9]).is_none());
+    let value = Value::of(&[5, 0, 7]).ok_or("none")?;
+    assert_eq!(rt; value.numbers(), [5, 0, 7].as_slice());
+    assert!(rt; value != Value::one(5));
+    assert!(rt; Pred::Ge(5).holds(&value));
+    assert!(rt; !Pred::Eq(7).holds(&value));
     Ok(())
 }

@@ -1,20 +1,12 @@
 -- What a segment posts, how it ends, and its causes at the end.
-use Rattle.std.specs.Prelude.{ℕ, zero, suc, ◌^◌, ◌%◌, Bool, true, false, List, [], ◌∷◌, ◌++◌, flat_map, length, sum, slice_index, Option, option_map, option_to_list, if◌then◌else◌}
+use Rattle.std.specs.Prelude.{ℕ, zero, suc, Bool, true, false, List, [], ◌∷◌, ◌++◌, flat_map, Option, option_map, option_to_list, if◌then◌else◌}
 use Rattle.ccr_base.specs.declared.messages.Sent.{Sent}
 use Rattle.ccr_base.specs.declared.handlers.Action.{Action}
 use Rattle.ccr_base.specs.declared.handlers.Action.TheVariants.{Post, Fail, Add, Remove, Await}
-use Rattle.ccr_base.specs.declared.handlers.Expr.{Expr}
-use Rattle.ccr_base.specs.declared.handlers.Expr.TheVariants.{Number, Arg, Sum, Count}
 use Rattle.ccr_handler.specs.declared.segments.Play.{Play}
 use Rattle.ccr_handler.specs.declared.segments.PlayEnd.TheVariants.{Done, Failed, Yield}
 use Rattle.ccr_cause.specs.Causes.{with_cause, without_cause}
-
--- the number that the expression stands for; an argument past the end is 0, a sum wraps at 2^64
-abbrev pub value_of : Expr → List ℕ → ℕ
-value_of (Number n) values = n
-value_of (Arg k) values = slice_index values k
-value_of Sum values = sum values % 2 ^ 64
-value_of Count values = length values
+use Rattle.ccr_handler.specs.Evaluating.{value_of}
 
 -- whether the action ends the segment
 abbrev pub is_await : Action → Bool
@@ -32,7 +24,7 @@ actions_from zero actions = actions
 actions_from (suc segment) actions = after_await (actions_from segment actions)
 
 -- one post without causes for each cause's exception port
-abbrev pub exceptions : (ℕ → Option ℕ) → ℕ → List ℕ → List Sent
+abbrev pub exceptions : (ℕ → Option ℕ) → List ℕ → List ℕ → List Sent
 exceptions port_of value causes = flat_map (λ cause. option_to_list (option_map (λ port. record { port = port; value = value; causes = [] }) (port_of cause))) causes
 
 -- the play with this post before its others
@@ -44,7 +36,7 @@ abbrev pub with_posts : List Sent → Play → Play
 with_posts front p = record p { posts = front ++ p.posts }
 
 -- the play of the actions up to the next await, which is the site of this number
-abbrev pub play : (ℕ → Option ℕ) → List ℕ → ℕ → List ℕ → List Action → Play
+abbrev pub play : (ℕ → Option ℕ) → List (List ℕ) → ℕ → List ℕ → List Action → Play
 play port_of values site causes [] = record { posts = []; end = Done; causes = causes }
 play port_of values site causes (Post port expr ∷ actions) = with_post (record { port = port; value = value_of expr values; causes = causes }) (play port_of values site causes actions)
 play port_of values site causes (Fail expr ∷ actions) = record { posts = exceptions port_of (value_of expr values) causes; end = Failed (value_of expr values); causes = causes }

@@ -1,5 +1,7 @@
-use Rattle.std.proofs.Common.{◌≡◌, ◌^◌, ◌%◌, sum, take}
+use Rattle.std.proofs.Common.{◌≡◌, take, map, length}
+use Rattle.std.specs.List.{range_with_len}
+use Rattle.ccr_handler.specs.Evaluating.{sum_at}
 use Rattle.ccr_handler.proofs.values.sum_of.Given as goal
 
-abbrev pub invariant-loop-value : goal.invariant-loop-value
-invariant-loop-value l = l.total ≡ sum (take l.value-index l.values) % 2 ^ 64
+abbrev pub invariant-loop-place : goal.invariant-loop-place
+invariant-loop-place l = (take l.place l.numbers ≡ map (sum_at l.values) (range_with_len 0 l.place)) × (length l.numbers ≡ 8)
