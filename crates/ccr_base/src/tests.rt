@@ -106,7 +106,10 @@ fn copies_are_equal(rt: HostRuntime) -> Result<(), Fail> {
     };
     let copied = task.copy(rt.alloc())?;
     assert_eq!(rt; copied.id, id);
-    assert_eq!(rt; copied.values.as_slice(), [Value::one(5), Value::one(6)].as_slice());
+    assert_eq!(rt;
+        copied.values.as_slice(),
+        [Value::one(5), Value::one(6)].as_slice()
+    );
     Ok(())
 }
 

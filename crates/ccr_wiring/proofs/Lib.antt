@@ -3,4 +3,5 @@ pub mod Lists
 pub mod Crowds
 pub mod SpotLemmas
 pub mod Validity
+pub mod DomainLemmas
 pub mod Soundness

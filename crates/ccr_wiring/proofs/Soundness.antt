@@ -14,18 +14,20 @@ use Rattle.ccr_base.specs.declared.patterns.Slot.{Slot}
 use Rattle.ccr_wiring.specs.declared.parts.ArbiterPart.{ArbiterPart}
 use Rattle.ccr_wiring.specs.declared.parts.BranchPart.{BranchPart}
 use Rattle.ccr_wiring.specs.declared.parts.CausePart.{CausePart}
+use Rattle.ccr_wiring.specs.declared.parts.DomainPart.{DomainPart}
 use Rattle.ccr_wiring.specs.declared.parts.HandlerPart.{HandlerPart}
 use Rattle.ccr_wiring.specs.declared.parts.Kind.{Kind}
 use Rattle.ccr_wiring.specs.declared.parts.Parts.{Parts}
-use Rattle.ccr_wiring.specs.Wirings.{Seat, seat, seats, seats_of, seats_from, actions_of, exception_port, awaited, site_port}
+use Rattle.ccr_wiring.specs.Wirings.{Seat, seat, seats, seats_of, seats_from, in_domain, actions_of, exception_port, awaited, site_port}
 use Rattle.ccr_wiring.specs.Groups.{may_have, has_strange_group}
-use Rattle.ccr_wiring.specs.References.{is_beyond, has_beyond, no_port, no_cause, action_is_dangling, slots_are_dangling, pattern_is_dangling, branch_is_dangling, post_is_dangling, handler_is_dangling, cause_is_dangling, poster_is_dangling, has_dangling, has_dangling_set, has_dangling_cause, has_dangling_handler, has_dangling_arbiter, has_dangling_poster}
-use Rattle.ccr_wiring.specs.Repeats.{are_apart, slot_ports, names_ports_once, branch_repeats, post_repeats, poster_repeats, has_repeating_set, has_repeating_arbiter, has_repeating_poster}
+use Rattle.ccr_wiring.specs.References.{is_beyond, has_beyond, no_port, no_cause, action_is_dangling, slots_are_dangling, pattern_is_dangling, branch_is_dangling, post_is_dangling, handler_is_dangling, cause_is_dangling, poster_is_dangling, has_dangling, has_dangling_set, has_dangling_cause, has_dangling_handler, has_dangling_arbiter, has_dangling_poster, has_dangling_domain}
+use Rattle.ccr_wiring.specs.Repeats.{are_apart, slot_ports, names_ports_once, branch_repeats, post_repeats, poster_repeats, has_repeating_set, has_repeating_arbiter, has_repeating_poster, has_repeating_domain}
 use Rattle.ccr_wiring.specs.Limits.{is_outside, slot_is_outside, pattern_is_outside, branch_is_outside, has_branches_above, has_posts_above, has_outside}
 use Rattle.ccr_wiring.specs.Spots.{pattern_ports, times, named_ports, has_crowded}
 use Rattle.ccr_wiring.specs.Valid.{IsValid, IsSound, IsSmall, IsSlotFilled, IsPatternFilled, IsActionNamed, IsPostNamed}
 use Rattle.ccr_wiring.proofs.Lists.{neither, none_at}
 use Rattle.ccr_wiring.proofs.SpotLemmas.{length-seats}
+use Rattle.ccr_wiring.proofs.DomainLemmas.{kept_domain}
 use Rattle.ccr_wiring.proofs.Validity.{no_codes, within, few_branches, few_actions}
 
 not_not : (b : Bool) → not b ≡ false → b ≡ true
@@ -50,9 +52,14 @@ seats_any q number (arbiter ∷ arbiters) =
     ∙ (ap (λ b. b || list_any (λ (s : Seat). q s.kind s.branch) (seats_from (number + 1) arbiters)) (seat_any q number arbiter.kind arbiter.branches)
     ∙ ap (λ b. list_any (q arbiter.kind) arbiter.branches || b) (seats_any q (number + 1) arbiters))
 
+-- a domain changes neither kind nor branch
+domain_any : (q : Kind → BranchPart → Bool) (domains : List DomainPart) (ss : List Seat) → list_any (λ (s : Seat). q s.kind s.branch) (map (in_domain domains) ss) ≡ list_any (λ (s : Seat). q s.kind s.branch) ss
+domain_any q domains [] = refl
+domain_any q domains (s ∷ ss) = ap (λ b. q s.kind s.branch || b) (domain_any q domains ss)
+
 -- what no branch passes, the branch of no seat passes
 seat_none : (q : Kind → BranchPart → Bool) (parts : Parts) → list_any (λ (arbiter : ArbiterPart). list_any (q arbiter.kind) arbiter.branches) parts.arbiters ≡ false → (branch : ℕ) (s : Seat) → seat parts branch ≡ Some s → q s.kind s.branch ≡ false
-seat_none q parts none branch s at = none_at (λ (s : Seat). q s.kind s.branch) (seats parts) branch s (seats_any q 0 parts.arbiters ∙ none) at
+seat_none q parts none branch s at = none_at (λ (s : Seat). q s.kind s.branch) (seats parts) branch s (domain_any q parts.domains (seats_from 0 parts.arbiters) ∙ (seats_any q 0 parts.arbiters ∙ none)) at
 
 -- where none passes either test, none passes the first
 any_first : {X : Type 0} (p q : X → Bool) (xs : List X) → list_any (λ x. p x || q x) xs ≡ false → list_any p xs ≡ false
@@ -66,6 +73,7 @@ record Named (parts : Parts) : Type 0 where
   handlers : has_dangling_handler parts ≡ false
   arbiters : has_dangling_arbiter parts ≡ false
   posters : has_dangling_poster parts ≡ false
+  domains : has_dangling_domain parts ≡ false
 
 named : (parts : Parts) → has_dangling parts ≡ false → Named parts
 named parts none =
@@ -73,10 +81,12 @@ named parts none =
     let b = has_dangling_cause parts in
     let c = has_dangling_handler parts in
     let d = has_dangling_arbiter parts in
-    let four = neither (a || b || c || d) (has_dangling_poster parts) none in
+    let e = has_dangling_poster parts in
+    let five = neither (a || b || c || d || e) (has_dangling_domain parts) none in
+    let four = neither (a || b || c || d) e five.0 in
     let three = neither (a || b || c) d four.0 in
     let two = neither (a || b) c three.0 in
-    record { causes = (neither a b two.0).1; handlers = two.1; arbiters = three.1; posters = four.1 }
+    record { causes = (neither a b two.0).1; handlers = two.1; arbiters = three.1; posters = four.1; domains = five.1 }
 
 record BranchNamed (parts : Parts) (branch : BranchPart) : Type 0 where
   queue : branch.queue < length parts.queues
@@ -226,7 +236,7 @@ small parts none =
     let two = neither (a || b) c three.0 in
     let one = neither a b two.0 in
     let branches = few_branches parts none in
-    let count = length-seats 0 parts.arbiters in
+    let count = length-seats parts in
     record {
       budget = at_most 10000 parts.budget inside.budget;
       queues = at_most 16 (length parts.queues) one.0;
@@ -246,7 +256,8 @@ sound parts valid =
     let none = no_codes parts valid in
     let numbers = named parts none.references in
     let inside = within parts none.limits in
-    let twice = neither (has_repeating_set parts || has_repeating_arbiter parts) (has_repeating_poster parts) none.repeats in
+    let all = neither (has_repeating_set parts || has_repeating_arbiter parts || has_repeating_poster parts) (has_repeating_domain parts) none.repeats in
+    let twice = neither (has_repeating_set parts || has_repeating_arbiter parts) (has_repeating_poster parts) all.0 in
     let branches = seat_none (λ kind branch. branch_is_dangling parts branch) parts numbers.arbiters in
     record {
       apart = λ branch s at. not_not (names_ports_once s.branch.pattern) (seat_none (λ kind branch. branch_repeats branch) parts (neither (has_repeating_set parts) (has_repeating_arbiter parts) twice.0).1 branch s at);
@@ -262,4 +273,5 @@ sound parts valid =
       scripts = λ poster place part post at there. post_named parts post (none_at (post_is_dangling parts) part.posts place post (none_at (poster_is_dangling parts) parts.posters poster part numbers.posters at) there) (none_at post_repeats part.posts place post (none_at poster_repeats parts.posters poster part twice.1 at) there);
       few_spots = not_crowded (named_ports parts) none.spots;
       small = small parts none.limits;
+      domains = λ branch s at. kept_domain parts branch s numbers.domains at;
     }

@@ -9,7 +9,8 @@ use Rattle.ccr_wiring.specs.declared.parts.ArbiterPart.{ArbiterPart}
 use Rattle.ccr_wiring.specs.declared.parts.BranchPart.{BranchPart}
 use Rattle.ccr_wiring.specs.declared.parts.Kind.{Kind}
 use Rattle.ccr_wiring.specs.declared.parts.Parts.{Parts}
-use Rattle.ccr_wiring.specs.Wirings.{Seat, seats, seats_from, spots, spots_from, sites_from, awaited, actions_of}
+use Rattle.ccr_wiring.specs.declared.parts.DomainPart.{DomainPart}
+use Rattle.ccr_wiring.specs.Wirings.{Seat, seats, seats_from, spots, spots_from, sites_from, awaited, actions_of, in_domain}
 use Rattle.ccr_wiring.specs.Spots.{branch_spots, all_branches}
 
 abbrev seat_branches : List Seat → List BranchPart
@@ -29,9 +30,17 @@ all_seat_branches number (arbiter ∷ arbiters) =
     seats_branches number arbiter.kind arbiter.branches (seats_from (number + 1) arbiters)
     ∙ (ap (λ (bs : List BranchPart). arbiter.branches ++ bs) (all_seat_branches (number + 1) arbiters) ∙ sym (flat_map-cons (λ (a : ArbiterPart). a.branches) arbiter arbiters))
 
+domain_branches : (domains : List DomainPart) (ss : List Seat) → seat_branches (map (in_domain domains) ss) ≡ seat_branches ss
+domain_branches domains [] = refl
+domain_branches domains (s ∷ ss) = ap (λ (bs : List BranchPart). s.branch ∷ bs) (domain_branches domains ss)
+
+-- the branches of all seats
+all_branches_seated : (parts : Parts) → seat_branches (seats parts) ≡ all_branches parts.arbiters
+all_branches_seated parts = domain_branches parts.domains (seats_from 0 parts.arbiters) ∙ all_seat_branches 0 parts.arbiters
+
 -- the spots are those of all branches
 pub spots_listed : (parts : Parts) → spots parts ≡ branch_spots parts 0 (all_branches parts.arbiters)
-spots_listed parts = spots_by_branch parts 0 (seats parts) ∙ ap (λ (bs : List BranchPart). branch_spots parts 0 bs) (all_seat_branches 0 parts.arbiters)
+spots_listed parts = spots_by_branch parts 0 (seats parts) ∙ ap (λ (bs : List BranchPart). branch_spots parts 0 bs) (all_branches_seated parts)
 
 -- the spots of some branches and those that follow
 pub branch_spots-append : (parts : Parts) (number : ℕ) (xs ys : List BranchPart) → branch_spots parts number (xs ++ ys) ≡ branch_spots parts number xs ++ branch_spots parts (number + length xs) ys
@@ -70,5 +79,5 @@ length-all_branches (arbiter ∷ arbiters) =
     ∙ sym (sum_by-cons (λ (n : ℕ). n) (length arbiter.branches) (map (λ (a : ArbiterPart). length a.branches) arbiters))))
 
 -- there are as many seats as branches
-pub length-seats : (number : ℕ) (arbiters : List ArbiterPart) → length (seats_from number arbiters) ≡ length (all_branches arbiters)
-length-seats number arbiters = sym (length-map (seats_from number arbiters) (λ (s : Seat). s.branch)) ∙ ap length (all_seat_branches number arbiters)
+pub length-seats : (parts : Parts) → length (seats parts) ≡ length (all_branches parts.arbiters)
+length-seats parts = sym (length-map (seats parts) (λ (s : Seat). s.branch)) ∙ ap length (all_branches_seated parts)

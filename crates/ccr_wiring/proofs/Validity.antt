@@ -7,12 +7,13 @@ use Rattle.ccr_wiring.specs.declared.parts.ArbiterPart.{ArbiterPart}
 use Rattle.ccr_wiring.specs.declared.parts.HandlerPart.{HandlerPart}
 use Rattle.ccr_wiring.specs.declared.parts.Parts.{Parts}
 use Rattle.ccr_wiring.specs.Wirings.{actions_of}
-use Rattle.ccr_wiring.specs.Limits.{has_outside, has_too_many, has_outside_queue, has_outside_set, has_outside_handler, has_outside_arbiter, handler_is_outside, action_is_outside, has_branches_above, has_posts_above}
+use Rattle.ccr_wiring.specs.Limits.{has_outside, has_too_many, has_outside_queue, has_outside_set, has_outside_handler, has_outside_arbiter, has_outside_domain, handler_is_outside, action_is_outside, has_branches_above, has_posts_above}
 use Rattle.ccr_wiring.specs.Spots.{all_branches, has_crowded_port}
 use Rattle.ccr_wiring.specs.Groups.{has_misgrouped, has_branchless}
 use Rattle.ccr_wiring.specs.Names.{has_repeated_name, has_malformed_name}
 use Rattle.ccr_wiring.specs.References.{has_dangling}
 use Rattle.ccr_wiring.specs.Repeats.{has_repeat}
+use Rattle.ccr_wiring.specs.Versions.{has_strange_version, has_newer}
 use Rattle.ccr_wiring.specs.Codes.{code_of}
 use Rattle.ccr_wiring.proofs.Lists.{neither, none_at}
 use Rattle.ccr_wiring.proofs.SpotLemmas.{length-all_branches}
@@ -24,6 +25,7 @@ pub record Within (parts : Parts) : Type 0 where
   pub sets : has_outside_set parts ≡ false
   pub handlers : has_outside_handler parts ≡ false
   pub arbiters : has_outside_arbiter parts ≡ false
+  pub domains : has_outside_domain parts ≡ false
 
 -- each of the limits is kept
 pub within : (parts : Parts) → has_outside parts ≡ false → Within parts
@@ -33,12 +35,14 @@ within parts none =
     let c = has_outside_queue parts in
     let d = has_outside_set parts in
     let e = has_outside_handler parts in
-    let five = neither (a || b || c || d || e) (has_outside_arbiter parts) none in
+    let f = has_outside_arbiter parts in
+    let six = neither (a || b || c || d || e || f) (has_outside_domain parts) none in
+    let five = neither (a || b || c || d || e) f six.0 in
     let four = neither (a || b || c || d) e five.0 in
     let three = neither (a || b || c) d four.0 in
     let two = neither (a || b) c three.0 in
     let one = neither a b two.0 in
-    record { budget = one.0; many = one.1; queues = two.1; sets = three.1; handlers = four.1; arbiters = five.1 }
+    record { budget = one.0; many = one.1; queues = two.1; sets = three.1; handlers = four.1; arbiters = five.1; domains = six.1 }
 
 -- there are at most 256 branches
 pub few_branches : (parts : Parts) → has_outside parts ≡ false → length (all_branches parts.arbiters) ≤ 256
@@ -63,7 +67,9 @@ pub few_actions : (parts : Parts) (handler : ℕ) → has_outside parts ≡ fals
 few_actions parts handler none = actions_at parts handler (slice_get parts.handlers handler) refl (within parts none).handlers
 
 pub record NoCodes (parts : Parts) : Type 0 where
+  pub version : has_strange_version parts ≡ false
   pub groups : has_misgrouped parts ≡ false
+  pub newer : has_newer parts ≡ false
   pub names : has_repeated_name parts ≡ false
   pub references : has_dangling parts ≡ false
   pub repeats : has_repeat parts ≡ false
@@ -72,23 +78,23 @@ pub record NoCodes (parts : Parts) : Type 0 where
   pub spots : has_crowded_port parts ≡ false
   pub forms : has_malformed_name parts ≡ false
 
-abbrev first_code : Bool → Bool → Bool → Bool → Bool → Bool → Bool → Bool → Option ℕ
-first_code a b c d e f g h = if a then Some 3 else if b then Some 6 else if c then Some 7 else if d then Some 8 else if e then Some 10 else if f then Some 11 else if g then Some 12 else if h then Some 14 else None
-
-none_of : (a b c d e f g h : Bool) → first_code a b c d e f g h ≡ None → (a ≡ false) × (b ≡ false) × (c ≡ false) × (d ≡ false) × (e ≡ false) × (f ≡ false) × (g ≡ false) × (h ≡ false)
-none_of true b c d e f g h is = absurd cc
-none_of false true c d e f g h is = absurd cc
-none_of false false true d e f g h is = absurd cc
-none_of false false false true e f g h is = absurd cc
-none_of false false false false true f g h is = absurd cc
-none_of false false false false false true g h is = absurd cc
-none_of false false false false false false true h is = absurd cc
-none_of false false false false false false false true is = absurd cc
-none_of false false false false false false false false is = (refl, refl, refl, refl, refl, refl, refl, refl)
+-- where no code is answered, the test fails and no later code is
+not_first : (b : Bool) (code : ℕ) (others : Option ℕ) → (if b then Some code else others) ≡ None → (b ≡ false) × (others ≡ None)
+not_first true code others is = absurd cc
+not_first false code others is = (refl, is)
 
 -- where no code stands, no condition does
 pub no_codes : (parts : Parts) → code_of parts ≡ None → NoCodes parts
 unfolding code_of
 no_codes parts valid =
-    let none = none_of (has_misgrouped parts) (has_repeated_name parts) (has_dangling parts) (has_repeat parts) (has_outside parts) (has_branchless parts) (has_crowded_port parts) (has_malformed_name parts) valid in
-    record { groups = none.0; names = none.1; references = none.2; repeats = none.3; limits = none.4; branches = none.5; spots = none.6; forms = none.7 }
+    let version = not_first (has_strange_version parts) 2 _ valid in
+    let groups = not_first (has_misgrouped parts) 3 _ version.1 in
+    let newer = not_first (has_newer parts) 5 _ groups.1 in
+    let names = not_first (has_repeated_name parts) 6 _ newer.1 in
+    let references = not_first (has_dangling parts) 7 _ names.1 in
+    let repeats = not_first (has_repeat parts) 8 _ references.1 in
+    let limits = not_first (has_outside parts) 10 _ repeats.1 in
+    let branches = not_first (has_branchless parts) 11 _ limits.1 in
+    let spots = not_first (has_crowded_port parts) 12 _ branches.1 in
+    let forms = not_first (has_malformed_name parts) 14 _ spots.1 in
+    record { version = version.0; groups = groups.0; newer = newer.0; names = names.0; references = references.0; repeats = repeats.0; limits = limits.0; branches = branches.0; spots = spots.0; forms = forms.0 }

@@ -6,12 +6,15 @@ use Rattle.ccr_wiring.specs.Names.{has_repeated_name, has_malformed_name}
 use Rattle.ccr_wiring.specs.References.{has_dangling}
 use Rattle.ccr_wiring.specs.Repeats.{has_repeat}
 use Rattle.ccr_wiring.specs.Limits.{has_outside}
+use Rattle.ccr_wiring.specs.Versions.{has_strange_version, has_newer}
 use Rattle.ccr_wiring.specs.Spots.{has_crowded_port}
 
 -- the least code whose condition stands in the parts
 unfoldable pub code_of : Parts → Option ℕ
 code_of parts =
-    if has_misgrouped parts then Some 3
+    if has_strange_version parts then Some 2
+    else if has_misgrouped parts then Some 3
+    else if has_newer parts then Some 5
     else if has_repeated_name parts then Some 6
     else if has_dangling parts then Some 7
     else if has_repeat parts then Some 8

@@ -25,6 +25,11 @@ abbrev pub is_receive : Kind → Bool
 is_receive kinds.Receive = true
 is_receive _ = false
 
+-- whether the kind is that of an Interleave
+abbrev pub is_interleave : Kind → Bool
+is_interleave kinds.Interleave = true
+is_interleave _ = false
+
 -- whether this is exactly one branch, and it bears the name
 abbrev pub is_one_named : List ℕ → List BranchPart → Bool
 is_one_named name [] = false

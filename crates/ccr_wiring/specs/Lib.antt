@@ -1,9 +1,11 @@
+pub mod Domains
 pub mod Wirings
 pub mod Groups
 pub mod Names
 pub mod References
 pub mod Repeats
 pub mod Limits
+pub mod Versions
 pub mod Spots
 pub mod Codes
 pub mod Valid

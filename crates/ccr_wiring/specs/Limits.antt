@@ -4,7 +4,7 @@ use Rattle.std.specs.List.{list_any}
 use Rattle.ccr_base.specs.declared.handlers.Action.{Action}
 use Rattle.ccr_base.specs.declared.handlers.Action.TheVariants.{Post, Fail}
 use Rattle.ccr_base.specs.declared.handlers.Expr.{Expr}
-use Rattle.ccr_base.specs.declared.handlers.Expr.TheVariants.{Arg}
+use Rattle.ccr_base.specs.declared.handlers.Expr.TheVariants.{Arg, Part}
 use Rattle.ccr_base.specs.declared.policies.Policy.{Policy}
 use Rattle.ccr_base.specs.declared.policies.Policy.TheVariants.{Unbounded, Discard, Throttle}
 use Rattle.ccr_base.specs.declared.patterns.Pattern.{Pattern}
@@ -16,6 +16,7 @@ use Rattle.ccr_wiring.specs.declared.parts.HandlerPart.{HandlerPart}
 use Rattle.ccr_wiring.specs.declared.parts.PosterPart.{PosterPart}
 use Rattle.ccr_wiring.specs.declared.parts.QueuePart.{QueuePart}
 use Rattle.ccr_wiring.specs.declared.parts.SetPart.{SetPart}
+use Rattle.ccr_wiring.specs.declared.parts.DomainPart.{DomainPart}
 use Rattle.ccr_wiring.specs.declared.parts.Parts.{Parts}
 
 -- whether a number lies outside its limits
@@ -28,9 +29,10 @@ policy_is_outside Unbounded = false
 policy_is_outside (Discard n) = is_outside 1 1000 n
 policy_is_outside (Throttle n) = is_outside 1 1000 n
 
--- `arg` is 0 to 65,535
+-- the number of a message is 0 to 65,535, the place of a number in its value 0 to 7
 abbrev pub expr_is_outside : Expr → Bool
 expr_is_outside (Arg k) = is_outside 0 65535 k
+expr_is_outside (Part k place) = is_outside 0 65535 k || is_outside 0 7 place
 expr_is_outside _ = false
 
 -- the action's expression is outside its limits
@@ -112,6 +114,14 @@ has_outside_handler parts = list_any handler_is_outside parts.handlers
 abbrev pub has_outside_arbiter : Parts → Bool
 has_outside_arbiter parts = list_any arbiter_is_outside parts.arbiters
 
+-- a domain has 2 to 8 members
+abbrev pub domain_is_outside : DomainPart → Bool
+domain_is_outside domain = is_outside 2 8 (length domain.members)
+
+-- there are more than 128 domains, or one is outside its limits
+abbrev pub has_outside_domain : Parts → Bool
+has_outside_domain parts = nat_lt 128 (length parts.domains) || list_any domain_is_outside parts.domains
+
 -- a number is outside its limits, or there is more of something than its limit
 abbrev pub has_outside : Parts → Bool
-has_outside parts = nat_lt 10000 parts.budget || has_too_many parts || has_outside_queue parts || has_outside_set parts || has_outside_handler parts || has_outside_arbiter parts
+has_outside parts = nat_lt 10000 parts.budget || has_too_many parts || has_outside_queue parts || has_outside_set parts || has_outside_handler parts || has_outside_arbiter parts || has_outside_domain parts

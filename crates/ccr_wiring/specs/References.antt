@@ -1,6 +1,7 @@
 -- Numbers that name nothing.
-use Rattle.std.specs.Prelude.{ℕ, Bool, false, ◌||◌, nat_le, List, length}
-use Rattle.std.specs.List.{list_any}
+use Rattle.std.specs.Prelude.{ℕ, Bool, true, false, not, ◌||◌, nat_le, List, length}
+use Rattle.std.specs.List.{list_any, slice_get}
+use Rattle.std.specs.Option.{option_map_or}
 use Rattle.ccr_base.specs.declared.messages.Sent.{Sent}
 use Rattle.ccr_base.specs.declared.handlers.Action.{Action}
 use Rattle.ccr_base.specs.declared.handlers.Action.TheVariants.{Post, Fail, Add, Remove, Await}
@@ -13,6 +14,8 @@ use Rattle.ccr_wiring.specs.declared.parts.CausePart.{CausePart}
 use Rattle.ccr_wiring.specs.declared.parts.HandlerPart.{HandlerPart}
 use Rattle.ccr_wiring.specs.declared.parts.PosterPart.{PosterPart}
 use Rattle.ccr_wiring.specs.declared.parts.SetPart.{SetPart}
+use Rattle.ccr_wiring.specs.declared.parts.DomainPart.{DomainPart}
+use Rattle.ccr_wiring.specs.Groups.{is_interleave}
 use Rattle.ccr_wiring.specs.declared.parts.Parts.{Parts}
 
 -- whether the number names none of so many
@@ -96,6 +99,18 @@ has_dangling_arbiter parts = list_any (arbiter_is_dangling parts) parts.arbiters
 abbrev pub has_dangling_poster : Parts → Bool
 has_dangling_poster parts = list_any (poster_is_dangling parts) parts.posters
 
--- a port, queue, handler or cause is named that the parts don't have
+-- the number is no Interleave's
+abbrev pub no_interleave : Parts → ℕ → Bool
+no_interleave parts number = option_map_or (λ (arbiter : ArbiterPart). not (is_interleave arbiter.kind)) (slice_get parts.arbiters number) true
+
+-- a member of the domain isn't an Interleave
+abbrev pub domain_is_dangling : Parts → DomainPart → Bool
+domain_is_dangling parts domain = list_any (no_interleave parts) domain.members
+
+-- some domain is dangling
+abbrev pub has_dangling_domain : Parts → Bool
+has_dangling_domain parts = list_any (domain_is_dangling parts) parts.domains
+
+-- a port, queue, handler, cause or Interleave is named that the parts don't have
 abbrev pub has_dangling : Parts → Bool
-has_dangling parts = has_dangling_set parts || has_dangling_cause parts || has_dangling_handler parts || has_dangling_arbiter parts || has_dangling_poster parts
+has_dangling parts = has_dangling_set parts || has_dangling_cause parts || has_dangling_handler parts || has_dangling_arbiter parts || has_dangling_poster parts || has_dangling_domain parts

@@ -1,5 +1,5 @@
--- A port twice in one pattern or set, a cause twice in one post.
-use Rattle.std.specs.Prelude.{ℕ, Bool, true, not, ◌==◌, ◌&&◌, ◌||◌, List, [], ◌∷◌, map}
+-- A port twice in one pattern or set, a cause twice in one post, an Interleave twice in the domains.
+use Rattle.std.specs.Prelude.{ℕ, Bool, true, not, ◌==◌, ◌&&◌, ◌||◌, List, [], ◌∷◌, map, flat_map}
 use Rattle.std.specs.List.{list_any}
 use Rattle.ccr_base.specs.declared.messages.Sent.{Sent}
 use Rattle.ccr_base.specs.declared.patterns.Pattern.{Pattern}
@@ -9,6 +9,7 @@ use Rattle.ccr_wiring.specs.declared.parts.ArbiterPart.{ArbiterPart}
 use Rattle.ccr_wiring.specs.declared.parts.BranchPart.{BranchPart}
 use Rattle.ccr_wiring.specs.declared.parts.PosterPart.{PosterPart}
 use Rattle.ccr_wiring.specs.declared.parts.SetPart.{SetPart}
+use Rattle.ccr_wiring.specs.declared.parts.DomainPart.{DomainPart}
 use Rattle.ccr_wiring.specs.declared.parts.Parts.{Parts}
 
 -- whether the port is among the ports
@@ -65,6 +66,14 @@ has_repeating_arbiter parts = list_any arbiter_repeats parts.arbiters
 abbrev pub has_repeating_poster : Parts → Bool
 has_repeating_poster parts = list_any poster_repeats parts.posters
 
--- a port stands twice in one pattern or set, or a cause twice in one post
+-- the members of all domains
+abbrev pub members_in_all : List DomainPart → List ℕ
+members_in_all domains = flat_map (λ (domain : DomainPart). domain.members) domains
+
+-- an Interleave stands twice in the domains
+abbrev pub has_repeating_domain : Parts → Bool
+has_repeating_domain parts = not (are_apart (members_in_all parts.domains))
+
+-- a port stands twice in one pattern or set, a cause twice in one post, or an Interleave twice in the domains
 abbrev pub has_repeat : Parts → Bool
-has_repeat parts = has_repeating_set parts || has_repeating_arbiter parts || has_repeating_poster parts
+has_repeat parts = has_repeating_set parts || has_repeating_arbiter parts || has_repeating_poster parts || has_repeating_domain parts

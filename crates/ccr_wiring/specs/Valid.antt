@@ -1,5 +1,5 @@
 -- Valid wirings, and what they promise.
-use Rattle.std.specs.Prelude.{◌≡◌, ◌<◌, ◌≤◌, ℕ, true, length, Some, None}
+use Rattle.std.specs.Prelude.{◌≡◌, ◌<◌, ◌≤◌, ℕ, true, length, Some, None, IsSomeAnd}
 use Rattle.std.specs.List.{slice_get}
 use Rattle.ccr_base.specs.declared.handlers.Action.{Action}
 use Rattle.ccr_base.specs.declared.handlers.Action.TheVariants.{Post, Fail, Add, Remove, Await}
@@ -9,6 +9,7 @@ use Rattle.ccr_base.specs.declared.patterns.Pattern.TheVariants.{Slots, Gather}
 use Rattle.ccr_base.specs.declared.patterns.Slot.{Slot}
 use Rattle.ccr_wiring.specs.declared.parts.Parts.{Parts}
 use Rattle.ccr_wiring.specs.declared.parts.PosterPart.{PosterPart}
+use Rattle.ccr_wiring.specs.declared.parts.ArbiterPart.{ArbiterPart}
 use Rattle.ccr_wiring.specs.Wirings.{Seat, seat, seats, actions_of, exception_port, site_port}
 use Rattle.ccr_wiring.specs.Codes.{code_of}
 use Rattle.ccr_wiring.specs.Groups.{may_have}
@@ -92,6 +93,10 @@ HasScriptsNamed wiring = (poster place : ℕ) (part : PosterPart) (post : Sent) 
 abbrev pub HasFewSpots : Parts → Type 0
 HasFewSpots wiring = (port : ℕ) → times port (named_ports wiring) ≤ 16
 
+-- each branch's domain is the number of an arbiter of the kind of its own
+abbrev pub HasDomains : Parts → Type 0
+HasDomains wiring = (branch : ℕ) (s : Seat) → seat wiring branch ≡ Some s → IsSomeAnd (slice_get wiring.arbiters s.arbiter) (λ (arbiter : ArbiterPart). arbiter.kind ≡ s.kind)
+
 -- how many of each kind there are at most
 pub record IsSmall (wiring : Parts) : Type 0 where
   pub budget : wiring.budget ≤ 10000
@@ -120,3 +125,4 @@ pub record IsSound (wiring : Parts) : Type 0 where
   pub scripts : HasScriptsNamed wiring
   pub few_spots : HasFewSpots wiring
   pub small : IsSmall wiring
+  pub domains : HasDomains wiring

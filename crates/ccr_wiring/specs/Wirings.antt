@@ -13,8 +13,10 @@ use Rattle.ccr_wiring.specs.declared.parts.QueuePart.{QueuePart}
 use Rattle.ccr_base.specs.declared.policies.Policy.{Policy}
 use Rattle.ccr_base.specs.declared.policies.Policy.TheVariants.{Unbounded}
 use Rattle.ccr_wiring.specs.declared.parts.Kind.{Kind}
+use Rattle.ccr_wiring.specs.declared.parts.DomainPart.{DomainPart}
+use Rattle.ccr_wiring.specs.Domains.{domain_of}
 
--- a branch with its arbiter's number and kind
+-- a branch with the number of its domain and the kind of its arbiter
 pub record Seat : Type 0 where
   pub arbiter : ℕ
   pub kind : Kind
@@ -29,9 +31,13 @@ abbrev pub seats_from : ℕ → List ArbiterPart → List Seat
 seats_from number [] = []
 seats_from number (arbiter ∷ arbiters) = seats_of number arbiter ++ seats_from (number + 1) arbiters
 
+-- the branch in the domain of its arbiter
+abbrev pub in_domain : List DomainPart → Seat → Seat
+in_domain domains s = record { arbiter = domain_of domains s.arbiter; kind = s.kind; branch = s.branch }
+
 -- all branches, in the order of their numbers
 abbrev pub seats : Parts → List Seat
-seats wiring = seats_from 0 wiring.arbiters
+seats wiring = map (in_domain wiring.domains) (seats_from 0 wiring.arbiters)
 
 -- the branch of this number
 abbrev pub seat : Parts → ℕ → Option Seat

@@ -10,6 +10,7 @@ use crate::names::{declared_names, has_malformed, has_repeated};
 use crate::references::has_dangling;
 use crate::repeats::has_repeat;
 use crate::spots::has_crowded_port;
+use crate::versions::{has_newer, has_strange_version};
 use ccr_base::OutOfMemory;
 use std::alloc::Global;
 
@@ -18,8 +19,14 @@ use std::alloc::Global;
 pub(crate) fn code_of(alloc: Global, parts: &Parts) -> Result<Option<u8>, OutOfMemory>
     ensures { IfOk result (λ code. code ≡ code_of parts.now) }
 {
+    if has_strange_version(parts) {
+        return Ok(Some(2));
+    }
     if has_misgrouped(parts) {
         return Ok(Some(3));
+    }
+    if has_newer(parts) {
+        return Ok(Some(5));
     }
     let names = declared_names(alloc, parts)?;
     if has_repeated(alloc, &names)? {
@@ -28,7 +35,7 @@ pub(crate) fn code_of(alloc: Global, parts: &Parts) -> Result<Option<u8>, OutOfM
     if has_dangling(parts) {
         return Ok(Some(7));
     }
-    if has_repeat(parts) {
+    if has_repeat(alloc, parts)? {
         return Ok(Some(8));
     }
     if has_outside(parts) {

@@ -2,6 +2,7 @@
 #![tactic(auto)]
 
 mod codes;
+mod domains;
 mod groups;
 mod laws;
 mod limits;
@@ -11,16 +12,18 @@ mod references;
 mod repeats;
 mod spots;
 mod unfit;
+mod versions;
 mod wiring;
 
 pub use laws::valid_wirings_are_sound;
 pub use limits::{
     MAX_ACTIONS, MAX_ARBITERS, MAX_ARG, MAX_BRANCHES, MAX_BUDGET, MAX_CAUSES, MAX_COUNT,
-    MAX_HANDLERS, MAX_POLICY, MAX_PORTS, MAX_POSTERS, MAX_QUEUES, MAX_SCRIPT_POSTS, MAX_SET_PORTS,
-    MAX_SETS, MAX_SLOTS, MAX_SPOTS,
+    MAX_DOMAINS, MAX_HANDLERS, MAX_MEMBERS, MAX_PLACE, MAX_POLICY, MAX_PORTS, MAX_POSTERS,
+    MAX_QUEUES, MAX_SCRIPT_POSTS, MAX_SET_PORTS, MAX_SETS, MAX_SLOTS, MAX_SPOTS,
 };
 pub use parts::{
-    ArbiterPart, BranchPart, CausePart, HandlerPart, Kind, Parts, PosterPart, QueuePart, SetPart,
+    ArbiterPart, BranchPart, CausePart, DomainPart, HandlerPart, Kind, Parts, PosterPart,
+    QueuePart, SetPart,
 };
 pub use unfit::Unfit;
 pub use wiring::Wiring;

@@ -2,9 +2,11 @@
 
 ghost use Rattle.std.specs.Prelude.{◌≡◌};
 ghost use Rattle.std.specs.List.{list_any};
-ghost use Rattle.ccr_wiring.specs.Limits.{is_outside, policy_is_outside, expr_is_outside, action_is_outside, slot_is_outside, slots_are_outside, pattern_is_outside, handler_is_outside, branch_is_outside, arbiter_is_outside, queue_is_outside, set_is_outside, has_branches_above, has_posts_above, has_too_many, has_outside_queue, has_outside_set, has_outside_handler, has_outside_arbiter, has_outside};
+ghost use Rattle.ccr_wiring.specs.Limits.{is_outside, policy_is_outside, expr_is_outside, action_is_outside, slot_is_outside, slots_are_outside, pattern_is_outside, handler_is_outside, branch_is_outside, arbiter_is_outside, queue_is_outside, set_is_outside, has_branches_above, has_posts_above, has_too_many, has_outside_queue, has_outside_set, has_outside_handler, has_outside_arbiter, domain_is_outside, has_outside_domain, has_outside};
 
-use crate::{ArbiterPart, BranchPart, HandlerPart, Parts, PosterPart, QueuePart, SetPart};
+use crate::{
+    ArbiterPart, BranchPart, DomainPart, HandlerPart, Parts, PosterPart, QueuePart, SetPart,
+};
 use ccr_base::{Action, Expr, Pattern, Policy, Slot};
 
 /// The posts that tasks may make in a run, at most.
@@ -25,6 +27,10 @@ pub const MAX_HANDLERS: usize = 256;
 pub const MAX_ACTIONS: usize = 16;
 
 pub const MAX_ARBITERS: usize = 256;
+
+pub const MAX_DOMAINS: usize = 128;
+/// The members of one domain.
+pub const MAX_MEMBERS: usize = 8;
 /// The branches of all arbiters together.
 pub const MAX_BRANCHES: usize = 256;
 /// The slots of one pattern.
@@ -35,6 +41,8 @@ pub const MAX_COUNT: u32 = 1_000;
 pub const MAX_POLICY: u32 = 1_000;
 /// The number of a message of a task, in an expression.
 pub const MAX_ARG: u32 = 65_535;
+/// The place of a number in its value, in an expression.
+pub const MAX_PLACE: u32 = 7;
 
 pub const MAX_POSTERS: usize = 16;
 /// The posts of all scripts together.
@@ -56,6 +64,7 @@ fn expr_is_outside(expr: Expr) -> bool
 {
     match expr {
         Expr::Arg(k) => k > MAX_ARG,
+        Expr::Part(k, place) => k > MAX_ARG || place > MAX_PLACE,
         Expr::Number(_) | Expr::Sum | Expr::Count => false,
     }
 }
@@ -216,6 +225,26 @@ fn has_outside_arbiter(parts: &Parts) -> bool
         .any(|arbiter| arbiter_is_outside(arbiter))
 }
 
+fn domain_is_outside(domain: &DomainPart) -> bool
+    ensures { result ≡ domain_is_outside domain.now }
+{
+    let count = domain.members.as_slice().len();
+    count < 2 || count > MAX_MEMBERS
+}
+
+fn has_domain_outside(domains: &[DomainPart]) -> bool
+    ensures { result ≡ list_any domain_is_outside domains.now }
+{
+    domains.iter().any(|domain| domain_is_outside(domain))
+}
+
+fn has_outside_domain(parts: &Parts) -> bool
+    ensures { result ≡ has_outside_domain parts.now }
+{
+    let domains = parts.domains.as_slice();
+    domains.len() > MAX_DOMAINS || has_domain_outside(domains)
+}
+
 pub(crate) fn has_outside(parts: &Parts) -> bool
     ensures { result ≡ has_outside parts.now }
 {
@@ -225,4 +254,5 @@ pub(crate) fn has_outside(parts: &Parts) -> bool
         || has_outside_set(parts)
         || has_outside_handler(parts)
         || has_outside_arbiter(parts)
+        || has_outside_domain(parts)
 }

@@ -1,6 +1,8 @@
 //! The parts of a wiring, as plain data. A number that names a part is its place among its kind, from 0.
 
-use ccr_base::{Group, Handler, HandlerNo, List, Name, Pattern, Policy, PortNo, QueueNo, Sent};
+use ccr_base::{
+    ArbiterNo, Group, Handler, HandlerNo, List, Name, Pattern, Policy, PortNo, QueueNo, Sent,
+};
 
 #[derive(Clone, Copy, Debug, PartialEq, Eq)]
 pub enum Kind {
@@ -53,6 +55,12 @@ pub struct ArbiterPart {
     pub branches: List<BranchPart>,
 }
 
+/// Interleaves that share one protection: 2 to 8 of them, each in one domain at most.
+#[derive(Debug, Drop)]
+pub struct DomainPart {
+    pub members: List<ArbiterNo>,
+}
+
 #[derive(Debug, Drop)]
 pub struct PosterPart {
     pub name: Name,
@@ -62,6 +70,8 @@ pub struct PosterPart {
 /// Everything that a wiring text says.
 #[derive(Debug, Drop)]
 pub struct Parts {
+    /// 1, or 2: then values may have several numbers.
+    pub version: u32,
     pub budget: u32,
     pub queues: List<QueuePart>,
     pub ports: List<Name>,
@@ -69,5 +79,6 @@ pub struct Parts {
     pub causes: List<CausePart>,
     pub handlers: List<HandlerPart>,
     pub arbiters: List<ArbiterPart>,
+    pub domains: List<DomainPart>,
     pub posters: List<PosterPart>,
 }

@@ -2,10 +2,13 @@
 
 ghost use Rattle.std.specs.Prelude.{◌≡◌, length};
 ghost use Rattle.std.specs.List.{list_any};
-ghost use Rattle.ccr_wiring.specs.References.{is_beyond, has_beyond, no_port, no_cause, action_is_dangling, pattern_is_dangling, slots_are_dangling, branch_is_dangling, post_is_dangling, set_is_dangling, cause_is_dangling, handler_is_dangling, arbiter_is_dangling, poster_is_dangling, has_dangling, has_dangling_set, has_dangling_cause, has_dangling_handler, has_dangling_arbiter, has_dangling_poster};
+ghost use Rattle.ccr_wiring.specs.References.{is_beyond, has_beyond, no_port, no_cause, action_is_dangling, pattern_is_dangling, slots_are_dangling, branch_is_dangling, post_is_dangling, set_is_dangling, cause_is_dangling, handler_is_dangling, arbiter_is_dangling, poster_is_dangling, has_dangling, has_dangling_set, has_dangling_cause, has_dangling_handler, has_dangling_arbiter, has_dangling_poster, no_interleave, domain_is_dangling, has_dangling_domain};
+ghost use Rattle.ccr_wiring.specs.Groups.{is_interleave};
 
-use crate::{ArbiterPart, BranchPart, CausePart, HandlerPart, Parts, PosterPart, SetPart};
-use ccr_base::{Action, Pattern, Sent, Slot};
+use crate::{
+    ArbiterPart, BranchPart, CausePart, DomainPart, HandlerPart, Kind, Parts, PosterPart, SetPart,
+};
+use ccr_base::{Action, ArbiterNo, Pattern, Sent, Slot};
 
 fn is_beyond(count: usize, number: u32) -> bool
     ensures { result ≡ is_beyond count number }
@@ -160,6 +163,41 @@ fn has_dangling_poster(parts: &Parts) -> bool
         .any(|poster| poster_is_dangling(parts, poster))
 }
 
+fn is_interleave(kind: Kind) -> bool
+    ensures { result ≡ is_interleave kind }
+{
+    match kind {
+        Kind::Interleave => true,
+        Kind::Receive | Kind::Choice => false,
+    }
+}
+
+fn no_interleave(parts: &Parts, number: ArbiterNo) -> bool
+    ensures { result ≡ no_interleave parts.now number }
+{
+    match parts.arbiters.as_slice().get(number as usize) {
+        Some(arbiter) => !is_interleave(arbiter.kind),
+        None => true,
+    }
+}
+
+fn domain_is_dangling(parts: &Parts, domain: &DomainPart) -> bool
+    ensures { result ≡ domain_is_dangling parts.now domain.now }
+{
+    let members = domain.members.as_slice();
+    members.iter().any(|member| no_interleave(parts, *member))
+}
+
+fn has_dangling_domain(parts: &Parts) -> bool
+    ensures { result ≡ has_dangling_domain parts.now }
+{
+    parts
+        .domains
+        .as_slice()
+        .iter()
+        .any(|domain| domain_is_dangling(parts, domain))
+}
+
 pub(crate) fn has_dangling(parts: &Parts) -> bool
     ensures { result ≡ has_dangling parts.now }
 {
@@ -168,4 +206,5 @@ pub(crate) fn has_dangling(parts: &Parts) -> bool
         || has_dangling_handler(parts)
         || has_dangling_arbiter(parts)
         || has_dangling_poster(parts)
+        || has_dangling_domain(parts)
 }

@@ -1,10 +1,11 @@
-//! Ports that stand twice in a pattern or a set, causes that stand twice in a post.
+//! Ports that stand twice in a pattern or a set, causes that stand twice in a post, Interleaves that stand twice in the domains.
 
-ghost use Rattle.std.specs.Prelude.{◌≡◌};
-ghost use Rattle.ccr_wiring.specs.Repeats.{has_port, are_apart, are_slots_apart, slot_ports, names_ports_once, branch_repeats, arbiter_repeats, set_repeats, post_repeats, poster_repeats, has_repeating_set, has_repeating_arbiter, has_repeating_poster, has_repeat};
+ghost use Rattle.std.specs.Prelude.{◌≡◌, ◌++◌, IfOk, OnOk};
+ghost use Rattle.ccr_wiring.specs.Repeats.{has_port, are_apart, are_slots_apart, slot_ports, names_ports_once, branch_repeats, arbiter_repeats, set_repeats, post_repeats, poster_repeats, has_repeating_set, has_repeating_arbiter, has_repeating_poster, members_in_all, has_repeating_domain, has_repeat};
 
-use crate::{ArbiterPart, BranchPart, Parts, PosterPart, SetPart};
-use ccr_base::{Pattern, PortNo, Sent, Slot};
+use crate::{ArbiterPart, BranchPart, DomainPart, Parts, PosterPart, SetPart};
+use ccr_base::{ArbiterNo, OutOfMemory, Pattern, PortNo, Sent, Slot};
+use std::alloc::Global;
 
 fn has_number(numbers: &[u32], number: u32) -> bool
     ensures { result ≡ has_port numbers.now number }
@@ -118,8 +119,37 @@ fn has_repeating_poster(parts: &Parts) -> bool
         .any(|poster| poster_repeats(poster))
 }
 
-pub(crate) fn has_repeat(parts: &Parts) -> bool
-    ensures { result ≡ has_repeat parts.now }
+fn add_members(members: &mut Vec<ArbiterNo>, more: &[ArbiterNo]) -> Result<(), OutOfMemory>
+    ensures { OnOk result (members.new.items ≡ members.old.items ++ more.now) }
 {
-    has_repeating_set(parts) || has_repeating_arbiter(parts) || has_repeating_poster(parts)
+    members.extend_from_slice(more)?;
+    Ok(())
+}
+
+fn members_in_all(alloc: Global, domains: &[DomainPart]) -> Result<Vec<ArbiterNo>, OutOfMemory>
+    ensures { IfOk result (λ members. members.items ≡ members_in_all domains.now) }
+{
+    let mut members = Vec::new(alloc);
+    for domain in domains {
+        add_members(&mut members, domain.members.as_slice())?;
+    }
+    Ok(members)
+}
+
+fn has_repeating_domain(alloc: Global, parts: &Parts) -> Result<bool, OutOfMemory>
+    ensures { IfOk result (λ repeats. repeats ≡ has_repeating_domain parts.now) }
+{
+    let members = members_in_all(alloc, parts.domains.as_slice())?;
+    Ok(!are_apart(&members))
+}
+
+pub(crate) fn has_repeat(alloc: Global, parts: &Parts) -> Result<bool, OutOfMemory>
+    ensures { IfOk result (λ repeats. repeats ≡ has_repeat parts.now) }
+{
+    Ok(
+        has_repeating_set(parts)
+            || has_repeating_arbiter(parts)
+            || has_repeating_poster(parts)
+            || has_repeating_domain(alloc, parts)?,
+    )
 }

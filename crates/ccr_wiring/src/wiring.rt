@@ -1,14 +1,16 @@
 //! Checked wirings.
 
-ghost use Rattle.std.specs.Prelude.{◌≡◌, OnOk, IfOk, IfErr};
+ghost use Rattle.std.specs.Prelude.{◌≡◌, ◌<◌, OnOk, IfOk, IfErr, length};
 ghost use Rattle.ccr_wiring.specs.Answers.{IsCause};
 ghost use Rattle.ccr_wiring.specs.Wirings.{spots as spots_of};
 ghost use Rattle.ccr_wiring.specs.Valid.{IsValid};
+ghost use Rattle.ccr_wiring.specs.Domains.{domain_of};
 
 use crate::codes::code_of;
+use crate::domains::domain_of;
 use crate::spots::all_spots;
 use crate::{Parts, Unfit};
-use ccr_base::Spot;
+use ccr_base::{ArbiterNo, Spot};
 use std::alloc::Global;
 use std::marker::Model;
 
@@ -34,7 +36,7 @@ impl Model for Wiring {
 
 impl Wiring {
     /// The wiring with these parts, where no code of refusal stands in them; else the least code that does.
-    /// The codes are those of the wiring text: 3, 6, 7, 8, 10, 11, 12 and 14 can stand in parts.
+    /// The codes are those of the wiring text: 2, 3, 5, 6, 7, 8, 10, 11, 12 and 14 can stand in parts.
     pub fn check(alloc: Global, parts: Parts) -> Result<Self, Unfit>
         ensures parts { IfOk result (λ wiring. wiring ≡ parts) }
         ensures valid { OnOk result (IsValid parts) }
@@ -55,6 +57,14 @@ impl Wiring {
         ensures valid { IsValid self.now }
     {
         &self.parts
+    }
+
+    /// The number of the arbiter's domain: the least of the Interleaves that are combined with it; its own where none is.
+    pub fn domain(&self, arbiter: ArbiterNo) -> ArbiterNo
+        requires arbiter { arbiter < length self.now.arbiters }
+        ensures domain { result ≡ domain_of self.now.domains arbiter }
+    {
+        domain_of(self.parts.domains.as_slice(), arbiter)
     }
 
     /// The spots in order: each branch of the wiring, followed by its sites.

@@ -3,7 +3,7 @@
 use super::{add, name};
 use crate::*;
 use ccr_base::{
-    Action, Expr, Group, Handler, List, OutOfMemory, Pattern, Policy, Pred, Sent, Slot,
+    Action, Expr, Group, Handler, List, OutOfMemory, Pattern, Policy, Pred, Sent, Slot, Value,
 };
 use std::alloc::Global;
 
@@ -166,7 +166,7 @@ fn posters(alloc: Global, sizes: &Sizes) -> Result<List<PosterPart>, OutOfMemory
         for _ in 0..sizes.posts {
             let post = Sent {
                 port: 0,
-                value: 0,
+                value: Value::one(0),
                 causes: List::new(alloc),
             };
             add(&mut posts, post)?;
@@ -224,6 +224,7 @@ pub fn parts(alloc: Global, sizes: &Sizes) -> Result<Parts, OutOfMemory> {
     let mut arbiters = receives(alloc, sizes)?;
     add(&mut arbiters, choice(alloc, sizes)?)?;
     Ok(Parts {
+        version: 1,
         budget: sizes.budget,
         queues: queues(alloc, sizes)?,
         ports,
@@ -231,6 +232,7 @@ pub fn parts(alloc: Global, sizes: &Sizes) -> Result<Parts, OutOfMemory> {
         causes: causes(alloc, sizes)?,
         handlers: handlers(alloc, sizes)?,
         arbiters,
+        domains: List::new(alloc),
         posters: posters(alloc, sizes)?,
     })
 }

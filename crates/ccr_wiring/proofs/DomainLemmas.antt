@@ -1,0 +1,121 @@
+-- The domain of a branch is the number of an arbiter of its own kind.
+use Rattle.std.proofs.Common.{◌≡◌, ℕ, zero, suc, ◌+◌, ◌≤◌, ◌⊎◌, inl, inr, min, Bool, true, false, List, [], ◌∷◌, ◌++◌, length, map, Option, Some, None, refl, ap, sym, subst, ◌∙◌, arith}
+use Rattle.std.specs.Prelude.{◌||◌, ◌==◌, not, nat_le, IsSomeAnd, if◌then◌else◌}
+use Rattle.std.specs.List.{list_any, slice_get}
+use Rattle.std.specs.Option.{option_map, option_map_or}
+use Rattle.std.proofs.lemmas.Option.{slice_get-map}
+use Rattle.std.proofs.lemmas.Bool.Decides.{nat_tests}
+use Rattle.ccr_wiring.specs.declared.parts.ArbiterPart.{ArbiterPart}
+use Rattle.ccr_wiring.specs.declared.parts.BranchPart.{BranchPart}
+use Rattle.ccr_wiring.specs.declared.parts.DomainPart.{DomainPart}
+use Rattle.ccr_wiring.specs.declared.parts.Kind.{Kind}
+use Rattle.ccr_wiring.specs.declared.parts.Kind.TheVariants as kinds
+use Rattle.ccr_wiring.specs.declared.parts.Parts.{Parts}
+use Rattle.ccr_wiring.specs.Domains.{least_with, domain_of}
+use Rattle.ccr_wiring.specs.Groups.{is_interleave}
+use Rattle.ccr_wiring.specs.References.{no_interleave, domain_is_dangling, has_dangling_domain}
+use Rattle.ccr_wiring.specs.Repeats.{has_port}
+use Rattle.ccr_wiring.specs.Wirings.{Seat, seat, seats, seats_of, seats_from, in_domain}
+use Rattle.ccr_wiring.proofs.Lists.{neither}
+
+-- the arbiter of a seat, by its place
+pub record Placed (first : ℕ) (arbiters : List ArbiterPart) (s : Seat) : Type 0 where
+  pub place : ℕ
+  pub arbiter : ArbiterPart
+  pub number : s.arbiter ≡ first + place
+  pub at : slice_get arbiters place ≡ Some arbiter
+  pub kind : s.kind ≡ arbiter.kind
+
+here_or_later : (number : ℕ) (kind : Kind) (branches : List BranchPart) (rest : List Seat) (branch : ℕ) (s : Seat)
+    → slice_get (map (λ branch. record { arbiter = number; kind = kind; branch = branch }) branches ++ rest) branch ≡ Some s
+    → ((s.arbiter ≡ number) × (s.kind ≡ kind)) ⊎ ((later : ℕ) × (slice_get rest later ≡ Some s))
+here_or_later number kind [] rest branch s at = inr (branch, at)
+here_or_later number kind (part ∷ branches) rest zero s at = inl (cc, cc)
+here_or_later number kind (part ∷ branches) rest (suc branch) s at = here_or_later number kind branches rest branch s at
+
+-- each seat is one of an arbiter's
+pub seat_placed : (first : ℕ) (arbiters : List ArbiterPart) (branch : ℕ) (s : Seat) → slice_get (seats_from first arbiters) branch ≡ Some s → Placed first arbiters s
+seat_placed first [] branch s at = absurd (none_there at)
+  where
+    none_there : slice_get {X = Seat} [] branch ≡ Some s → ⊥
+    none_there e = absurd cc
+seat_placed first (arbiter ∷ arbiters) branch s at = of_either (here_or_later first arbiter.kind arbiter.branches (seats_from (first + 1) arbiters) branch s at) (λ later is. seat_placed (first + 1) arbiters later s is)
+  where
+    of_either : ((s.arbiter ≡ first) × (s.kind ≡ arbiter.kind)) ⊎ ((later : ℕ) × (slice_get (seats_from (first + 1) arbiters) later ≡ Some s))
+        → ((later : ℕ) → slice_get (seats_from (first + 1) arbiters) later ≡ Some s → Placed (first + 1) arbiters s) → Placed first (arbiter ∷ arbiters) s
+    of_either (inl here) others = record { place = 0; arbiter = arbiter; number = omega (arith, here.0); at = refl; kind = here.1 }
+    of_either (inr later) others =
+        let p = others later.0 later.1 in
+        record { place = suc p.place; arbiter = p.arbiter; number = omega (arith, p.number); at = p.at; kind = p.kind }
+
+no_less : (p : ℕ → Bool) (a b : ℕ) → p a ≡ false → p b ≡ false → p (min a b) ≡ false
+no_less p a b fails other = by_test (nat_le a b) refl
+  where
+    by_test : (t : Bool) → nat_le a b ≡ t → p (min a b) ≡ false
+    by_test true less = let below : a ≤ b = grind (arith, nat_tests, less) in let e : min a b ≡ a = omega arith in rw e fails
+    by_test false more = let above : b ≤ a = grind (arith, nat_tests, more) in let e : min a b ≡ b = omega arith in rw e other
+
+-- what none of the numbers passes, the least doesn't
+least_fails : (p : ℕ → Bool) (least : ℕ) (numbers : List ℕ) → p least ≡ false → list_any p numbers ≡ false → p (least_with least numbers) ≡ false
+least_fails p least [] fails none = fails
+least_fails p least (number ∷ numbers) fails none =
+    let both = neither (p number) (list_any p numbers) none in
+    least_fails p (min least number) numbers (no_less p least number fails both.0) both.1
+
+-- what none of the numbers passes, a number among them doesn't
+member_fails : (p : ℕ → Bool) (numbers : List ℕ) (number : ℕ) → has_port numbers number ≡ true → list_any p numbers ≡ false → p number ≡ false
+member_fails p [] number there none = absurd cc
+member_fails p (other ∷ numbers) number there none =
+    let both = neither (p other) (list_any p numbers) none in
+    by_test (other == number) refl (λ among. member_fails p numbers number among both.1)
+  where
+    by_test : (t : Bool) → (other == number) ≡ t → (has_port numbers number ≡ true → p number ≡ false) → p number ≡ false
+    by_test true same others = let e : other ≡ number = grind (arith, nat_tests, same) in ap p (sym e) ∙ (neither (p other) (list_any p numbers) none).0
+    by_test false apart others = others (ap (λ b. b || has_port numbers number) (sym apart) ∙ there)
+
+interleave_kind : (kind : Kind) → not (is_interleave kind) ≡ false → kind ≡ kinds.Interleave
+interleave_kind kinds.Interleave fails = refl
+interleave_kind kinds.Receive fails = absurd cc
+interleave_kind kinds.Choice fails = absurd cc
+
+-- what is an Interleave's number has its kind
+kind_at : (found : Option ArbiterPart) → option_map_or (λ (arbiter : ArbiterPart). not (is_interleave arbiter.kind)) found true ≡ false → IsSomeAnd found (λ (arbiter : ArbiterPart). arbiter.kind ≡ kinds.Interleave)
+kind_at None fails = absurd cc
+kind_at (Some arbiter) fails = interleave_kind arbiter.kind fails
+
+other_kind : (found : Option ArbiterPart) (kind : Kind) → kind ≡ kinds.Interleave → IsSomeAnd found (λ (arbiter : ArbiterPart). arbiter.kind ≡ kinds.Interleave) → IsSomeAnd found (λ (arbiter : ArbiterPart). arbiter.kind ≡ kind)
+other_kind None kind is found = found
+other_kind (Some arbiter) kind is found = found ∙ sym is
+
+-- the domain of an arbiter is the number of one of its kind
+domain_kind : (parts : Parts) (number : ℕ) (arbiter : ArbiterPart) (domains : List DomainPart) → list_any (domain_is_dangling parts) domains ≡ false → slice_get parts.arbiters number ≡ Some arbiter
+    → IsSomeAnd (slice_get parts.arbiters (domain_of domains number)) (λ (other : ArbiterPart). other.kind ≡ arbiter.kind)
+domain_kind parts number arbiter [] none at = rw at refl
+domain_kind parts number arbiter (domain ∷ domains) none at =
+    let both = neither (domain_is_dangling parts domain) (list_any (domain_is_dangling parts) domains) none in
+    by_test (has_port domain.members number) refl both.0 (domain_kind parts number arbiter domains both.1 at)
+  where
+    by_test : (t : Bool) → has_port domain.members number ≡ t → domain_is_dangling parts domain ≡ false
+        → IsSomeAnd (slice_get parts.arbiters (domain_of domains number)) (λ (other : ArbiterPart). other.kind ≡ arbiter.kind)
+        → IsSomeAnd (slice_get parts.arbiters (domain_of (domain ∷ domains) number)) (λ (other : ArbiterPart). other.kind ≡ arbiter.kind)
+    by_test false apart fine rest = rw apart rest
+    by_test true there fine rest =
+        let own = member_fails (no_interleave parts) domain.members number there fine in
+        let least = least_fails (no_interleave parts) number domain.members own fine in
+        let kind : arbiter.kind ≡ kinds.Interleave = subst (λ (found : Option ArbiterPart). IsSomeAnd found (λ (other : ArbiterPart). other.kind ≡ kinds.Interleave)) at (kind_at (slice_get parts.arbiters number) own) in
+        rw there (other_kind (slice_get parts.arbiters (least_with number domain.members)) arbiter.kind kind (kind_at (slice_get parts.arbiters (least_with number domain.members)) least))
+
+-- each branch's domain is the number of an arbiter of the kind of its own
+pub kept_domain : (parts : Parts) (branch : ℕ) (s : Seat) → has_dangling_domain parts ≡ false → seat parts branch ≡ Some s → IsSomeAnd (slice_get parts.arbiters s.arbiter) (λ (arbiter : ArbiterPart). arbiter.kind ≡ s.kind)
+kept_domain parts branch s none at = of_own (slice_get (seats_from 0 parts.arbiters) branch) refl (sym (slice_get-map (in_domain parts.domains) (seats_from 0 parts.arbiters) branch) ∙ at)
+  where
+    of_own : (found : Option Seat) → slice_get (seats_from 0 parts.arbiters) branch ≡ found → option_map (in_domain parts.domains) found ≡ Some s → IsSomeAnd (slice_get parts.arbiters s.arbiter) (λ (arbiter : ArbiterPart). arbiter.kind ≡ s.kind)
+    of_own None found is = absurd cc
+    of_own (Some own) found is =
+        let p = seat_placed 0 parts.arbiters branch own found in
+        let number : own.arbiter ≡ p.place = omega (arith, p.number) in
+        let there : slice_get parts.arbiters own.arbiter ≡ Some p.arbiter = ap (slice_get parts.arbiters) number ∙ p.at in
+        let kept : IsSomeAnd (slice_get parts.arbiters (domain_of parts.domains own.arbiter)) (λ (arbiter : ArbiterPart). arbiter.kind ≡ p.arbiter.kind) = domain_kind parts own.arbiter p.arbiter parts.domains none there in
+        let same : in_domain parts.domains own ≡ s = cc in
+        let kept' : IsSomeAnd (slice_get parts.arbiters (domain_of parts.domains own.arbiter)) (λ (arbiter : ArbiterPart). arbiter.kind ≡ own.kind) = rw p.kind kept in
+        subst (λ (x : Seat). IsSomeAnd (slice_get parts.arbiters x.arbiter) (λ (arbiter : ArbiterPart). arbiter.kind ≡ x.kind)) same kept'
