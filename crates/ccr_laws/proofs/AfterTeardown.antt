@@ -27,12 +27,12 @@ use Rattle.ccr_model.proofs.TasksLeft.{out_left}
 use Rattle.ccr_model.proofs.Booleans.{both, and_not, refuted, no_both, same_number}
 use Rattle.ccr_model.proofs.FiredTasks.{IsFired, IsFired-append, seat_fired, seat_stays, root_stays}
 use Rattle.ccr_model.proofs.Alone.{over_stays, lasts_fired, let_in_fired}
-use Rattle.ccr_laws.specs.Interleaves.{is_seat_in, is_teardown_in, is_exclusive_in, tears_down, is_of_interleave, is_of_teardown, is_of_exclusive}
-use Rattle.ccr_laws.proofs.TaskLists.{has_oldest, of_more, of_one, out_right}
-use Rattle.ccr_laws.proofs.TaskPlaces.{ArePlaced-legal, StartFacts-allowed, seat_by}
-use Rattle.ccr_laws.proofs.FiringFacts.{FiresSo, FiresSo-allowed, BranchFacts, BranchFacts-where, waits_parts, waits_whole}
-use Rattle.ccr_laws.proofs.Cutting.{fired_by-append, dead, AdmitFacts-allowed}
-use Rattle.ccr_laws.proofs.Roots.{of_firing, other_firing, AreRooted-legal, queued_works, at_work_admitted, seat_of_root, AdmittedFacts-admitted, admitted_whole}
+use Rattle.ccr_model.specs.Interleaves.{is_seat_in, is_teardown_in, is_exclusive_in, tears_down, is_of_interleave, is_of_teardown, is_of_exclusive}
+use Rattle.ccr_model.proofs.TaskLists.{has_oldest, of_more, of_one, out_right}
+use Rattle.ccr_model.proofs.TaskPlaces.{ArePlaced-legal, StartFacts-allowed, seat_by}
+use Rattle.ccr_model.proofs.FiringFacts.{FiresSo, FiresSo-allowed, BranchFacts, BranchFacts-where, waits_parts, waits_whole}
+use Rattle.ccr_model.proofs.Cutting.{fired_by-append, dead, AdmitFacts-allowed}
+use Rattle.ccr_model.proofs.Roots.{of_firing, other_firing, AreRooted-legal, queued_works, at_work_admitted, seat_of_root, AdmittedFacts-admitted, admitted_whole}
 use Rattle.ccr_laws.proofs.Exclusion.{alone}
 
 -- who waits after one more event waited before it, or fired by it; the event didn't cut him

@@ -22,11 +22,11 @@ use Rattle.ccr_model.proofs.SameNames.{same_task-self}
 use Rattle.ccr_model.proofs.TasksLeft.{has_task-append}
 use Rattle.ccr_model.proofs.Booleans.{not_true, both, or_left, or_right}
 use Rattle.ccr_model.proofs.Alone.{is_alone-legal}
-use Rattle.ccr_laws.specs.AtWork.{is_at_work}
-use Rattle.ccr_laws.specs.Interleaves.{is_seat_in, is_exclusive_in, is_of_interleave, is_of_exclusive}
-use Rattle.ccr_laws.proofs.TaskLists.{of_one, only_one, passes_all}
-use Rattle.ccr_laws.proofs.TaskPlaces.{ArePlaced-legal}
-use Rattle.ccr_laws.proofs.Roots.{IsAtWork, at_work_admitted, one_at_work, work_so, seat_of_root, admitted_whole}
+use Rattle.ccr_model.specs.AtWork.{is_at_work}
+use Rattle.ccr_model.specs.Interleaves.{is_seat_in, is_exclusive_in, is_of_interleave, is_of_exclusive}
+use Rattle.ccr_model.proofs.TaskLists.{of_one, only_one, passes_all}
+use Rattle.ccr_model.proofs.TaskPlaces.{ArePlaced-legal}
+use Rattle.ccr_model.proofs.Roots.{IsAtWork, at_work_admitted, one_at_work, work_so, seat_of_root, admitted_whole}
 
 -- whether the task's branch is concurrent, where it is an exclusive or teardown one of the Interleave
 not_concurrent : (w : Parts) (h : List Event) (i : ℕ) (t : TaskId) → is_of_exclusive w h i t ≡ true → is_concurrent_task w h t ≡ false

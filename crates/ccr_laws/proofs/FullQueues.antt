@@ -32,10 +32,10 @@ use Rattle.ccr_model.proofs.FiredTasks.{fired_has}
 use Rattle.ccr_laws.specs.Standing.{Stands}
 use Rattle.ccr_laws.specs.Drops.{DropsOldest}
 use Rattle.ccr_laws.proofs.Allowed.{allowed_at, legal_past}
-use Rattle.ccr_laws.proofs.TaskLists.{not_more, not_within}
-use Rattle.ccr_laws.proofs.DropFacts.{put_allowed, drop_allowed}
-use Rattle.ccr_laws.proofs.TaskPlaces.{ArePlaced-legal, PutFacts-allowed, new_drop}
-use Rattle.ccr_laws.proofs.FiringFacts.{FiresSo-allowed, firings-other}
+use Rattle.ccr_model.proofs.TaskLists.{not_more, not_within}
+use Rattle.ccr_model.proofs.DropFacts.{put_allowed, drop_allowed}
+use Rattle.ccr_model.proofs.TaskPlaces.{ArePlaced-legal, PutFacts-allowed, new_drop}
+use Rattle.ccr_model.proofs.FiringFacts.{FiresSo-allowed, firings-other}
 
 -- a policy's number is at least 1
 some_most : (w : Parts) → IsValid w → (q n : ℕ) → policy_of w q ≡ Discard n → 1 ≤ n

@@ -1,21 +1,12 @@
 pub mod Allowed
 pub mod WholePatterns
 pub mod SingleFirings
-pub mod DropFacts
-pub mod Seated
 pub mod FullQueues
 pub mod DroppingPuts
 pub mod HeldBefore
 pub mod States
 pub mod OneFates
 mod WorkedInterleave
-pub mod TaskLists
-pub mod TaskPlaces
 pub mod StartOrder
-pub mod FiringFacts
-pub mod Cutting
-pub mod Ending
-pub mod Suspending
-pub mod Roots
 pub mod Exclusion
 pub mod AfterTeardown

@@ -24,7 +24,7 @@ use Rattle.ccr_model.proofs.SameNames.{same_message-self}
 use Rattle.ccr_model.proofs.Booleans.{neither, eq-self}
 use Rattle.ccr_laws.specs.Standing.{Stands}
 use Rattle.ccr_laws.specs.OneFate.{IsHeld, IsTakenBy, HasFate, HasOneFate}
-use Rattle.ccr_laws.proofs.Seated.{firing_seated}
+use Rattle.ccr_model.proofs.Seated.{firing_seated}
 use Rattle.ccr_laws.proofs.HeldBefore.{untaken_of_held, untaken_before, has_message-append}
 use Rattle.ccr_laws.proofs.States.{is_in, only_in}
 

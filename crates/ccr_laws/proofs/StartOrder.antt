@@ -18,8 +18,8 @@ use Rattle.ccr_model.proofs.Booleans.{both, or_left, or_right, and_false, refute
 use Rattle.ccr_model.proofs.Filters.{filter_swap}
 use Rattle.ccr_model.proofs.FiredTasks.{IsFired, seat_stays}
 use Rattle.ccr_laws.specs.Queues.{put_into, started_from, stands_before}
-use Rattle.ccr_laws.proofs.TaskLists.{filter_append, without-append, without_none, without_other, without_first, of_more, not_more, not_within}
-use Rattle.ccr_laws.proofs.TaskPlaces.{AreApart, ArePlaced, ArePlaced_kept, ArePlaced-none, ArePlaced-legal, StartFacts, StartFacts-allowed, PutFacts-allowed, QueuedFacts-queued, put_fired, new_drop}
+use Rattle.ccr_model.proofs.TaskLists.{filter_append, without-append, without_none, without_other, without_first, of_more, not_more, not_within}
+use Rattle.ccr_model.proofs.TaskPlaces.{AreApart, ArePlaced, ArePlaced_kept, ArePlaced-none, ArePlaced-legal, StartFacts, StartFacts-allowed, PutFacts-allowed, QueuedFacts-queued, put_fired, new_drop}
 
 -- who of the tested ones started, then who is queued: who was put and not dropped
 abbrev IsOrder : (TaskId → Bool) → List TaskId → List TaskId → List TaskId → Type 0

@@ -22,14 +22,14 @@ use Rattle.ccr_model.specs.Legal.{IsLegal}
 use Rattle.ccr_model.proofs.Allowing.{OneName-legal}
 use Rattle.ccr_model.proofs.SameNames.{same_task-is, same_task-self, same_task-sym}
 use Rattle.ccr_model.proofs.Booleans.{neither, refuted, no_both, eq-self}
-use Rattle.ccr_laws.specs.Interleaves.{is_seat_in}
+use Rattle.ccr_model.specs.Interleaves.{is_seat_in}
 use Rattle.ccr_laws.specs.OneFate.{Waits, IsQueued, HasEnded, IsIn}
 use Rattle.ccr_laws.proofs.Allowed.{allowed_at}
-use Rattle.ccr_laws.proofs.TaskLists.{to_filter, to_without, among_left, not_more, not_within}
-use Rattle.ccr_laws.proofs.TaskPlaces.{ArePlaced-legal, QueuedFacts-queued, PutFacts-may}
-use Rattle.ccr_laws.proofs.FiringFacts.{WaitingFacts-waiting, waits_whole, waits_outside, fired_by_has}
-use Rattle.ccr_laws.proofs.Cutting.{CutFacts-legal, cut_not_put, waits_unput}
-use Rattle.ccr_laws.proofs.Ending.{RunningFacts, RunningFacts-running, RunningFacts-allowed}
+use Rattle.ccr_model.proofs.TaskLists.{to_filter, to_without, among_left, not_more, not_within}
+use Rattle.ccr_model.proofs.TaskPlaces.{ArePlaced-legal, QueuedFacts-queued, PutFacts-may}
+use Rattle.ccr_model.proofs.FiringFacts.{WaitingFacts-waiting, waits_whole, waits_outside, fired_by_has}
+use Rattle.ccr_model.proofs.Cutting.{CutFacts-legal, cut_not_put, waits_unput}
+use Rattle.ccr_model.proofs.Ending.{RunningFacts, RunningFacts-running, RunningFacts-allowed}
 
 -- the ends of a task
 no_end : (h : List Event) (t : TaskId) → has_task (ended h) t ≡ false → flat_map (end_of t) h ≡ []

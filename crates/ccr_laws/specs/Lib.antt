@@ -4,5 +4,3 @@ pub mod Times
 pub mod OneFate
 pub mod Drops
 pub mod Queues
-pub mod Interleaves
-pub mod AtWork

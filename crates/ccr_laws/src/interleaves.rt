@@ -13,8 +13,8 @@ ghost use Rattle.ccr_model.specs.Firings.{cut, let_in, put, started};
 ghost use Rattle.ccr_model.specs.Sites.{root_of};
 ghost use Rattle.ccr_model.specs.Tasks.{admitted, is_over};
 ghost use Rattle.ccr_model.specs.Legal.{IsLegal};
-ghost use Rattle.ccr_laws.specs.AtWork.{is_at_work};
-ghost use Rattle.ccr_laws.specs.Interleaves.{fired_in, is_of_exclusive, is_of_interleave, is_of_teardown, tears_down};
+ghost use Rattle.ccr_model.specs.AtWork.{is_at_work};
+ghost use Rattle.ccr_model.specs.Interleaves.{fired_in, is_of_exclusive, is_of_interleave, is_of_teardown, tears_down};
 
 /// A task of an Interleave that is queued, runs or is suspended is a segment of a root that was admitted and isn't over.
 pub fn tasks_at_work_have_admitted_roots()

@@ -26,3 +26,12 @@ pub mod ValidHandlers
 pub mod PlayPast
 pub mod FirstNames
 pub mod CanFire
+pub mod TaskLists
+pub mod DropFacts
+pub mod TaskPlaces
+pub mod FiringFacts
+pub mod Seated
+pub mod Ending
+pub mod Cutting
+pub mod Suspending
+pub mod Roots

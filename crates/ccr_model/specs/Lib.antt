@@ -14,3 +14,5 @@ pub mod Counts
 pub mod Laws
 pub mod Consequences
 pub mod Views
+pub mod Interleaves
+pub mod AtWork

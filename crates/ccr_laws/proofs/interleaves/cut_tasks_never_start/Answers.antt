@@ -1,4 +1,4 @@
-use Rattle.ccr_laws.proofs.Cutting.{cut_not_let_in, cut_not_put, cut_not_started}
+use Rattle.ccr_model.proofs.Cutting.{cut_not_let_in, cut_not_put, cut_not_started}
 use Rattle.ccr_laws.proofs.interleaves.cut_tasks_never_start.Goals as goal
 
 pub returns : goal.returns

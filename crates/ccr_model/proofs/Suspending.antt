@@ -27,11 +27,11 @@ use Rattle.ccr_model.proofs.SameNames.{same_task-self}
 use Rattle.ccr_model.proofs.TasksLeft.{has_task-append, of_filter, filter_on, distinct-filter}
 use Rattle.ccr_model.proofs.Booleans.{not_true, both, or_left, or_right, and_not, same_number}
 use Rattle.ccr_model.proofs.FiredTasks.{IsFired, none_fired}
-use Rattle.ccr_laws.specs.AtWork.{is_suspended}
-use Rattle.ccr_laws.proofs.TaskLists.{filter_append, has_oldest, of_more, of_one, has_task-drop, distinct-drop, drop_behind, drop_one_more, drop_some}
-use Rattle.ccr_laws.proofs.TaskPlaces.{ArePlaced-legal}
-use Rattle.ccr_laws.proofs.FiringFacts.{FiresSo-allowed, firings-other}
-use Rattle.ccr_laws.proofs.Ending.{AreEnded-legal, RunningFacts-allowed}
+use Rattle.ccr_model.specs.AtWork.{is_suspended}
+use Rattle.ccr_model.proofs.TaskLists.{filter_append, has_oldest, of_more, of_one, has_task-drop, distinct-drop, drop_behind, drop_one_more, drop_some}
+use Rattle.ccr_model.proofs.TaskPlaces.{ArePlaced-legal}
+use Rattle.ccr_model.proofs.FiringFacts.{FiresSo-allowed, firings-other}
+use Rattle.ccr_model.proofs.Ending.{AreEnded-legal, RunningFacts-allowed}
 
 same_site : (c l b k : ℕ) → (c == b) && (l == k) ≡ true → Site c l ≡ Site b k
 same_site c l b k is =

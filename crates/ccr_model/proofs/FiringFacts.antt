@@ -26,8 +26,8 @@ use Rattle.ccr_model.proofs.SameNames.{same_task-is, same_task-self, same_task-s
 use Rattle.ccr_model.proofs.TasksLeft.{of_without, out_left}
 use Rattle.ccr_model.proofs.Booleans.{not_true, both, neither, or_left, or_right, refuted, no_both}
 use Rattle.ccr_model.proofs.FiredTasks.{IsFired, find_last, fired_has}
-use Rattle.ccr_laws.specs.Interleaves.{is_seat_in}
-use Rattle.ccr_laws.proofs.TaskLists.{to_without, not_more, out_right}
+use Rattle.ccr_model.specs.Interleaves.{is_seat_in}
+use Rattle.ccr_model.proofs.TaskLists.{to_without, not_more, out_right}
 
 same_tasks-is : (ts us : List TaskId) → same_lists same_task ts us ≡ true → ts ≡ us
 same_tasks-is [] [] is = refl

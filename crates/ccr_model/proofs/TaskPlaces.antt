@@ -20,8 +20,8 @@ use Rattle.ccr_model.proofs.Options.{some_of, some_map, head_rest}
 use Rattle.ccr_model.proofs.TasksLeft.{of_filter, of_without, out_left, distinct-push}
 use Rattle.ccr_model.proofs.Booleans.{not_true, both, refuted, no_both}
 use Rattle.ccr_model.proofs.FiredTasks.{IsFired, AreFired, IsFired-append}
-use Rattle.ccr_laws.proofs.DropFacts.{put_allowed, drop_allowed}
-use Rattle.ccr_laws.proofs.TaskLists.{first_rest, has_oldest, of_more, among_left, not_more, of_one, out_right}
+use Rattle.ccr_model.proofs.DropFacts.{put_allowed, drop_allowed}
+use Rattle.ccr_model.proofs.TaskLists.{first_rest, has_oldest, of_more, among_left, not_more, of_one, out_right}
 
 -- the seat of a task that fired
 pub seat_by : (w : Parts) (h : List Event) (t : TaskId) (f : Firing) → firing_named h t ≡ Some f → seat_of w h t ≡ seat w (branch_of f.spot)

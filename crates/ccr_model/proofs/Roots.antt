@@ -27,14 +27,14 @@ use Rattle.ccr_model.proofs.TasksLeft.{of_filter}
 use Rattle.ccr_model.proofs.Booleans.{not_true, both, and_not, and_false, refuted, no_both}
 use Rattle.ccr_model.proofs.FiredTasks.{IsFired, root_stays}
 use Rattle.ccr_model.proofs.Alone.{lasts_fired}
-use Rattle.ccr_laws.specs.AtWork.{is_queued, is_suspended, is_at_work}
-use Rattle.ccr_laws.specs.Interleaves.{is_seat_in, is_of_interleave}
-use Rattle.ccr_laws.proofs.TaskLists.{to_filter, among_left, not_within, any_named}
-use Rattle.ccr_laws.proofs.TaskPlaces.{ArePlaced-legal, QueuedFacts-queued, seat_by}
-use Rattle.ccr_laws.proofs.FiringFacts.{FiresSo-allowed, not_new, firing_named-new, before-new, firings-other}
-use Rattle.ccr_laws.proofs.Cutting.{CutFacts-legal}
-use Rattle.ccr_laws.proofs.Ending.{AreEnded-legal, RunningFacts-running}
-use Rattle.ccr_laws.proofs.Suspending.{ResumeFacts, ResumeFacts-allowed, is_gone_on, gone_stays, resumes_suspended, resumes_gone, suspended_yielded}
+use Rattle.ccr_model.specs.AtWork.{is_queued, is_suspended, is_at_work}
+use Rattle.ccr_model.specs.Interleaves.{is_seat_in, is_of_interleave}
+use Rattle.ccr_model.proofs.TaskLists.{to_filter, among_left, not_within, any_named}
+use Rattle.ccr_model.proofs.TaskPlaces.{ArePlaced-legal, QueuedFacts-queued, seat_by}
+use Rattle.ccr_model.proofs.FiringFacts.{FiresSo-allowed, not_new, firing_named-new, before-new, firings-other}
+use Rattle.ccr_model.proofs.Cutting.{CutFacts-legal}
+use Rattle.ccr_model.proofs.Ending.{AreEnded-legal, RunningFacts-running}
+use Rattle.ccr_model.proofs.Suspending.{ResumeFacts, ResumeFacts-allowed, is_gone_on, gone_stays, resumes_suspended, resumes_gone, suspended_yielded}
 
 -- a branch's task is its own root
 pub root_own : (h : List Event) (t : TaskId) (f : Firing) (b : ℕ) → firing_named h t ≡ Some f → f.spot ≡ Branch b → root_of h t ≡ t
