@@ -1,5 +1,5 @@
 use super::*;
-use ccr_base::{List, Msg, MsgId, Spot, TaskId};
+use ccr_base::{List, Msg, MsgId, Spot, TaskId, Value};
 use ccr_model::{EndHow, Event, History};
 use ccr_samples::{one_post, one_receiver, only};
 use ccr_wiring::Wiring;
@@ -28,7 +28,7 @@ fn push_post(alloc: Global, history: &mut History) -> Result<(), Fail> {
     let message = Msg {
         id: POSTED,
         port: 0,
-        value: 7,
+        value: Value::one(7),
         causes: List::new(alloc),
     };
     push(history, Event::Post(message))

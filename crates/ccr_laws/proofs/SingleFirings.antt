@@ -1,9 +1,8 @@
--- A choice, a once receiver and the teardowns of an Interleave fire at most once.
-use Rattle.std.proofs.Common.{◌≡◌, ℕ, zero, suc, ◌+◌, ◌≤◌, ◌⊎◌, inl, inr, Bool, true, false, ◌&&◌, List, [], ◌∷◌, ◌++◌, length, map, filter, Option, Some, None, refl, sym, ap, ◌∙◌, arith, subst}
-use Rattle.std.specs.Prelude.{◌==◌, if◌then◌else◌}
+-- A choice, a once receiver and the teardowns of a domain together fire at most once.
+use Rattle.std.proofs.Common.{◌≡◌, ℕ, zero, suc, ◌+◌, ◌≤◌, Bool, true, false, ◌&&◌, List, [], ◌∷◌, ◌++◌, length, map, filter, Option, Some, None, refl, sym, ap, ◌∙◌, arith, subst}
+use Rattle.std.specs.Prelude.{◌==◌, if◌then◌else◌, IsSomeAnd}
 use Rattle.std.specs.List.{slice_get}
-use Rattle.std.specs.Option.{option_map, option_map_or}
-use Rattle.std.proofs.lemmas.Option.{slice_get-map}
+use Rattle.std.specs.Option.{option_map_or}
 use Rattle.std.proofs.lemmas.Bool.Decides.{nat_tests}
 use Rattle.ccr_base.specs.declared.names.MsgId.{MsgId}
 use Rattle.ccr_base.specs.declared.names.TaskId.{TaskId}
@@ -18,8 +17,8 @@ use Rattle.ccr_wiring.specs.declared.parts.Kind.{Kind}
 use Rattle.ccr_wiring.specs.declared.parts.Kind.TheVariants as kinds
 use Rattle.ccr_base.specs.Names.{same_spot}
 use Rattle.ccr_wiring.specs.Groups.{may_have}
-use Rattle.ccr_wiring.specs.Wirings.{Seat, seat, seats_of, seats_from}
-use Rattle.ccr_wiring.specs.Valid.{IsValid}
+use Rattle.ccr_wiring.specs.Wirings.{Seat, seat}
+use Rattle.ccr_wiring.specs.Valid.{IsValid, HasDomains}
 use Rattle.ccr_wiring.proofs.Soundness.{sound}
 use Rattle.ccr_model.specs.declared.history.Event.{Event}
 use Rattle.ccr_model.specs.declared.history.Event.TheVariants.{Post, Fire, Admit, Put, Start, End}
@@ -74,35 +73,11 @@ at_most_once w test first = along w (λ g. length (fired_on test g) ≤ 1) kept 
 none_there : (ts : List TaskId) → is_none_of ts ≡ true → length ts ≡ 0
 none_there ts is = grind (arith, nat_tests, is)
 
--- the branch of a choice or a receiver stands with an arbiter of its kind
-at_either : {X : Type 0} (xs ys : List X) (i : ℕ) (x : X) → slice_get (xs ++ ys) i ≡ Some x → (slice_get xs i ≡ Some x) ⊎ ((j : ℕ) × (slice_get ys j ≡ Some x))
-at_either [] ys i x at = inr (i, at)
-at_either (y ∷ xs) ys zero x at = inl at
-at_either (y ∷ xs) ys (suc i) x at = at_either xs ys i x at
-
-seat_in : (number : ℕ) (arbiter : ArbiterPart) (branch : ℕ) (s : Seat) → slice_get (seats_of number arbiter) branch ≡ Some s → (s.arbiter ≡ number) × (s.kind ≡ arbiter.kind)
-seat_in number arbiter branch s at = of_option (slice_get arbiter.branches branch) (sym (slice_get-map _ arbiter.branches branch) ∙ at)
-  where
-    of_option : (o : Option BranchPart) → option_map (λ (part : BranchPart). let its : Seat = record { arbiter = number; kind = arbiter.kind; branch = part } in its) o ≡ Some s → (s.arbiter ≡ number) × (s.kind ≡ arbiter.kind)
-    of_option None is = absurd (cc)
-    of_option (Some part) is = (cc, cc)
-
-arbiter_of : (number : ℕ) (arbiters : List ArbiterPart) (branch : ℕ) (s : Seat) → slice_get (seats_from number arbiters) branch ≡ Some s → (k : ℕ) × (arbiter : ArbiterPart) × (slice_get arbiters k ≡ Some arbiter) × (s.arbiter ≡ number + k) × (s.kind ≡ arbiter.kind)
-arbiter_of number [] branch s at = absurd (cc)
-arbiter_of number (arbiter ∷ arbiters) branch s at = here_or_later (at_either (seats_of number arbiter) (seats_from (number + 1) arbiters) branch s at) (arbiter_of (number + 1) arbiters)
-  where
-    here_or_later : (slice_get (seats_of number arbiter) branch ≡ Some s) ⊎ ((j : ℕ) × (slice_get (seats_from (number + 1) arbiters) j ≡ Some s)) → ((branch : ℕ) (s : Seat) → slice_get (seats_from (number + 1) arbiters) branch ≡ Some s → (k : ℕ) × (arbiter : ArbiterPart) × (slice_get arbiters k ≡ Some arbiter) × (s.arbiter ≡ (number + 1) + k) × (s.kind ≡ arbiter.kind)) → (k : ℕ) × (its : ArbiterPart) × (slice_get (arbiter ∷ arbiters) k ≡ Some its) × (s.arbiter ≡ number + k) × (s.kind ≡ its.kind)
-    here_or_later (inl here) rest = let known = seat_in number arbiter branch s here in (0, arbiter, refl, omega (arith, known.0), known.1)
-    here_or_later (inr later) rest = let found = rest later.0 s later.1 in (suc found.0, found.1, found.2, omega (arith, found.3), found.4)
-
--- a branch of an arbiter has its kind
-kind_of : (w : Parts) (number : ℕ) (arbiter : ArbiterPart) (branch : ℕ) (s : Seat) → slice_get w.arbiters number ≡ Some arbiter → seat w branch ≡ Some s → s.arbiter ≡ number → s.kind ≡ arbiter.kind
-kind_of w number arbiter branch s at known is =
-    let found = arbiter_of 0 w.arbiters branch s known in
-    let place : found.0 ≡ number = omega (arith, found.3, is) in
-    let there : slice_get w.arbiters number ≡ Some found.1 = subst (λ n. slice_get w.arbiters n ≡ Some found.1) place found.2 in
-    let same : found.1 ≡ arbiter = cc in
-    found.4 ∙ ap (λ (a : ArbiterPart). a.kind) same
+-- a branch of an arbiter's domain has its kind
+kind_of : (w : Parts) → HasDomains w → (number : ℕ) (arbiter : ArbiterPart) (branch : ℕ) (s : Seat) → slice_get w.arbiters number ≡ Some arbiter → seat w branch ≡ Some s → s.arbiter ≡ number → s.kind ≡ arbiter.kind
+kind_of w domains number arbiter branch s at known is =
+    let there : slice_get w.arbiters s.arbiter ≡ Some arbiter = ap (slice_get w.arbiters) is ∙ at in
+    sym (subst (λ o. IsSomeAnd o (λ (a : ArbiterPart). a.kind ≡ s.kind)) there (domains branch s known))
 
 choice_group : (kind : Kind) (group : Group) → kind ≡ kinds.Choice → may_have kind group ≡ true → group ≡ groups.Choice
 choice_group kinds.Receive group is may = absurd (cc)
@@ -120,7 +95,7 @@ choice_first w valid number arbiter at kind h s live is =
     let its = at_branch.place in
     let live_so = live_at w h (λ (s : Seat). s.arbiter == number) s at_branch live in
     let same : its.arbiter ≡ number = same_number its.arbiter number at_branch.passes in
-    let group : its.branch.group ≡ groups.Choice = choice_group its.kind its.branch.group (kind_of w number arbiter at_branch.number its at at_branch.is_place same ∙ kind) ((sound w valid).groups at_branch.number its at_branch.is_place) in
+    let group : its.branch.group ≡ groups.Choice = choice_group its.kind its.branch.group (kind_of w (sound w valid).domains number arbiter at_branch.number its at at_branch.is_place same ∙ kind) ((sound w valid).groups at_branch.number its at_branch.is_place) in
     let none : is_live_in w h at_branch.number number groups.Choice ≡ true = subst (λ n. is_live_in w h at_branch.number n groups.Choice ≡ true) same (subst (λ g. is_live_in w h at_branch.number its.arbiter g ≡ true) group live_so) in
     none_there (fired_by w (λ (s : Seat). s.arbiter == number) h) none
 

@@ -1,7 +1,7 @@
 //! The fates of a history in which a put drops a task, as they were worked out by hand.
 
 use super::*;
-use ccr_base::{List, Msg, MsgId, OutOfMemory, Policy, Spot, TaskId};
+use ccr_base::{List, Msg, MsgId, OutOfMemory, Policy, Spot, TaskId, Value};
 use ccr_model::{EndHow, Event, Fate, History, TaskState};
 use ccr_samples::{one_queue, one_receiver, only};
 use ccr_wiring::{Parts, Wiring};
@@ -37,7 +37,7 @@ fn post(alloc: Global, place: u32) -> Event {
     Event::Post(Msg {
         id: message(place),
         port: 0,
-        value: 9,
+        value: Value::one(9),
         causes: List::new(alloc),
     })
 }

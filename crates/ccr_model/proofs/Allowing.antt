@@ -38,7 +38,7 @@ use Rattle.ccr_model.proofs.Stable.{firing_named-append, firings-append}
 use Rattle.ccr_model.proofs.Options.{some_of, IfSome-or, some-below, none-above}
 use Rattle.ccr_model.proofs.Members.{Among}
 use Rattle.ccr_model.proofs.FirstNames.{length-names_of}
-use Rattle.ccr_model.proofs.SameNames.{same_task-self, same_message-self}
+use Rattle.ccr_model.proofs.SameNames.{same_task-self, same_message-self, same_value-self}
 use Rattle.ccr_model.proofs.Booleans.{both, or_right, eq-self}
 use Rattle.ccr_model.proofs.FiredTasks.{find_last}
 
@@ -52,7 +52,7 @@ passed b n o is rest = rw (is, rest) refl
 
 -- Post of a script
 is_post-self : (i : MsgId) (s : Sent) → is_post (record { id = i; port = s.port; value = s.value; causes = s.causes }) s ≡ true
-is_post-self i s = rw (eq-self s.port, eq-self s.value, same_list-self (λ c d. c == d) eq-self s.causes) refl
+is_post-self i s = rw (eq-self s.port, same_value-self s.value, same_list-self (λ c d. c == d) eq-self s.causes) refl
 
 script_allowed : (w : Parts) (h : List Event) (n : ℕ) (p : PosterPart) → slice_get w.posters n ≡ Some p → (o : Option Sent) → slice_get p.posts (posts_of_poster h n) ≡ o → IfSome (option_map (script_post n (posts_of_poster h n)) o) (IsAllowed w h)
 script_allowed w h n p at None is = tt
@@ -163,7 +163,7 @@ put_allowed w h = of_option (find (may_put w h) (fired h)) refl
 -- the next event of the running task
 ends_so-how : (e : PlayEnd) → ends_so (how_of e) e ≡ true
 ends_so-how plays.Done = refl
-ends_so-how (plays.Failed v) = eq-self v
+ends_so-how (plays.Failed v) = same_value-self v
 ends_so-how (plays.Yield k) = refl
 
 not_shed : (e : PlayEnd) → is_shed (how_of e) ≡ false

@@ -1,6 +1,7 @@
 mod WorkedParts
 mod WorkedRuns
 mod WorkedTasks
+mod WorkedDomains
 mod WrongEvents
 pub mod Booleans
 pub mod Options

@@ -1,11 +1,13 @@
 -- Where the branch of a number stands among the arbiters.
-use Rattle.std.proofs.Common.{◌≡◌, ℕ, zero, suc, ◌+◌, ◌-◌, ◌≤◌, List, [], ◌∷◌, ◌++◌, length, Some, refl, ◌∙◌, arith}
+use Rattle.std.proofs.Common.{◌≡◌, ℕ, zero, suc, ◌+◌, ◌-◌, ◌≤◌, List, [], ◌∷◌, ◌++◌, length, Some, refl, sym, ◌∙◌, arith}
+use Rattle.std.specs.Prelude.{option_map}
 use Rattle.std.specs.List.{slice_get}
 use Rattle.std.proofs.lemmas.Option.{slice_get-map}
 use Rattle.std.proofs.lemmas.List.{length-map}
 use Rattle.ccr_wiring.specs.declared.parts.ArbiterPart.{ArbiterPart}
 use Rattle.ccr_wiring.specs.declared.parts.BranchPart.{BranchPart}
-use Rattle.ccr_wiring.specs.Wirings.{seats_of, seats_from}
+use Rattle.ccr_wiring.specs.declared.parts.Parts.{Parts}
+use Rattle.ccr_wiring.specs.Wirings.{seat, seats_of, seats_from, in_domain}
 
 pub get-front : {X : Type 0} (xs ys : List X) (k : ℕ) (x : X) → slice_get xs k ≡ Some x → slice_get (xs ++ ys) k ≡ Some x
 get-front [] ys k x is = absurd cc
@@ -26,3 +28,7 @@ pub seat-later : (number : ℕ) (arbiter : ArbiterPart) (others : List ArbiterPa
 seat-later number arbiter others k past =
     let long : length (seats_of number arbiter) ≡ length arbiter.branches = length-map arbiter.branches _ in
     get-back (seats_of number arbiter) (seats_from (number + 1) others) k (omega arith) ∙ rw long refl
+
+-- a branch is the one of its number among the arbiters, in the domain of its arbiter
+pub seat-domain : (w : Parts) (branch : ℕ) → option_map (in_domain w.domains) (slice_get (seats_from 0 w.arbiters) branch) ≡ seat w branch
+seat-domain w branch = sym (slice_get-map (in_domain w.domains) (seats_from 0 w.arbiters) branch)

@@ -40,7 +40,7 @@ interleave_groups-laws : keeps_laws_along interleave_groups_wiring [] interleave
 interleave_groups-laws = refl
 
 abbrev pub teardown_cuts_wiring : Parts
-teardown_cuts_wiring = parts 10000 (queue Unbounded ∷ []) ([]) (([]) ∷ (aPost 0 (Number 9) ∷ []) ∷ []) (arbiter kinds.Interleave (branch groups.Exclusive 0 0 (Slots (slot 0 1 Any ∷ [])) ∷ branch groups.Teardown 0 1 (Slots (slot 1 1 Any ∷ [])) ∷ []) ∷ []) ((sent 0 1 ([]) ∷ sent 0 2 ([]) ∷ sent 1 3 ([]) ∷ []) ∷ [])
+teardown_cuts_wiring = parts 10000 (queue Unbounded ∷ []) ([]) (([]) ∷ (aPost 0 (Number (9 ∷ [])) ∷ []) ∷ []) (arbiter kinds.Interleave (branch groups.Exclusive 0 0 (Slots (slot 0 1 Any ∷ [])) ∷ branch groups.Teardown 0 1 (Slots (slot 1 1 Any ∷ [])) ∷ []) ∷ []) ((sent 0 1 ([]) ∷ sent 0 2 ([]) ∷ sent 1 3 ([]) ∷ []) ∷ [])
 
 abbrev pub teardown_cuts_history : List Event
 teardown_cuts_history = Post (message (Script 0 0) 0 1 ([])) ∷ Post (message (Script 0 1) 0 2 ([])) ∷ Post (message (Script 0 2) 1 3 ([])) ∷ Fire (task 1 0) (Branch 0) ((Script 0 0) ∷ []) ([]) ∷ Fire (task 1 1) (Branch 0) ((Script 0 1) ∷ []) ([]) ∷ Fire (task 1 2) (Branch 1) ((Script 0 2) ∷ []) ((task 1 0) ∷ (task 1 1) ∷ []) ∷ Admit (task 1 2) ∷ Put (task 1 2) None ∷ Start (task 1 2) 1 ∷ Post (message (Task (task 1 2) 0) 0 9 ([])) ∷ End (task 1 2) ends.Done ∷ []
@@ -124,7 +124,7 @@ await-laws : keeps_laws_along await_wiring [] await_history ≡ true
 await-laws = refl
 
 abbrev pub await_teardown_waits_wiring : Parts
-await_teardown_waits_wiring = parts 10000 (queue Unbounded ∷ []) ([]) (([]) ∷ (aPost 2 (Number 1) ∷ aAwait 1 ∷ []) ∷ []) (arbiter kinds.Interleave (branch groups.Exclusive 0 1 (Slots (slot 0 1 Any ∷ [])) ∷ branch groups.Teardown 0 0 (Slots (slot 2 1 Any ∷ [])) ∷ []) ∷ []) ((sent 0 1 ([]) ∷ []) ∷ [])
+await_teardown_waits_wiring = parts 10000 (queue Unbounded ∷ []) ([]) (([]) ∷ (aPost 2 (Number (1 ∷ [])) ∷ aAwait 1 ∷ []) ∷ []) (arbiter kinds.Interleave (branch groups.Exclusive 0 1 (Slots (slot 0 1 Any ∷ [])) ∷ branch groups.Teardown 0 0 (Slots (slot 2 1 Any ∷ [])) ∷ []) ∷ []) ((sent 0 1 ([]) ∷ []) ∷ [])
 
 abbrev pub await_teardown_waits_history : List Event
 await_teardown_waits_history = Post (message (Script 0 0) 0 1 ([])) ∷ Fire (task 1 0) (Branch 0) ((Script 0 0) ∷ []) ([]) ∷ Admit (task 1 0) ∷ Put (task 1 0) None ∷ Start (task 1 0) 1 ∷ Post (message (Task (task 1 0) 0) 2 1 ([])) ∷ Fire (task 1 1) (Branch 1) ((Task (task 1 0) 0) ∷ []) ([]) ∷ End (task 1 0) ends.Yield ∷ []
@@ -187,7 +187,7 @@ sum_wraps-laws : keeps_laws_along sum_wraps_wiring [] sum_wraps_history ≡ true
 sum_wraps-laws = refl
 
 abbrev pub second_task_shed_wiring : Parts
-second_task_shed_wiring = parts 1 (queue Unbounded ∷ []) ([]) ((aPost 1 (Number 1) ∷ []) ∷ []) (arbiter kinds.Receive (branch groups.Always 0 0 (Slots (slot 0 1 Any ∷ [])) ∷ []) ∷ []) ((sent 0 1 ([]) ∷ sent 0 2 ([]) ∷ []) ∷ [])
+second_task_shed_wiring = parts 1 (queue Unbounded ∷ []) ([]) ((aPost 1 (Number (1 ∷ [])) ∷ []) ∷ []) (arbiter kinds.Receive (branch groups.Always 0 0 (Slots (slot 0 1 Any ∷ [])) ∷ []) ∷ []) ((sent 0 1 ([]) ∷ sent 0 2 ([]) ∷ []) ∷ [])
 
 abbrev pub second_task_shed_history : List Event
 second_task_shed_history = Post (message (Script 0 0) 0 1 ([])) ∷ Post (message (Script 0 1) 0 2 ([])) ∷ Fire (task 1 0) (Branch 0) ((Script 0 0) ∷ []) ([]) ∷ Fire (task 1 1) (Branch 0) ((Script 0 1) ∷ []) ([]) ∷ Put (task 1 0) None ∷ Put (task 1 1) None ∷ Start (task 1 0) 1 ∷ Post (message (Task (task 1 0) 0) 1 1 ([])) ∷ End (task 1 0) ends.Done ∷ Start (task 1 1) 1 ∷ End (task 1 1) ends.Shed ∷ []
@@ -211,7 +211,7 @@ abbrev pub causes_failed_wiring : Parts
 causes_failed_wiring = parts 2 (queue Unbounded ∷ []) (1 ∷ 2 ∷ []) ((aFail (Arg 0) ∷ []) ∷ []) (arbiter kinds.Receive (branch groups.Always 0 0 (Slots (slot 0 1 Any ∷ [])) ∷ []) ∷ []) ((sent 0 4 (0 ∷ 1 ∷ []) ∷ []) ∷ [])
 
 abbrev pub causes_failed_history : List Event
-causes_failed_history = Post (message (Script 0 0) 0 4 (0 ∷ 1 ∷ [])) ∷ Fire (task 1 0) (Branch 0) ((Script 0 0) ∷ []) ([]) ∷ Put (task 1 0) None ∷ Start (task 1 0) 1 ∷ Post (message (Task (task 1 0) 0) 1 4 ([])) ∷ Post (message (Task (task 1 0) 1) 2 4 ([])) ∷ End (task 1 0) (ends.Failed 4) ∷ []
+causes_failed_history = Post (message (Script 0 0) 0 4 (0 ∷ 1 ∷ [])) ∷ Fire (task 1 0) (Branch 0) ((Script 0 0) ∷ []) ([]) ∷ Put (task 1 0) None ∷ Start (task 1 0) 1 ∷ Post (message (Task (task 1 0) 0) 1 4 ([])) ∷ Post (message (Task (task 1 0) 1) 2 4 ([])) ∷ End (task 1 0) (ends.Failed (4 ∷ [])) ∷ []
 
 causes_failed-legal : first_refusal causes_failed_wiring [] 0 causes_failed_history ≡ None
 causes_failed-legal = refl
@@ -271,10 +271,10 @@ argument_past_end-laws : keeps_laws_along argument_past_end_wiring [] argument_p
 argument_past_end-laws = refl
 
 abbrev pub fail_before_await_wiring : Parts
-fail_before_await_wiring = parts 10000 (queue Unbounded ∷ []) ([]) ((aFail (Number 1) ∷ aAwait 1 ∷ []) ∷ []) (arbiter kinds.Receive (branch groups.Always 0 0 (Slots (slot 0 1 Any ∷ [])) ∷ []) ∷ []) ((sent 0 7 ([]) ∷ sent 1 8 ([]) ∷ []) ∷ [])
+fail_before_await_wiring = parts 10000 (queue Unbounded ∷ []) ([]) ((aFail (Number (1 ∷ [])) ∷ aAwait 1 ∷ []) ∷ []) (arbiter kinds.Receive (branch groups.Always 0 0 (Slots (slot 0 1 Any ∷ [])) ∷ []) ∷ []) ((sent 0 7 ([]) ∷ sent 1 8 ([]) ∷ []) ∷ [])
 
 abbrev pub fail_before_await_history : List Event
-fail_before_await_history = Post (message (Script 0 0) 0 7 ([])) ∷ Post (message (Script 0 1) 1 8 ([])) ∷ Fire (task 1 0) (Branch 0) ((Script 0 0) ∷ []) ([]) ∷ Put (task 1 0) None ∷ Start (task 1 0) 1 ∷ End (task 1 0) (ends.Failed 1) ∷ []
+fail_before_await_history = Post (message (Script 0 0) 0 7 ([])) ∷ Post (message (Script 0 1) 1 8 ([])) ∷ Fire (task 1 0) (Branch 0) ((Script 0 0) ∷ []) ([]) ∷ Put (task 1 0) None ∷ Start (task 1 0) 1 ∷ End (task 1 0) (ends.Failed (1 ∷ [])) ∷ []
 
 fail_before_await-legal : first_refusal fail_before_await_wiring [] 0 fail_before_await_history ≡ None
 fail_before_await-legal = refl

@@ -37,7 +37,7 @@ abbrev pub is_once : Group → Bool
 is_once groups.Once = true
 is_once _ = false
 
--- fires at most once: a choice, a once receiver and the teardowns of an Interleave
+-- fires at most once: a choice, a once receiver and the teardowns of a domain together
 abbrev pub has_one_firing : Parts → List Event → ℕ → Kind → Bool
 has_one_firing wiring history arbiter kinds.Receive = nat_le (length (fired_by wiring (λ s. (s.arbiter == arbiter) && is_once s.branch.group) history)) 1
 has_one_firing wiring history arbiter kinds.Choice = nat_le (length (fired_by wiring (λ s. s.arbiter == arbiter) history)) 1
@@ -60,16 +60,16 @@ abbrev pub stay_last : (TaskId → Bool) → List TaskId → Bool
 stay_last test [] = true
 stay_last test (task ∷ tasks) = (not (test task) || list_all test tasks) && stay_last test tasks
 
--- after a teardown's firing no other branch of the Interleave fires, and once a segment of it started no task of another root starts
+-- after a teardown's firing no other branch of the domain fires, and once a segment of it started no task of another root starts
 abbrev pub ends_by_teardown : Parts → List Event → ℕ → Bool
 ends_by_teardown wiring history arbiter = stay_last (is_teardown_task wiring history) (fired_by wiring (λ s. s.arbiter == arbiter) history) && stay_last (is_teardown_task wiring history) (filter (is_in_arbiter wiring history arbiter) (started history))
 
--- the arbiters, of which the first has this number, fire and admit as they should
+-- the domains, by the numbers of the arbiters, of which the first has this one, fire and admit as they should
 abbrev pub are_kept_from : Parts → List Event → ℕ → List ArbiterPart → Bool
 are_kept_from wiring history number [] = true
 are_kept_from wiring history number (arbiter ∷ arbiters) = has_one_firing wiring history number arbiter.kind && is_alone wiring history number && are_kept_from wiring history (number + 1) arbiters
 
--- in each of the Interleaves only admitted roots run, and a teardown ends it
+-- in each of the domains of Interleaves only admitted roots run, and a teardown ends it
 abbrev pub are_interleaved_from : Parts → List Event → ℕ → List ArbiterPart → Bool
 are_interleaved_from wiring history number [] = true
 are_interleaved_from wiring history number (arbiter ∷ arbiters) = interleaved arbiter.kind && are_interleaved_from wiring history (number + 1) arbiters

@@ -57,7 +57,7 @@ abbrev pub admit_first : Parts → List Event → List TaskId → Option Event
 admit_first wiring history [] = None
 admit_first wiring history (task ∷ tasks) = if may_enter wiring history task then Some (Admit task) else None
 
--- of the Interleaves, of which the first has this number, the first that has a task to admit
+-- of the domains, by the numbers of the arbiters, of which the first has this one, the first that has a task to admit; for a number that is no domain's none waits
 abbrev pub admit_from : Parts → List Event → ℕ → List ArbiterPart → Option Event
 admit_from wiring history number [] = None
 admit_from wiring history number (arbiter ∷ arbiters) = option_or (admit_first wiring history (waiting wiring history number)) (admit_from wiring history (number + 1) arbiters)

@@ -20,6 +20,7 @@ use Rattle.ccr_model.specs.declared.history.Event.TheVariants.{Post, Fire, Admit
 use Rattle.ccr_model.specs.declared.history.EndHow.{EndHow}
 use Rattle.ccr_model.specs.declared.history.EndHow.TheVariants as ends
 use Rattle.ccr_base.specs.Names.{same_task, has_task, same_lists, same_options}
+use Rattle.ccr_base.specs.Values.{same_value}
 use Rattle.ccr_model.specs.Posts.{posts_of_poster, posts_of_task, posts_of_tasks}
 use Rattle.ccr_wiring.specs.Wirings.{Seat, seat, policy_of}
 use Rattle.ccr_model.specs.Firings.{fired, cut, let_in, put, spot_of}
@@ -30,7 +31,7 @@ use Rattle.ccr_model.specs.Choice.{is_choice}
 
 -- whether the message is the post, but for its name
 abbrev pub is_post : Msg → Sent → Bool
-is_post message sent = (message.port == sent.port) && (message.value == sent.value) && same_lists (λ c d. c == d) message.causes sent.causes
+is_post message sent = (message.port == sent.port) && same_value message.value sent.value && same_lists (λ c d. c == d) message.causes sent.causes
 
 -- rule 1: it is the poster's next line
 abbrev pub is_script_line : Parts → List Event → ℕ → ℕ → Msg → Bool
@@ -98,7 +99,7 @@ may_start wiring history actor = nat_le (length wiring.posters) actor && nat_le 
 -- whether the end is the one that the play asks for
 abbrev pub ends_so : EndHow → PlayEnd → Bool
 ends_so ends.Done plays.Done = true
-ends_so (ends.Failed v) (plays.Failed u) = v == u
+ends_so (ends.Failed v) (plays.Failed u) = same_value v u
 ends_so ends.Yield (plays.Yield site) = true
 ends_so _ _ = false
 

@@ -18,7 +18,7 @@ use Rattle.ccr_model.specs.Sites.{before, resumed}
 
 -- what a segment starts with
 pub record Load : Type 0 where
-  pub values : List ℕ
+  pub values : List (List ℕ)
   pub causes : List ℕ
 
 -- the messages that the firing of the task took, in the order in which it names them

@@ -43,9 +43,9 @@ is_branch_where wiring test (Site branch site) = false
 abbrev pub fired_by : Parts → (Seat → Bool) → List Event → List TaskId
 fired_by wiring test history = fired_where (λ f. is_branch_where wiring test f.spot) history
 
--- the tasks that branches of the Interleave fired, neither admitted nor cut
+-- the tasks that branches of this domain of Interleaves fired, neither admitted nor cut
 abbrev pub waiting : Parts → List Event → ℕ → List TaskId
-waiting wiring history interleave = without (fired_by wiring (λ s. is_interleave s.kind && (s.arbiter == interleave)) history) (let_in history ++ cut history)
+waiting wiring history domain = without (fired_by wiring (λ s. is_interleave s.kind && (s.arbiter == domain)) history) (let_in history ++ cut history)
 
 -- whether the task's branch is on the queue
 abbrev pub is_for_queue : Parts → List Event → ℕ → TaskId → Bool
@@ -72,13 +72,13 @@ running_by history actor = without (flat_map (started_as actor) history) (ended 
 abbrev pub is_over : List Event → TaskId → Bool
 is_over history root = list_any (λ task. same_task (root_of history task) root) (last_segments history)
 
--- whether the task's branch is the arbiter's
+-- whether the task's branch is of an arbiter of the domain
 abbrev pub is_in_arbiter : Parts → List Event → ℕ → TaskId → Bool
-is_in_arbiter wiring history arbiter task = option_map_or (λ (s : Seat). s.arbiter == arbiter) (seat_of wiring history task) false
+is_in_arbiter wiring history domain task = option_map_or (λ (s : Seat). s.arbiter == domain) (seat_of wiring history task) false
 
--- the roots that were admitted and aren't over
+-- the roots of the domain that were admitted and aren't over
 abbrev pub admitted : Parts → List Event → ℕ → List TaskId
-admitted wiring history interleave = filter (λ task. is_in_arbiter wiring history interleave task && not (is_over history task)) (let_in history)
+admitted wiring history domain = filter (λ task. is_in_arbiter wiring history domain task && not (is_over history task)) (let_in history)
 
 -- the tasks that branches fired for the queue, neither started, dropped nor cut
 abbrev pub coming : Parts → List Event → ℕ → List TaskId

@@ -37,7 +37,7 @@ fn fitting_names(alloc: Global, held: &[&Msg], slot: &Slot) -> Result<Vec<MsgId>
 {
     let mut names = Vec::new(alloc);
     for message in held {
-        if slot.pred.holds(message.value) {
+        if slot.pred.holds(&message.value) {
             names.push(message.id)?;
         }
     }

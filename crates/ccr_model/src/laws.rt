@@ -10,7 +10,7 @@ ghost use Rattle.ccr_model.specs.Order.{first};
 ghost use Rattle.ccr_model.specs.Posts.{posts_of_tasks};
 ghost use Rattle.ccr_model.specs.Tasks.{count_unfinished};
 ghost use Rattle.ccr_model.specs.Consequences.{is_alone};
-ghost use Rattle.ccr_wiring.specs.Valid.{HasPortsApart, HasQueues};
+ghost use Rattle.ccr_wiring.specs.Valid.{HasPortsApart, HasQueues, HasDomains};
 ghost use Rattle.ccr_model.specs.Laws.{times_posted, times_taken};
 
 /// No two posts have one name.
@@ -30,7 +30,7 @@ pub fn first_is_allowed()
 
 /// Where it puts nothing first, nothing is allowed.
 pub fn none_first_is_quiet()
-    ensures { (wiring : Parts) (closer : ℕ) (history : List Event) → HasQueues wiring → first wiring closer history ≡ None → IsQuiet wiring history }
+    ensures { (wiring : Parts) (closer : ℕ) (history : List Event) → HasQueues wiring → HasDomains wiring → first wiring closer history ≡ None → IsQuiet wiring history }
 {}
 
 /// Where a task was shed, posts and running tasks with a post left use the budget up.
@@ -38,7 +38,7 @@ pub fn legal_is_covered()
     ensures { (wiring : Parts) (history : List Event) → IsLegal wiring history → has_shed history ≡ true → wiring.budget ≤ posts_of_tasks history + count_unfinished wiring history }
 {}
 
-/// The admitted roots of an Interleave that are not over are all concurrent, or one.
+/// The admitted roots of a domain that are not over are all concurrent, or one.
 pub fn exclusive_roots_are_alone()
-    ensures { (wiring : Parts) (history : List Event) → IsLegal wiring history → (interleave : ℕ) → is_alone wiring history interleave ≡ true }
+    ensures { (wiring : Parts) (history : List Event) → IsLegal wiring history → (domain : ℕ) → is_alone wiring history domain ≡ true }
 {}

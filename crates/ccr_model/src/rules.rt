@@ -289,8 +289,8 @@ pub(crate) fn may_start(
     Ok(posters <= actor as usize && actor <= 32 && running.is_empty())
 }
 
-fn ends_so(how: EndHow, end: PlayEnd) -> bool
-    ensures { result ≡ ends_so how end }
+fn ends_so(how: &EndHow, end: &PlayEnd) -> bool
+    ensures { result ≡ ends_so how.now end.now }
 {
     match (how, end) {
         (EndHow::Done, PlayEnd::Done) => true,
@@ -332,5 +332,5 @@ pub(crate) fn may_end(
         return Ok(false);
     }
     let play = play_of(alloc, wiring, events, task)?;
-    Ok(ends_so(how, play.end))
+    Ok(ends_so(&how, &play.end))
 }

@@ -7,10 +7,10 @@ ghost use Rattle.ccr_wiring.specs.Wirings.{seat, seats_from, policy_of, actions_
 ghost use Rattle.ccr_model.specs.Views.{seat_seen};
 ghost use Rattle.ccr_model.specs.Tasks.{is_interleave, is_teardown, is_concurrent};
 
-use ccr_base::{Action, BranchNo, Group, HandlerNo, Policy, PortNo, QueueNo};
+use ccr_base::{Action, ArbiterNo, BranchNo, Group, HandlerNo, Policy, PortNo, QueueNo};
 use ccr_wiring::{BranchPart, Kind, Wiring};
 
-/// A branch with its arbiter's number and kind.
+/// A branch with the number of its arbiter's domain and the arbiter's kind.
 #[derive(Clone, Copy)]
 pub struct SeatOf<'w> {
     pub arbiter: usize,
@@ -23,11 +23,12 @@ pub fn seat(wiring: &Wiring, branch: BranchNo) -> Option<SeatOf<'_>>
     ensures { option_map seat_seen result ≡ seat wiring.now branch }
 {
     let mut left = branch as usize;
-    for (number, arbiter) in wiring.parts().arbiters.as_slice().iter().enumerate() {
+    let arbiters = wiring.parts().arbiters.as_slice();
+    for (number, arbiter) in arbiters.iter().enumerate() {
         let branches = arbiter.branches.as_slice();
         if left < branches.len() {
             return Some(SeatOf {
-                arbiter: number,
+                arbiter: wiring.domain(number as ArbiterNo) as usize,
                 kind: arbiter.kind,
                 branch: &branches[left],
             });

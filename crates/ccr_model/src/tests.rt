@@ -21,7 +21,7 @@ use cases::{CASES, Case};
 /// An event whose lists are constants.
 #[derive(Clone, Copy)]
 enum Step {
-    Post(MsgId, PortNo, Value),
+    Post(MsgId, PortNo, u64),
     Fire(TaskId, Spot, &'static [MsgId], &'static [TaskId]),
     Admit(TaskId),
     Put(TaskId, Option<TaskId>),
@@ -46,7 +46,7 @@ fn event(alloc: Global, step: Step) -> Result<Event, OutOfMemory> {
         Step::Post(id, port, value) => Event::Post(Msg {
             id,
             port,
-            value,
+            value: Value::one(value),
             causes: List::new(alloc),
         }),
         Step::Fire(task, spot, messages, cuts) => Event::Fire {

@@ -37,11 +37,12 @@ one_cause port = record { name = codes "k"; port = port } ∷ []
 
 -- a poster p that posts 7 to port 0, without causes
 abbrev pub one_post : List PosterPart
-one_post = record { name = codes "p"; posts = record { port = 0; value = 7; causes = [] } ∷ [] } ∷ []
+one_post = record { name = codes "p"; posts = record { port = 0; value = 7 ∷ []; causes = [] } ∷ [] } ∷ []
 
 -- the receive of one port a, with a queue without a bound and a handler without actions
 abbrev pub one_receiver : Parts
 one_receiver = record {
+  version = 1;
   budget = 5;
   queues = one_queue Unbounded;
   ports = codes "a" ∷ [];
@@ -49,5 +50,6 @@ one_receiver = record {
   causes = [];
   handlers = one_handler [];
   arbiters = one_receive;
+  domains = [];
   posters = [];
 }

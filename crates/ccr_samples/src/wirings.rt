@@ -6,6 +6,7 @@ ghost use Rattle.ccr_samples.specs.Samples.{one_queue, one_handler, one_receive,
 use crate::{name, only};
 use ccr_base::{
     Action, Group, Handler, List, OutOfMemory, Pattern, Policy, PortNo, Pred, Sent, Slot,
+    Value,
 };
 use ccr_wiring::{
     ArbiterPart, BranchPart, CausePart, HandlerPart, Kind, Parts, PosterPart, QueuePart,
@@ -76,7 +77,7 @@ pub fn one_post(alloc: Global) -> Result<List<PosterPart>, OutOfMemory>
 {
     let sent = Sent {
         port: 0,
-        value: 7,
+        value: Value::one(7),
         causes: List::new(alloc),
     };
     let poster = PosterPart {
@@ -86,11 +87,12 @@ pub fn one_post(alloc: Global) -> Result<List<PosterPart>, OutOfMemory>
     only(alloc, poster)
 }
 
-/// A budget of 5, a port `a`, a queue `q` without a bound, a handler `h` without actions, and a receive `x` of them.
+/// Version 1, a budget of 5, a port `a`, a queue `q` without a bound, a handler `h` without actions, and a receive `x` of them.
 pub fn one_receiver(alloc: Global) -> Result<Parts, OutOfMemory>
     ensures { IfOk result (λ parts. parts ≡ one_receiver) }
 {
     Ok(Parts {
+        version: 1,
         budget: 5,
         queues: one_queue(alloc, Policy::Unbounded)?,
         ports: only(alloc, name(alloc, b"a")?)?,
@@ -98,6 +100,7 @@ pub fn one_receiver(alloc: Global) -> Result<Parts, OutOfMemory>
         causes: List::new(alloc),
         handlers: one_handler(alloc, List::new(alloc))?,
         arbiters: one_receive(alloc)?,
+        domains: List::new(alloc),
         posters: List::new(alloc),
     })
 }

@@ -408,7 +408,7 @@ pub const TEARDOWN_CUTS: Case = Case {
     wired: Wired {
         budget: 10000,
         policy: Policy::Unbounded,
-        handlers: &[&[], &[Action::Post(A, Expr::Number(9))]],
+        handlers: &[&[], &[Action::Post(A, Expr::Number(Value::one(9)))]],
         kind: Kind::Interleave,
         branches: &[
             (Group::Exclusive, 0, Takes::One(A)),

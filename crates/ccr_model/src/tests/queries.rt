@@ -232,6 +232,6 @@ fn posts_of_a_running_task(rt: HostRuntime) -> Result<(), Fail> {
     let wiring = wired(rt.alloc(), &TEARDOWN_CUTS)?;
     let history = begun(rt.alloc(), &TEARDOWN_CUTS, 9)?;
     let found = posts_in(rt.alloc(), &wiring, &history, TASK_2)?;
-    assert_eq!(rt; found.as_slice(), [(A, 9)].as_slice());
+    assert_eq!(rt; found.as_slice(), [(A, Value::one(9))].as_slice());
     Ok(())
 }

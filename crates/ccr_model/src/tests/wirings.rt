@@ -18,7 +18,7 @@ pub struct Wired {
     pub handlers: &'static [&'static [Action]],
     pub kind: Kind,
     pub branches: &'static [(Group, HandlerNo, Takes)],
-    pub posts: &'static [(PortNo, Value)],
+    pub posts: &'static [(PortNo, u64)],
 }
 
 const PORT_NAMES: [&str; 4] = ["a", "b", "c", "d"];
@@ -109,12 +109,12 @@ fn arbiters(alloc: Global, wired: &Wired) -> Result<List<ArbiterPart>, Fail> {
     Ok(List::from_vec(parts))
 }
 
-fn posters(alloc: Global, rows: &[(PortNo, Value)]) -> Result<List<PosterPart>, Fail> {
+fn posters(alloc: Global, rows: &[(PortNo, u64)]) -> Result<List<PosterPart>, Fail> {
     let mut posts = Vec::new(alloc);
     for (port, value) in rows {
         posts.push(Sent {
             port: *port,
-            value: *value,
+            value: Value::one(*value),
             causes: List::new(alloc),
         })?;
     }
@@ -128,6 +128,7 @@ fn posters(alloc: Global, rows: &[(PortNo, Value)]) -> Result<List<PosterPart>, 
 
 pub fn parts(alloc: Global, wired: &Wired) -> Result<Parts, Fail> {
     Ok(Parts {
+        version: 1,
         budget: wired.budget,
         queues: queues(alloc, wired.policy)?,
         ports: ports(alloc)?,
@@ -135,6 +136,7 @@ pub fn parts(alloc: Global, wired: &Wired) -> Result<Parts, Fail> {
         causes: List::new(alloc),
         handlers: handlers(alloc, wired.handlers)?,
         arbiters: arbiters(alloc, wired)?,
+        domains: List::new(alloc),
         posters: posters(alloc, wired.posts)?,
     })
 }
