@@ -25,7 +25,7 @@ has_line_left history number (poster ∷ posters) = nat_lt (posts_of_poster hist
 abbrev pub can_admit : Parts → List Event → List TaskId → Bool
 can_admit wiring history tasks = option_map_or (may_enter wiring history) (slice_get tasks 0) false
 
--- whether one of the Interleaves, of which the first has this number, can admit a task
+-- whether one of the domains, by the numbers of the arbiters, of which the first has this one, can admit a task
 abbrev pub has_admission : Parts → List Event → ℕ → List ArbiterPart → Bool
 has_admission wiring history number [] = false
 has_admission wiring history number (arbiter ∷ arbiters) = can_admit wiring history (waiting wiring history number) || has_admission wiring history (number + 1) arbiters
@@ -35,7 +35,7 @@ abbrev pub has_queued : Parts → List Event → ℕ → List QueuePart → Bool
 has_queued wiring history number [] = false
 has_queued wiring history number (queue ∷ queues) = not (is_none_of (queued wiring history number)) || has_queued wiring history (number + 1) queues
 
--- whether nothing is left: no poster has a line left, no spot can fire, no Interleave can admit, no task may be put, none runs, and none is queued
+-- whether nothing is left: no poster has a line left, no spot can fire, no domain can admit, no task may be put, none runs, and none is queued
 unfoldable pub is_still : Parts → List Event → Bool
 is_still wiring history =
     not (has_line_left history 0 wiring.posters)

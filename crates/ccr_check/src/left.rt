@@ -45,22 +45,22 @@ fn has_firing(alloc: Global, wiring: &Wiring, events: &[Event]) -> Result<bool, 
     Ok(false)
 }
 
-/// Whether the Interleave can admit its oldest waiting task.
+/// Whether the domain can admit its oldest waiting task.
 fn can_admit(
     alloc: Global,
     wiring: &Wiring,
     events: &[Event],
-    interleave: usize,
+    domain: usize,
 ) -> Result<bool, OutOfMemory>
-    ensures { IfOk result (λ can. can ≡ can_admit wiring.now events.now (waiting wiring.now events.now interleave)) }
+    ensures { IfOk result (λ can. can ≡ can_admit wiring.now events.now (waiting wiring.now events.now domain)) }
 {
-    match waiting(alloc, wiring, events, interleave)?.first() {
+    match waiting(alloc, wiring, events, domain)?.first() {
         Some(task) => may_enter(alloc, wiring, events, *task),
         None => Ok(false),
     }
 }
 
-/// Whether some Interleave can admit a task.
+/// Whether some domain can admit a task.
 #[tactic(auto, using(crate::proofs::Numbered::numbered))]
 fn has_admission(alloc: Global, wiring: &Wiring, events: &[Event]) -> Result<bool, OutOfMemory>
     ensures { IfOk result (λ has. has ≡ has_admission wiring.now events.now 0 wiring.now.arbiters) }

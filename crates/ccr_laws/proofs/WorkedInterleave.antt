@@ -29,7 +29,7 @@ abbrev task : ℕ → TaskId
 task k = record { actor = 1; attempt = k }
 
 abbrev post : ℕ → ℕ → Event
-post k port = Post (record { id = Script 0 k; port = port; value = 0; causes = [] })
+post k port = Post (record { id = Script 0 k; port = port; value = 0 ∷ []; causes = [] })
 
 -- takes one message of the port
 abbrev branch : Group → ℕ → ℕ → ℕ → BranchPart
@@ -44,11 +44,12 @@ abbrev scripts : List Sent
 scripts = sent 1 ∷ sent 2 ∷ sent 0 ∷ sent 3 ∷ sent 4 ∷ sent 4 ∷ []
   where
     sent : ℕ → Sent
-    sent port = record { port = port; value = 0; causes = [] }
+    sent port = record { port = port; value = 0 ∷ []; causes = [] }
 
 -- an Interleave, whose exclusive branch awaits port 3, and a receive on a queue that holds one task
 abbrev wiring : Parts
 wiring = record {
+  version = 1;
   budget = 0;
   queues = record { name = []; policy = Unbounded } ∷ record { name = []; policy = Discard 1 } ∷ [];
   ports = [];
@@ -56,6 +57,7 @@ wiring = record {
   causes = [];
   handlers = record { name = []; handler = record { actions = [] } } ∷ record { name = []; handler = record { actions = Await 3 ∷ [] } } ∷ [];
   arbiters = arbiters;
+  domains = [];
   posters = record { name = []; posts = scripts } ∷ [];
 }
 

@@ -35,7 +35,7 @@ pub record IsTakenBy (history : List Event) (name : MsgId) (task : TaskId) : Typ
   pub stands : Stands history past (Fire task spot messages cuts)
   pub named : has_message messages name ≡ true
 
--- the task waits for its admission to some Interleave
+-- the task waits for its admission in some domain of Interleaves
 pub record Waits (wiring : Parts) (history : List Event) (task : TaskId) : Type 0 where
   pub interleave : ℕ
   pub among : has_task (waiting wiring history interleave) task ≡ true

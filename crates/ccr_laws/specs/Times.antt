@@ -11,10 +11,10 @@ use Rattle.ccr_model.specs.Tasks.{fired_by, is_teardown}
 abbrev pub times_fired : List Event → ℕ → ℕ
 times_fired history branch = length (fired_at history (Branch branch))
 
--- how often the branches of the arbiter fired, all together
+-- how often the branches of the domain fired, all together; a choice is its own domain
 abbrev pub times_any_fired : Parts → List Event → ℕ → ℕ
-times_any_fired wiring history arbiter = length (fired_by wiring (λ (s : Seat). s.arbiter == arbiter) history)
+times_any_fired wiring history domain = length (fired_by wiring (λ (s : Seat). s.arbiter == domain) history)
 
 -- how often its teardown branches fired, all together
 abbrev pub times_torn_down : Parts → List Event → ℕ → ℕ
-times_torn_down wiring history arbiter = length (fired_by wiring (λ (s : Seat). (s.arbiter == arbiter) && is_teardown s.branch.group) history)
+times_torn_down wiring history domain = length (fired_by wiring (λ (s : Seat). (s.arbiter == domain) && is_teardown s.branch.group) history)

@@ -28,11 +28,11 @@ pub fn firings_take_whole_patterns()
     ensures { (wiring : Parts) → IsValid wiring → (history : List Event) → IsLegal wiring history → (past : List Event) (task : TaskId) (spot : Spot) (messages : List MsgId) (cuts : List TaskId) → Stands history past (Fire task spot messages cuts) → TakesWhole wiring past spot messages }
 {}
 
-/// A choice, a `once` receiver, and the teardown branches of an Interleave all together, fire at most once.
+/// A choice, a `once` receiver, and the teardown branches of a domain of Interleaves all together, fire at most once.
 pub fn single_firings_come_once()
     ensures choice { (wiring : Parts) → IsValid wiring → (history : List Event) → IsLegal wiring history → (number : ℕ) (arbiter : ArbiterPart) → slice_get wiring.arbiters number ≡ Some arbiter → arbiter.kind ≡ kinds.Choice → times_any_fired wiring history number ≤ 1 }
     ensures once { (wiring : Parts) (history : List Event) → IsLegal wiring history → (branch : ℕ) (s : Seat) → seat wiring branch ≡ Some s → s.branch.group ≡ groups.Once → times_fired history branch ≤ 1 }
-    ensures teardown { (wiring : Parts) (history : List Event) → IsLegal wiring history → (interleave : ℕ) → times_torn_down wiring history interleave ≤ 1 }
+    ensures teardown { (wiring : Parts) (history : List Event) → IsLegal wiring history → (domain : ℕ) → times_torn_down wiring history domain ≤ 1 }
 {}
 
 /// Each posted message has exactly one fate, the one that `fate` tells. A name is taken at most once: at most one firing names

@@ -1,4 +1,4 @@
-//! What every legal history says of Interleaves. Each law is the contract of a function that does nothing.
+//! What every legal history says of domains of Interleaves: one Interleave, or those that are combined. Each law is the contract of a function that does nothing.
 
 ghost use Rattle.std.specs.Prelude.{◌≡◌, ◌++◌, ◌∷◌, ℕ, List, [], true, false};
 ghost use Rattle.ccr_base.specs.declared.names.MsgId.{MsgId};
@@ -16,9 +16,9 @@ ghost use Rattle.ccr_model.specs.Legal.{IsLegal};
 ghost use Rattle.ccr_model.specs.AtWork.{is_at_work};
 ghost use Rattle.ccr_model.specs.Interleaves.{fired_in, is_of_exclusive, is_of_interleave, is_of_teardown, tears_down};
 
-/// A task of an Interleave that is queued, runs or is suspended is a segment of a root that was admitted and isn't over.
+/// A task of a domain that is queued, runs or is suspended is a segment of a root that was admitted and isn't over.
 pub fn tasks_at_work_have_admitted_roots()
-    ensures { (wiring : Parts) (history : List Event) → IsLegal wiring history → (interleave : ℕ) (task : TaskId) → is_of_interleave wiring history interleave task ≡ true → is_at_work wiring history task ≡ true → has_task (admitted wiring history interleave) (root_of history task) ≡ true }
+    ensures { (wiring : Parts) (history : List Event) → IsLegal wiring history → (domain : ℕ) (task : TaskId) → is_of_interleave wiring history domain task ≡ true → is_at_work wiring history task ≡ true → has_task (admitted wiring history domain) (root_of history task) ≡ true }
 {}
 
 /// Of one root at most one segment is queued, runs or is suspended.
@@ -26,22 +26,22 @@ pub fn roots_have_one_segment_at_work()
     ensures { (wiring : Parts) (history : List Event) → IsLegal wiring history → (task other : TaskId) → is_at_work wiring history task ≡ true → is_at_work wiring history other ≡ true → root_of history task ≡ root_of history other → task ≡ other }
 {}
 
-/// From its admission until it is over, an exclusive or teardown root is the only root of its Interleave that was admitted and
+/// From its admission until it is over, an exclusive or teardown root is the only root of its domain that was admitted and
 /// isn't over.
 pub fn exclusive_roots_stay_alone()
-    ensures { (wiring : Parts) (interleave : ℕ) (before since : List Event) (root : TaskId) → let history = before ++ Admit root ∷ since in IsLegal wiring history → is_of_exclusive wiring history interleave root ≡ true → is_over history root ≡ false → admitted wiring history interleave ≡ root ∷ [] }
+    ensures { (wiring : Parts) (domain : ℕ) (before since : List Event) (root : TaskId) → let history = before ++ Admit root ∷ since in IsLegal wiring history → is_of_exclusive wiring history domain root ≡ true → is_over history root ≡ false → admitted wiring history domain ≡ root ∷ [] }
 {}
 
-/// From its admission until an exclusive or teardown root is over, no task of another root of its Interleave is queued, runs or is
-/// suspended. While one of its segments is queued, runs or is suspended, no other task of the Interleave is.
+/// From its admission until an exclusive or teardown root is over, no task of another root of its domain is queued, runs or is
+/// suspended. While one of its segments is queued, runs or is suspended, no other task of the domain is.
 pub fn exclusive_roots_work_alone()
-    ensures until_over { (wiring : Parts) (history : List Event) → IsLegal wiring history → (interleave : ℕ) (root other : TaskId) → is_of_exclusive wiring history interleave root ≡ true → has_task (admitted wiring history interleave) root ≡ true → is_of_interleave wiring history interleave other ≡ true → is_at_work wiring history other ≡ true → root_of history other ≡ root }
-    ensures meanwhile { (wiring : Parts) (history : List Event) → IsLegal wiring history → (interleave : ℕ) (task other : TaskId) → is_of_exclusive wiring history interleave task ≡ true → is_at_work wiring history task ≡ true → is_of_interleave wiring history interleave other ≡ true → is_at_work wiring history other ≡ true → other ≡ task }
+    ensures until_over { (wiring : Parts) (history : List Event) → IsLegal wiring history → (domain : ℕ) (root other : TaskId) → is_of_exclusive wiring history domain root ≡ true → has_task (admitted wiring history domain) root ≡ true → is_of_interleave wiring history domain other ≡ true → is_at_work wiring history other ≡ true → root_of history other ≡ root }
+    ensures meanwhile { (wiring : Parts) (history : List Event) → IsLegal wiring history → (domain : ℕ) (task other : TaskId) → is_of_exclusive wiring history domain task ≡ true → is_at_work wiring history task ≡ true → is_of_interleave wiring history domain other ≡ true → is_at_work wiring history other ≡ true → other ≡ task }
 {}
 
-/// After a teardown branch has fired no branch of its Interleave fires.
+/// After a teardown branch has fired no branch of its domain fires.
 pub fn no_branch_fires_after_a_teardown()
-    ensures { (wiring : Parts) → HasGroups wiring → (interleave : ℕ) (before after : List Event) (task : TaskId) (spot : Spot) (messages : List MsgId) (cuts : List TaskId) → IsLegal wiring (before ++ Fire task spot messages cuts ∷ after) → tears_down wiring interleave spot ≡ true → fired_in wiring after interleave ≡ [] }
+    ensures { (wiring : Parts) → HasGroups wiring → (domain : ℕ) (before after : List Event) (task : TaskId) (spot : Spot) (messages : List MsgId) (cuts : List TaskId) → IsLegal wiring (before ++ Fire task spot messages cuts ∷ after) → tears_down wiring domain spot ≡ true → fired_in wiring after domain ≡ [] }
 {}
 
 /// A task that a teardown cut is neither admitted nor put, and never starts.
@@ -51,7 +51,7 @@ pub fn cut_tasks_never_start()
     ensures not_started { (wiring : Parts) (history : List Event) → IsLegal wiring history → (task : TaskId) → has_task (cut history) task ≡ true → has_task (started history) task ≡ false }
 {}
 
-/// After a task of a teardown branch has started no task of another root of its Interleave starts.
+/// After a task of a teardown branch has started no task of another root of its domain starts.
 pub fn no_other_starts_after_a_teardown_task()
-    ensures { (wiring : Parts) → HasGroups wiring → (interleave : ℕ) (before after : List Event) (task other : TaskId) (actor : ℕ) → let history = before ++ Start task actor ∷ after in IsLegal wiring history → is_of_teardown wiring history interleave task ≡ true → is_of_interleave wiring history interleave other ≡ true → has_task (started after) other ≡ true → root_of history other ≡ root_of history task }
+    ensures { (wiring : Parts) → HasGroups wiring → (domain : ℕ) (before after : List Event) (task other : TaskId) (actor : ℕ) → let history = before ++ Start task actor ∷ after in IsLegal wiring history → is_of_teardown wiring history domain task ≡ true → is_of_interleave wiring history domain other ≡ true → has_task (started after) other ≡ true → root_of history other ≡ root_of history task }
 {}

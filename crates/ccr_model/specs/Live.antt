@@ -19,7 +19,7 @@ use Rattle.ccr_model.specs.Tasks.{fired_by, is_teardown, coming}
 abbrev pub is_none_of : List TaskId → Bool
 is_none_of tasks = length tasks == 0
 
--- an always branch: at any time; once: until it fired; of a choice: until a branch of the choice fired; of an Interleave: until a teardown of it fired
+-- an always branch: at any time; once: until it fired; of a choice: until a branch of the choice fired; of an Interleave: until a teardown of its domain fired
 abbrev pub is_live_in : Parts → List Event → ℕ → ℕ → Group → Bool
 is_live_in wiring history branch arbiter Always = true
 is_live_in wiring history branch arbiter Once = is_none_of (fired_at history (Branch branch))

@@ -58,7 +58,7 @@ cuts_at wiring history (Site branch site) = []
 abbrev pub is_first : List TaskId → TaskId → Bool
 is_first tasks task = option_map_or (same_task task) (slice_get tasks 0) false
 
--- rule 9: it is the oldest waiting task of its Interleave
+-- rule 9: it is the oldest waiting task of its domain of Interleaves
 abbrev pub is_oldest_waiting : Parts → List Event → TaskId → Bool
 is_oldest_waiting wiring history task = option_map_or (λ (s : Seat). is_first (waiting wiring history s.arbiter) task) (seat_of wiring history task) false
 

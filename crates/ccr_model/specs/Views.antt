@@ -14,7 +14,7 @@ use Rattle.ccr_model.specs.declared.seats.SeatOf.{SeatOf}
 abbrev pub seen : List (Bor Msg) → List Msg
 seen messages = map (λ (message : Bor Msg). message.now) messages
 
--- the branch behind the reference, with its arbiter
+-- the branch behind the reference, with its domain
 abbrev pub seat_seen : SeatOf → Seat
 seat_seen s = record { arbiter = s.arbiter; kind = s.kind; branch = s.branch.now }
 

@@ -34,7 +34,7 @@ fn is_live_in(
     Ok(fired.is_empty())
 }
 
-/// Whether the spot may fire once more: its group and its Interleave allow it, or a task is suspended there.
+/// Whether the spot may fire once more: its group and its domain allow it, or a task is suspended there.
 pub fn is_live(
     alloc: Global,
     wiring: &Wiring,

@@ -19,7 +19,7 @@ use ccr_base::{ActorNo, OutOfMemory, QueueNo, Spot, TaskId};
 use ccr_wiring::Wiring;
 use std::alloc::Global;
 
-/// Which branches are meant.
+/// Which branches are meant, by the number of a domain or of a queue.
 #[derive(Clone, Copy)]
 pub(crate) enum Branches {
     OfInterleave(usize),
@@ -73,7 +73,7 @@ pub(crate) fn fired_by(
     Ok(tasks)
 }
 
-/// The branch, with its arbiter, that the task belongs to.
+/// The branch, with its domain, that the task belongs to.
 pub(crate) fn seat_of<'w>(wiring: &'w Wiring, events: &[Event], task: TaskId) -> Option<SeatOf<'w>>
     ensures { option_map seat_seen result ≡ seat_of wiring.now events.now task }
 {
@@ -81,16 +81,16 @@ pub(crate) fn seat_of<'w>(wiring: &'w Wiring, events: &[Event], task: TaskId) ->
     seat(wiring, branch_of(spot))
 }
 
-/// The tasks that branches of the Interleave fired, neither admitted nor cut, by firing.
+/// The tasks that branches of this domain of Interleaves fired, neither admitted nor cut, by firing.
 pub fn waiting(
     alloc: Global,
     wiring: &Wiring,
     events: &[Event],
-    interleave: usize,
+    domain: usize,
 ) -> Result<Vec<TaskId>, OutOfMemory>
-    ensures { IfOk result (λ tasks. tasks.items ≡ waiting wiring.now events.now interleave) }
+    ensures { IfOk result (λ tasks. tasks.items ≡ waiting wiring.now events.now domain) }
 {
-    let mut tasks = fired_by(alloc, wiring, events, Branches::OfInterleave(interleave))?;
+    let mut tasks = fired_by(alloc, wiring, events, Branches::OfInterleave(domain))?;
     let mut gone = let_in(alloc, events)?;
     gone.extend_from_slice(&cut(alloc, events)?)?;
     remove_all(&mut tasks, &gone);
@@ -166,19 +166,19 @@ fn is_in_arbiter(wiring: &Wiring, events: &[Event], arbiter: usize, task: TaskId
     }
 }
 
-/// The admitted roots of the Interleave that are not over, by their admissions.
+/// The admitted roots of the domain that are not over, by their admissions.
 pub(crate) fn admitted(
     alloc: Global,
     wiring: &Wiring,
     events: &[Event],
-    interleave: usize,
+    domain: usize,
 ) -> Result<Vec<TaskId>, OutOfMemory>
-    ensures { IfOk result (λ tasks. tasks.items ≡ admitted wiring.now events.now interleave) }
+    ensures { IfOk result (λ tasks. tasks.items ≡ admitted wiring.now events.now domain) }
 {
     let let_in = let_in(alloc, events)?;
     let mut tasks = Vec::new(alloc);
     for task in &let_in {
-        if is_in_arbiter(wiring, events, interleave, *task) && !is_over(alloc, events, *task)? {
+        if is_in_arbiter(wiring, events, domain, *task) && !is_over(alloc, events, *task)? {
             tasks.push(*task)?;
         }
     }

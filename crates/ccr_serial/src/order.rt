@@ -139,16 +139,16 @@ fn first_fire(
     Ok(None)
 }
 
-/// The admission of the Interleave's oldest waiting task, where it may enter.
+/// The admission of the domain's oldest waiting task, where it may enter.
 fn admit_at(
     alloc: Global,
     wiring: &Wiring,
     events: &[Event],
-    interleave: usize,
+    domain: usize,
 ) -> Result<Option<Event>, OutOfMemory>
-    ensures { IfOk result (λ event. event ≡ admit_first wiring.now events.now (waiting wiring.now events.now interleave)) }
+    ensures { IfOk result (λ event. event ≡ admit_first wiring.now events.now (waiting wiring.now events.now domain)) }
 {
-    let waiting = waiting(alloc, wiring, events, interleave)?;
+    let waiting = waiting(alloc, wiring, events, domain)?;
     let Some(task) = waiting.first() else {
         return Ok(None);
     };
@@ -159,7 +159,7 @@ fn admit_at(
     }
 }
 
-/// The admission at the first Interleave that has one.
+/// The admission at the first domain that has one, in the order of the arbiters' numbers.
 #[tactic(auto, using(crate::proofs::Orders::orders))]
 fn first_admit(
     alloc: Global,

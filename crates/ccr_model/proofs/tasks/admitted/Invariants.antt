@@ -5,4 +5,4 @@ use Rattle.ccr_model.specs.Tasks.{is_in_arbiter, is_over}
 use Rattle.ccr_model.proofs.tasks.admitted.Given as goal
 
 abbrev pub invariant-loop-task : goal.invariant-loop-task
-invariant-loop-task l = l.tasks.items ≡ filter (λ (task : TaskId). is_in_arbiter l.wiring l.events l.interleave task && not (is_over l.events task)) (take l.task-index l.task-items)
+invariant-loop-task l = l.tasks.items ≡ filter (λ (task : TaskId). is_in_arbiter l.wiring l.events l.domain task && not (is_over l.events task)) (take l.task-index l.task-items)
