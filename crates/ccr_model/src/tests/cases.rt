@@ -1,6 +1,6 @@
 //! The worked runs of one thread, and wrong events at some of their places.
 
-use super::wirings::{Takes, Wired};
+use super::wirings::{Does, Takes, Wired};
 use super::*;
 
 pub struct Case {
@@ -408,7 +408,7 @@ pub const TEARDOWN_CUTS: Case = Case {
     wired: Wired {
         budget: 10000,
         policy: Policy::Unbounded,
-        handlers: &[&[], &[Action::Post(A, Expr::Number(Value::one(9)))]],
+        handlers: &[&[], &[Does::PostNumber(A, 9)]],
         kind: Kind::Interleave,
         branches: &[
             (Group::Exclusive, 0, Takes::One(A)),
@@ -458,7 +458,7 @@ pub const AWAIT: Case = Case {
     wired: Wired {
         budget: 10000,
         policy: Policy::Unbounded,
-        handlers: &[&[], &[Action::Await(B), Action::Post(D, Expr::Sum)]],
+        handlers: &[&[], &[Does::Act(Action::Await(B)), Does::Act(Action::Post(D, Expr::Sum))]],
         kind: Kind::Interleave,
         branches: &[
             (Group::Exclusive, 1, Takes::One(A)),
@@ -520,7 +520,7 @@ pub const BUDGET_SHED: Case = Case {
     wired: Wired {
         budget: 3,
         policy: Policy::Unbounded,
-        handlers: &[&[Action::Post(A, Expr::Arg(0))]],
+        handlers: &[&[Does::Act(Action::Post(A, Expr::Arg(0)))]],
         kind: Kind::Receive,
         branches: &[(Group::Always, 0, Takes::One(A))],
         posts: &[(A, 5)],

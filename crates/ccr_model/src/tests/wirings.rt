@@ -10,12 +10,20 @@ pub enum Takes {
     Gather(u32, PortNo, PortNo),
 }
 
+/// What a handler does.
+#[derive(Clone, Copy)]
+pub enum Does {
+    /// Posts the value of this one number to the port.
+    PostNumber(PortNo, u64),
+    Act(Action),
+}
+
 /// A wiring whose lists are constants.
 #[derive(Clone, Copy)]
 pub struct Wired {
     pub budget: u32,
     pub policy: Policy,
-    pub handlers: &'static [&'static [Action]],
+    pub handlers: &'static [&'static [Does]],
     pub kind: Kind,
     pub branches: &'static [(Group, HandlerNo, Takes)],
     pub posts: &'static [(PortNo, u64)],
@@ -48,13 +56,28 @@ fn ports(alloc: Global) -> Result<List<Name>, Fail> {
     Ok(List::from_vec(names))
 }
 
-fn handlers(alloc: Global, rows: &[&[Action]]) -> Result<List<HandlerPart>, Fail> {
+fn action(does: Does) -> Action {
+    match does {
+        Does::PostNumber(port, number) => Action::Post(port, Expr::Number(Value::one(number))),
+        Does::Act(action) => action,
+    }
+}
+
+fn actions(alloc: Global, rows: &[Does]) -> Result<List<Action>, Fail> {
+    let mut actions = Vec::new(alloc);
+    for does in rows {
+        actions.push(action(*does))?;
+    }
+    Ok(List::from_vec(actions))
+}
+
+fn handlers(alloc: Global, rows: &[&[Does]]) -> Result<List<HandlerPart>, Fail> {
     let mut parts = Vec::new(alloc);
-    for (actions, name) in rows.iter().zip(HANDLER_NAMES) {
+    for (row, name) in rows.iter().zip(HANDLER_NAMES) {
         parts.push(HandlerPart {
             name: named(alloc, name)?,
             handler: Handler {
-                actions: copied(alloc, actions)?,
+                actions: actions(alloc, row)?,
             },
         })?;
     }
