@@ -1,1 +1,4 @@
+pub mod Chains
+pub mod Entries
+pub mod Lanes
 pub mod Replies

@@ -2,6 +2,9 @@
 #![tactic(auto)]
 
 mod claims;
+mod items;
+mod lane;
+mod links;
 mod port;
 
 pub use claims::Claimed;
