@@ -65,3 +65,14 @@ pub record IsLinkedLane (links : List Link) (first last : Option ℕ) (count : �
   pub chain : IsChain (behind_of (slice_get links) first) (before_of (slice_get links) last) (lane_keys links first count)
   pub long : length (lane_keys links first count) ≡ count
   pub low : list_all (λ key. nat_lt key (length links)) (lane_keys links first count) ≡ true
+
+-- the same predicates and keys, lane by lane; the rooms may differ
+abbrev pub AreSame : List LaneState → List LaneState → Type 0
+AreSame [] [] = ⊤
+AreSame [] (lane ∷ lanes) = ⊥
+AreSame (other ∷ others) [] = ⊥
+AreSame (other ∷ others) (lane ∷ lanes) = (lane.pred ≡ other.pred) × (lane.keys ≡ other.keys) × AreSame others lanes
+
+-- whether each lane has room for the key
+abbrev pub have_room : ℕ → List LaneState → Bool
+have_room key lanes = list_all (λ (lane : LaneState). nat_lt key lane.room) lanes

@@ -4,6 +4,7 @@
 mod claims;
 mod items;
 mod lane;
+mod lanes;
 mod links;
 mod port;
 

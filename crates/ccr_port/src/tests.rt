@@ -50,6 +50,20 @@ fn has_values(messages: &[Msg], values: &[u64]) -> bool {
             .all(|(message, value)| message.value == *value)
 }
 
+fn value_at(port: &PortObject, place: u32) -> Option<u64> {
+    let message = port.item(place)?;
+    Some(message.value)
+}
+
+fn holds_values(port: &PortObject, values: &[u64]) -> bool {
+    for place in 0..port.len() {
+        if value_at(port, place) != values.get(place as usize).copied() {
+            return false;
+        }
+    }
+    port.len() as usize == values.len() && value_at(port, port.len()).is_none()
+}
+
 fn got(reply: &Claimed, values: &[u64]) -> bool {
     match reply {
         Claimed::Got(messages) => has_values(messages.as_slice(), values),
@@ -69,18 +83,37 @@ fn rival_claims(rt: HostRuntime) -> Result<(), Fail> {
     let reply = claim(&rt, &mut port, RIVAL, slot(1, 1, Pred::Any));
     assert!(rt; matches!(reply, Claimed::Busy(FIRST)));
     post(&rt, alloc, &mut port, 20);
-    assert!(rt; has_values(port.items(), &[3, 12, 4, 15, 20]));
+    assert!(rt; holds_values(&port, &[3, 12, 4, 15, 20]));
     assert!(rt; !port.may_consume(RIVAL));
     assert!(rt; port.may_consume(FIRST));
     port.consume(FIRST);
-    assert!(rt; has_values(port.items(), &[3, 4, 20]));
+    assert!(rt; holds_values(&port, &[3, 4, 20]));
     let reply = claim(&rt, &mut port, RIVAL, slot(2, 2, Pred::Ge(10)));
     assert!(rt; matches!(reply, Claimed::Short(1)));
     let reply = claim(&rt, &mut port, RIVAL, slot(2, 2, Pred::Lt(9)));
     assert!(rt; got(&reply, &[3, 4]));
     assert!(rt; port.may_free(RIVAL));
     port.free(RIVAL);
-    assert!(rt; has_values(port.items(), &[3, 4, 20]));
+    assert!(rt; holds_values(&port, &[3, 4, 20]));
     assert_eq!(rt; port.claimed_by(), None);
     Ok(())
+}
+
+fn post_all(rt: &impl Abort, alloc: Global, port: &mut PortObject, count: u64) {
+    for value in 0..count {
+        post(rt, alloc, port, value);
+    }
+}
+
+#[test]
+fn takes_a_thousand_of_ten_thousand(rt: HostRuntime) {
+    let alloc = rt.alloc();
+    let mut port = PortObject::new(alloc, 2);
+    post_all(&rt, alloc, &mut port, 10_000);
+    let reply = claim(&rt, &mut port, FIRST, slot(1_000, 1_000, Pred::Ge(9_000)));
+    assert!(rt; matches!(reply, Claimed::Got(_)));
+    assert!(rt; port.may_consume(FIRST));
+    port.consume(FIRST);
+    assert_eq!(rt; port.len(), 9_000);
+    assert_eq!(rt; value_at(&port, 8_999), Some(8_999));
 }
