@@ -182,9 +182,10 @@ path-without f key p (k ∷ ks) apart has is = of_test (k == key) refl (λ later
         → IsPath (mended f (if b then p else point_before key (Some k) ks) (f (Some key))) p (if b then ks else k ∷ without_key key ks)
     of_test true same rest =
         carried (λ n. IsPath (mended f p (f (Some n))) p ks) k key (eq_is k key same) (path-cut f p k ks (both _ _ apart).0 is.1)
-    of_test false other rest =
-        (mended-else f (point_before key (Some k) ks) (f (Some key)) p (same_turned (point_before key (Some k) ks) p (off-before key p (Some k) ks (both _ _ apart).0)) ∙ is.0,
-        rest (has-rest key k ks other has))
+    of_test false other rest = (
+      mended-else f (point_before key (Some k) ks) (f (Some key)) p (same_turned (point_before key (Some k) ks) p (off-before key p (Some k) ks (both _ _ apart).0)) ∙ is.0,
+      rest (has-rest key k ks other has),
+    )
 
 back-off : (g : Option ℕ → Option ℕ) (a : ℕ) (v p : Option ℕ) (ks : List ℕ) → has_key a ks ≡ false → IsWayBack g p ks → IsWayBack (mended g (Some a) v) p ks
 back-off g a v p [] out is = is
@@ -195,9 +196,10 @@ back-off g a v p (k ∷ ks) out is =
 -- what stood behind the key is linked to what stood before it
 back-cut : (g : Option ℕ → Option ℕ) (p : Option ℕ) (key : ℕ) (ks : List ℕ) → are_apart ks ≡ true → g (Some key) ≡ p → IsWayBack g (Some key) ks → IsWayBack (mended g (slice_get ks 0) (g (Some key))) p ks
 back-cut g p key [] apart at is = at
-back-cut g p key (k ∷ ks) apart at is =
-    (mended-there g (Some k) (g (Some key)) (Some k) (eq_self k) ∙ at,
-    back-off g k (g (Some key)) (Some k) ks (not_true _ (both _ _ apart).0) is.1)
+back-cut g p key (k ∷ ks) apart at is = (
+  mended-there g (Some k) (g (Some key)) (Some k) (eq_self k) ∙ at,
+  back-off g k (g (Some key)) (Some k) ks (not_true _ (both _ _ apart).0) is.1,
+)
 
 off-behind : (key k : ℕ) (ks : List ℕ) → has_key k ks ≡ false → same_point (Some k) (point_behind key ks) ≡ false
 off-behind key k [] out = refl
@@ -206,6 +208,7 @@ off-behind key k (x ∷ ks) out = of_test (x == key) (off-behind key k ks (neith
     head : (ys : List ℕ) → has_key k ys ≡ false → same_point (Some k) (slice_get ys 0) ≡ false
     head [] none = refl
     head (y ∷ ys) none = eq_turned y k (neither _ _ none).0
+
     of_test : (b : Bool) → same_point (Some k) (point_behind key ks) ≡ false → same_point (Some k) (if b then slice_get ks 0 else point_behind key ks) ≡ false
     of_test true later = head ks (neither _ _ out).1
     of_test false later = later
@@ -219,9 +222,10 @@ back-without g key p (k ∷ ks) apart has is = of_test (k == key) refl (λ later
         → IsWayBack (mended g (if b then slice_get ks 0 else point_behind key ks) (g (Some key))) p (if b then ks else k ∷ without_key key ks)
     of_test true same rest =
         carried (λ n. IsWayBack (mended g (slice_get ks 0) (g (Some n))) p ks) k key (eq_is k key same) (back-cut g p k ks (both _ _ apart).1 is.0 is.1)
-    of_test false other rest =
-        (mended-else g (point_behind key ks) (g (Some key)) (Some k) (off-behind key k ks (not_true _ (both _ _ apart).0)) ∙ is.0,
-        rest (has-rest key k ks other has))
+    of_test false other rest = (
+      mended-else g (point_behind key ks) (g (Some key)) (Some k) (off-behind key k ks (not_true _ (both _ _ apart).0)) ∙ is.0,
+      rest (has-rest key k ks other has),
+    )
 
 has-without : (key a : ℕ) (ks : List ℕ) → has_key a ks ≡ false → has_key a (without_key key ks) ≡ false
 has-without key a [] out = refl
@@ -286,21 +290,24 @@ chain-gone f g f' g' gone ks is out path back = record {
 -- ---- a key comes
 
 path-more : (f : Option ℕ → Option ℕ) (key : ℕ) (p : Option ℕ) (ks : List ℕ) → same_point p (Some key) ≡ false → has_key key ks ≡ false → stand_apart p ks ≡ true → IsPath f p ks → IsPath (mended (mended f (last_point p ks) (Some key)) (Some key) None) p (ks ++ key ∷ [])
-path-more f key p [] off out apart is =
-    (mended-else (mended f p (Some key)) (Some key) None p off ∙ mended-there f p (Some key) p (same_self p),
-    mended-there (mended f p (Some key)) (Some key) None (Some key) (eq_self key))
+path-more f key p [] off out apart is = (
+  mended-else (mended f p (Some key)) (Some key) None p off ∙ mended-there f p (Some key) p (same_self p),
+  mended-there (mended f p (Some key)) (Some key) None (Some key) (eq_self key),
+)
 path-more f key p (k ∷ ks) off out apart is =
     let parts = both _ _ apart in
-    let l = last_point (Some k) ks in
-    (mended-else (mended f l (Some key)) (Some key) None p off ∙ mended-else f l (Some key) p (same_turned l p (off-last p (Some k) ks parts.0)) ∙ is.0,
-    path-more f key (Some k) ks (neither _ _ out).0 (neither _ _ out).1 parts.1 is.1)
+    let l = last_point (Some k) ks in (
+      mended-else (mended f l (Some key)) (Some key) None p off ∙ mended-else f l (Some key) p (same_turned l p (off-last p (Some k) ks parts.0)) ∙ is.0,
+      path-more f key (Some k) ks (neither _ _ out).0 (neither _ _ out).1 parts.1 is.1,
+    )
 
 back-more : (g : Option ℕ → Option ℕ) (key : ℕ) (v p : Option ℕ) (ks : List ℕ) → has_key key ks ≡ false → v ≡ last_point p ks → IsWayBack g p ks → IsWayBack (mended (mended g None (Some key)) (Some key) v) p (ks ++ key ∷ [])
 back-more g key v p [] out last is =
     (mended-there (mended g None (Some key)) (Some key) v (Some key) (eq_self key) ∙ last, refl)
-back-more g key v p (k ∷ ks) out last is =
-    (mended-else (mended g None (Some key)) (Some key) v (Some k) (neither _ _ out).0 ∙ is.0,
-    back-more g key v (Some k) ks (neither _ _ out).1 last is.1)
+back-more g key v p (k ∷ ks) out last is = (
+  mended-else (mended g None (Some key)) (Some key) v (Some k) (neither _ _ out).0 ∙ is.0,
+  back-more g key v (Some k) ks (neither _ _ out).1 last is.1,
+)
 
 has-more : (key a : ℕ) (ks : List ℕ) → (key == a) ≡ false → has_key a ks ≡ false → has_key a (ks ++ key ∷ []) ≡ false
 has-more key a [] other out = ap (λ b. b || false) other
@@ -333,6 +340,7 @@ off_the_last g key ks is out = ap (λ p. same_point p (Some key)) (last-is g Non
     from : (k : ℕ) (xs : List ℕ) → (k == key) ≡ false → has_key key xs ≡ false → same_point (last_point (Some k) xs) (Some key) ≡ false
     from k [] first rest = first
     from k (x ∷ xs) first rest = from x xs (neither _ _ rest).0 (neither _ _ rest).1
+
     from_start : (xs : List ℕ) → has_key key xs ≡ false → same_point (last_point None xs) (Some key) ≡ false
     from_start [] rest = refl
     from_start (x ∷ xs) rest = from x xs (neither _ _ rest).0 (neither _ _ rest).1

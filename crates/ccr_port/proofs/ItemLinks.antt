@@ -157,8 +157,8 @@ module _ (slab : Slab Entry) (first last : Option ℕ) (count : ℕ) (is : AreLi
       items-appended =
           leads_to slab2 first2 (Some key) (count + 1) (ks ++ key ∷ [])
           (chain-appended (link_at slab) (link_at slab1) (link_at slab2) first first2 last key
-            (λ k. ap (λ o. option_map (λ (entry : Entry). entry.link) o) (written_one k) ∙ mapped (k == key) (get slab k))
-            path back ks is.chain (absent key none))
+          (λ k. ap (λ o. option_map (λ (entry : Entry). entry.link) o) (written_one k) ∙ mapped (k == key) (get slab k))
+          path back ks is.chain (absent key none))
           (length-append ks (key ∷ []) ∙ omega (arith, is.long))
           (all-more (λ k. is_some (message_at slab2 k)) key ks (ap is_some here) (kept-off slab slab2 key others2 ks (absent key none) is.kept))
         where

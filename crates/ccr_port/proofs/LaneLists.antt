@@ -105,6 +105,7 @@ fits-has pred key message (e ∷ es) at holding = of_tests (e.0 == key) (holds p
     or_true : (b : Bool) → (b || true) ≡ true
     or_true true = refl
     or_true false = refl
+
     of_tests : (b c : Bool) → (e.0 == key) ≡ b → holds pred e.1.value ≡ c → (message_under key es ≡ Some message → has_key key (fitting_keys pred es) ≡ true) → has_key key (if c then e.0 ∷ fitting_keys pred es else fitting_keys pred es) ≡ true
     of_tests true true here fits rest = ap (λ b. b || has_key key (fitting_keys pred es)) here
     of_tests true false here fits rest =
@@ -203,12 +204,13 @@ module _ (es : List (ℕ × Msg)) (place key : ℕ) (stand : Stands es place key
   lane-next pred new message found same keys is =
       let one = some_same message stand.message (sym found ∙ stand.under apart) in
       let pred_is : new.pred ≡ pred = ap (λ (l : LaneState). l.pred) is ∙ entered-pred key message.value lane ∙ same in
-      let more : take (place + 1) es ≡ take place es ++ (key, message) ∷ [] = rw add-one (stand.front ∙ ap (λ m. take place es ++ (key, m) ∷ []) (sym one)) in
-      (pred_is,
-      ap (λ (l : LaneState). l.keys) is
-      ∙ lane-entered (take place es) key message lane (keys ∙ ap (λ p. fitting_keys p (take place es)) (sym same))
-      ∙ ap (λ p. fitting_keys p (take place es ++ (key, message) ∷ [])) (entered-pred key message.value lane ∙ same)
-      ∙ ap (fitting_keys pred) (sym more))
+      let more : take (place + 1) es ≡ take place es ++ (key, message) ∷ [] = rw add-one (stand.front ∙ ap (λ m. take place es ++ (key, m) ∷ []) (sym one)) in (
+        pred_is,
+        ap (λ (l : LaneState). l.keys) is
+            ∙ lane-entered (take place es) key message lane (keys ∙ ap (λ p. fitting_keys p (take place es)) (sym same))
+            ∙ ap (λ p. fitting_keys p (take place es ++ (key, message) ∷ [])) (entered-pred key message.value lane ∙ same)
+            ∙ ap (fitting_keys pred) (sym more),
+      )
 
 -- ---- messages that go, one key after another
 

@@ -23,6 +23,7 @@ swapped f a b v w q apart = of_tests (same_point q a) (same_point q b) refl refl
         points (Some k) None y at_x at_y = absurd (cc)
         points (Some k) (Some x) None at_x at_y = absurd (cc)
         points (Some k) (Some x) (Some y) at_x at_y = let e = eq_is k x at_x in let d = eq_is k y at_y in rw (← e, ← d) (eq_self k)
+
     of_tests : (s t : Bool) → same_point q a ≡ s → same_point q b ≡ t → (if same_point q a then w else (if same_point q b then v else f q)) ≡ (if same_point q b then v else (if same_point q a then w else f q))
     of_tests true true at_a at_b = absurd (let e = one_point a b at_a at_b in cc)
     of_tests true false at_a at_b = rw (at_a, at_b) refl

@@ -157,8 +157,10 @@ is_choice pred (suc n) (e ∷ es) apart = of_test (holds pred e.1.value) refl (i
   where
     parts : (not (has_key e.0 (keys_of es)) ≡ true) × (are_apart (keys_of es) ≡ true)
     parts = both _ _ apart
+
     out : (m : ℕ) → has_key e.0 (take m (fitting_keys pred es)) ≡ false
     out m = has-take e.0 m (fitting_keys pred es) (fits-absent pred e.0 es (not_true _ parts.0))
+
     of_test : (b : Bool) → holds pred e.1.value ≡ b → IsChoice pred n es → IsChoice pred (suc n) es → IsChoice pred (suc n) (e ∷ es)
     of_test true is fewer same = record {
       there = rw (is, eq_self e.0) (are_under-off e es _ (out n) ∙ fewer.there);
@@ -193,11 +195,14 @@ stands (e ∷ es) zero key is = from_key (some_same _ _ is)
   where
     some_same : (n m : ℕ) → Some n ≡ Some m → n ≡ m
     some_same n m same = cc
+
     take_none : take 0 (e ∷ es) ≡ []
     take_none = refl
+
     one : (xs : List (ℕ × Msg)) → take 1 (e ∷ xs) ≡ e ∷ []
     one [] = refl
     one (x ∷ xs) = refl
+
     from_key : e.0 ≡ key → Stands (e ∷ es) zero key
     from_key same = record {
       message = e.1;
@@ -222,8 +227,10 @@ stands (e ∷ es) (suc place) key is = later (stands es place key is)
         or_true : (b : Bool) → (b || true) ≡ true
         or_true true = refl
         or_true false = refl
+
         tails : are_apart (keys_of (e ∷ es)) ≡ true → are_apart (keys_of es) ≡ true
         tails apart = (both (not (has_key e.0 (keys_of es))) (are_apart (keys_of es)) apart).1
+
         other : are_apart (keys_of (e ∷ es)) ≡ true → (e.0 == key) ≡ false
         other apart = of_test (e.0 == key) refl
           where

@@ -58,6 +58,7 @@ marked-more es key message (Some mark) is = of_test (holds mark.standing.pred me
   where
     keys : List ℕ
     keys = fitting_keys mark.standing.pred es
+
     of_test : (b : Bool) → fitting_keys mark.standing.pred (es ++ (key, message) ∷ []) ≡ (if b then fitting_keys mark.standing.pred es ++ key ∷ [] else fitting_keys mark.standing.pred es)
         → (mark.keys.items ≡ take mark.standing.count (fitting_keys mark.standing.pred (es ++ (key, message) ∷ []))) × (mark.standing.count ≤ length (fitting_keys mark.standing.pred (es ++ (key, message) ∷ [])))
     of_test true more = rw more (is.0 ∙ sym (take_front mark.standing.count (fitting_keys mark.standing.pred es) key is.1), grind (arith, common_steps, is.1))
@@ -118,6 +119,9 @@ module _ (number : ℕ) (es : List (ℕ × Msg)) (task : TaskId) (slot : Slot) (
     pub short-step : state_of number es None ≡ after_claim (state_of number es None) task slot (claim_note (state_of number es None) slot)
     short-step = ap (after_claim (state_of number es None) task slot) short-note
 
+    pub short-after : state_of number es None ≡ after_claim (state_of number es None) task slot (ShortNote n)
+    short-after = refl
+
   module _ (enough : slot.least ≤ n) (apart : are_apart (keys_of es) ≡ true) (count : ℕ) (least_of : count ≡ min n slot.most) where
     marks : List ℕ
     marks = take count (fitting_keys slot.pred es)
@@ -151,6 +155,9 @@ module _ (number : ℕ) (es : List (ℕ × Msg)) (task : TaskId) (slot : Slot) (
       got-step =
           ap (λ k. state_of number es (Some (record { task = task; pred = slot.pred; count = k }))) (sym (ap length copies-are ∙ long))
           ∙ ap (after_claim (state_of number es None) task slot) got-note
+
+      pub got-after : state_of number es (Some (record { task = task; pred = slot.pred; count = count })) ≡ after_claim (state_of number es None) task slot (GotNote (length copies))
+      got-after = ap (λ k. state_of number es (Some (record { task = task; pred = slot.pred; count = k }))) (sym (ap length copies-are ∙ long))
 
     pub claimed : (lanes : List LaneState) (mark : Mark) → IsPort es lanes None → mark.standing.pred ≡ slot.pred → mark.standing.count ≡ count → mark.keys.items ≡ take count (fitting_keys slot.pred es) → IsPort es lanes (Some mark)
     claimed lanes mark is pred_is count_is keys_are =

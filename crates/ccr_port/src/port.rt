@@ -1,7 +1,8 @@
 //! The object of a port.
 
 ghost use Rattle.std.specs.Prelude.{◌≡◌, IsTrue, IfOk, IfErr, OnOk, OnErr, length, slice_get, option_copied};
-ghost use Rattle.ccr_places.specs.Ports.{start, claimant, may_post as can_post, may_claim as can_claim, may_consume as can_consume, may_free as can_free, claim_note, after_post, after_claim, after_consume, after_free};
+ghost use Rattle.ccr_places.specs.Ports.{start, claimant, may_post as can_post, may_claim as can_claim, may_consume as can_consume, may_free as can_free, claim_note, after_post, after_claim, after_consume, after_free, after, IsGiven};
+ghost use Rattle.ccr_places.specs.declared.notes.Note.TheVariants.{Post, Claim, Consume, Free};
 ghost use Rattle.ccr_port.specs.Replies.{claim_reply, reply_note};
 
 use crate::claims::{Claimed, Mark, copies_of, first_keys, item_at, take_marked};
@@ -64,7 +65,9 @@ impl PortObject {
     /// taken first.
     pub fn post(&mut self, message: Msg) -> Result<(), (OutOfMemory, Msg)>
         requires { IsTrue (can_post self.old message) }
-        ensures ok { OnOk result (self.new ≡ after_post self.old message) }
+        ensures state { OnOk result (self.new ≡ after_post self.old message) }
+        ensures given { OnOk result (IsGiven self.old (Post message)) }
+        ensures step { OnOk result (self.new ≡ after self.old (Post message)) }
         ensures err { OnErr result (self.new ≡ self.old) }
         ensures returned { IfErr result (λ refused. refused.1 ≡ message) }
     {
@@ -90,7 +93,9 @@ impl PortObject {
         requires { IsTrue (can_claim self.old task slot.now) }
         ensures reply { IfOk result (λ reply. reply ≡ claim_reply self.old slot.now) }
         ensures note { IfOk result (λ reply. reply_note reply ≡ claim_note self.old slot.now) }
-        ensures step { IfOk result (λ reply. self.new ≡ after_claim self.old task slot.now (claim_note self.old slot.now)) }
+        ensures state { IfOk result (λ reply. self.new ≡ after_claim self.old task slot.now (claim_note self.old slot.now)) }
+        ensures given { IfOk result (λ reply. IsGiven self.old (Claim task slot.now (reply_note reply))) }
+        ensures step { IfOk result (λ reply. self.new ≡ after self.old (Claim task slot.now (reply_note reply))) }
         ensures err { OnErr result (self.new ≡ self.old) }
     {
         if let Some(mark) = &self.claim {
@@ -126,7 +131,9 @@ impl PortObject {
     /// Takes the marked messages out and ends the claim. It takes no memory.
     pub fn consume(&mut self, task: TaskId)
         requires { IsTrue (can_consume self.old task) }
-        ensures { self.new ≡ after_consume self.old }
+        ensures state { self.new ≡ after_consume self.old }
+        ensures given { IsGiven self.old (Consume task) }
+        ensures step { self.new ≡ after self.old (Consume task) }
     {
         prove!(self.is_claimed_by(task));
         if let Some(mark) = self.claim.take() {
@@ -144,7 +151,9 @@ impl PortObject {
     /// Ends the claim; the messages stay as they are. It takes no memory.
     pub fn free(&mut self, task: TaskId)
         requires { IsTrue (can_free self.old task) }
-        ensures { self.new ≡ after_free self.old }
+        ensures state { self.new ≡ after_free self.old }
+        ensures given { IsGiven self.old (Free task) }
+        ensures step { self.new ≡ after self.old (Free task) }
     {
         prove!(self.is_claimed_by(task));
         self.claim = None;

@@ -24,5 +24,5 @@ loop-place-preserved c =
     let at = sym c.loop-place.invariant.here ∙ c.in-Some.is in
     let stand = stands c.args.items.now c.loop-place._place c.in-Some.here at in
     let next = lane-next c.args.items.now c.loop-place._place c.in-Some.here stand c.len-place-end.ensures.apart c.make_room.new.self c.args.pred c.enter.new.self c.message.result.now c.message.ensures
-        (c.in_ok-make_room.ensures.pred ∙ c.loop-place.invariant.pred) (c.in_ok-make_room.ensures.keys ∙ c.loop-place.invariant.keys) c.enter.ensures in
+    (c.in_ok-make_room.ensures.pred ∙ c.loop-place.invariant.pred) (c.in_ok-make_room.ensures.keys ∙ c.loop-place.invariant.keys) c.enter.ensures in
     record { here = c.behind-key.ensures c.loop-place._place at; pred = next.0; keys = next.1 }

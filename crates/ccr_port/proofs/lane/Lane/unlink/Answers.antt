@@ -20,7 +20,7 @@ invariant_of-self c =
 pub returns : goal.returns
 returns c =
     let keys = (lane-unlinked c.self.inside.links.items c.self.inside.first c.self.inside.last c.self.inside.count c.self.invariant c.args.key (rw (← c.self.view_is) at c.requires) c.index.result.now c.index.ensures
-        c.set_behind.new.links.items c.set_before.new.links.items c.set_behind.new.first c.set_before.new.last
-        c.set_behind.ensures.behind c.set_behind.ensures.before c.set_behind.ensures.room c.set_before.ensures.before c.set_before.ensures.behind c.set_before.ensures.room).keys in
+    c.set_behind.new.links.items c.set_before.new.links.items c.set_behind.new.first c.set_before.new.last
+    c.set_behind.ensures.behind c.set_behind.ensures.before c.set_behind.ensures.room c.set_before.ensures.before c.set_before.ensures.behind c.set_before.ensures.room).keys in
     let room = c.set_before.ensures.room ∙ c.set_behind.ensures.room in
     rw (← c.self.view_is, keys, room) refl

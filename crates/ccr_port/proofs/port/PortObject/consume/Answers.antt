@@ -18,9 +18,17 @@ invariant_of-self c = rw c.take.ensures.after
     (consumed c.self.inside.items c.self.inside.lanes.items c.in-Some.mark (marked (goal.at.invariant_of-self c).In-Some) c.take_marked.new.items c.take_marked.new.lanes.items c.take_marked.ensures.lanes
     (c.take_marked.ensures.rest ∙ ap (λ ks. without_entries ks c.self.inside.items) c.as_slice.ensures.value))
 
-pub returns-in-Some : goal.returns-in-Some
-returns-in-Some c =
+pub returns-in-Some-clause-state : goal.returns-in-Some-clause-state
+returns-in-Some-clause-state c =
     let claimed = sym c.take.ensures.value ∙ c.in-Some.is in
     let rest = c.take_marked.ensures.rest ∙ ap (λ ks. without_entries ks c.self.inside.items) c.as_slice.ensures.value in
-    let gone = marks-gone c.self.inside.items c.self.inside.lanes.items c.in-Some.mark (marked (goal.at.returns-in-Some c).In-Some) in
+    let gone = marks-gone c.self.inside.items c.self.inside.lanes.items c.in-Some.mark (marked (goal.at.returns-in-Some-clause-state c).In-Some) in
     rw (← c.self.view_is, claimed, c.take.ensures.after, rest, gone) refl
+
+pub returns-in-Some-clause-step : goal.returns-in-Some-clause-step
+returns-in-Some-clause-step c =
+    let claimed = sym c.take.ensures.value ∙ c.in-Some.is in
+    let rest = c.take_marked.ensures.rest ∙ ap (λ ks. without_entries ks c.self.inside.items) c.as_slice.ensures.value in
+    let gone = marks-gone c.self.inside.items c.self.inside.lanes.items c.in-Some.mark (marked (goal.at.returns-in-Some-clause-step c).In-Some) in
+    rw (← c.self.view_is, claimed, c.take.ensures.after, rest, gone) refl
+

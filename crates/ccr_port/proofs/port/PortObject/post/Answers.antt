@@ -42,5 +42,8 @@ invariant_of-self-2 c = rw c.enter_all.ensures
     (posted c.self.inside.items c.append.new.self c.self.inside.lanes.items c.make_room.new.lanes.items c.self.inside.claim c.in_ok-key.key c.args.message c.self.invariant c.make_room.ensures.same c.in_ok-key.ensures.fresh
     (few_posted c.self.inside.items c.args.self.now c.args.message (ap (λ (port : PortState). port.items) (sym c.self.view_is)) c.requires) c.in_ok-key.ensures.ok)
 
-pub returns-clause-ok : goal.returns-clause-ok
-returns-clause-ok c = rw (← c.self.view_is, c.in_ok-key.ensures.ok, messages-more c.in_ok-key.key c.args.message c.self.inside.items) refl
+pub returns-clause-state : goal.returns-clause-state
+returns-clause-state c = rw (← c.self.view_is, c.in_ok-key.ensures.ok, messages-more c.in_ok-key.key c.args.message c.self.inside.items) refl
+
+pub returns-clause-step : goal.returns-clause-step
+returns-clause-step c = rw (← c.self.view_is, c.in_ok-key.ensures.ok, messages-more c.in_ok-key.key c.args.message c.self.inside.items) refl
