@@ -179,7 +179,7 @@ is-at es (l ∷ lanes) (suc n) lane are at = is-at es lanes n lane are.1 at
 
 -- ---- a lane that is made
 
-entered-pred : (key value : ℕ) (lane : LaneState) → (entered key value lane).pred ≡ lane.pred
+entered-pred : (key : ℕ) (value : List ℕ) (lane : LaneState) → (entered key value lane).pred ≡ lane.pred
 entered-pred key value lane = of_test (holds lane.pred value)
   where
     of_test : (b : Bool) → (if b then appended key lane else lane).pred ≡ lane.pred

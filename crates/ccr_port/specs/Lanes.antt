@@ -33,7 +33,7 @@ abbrev pub can_enter : ℕ → LaneState → Bool
 can_enter key lane = nat_lt key lane.room && (not (has_key key lane.keys) && nat_lt (length lane.keys + 1) (2 ^ 32))
 
 -- whether the key is in the lane, where the value satisfies its predicate
-abbrev pub can_leave : ℕ → ℕ → LaneState → Bool
+abbrev pub can_leave : ℕ → List ℕ → LaneState → Bool
 can_leave key value lane = not (holds lane.pred value) || has_key key lane.keys
 
 -- the key stands last
@@ -45,11 +45,11 @@ abbrev pub unlinked : ℕ → LaneState → LaneState
 unlinked key lane = record lane { keys = without_key key lane.keys }
 
 -- the key stands last, where the value satisfies the predicate
-abbrev pub entered : ℕ → ℕ → LaneState → LaneState
+abbrev pub entered : ℕ → List ℕ → LaneState → LaneState
 entered key value lane = if holds lane.pred value then appended key lane else lane
 
 -- the key is gone, where the value satisfies the predicate
-abbrev pub left : ℕ → ℕ → LaneState → LaneState
+abbrev pub left : ℕ → List ℕ → LaneState → LaneState
 left key value lane = if holds lane.pred value then unlinked key lane else lane
 
 -- whether the point is below the number, where it is a key

@@ -120,7 +120,7 @@ impl Lane {
         requires { IsTrue (can_enter key self.old) }
         ensures { self.new ≡ entered key value self.old }
     {
-        if self.pred.holds(value) {
+        if self.pred.holds(&value) {
             self.append(key);
         }
     }
@@ -130,7 +130,7 @@ impl Lane {
         requires { IsTrue (can_leave key value self.old) }
         ensures { self.new ≡ left key value self.old }
     {
-        if self.pred.holds(value) {
+        if self.pred.holds(&value) {
             self.unlink(key);
         }
     }

@@ -1,5 +1,5 @@
 use super::*;
-use ccr_base::{List, Msg, MsgId, Pred, Slot, TaskId};
+use ccr_base::{List, Msg, MsgId, Pred, Slot, TaskId, Value};
 use std::alloc::Global;
 use std::process::Abort;
 use std::test::*;
@@ -30,7 +30,7 @@ fn post(rt: &impl Abort, alloc: Global, port: &mut PortObject, value: u64) {
             place: port.len(),
         },
         port: 2,
-        value,
+        value: Value::one(value),
         causes: List::new(alloc),
     };
     assert!(rt; port.may_post(&message));
@@ -47,21 +47,23 @@ fn has_values(messages: &[Msg], values: &[u64]) -> bool {
         && messages
             .iter()
             .zip(values)
-            .all(|(message, value)| message.value == *value)
+            .all(|(message, value)| message.value == Value::one(*value))
 }
 
-fn value_at(port: &PortObject, place: u32) -> Option<u64> {
-    let message = port.item(place)?;
-    Some(message.value)
+fn has_value(port: &PortObject, place: u32, value: u64) -> bool {
+    match port.item(place) {
+        Some(message) => message.value == Value::one(value),
+        None => false,
+    }
 }
 
 fn holds_values(port: &PortObject, values: &[u64]) -> bool {
-    for place in 0..port.len() {
-        if value_at(port, place) != values.get(place as usize).copied() {
+    for (place, value) in values.iter().enumerate() {
+        if !has_value(port, place as u32, *value) {
             return false;
         }
     }
-    port.len() as usize == values.len() && value_at(port, port.len()).is_none()
+    port.len() as usize == values.len() && port.item(port.len()).is_none()
 }
 
 fn got(reply: &Claimed, values: &[u64]) -> bool {
@@ -115,5 +117,5 @@ fn takes_a_thousand_of_ten_thousand(rt: HostRuntime) {
     assert!(rt; port.may_consume(FIRST));
     port.consume(FIRST);
     assert_eq!(rt; port.len(), 9_000);
-    assert_eq!(rt; value_at(&port, 8_999), Some(8_999));
+    assert!(rt; has_value(&port, 8_999, 8_999));
 }
