@@ -1,2 +1,7 @@
-pub mod Taking
-pub mod Choosing
+pub mod Chains
+pub mod Linking
+pub mod LaneLinks
+pub mod ItemLinks
+pub mod Listing
+pub mod LaneLists
+pub mod PortSteps

@@ -1,1 +1,5 @@
+pub mod Chains
+pub mod Entries
+pub mod Lanes
+pub mod Marks
 pub mod Replies

@@ -1,10 +1,14 @@
 //! What a claim answers, and how its messages are found, copied and taken out.
 
-ghost use Rattle.std.specs.Prelude.{◌≡◌, ◌^◌, ◌<◌, ◌≤◌, length, slice_get, option_copied, IfOk};
-ghost use Rattle.ccr_base.specs.Choice.{choice, fitting, messages_at};
-ghost use Rattle.ccr_places.specs.Ports.{without_first};
+ghost use Rattle.std.specs.Prelude.{◌≡◌, ◌^◌, ◌<◌, ◌≤◌, IsTrue, IfOk, length, take, slice_get, option_copied};
+ghost use Rattle.ccr_port.specs.Entries.{are_under, can_take, messages_of, messages_under, without_entries};
+ghost use Rattle.ccr_port.specs.Lanes.{AreLanes};
 
-use ccr_base::{List, Msg, OutOfMemory, Pred, Slot, TaskId, choose};
+use crate::items::Items;
+use crate::lane::Lane;
+use crate::lanes::leave_all;
+use ccr_base::{List, Msg, OutOfMemory, TaskId};
+use ccr_places::StandingClaim;
 use std::alloc::Global;
 
 /// What a claim met: copies of the messages that are now marked, the task whose claim stands, or how many messages fit
@@ -16,71 +20,69 @@ pub enum Claimed {
     Short(u32),
 }
 
-/// How many of the messages satisfy the predicate.
-pub fn count_fitting(items: &[Msg], pred: &Pred) -> u32
-    requires { length items.now < 2 ^ 32 }
-    ensures { result ≡ length (fitting pred.now items.now) }
-{
-    let mut count = 0;
-    for message in items {
-        if pred.holds(message.value) {
-            count += 1;
-        }
-    }
-    count
+/// The claim that stands, with the keys of the messages that it marks.
+#[derive(Debug, Drop)]
+pub(crate) struct Mark {
+    pub standing: StandingClaim,
+    pub keys: Vec<usize>,
 }
 
-/// Copies of the messages that the slot takes; none where too few fit.
-pub fn copy_choice(
+/// The first keys of the lane.
+pub(crate) fn first_keys(alloc: Global, lane: &Lane, most: u32) -> Result<Vec<usize>, OutOfMemory>
+    requires { most ≤ length lane.now.keys }
+    ensures { IfOk result (λ keys. keys.items ≡ take most lane.now.keys) }
+{
+    let mut keys = Vec::new(alloc);
+    let mut key = lane.first();
+    for _place in 0..most {
+        let Some(here) = key else { unreachable!() };
+        keys.push(here)?;
+        key = lane.behind(here);
+    }
+    Ok(keys)
+}
+
+/// Copies of the messages under the keys.
+pub(crate) fn copies_of(
     alloc: Global,
-    items: &[Msg],
-    slot: &Slot,
-) -> Result<Option<List<Msg>>, OutOfMemory>
-    requires ordered { slot.now.least ≤ slot.now.most }
-    requires fits { length items.now < 2 ^ 32 }
-    ensures { IfOk result (λ found. found ≡ choice slot.now items.now) }
-{
-    match choose(alloc, items, slot)? {
-        Some(places) => Ok(Some(copy_at(alloc, items, places.as_slice())?)),
-        None => Ok(None),
-    }
-}
-
-/// Copies of the messages at the places.
-fn copy_at(alloc: Global, items: &[Msg], places: &[u32]) -> Result<List<Msg>, OutOfMemory>
-    ensures { IfOk result (λ copies. copies ≡ messages_at items.now places.now) }
+    items: &Items,
+    keys: &[usize],
+) -> Result<List<Msg>, OutOfMemory>
+    requires { IsTrue (are_under keys.now items.now) }
+    ensures { IfOk result (λ copies. copies ≡ messages_under keys.now items.now) }
 {
     let mut copies = Vec::new(alloc);
-    for place in places {
-        if let Some(message) = message_at(items, *place) {
-            copies.push(message.copy(alloc)?)?;
-        }
+    for key in keys {
+        copies.push(items.message(*key).copy(alloc)?)?;
     }
     Ok(List::from_vec(copies))
 }
 
-/// The message at the place; none past the last.
-pub fn message_at(items: &[Msg], place: u32) -> Option<&Msg>
-    ensures { option_copied result ≡ slice_get items.now place }
+/// Takes the messages under the keys out, and the keys out of the lanes. It takes no memory.
+pub(crate) fn take_marked(items: &mut Items, lanes: &mut Vec<Lane>, keys: &[usize])
+    requires there { IsTrue (can_take keys.now items.old) }
+    requires lanes { AreLanes items.old lanes.old.items }
+    ensures rest { items.new ≡ without_entries keys.now items.old }
+    ensures lanes { AreLanes items.new lanes.new.items }
 {
-    items.get(place as usize)
+    for key in keys {
+        let message = items.take(*key);
+        leave_all(lanes, *key, message.value);
+    }
 }
 
-/// Takes out the first `count` messages that satisfy the predicate; the others close up.
-pub fn take_out(items: &mut Vec<Msg>, pred: &Pred, count: u32)
-    ensures rest { items.new.items ≡ without_first count pred.now items.old.items }
-    ensures fewer { length items.new.items ≤ length items.old.items }
+/// The message at the place, from 0 for the oldest; none past the last.
+pub(crate) fn item_at(items: &Items, place: u32) -> Option<&Msg>
+    ensures { option_copied result ≡ slice_get (messages_of items.now) place }
 {
-    let mut left = count;
-    let mut end = 0;
-    for place in 0..items.len() {
-        let fits = pred.holds(items[place].value);
-        if fits && left > 0 {
-            left -= 1;
-        } else {
-            items.swap(end, place);
-            end += 1;
-        }
+    if place >= items.len() {
+        return None;
     }
-    items.truncate(end);
+    let mut key = items.first();
+    for _before in 0..place {
+        let Some(here) = key else { unreachable!() };
+        key = items.behind(here);
+    }
+    let Some(here) = key else { unreachable!() };
+    Some(items.message(here))
 }

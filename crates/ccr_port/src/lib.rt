@@ -2,6 +2,10 @@
 #![tactic(auto)]
 
 mod claims;
+mod items;
+mod lane;
+mod lanes;
+mod links;
 mod port;
 
 pub use claims::Claimed;

@@ -1,33 +1,43 @@
 //! The object of a port.
 
 ghost use Rattle.std.specs.Prelude.{◌≡◌, IsTrue, IfOk, IfErr, OnOk, OnErr, length, slice_get, option_copied};
-ghost use Rattle.ccr_places.specs.Ports.{start, claimant, may_post as can_post, may_claim as can_claim, may_consume as can_consume, may_free as can_free, claim_note, after_post, after_claim, after_consume, after_free};
+ghost use Rattle.ccr_places.specs.Ports.{start, claimant, may_post as can_post, may_claim as can_claim, may_consume as can_consume, may_free as can_free, claim_note, after_post, after_claim, after_consume, after_free, after, IsGiven};
+ghost use Rattle.ccr_places.specs.declared.notes.Note.TheVariants.{Post, Claim, Consume, Free};
 ghost use Rattle.ccr_port.specs.Replies.{claim_reply, reply_note};
 
-use crate::claims::{Claimed, copy_choice, count_fitting, message_at, take_out};
+use crate::claims::{Claimed, Mark, copies_of, first_keys, item_at, take_marked};
+use crate::items::Items;
+use crate::lane::Lane;
+use crate::lanes::{enter_all, lane_for, make_room};
 use ccr_base::{Msg, OutOfMemory, PortNo, Slot, TaskId};
 use ccr_places::StandingClaim;
-use std::alloc::{AllocFailed, Global};
+use std::alloc::Global;
 use std::marker::Model;
 
-/// The messages of a port, oldest first, and the claim that stands.
+/// The messages of a port, oldest first, a lane for each predicate that a claim has named, and the claim that stands.
 #[derive(Debug, Drop)]
 pub struct PortObject {
     alloc: Global,
     number: PortNo,
-    items: Vec<Msg>,
-    claim: Option<StandingClaim>,
+    items: Items,
+    lanes: Vec<Lane>,
+    claim: Option<Mark>,
 }
 
 impl Model for PortObject {
-    ghost use Rattle.std.specs.Prelude.{◌^◌, ◌<◌, length};
     ghost use Rattle.ccr_places.specs.Ports.{PortState};
+    ghost use Rattle.ccr_port.specs.Entries.{messages_of};
+    ghost use Rattle.ccr_port.specs.Marks.{IsPort, standing_claim};
 
     ghost Value = { PortState };
 
-    ghost view = { λ port. record { number = port.number; items = port.items.items; claim = port.claim } };
+    ghost view = { λ port. record {
+      number = port.number;
+      items = messages_of port.items;
+      claim = standing_claim port.claim;
+    } };
 
-    ghost invariant = { λ port. length port.items.items < 2 ^ 32 };
+    ghost invariant = { λ port. IsPort port.items port.lanes.items port.claim };
 }
 
 impl PortObject {
@@ -38,7 +48,8 @@ impl PortObject {
         PortObject {
             alloc,
             number,
-            items: Vec::new(alloc),
+            items: Items::new(alloc),
+            lanes: Vec::new(alloc),
             claim: None,
         }
     }
@@ -47,20 +58,26 @@ impl PortObject {
     pub fn may_post(&self, message: &Msg) -> bool
         ensures { result ≡ can_post self.now message.now }
     {
-        message.port == self.number && self.items.len() < u32::MAX as usize
+        message.port == self.number && self.items.len() < u32::MAX
     }
 
-    /// Puts the message last, or hands it back.
+    /// Puts the message last, and its key into the lanes whose predicate it satisfies; or hands it back. All memory is
+    /// taken first.
     pub fn post(&mut self, message: Msg) -> Result<(), (OutOfMemory, Msg)>
         requires { IsTrue (can_post self.old message) }
-        ensures ok { OnOk result (self.new ≡ after_post self.old message) }
+        ensures state { OnOk result (self.new ≡ after_post self.old message) }
+        ensures given { OnOk result (IsGiven self.old (Post message)) }
+        ensures step { OnOk result (self.new ≡ after self.old (Post message)) }
         ensures err { OnErr result (self.new ≡ self.old) }
         ensures returned { IfErr result (λ refused. refused.1 ≡ message) }
     {
-        match self.items.push(message) {
-            Ok(()) => Ok(()),
-            Err(AllocFailed { value }) => Err((OutOfMemory, value)),
+        let value = message.value;
+        let key = self.items.append(message)?;
+        if make_room(&mut self.lanes, key).is_err() {
+            return Err((OutOfMemory, self.items.take(key)));
         }
+        enter_all(&mut self.lanes, key, value);
+        Ok(())
     }
 
     /// Whether the slot is of this port and in order, and the task has no claim here.
@@ -70,25 +87,36 @@ impl PortObject {
         slot.port == self.number && slot.least <= slot.most && !self.is_claimed_by(task)
     }
 
-    /// Marks the choice of the slot for the task, where no claim stands and there is a choice.
+    /// Marks the choice of the slot for the task, where no claim stands and there is a choice. The first claim of a
+    /// predicate makes its lane. All memory is taken first.
     pub fn claim(&mut self, task: TaskId, slot: &Slot) -> Result<Claimed, OutOfMemory>
         requires { IsTrue (can_claim self.old task slot.now) }
         ensures reply { IfOk result (λ reply. reply ≡ claim_reply self.old slot.now) }
         ensures note { IfOk result (λ reply. reply_note reply ≡ claim_note self.old slot.now) }
-        ensures step { IfOk result (λ reply. self.new ≡ after_claim self.old task slot.now (claim_note self.old slot.now)) }
+        ensures state { IfOk result (λ reply. self.new ≡ after_claim self.old task slot.now (claim_note self.old slot.now)) }
+        ensures given { IfOk result (λ reply. IsGiven self.old (Claim task slot.now (reply_note reply))) }
+        ensures step { IfOk result (λ reply. self.new ≡ after self.old (Claim task slot.now (reply_note reply))) }
         ensures err { OnErr result (self.new ≡ self.old) }
     {
-        if let Some(standing) = &self.claim {
-            return Ok(Claimed::Busy(standing.task));
+        if let Some(mark) = &self.claim {
+            return Ok(Claimed::Busy(mark.standing.task));
         }
-        let count = count_fitting(&self.items, &slot.pred);
-        let Some(copies) = copy_choice(self.alloc, &self.items, slot)? else {
-            return Ok(Claimed::Short(count));
-        };
-        self.claim = Some(StandingClaim {
-            task,
-            pred: slot.pred,
-            count: count.min(slot.most),
+        let number = lane_for(self.alloc, &self.items, &mut self.lanes, slot.pred)?;
+        let lane = &self.lanes[number];
+        let fitting = lane.len();
+        if fitting < slot.least {
+            return Ok(Claimed::Short(fitting));
+        }
+        let count = fitting.min(slot.most);
+        let keys = first_keys(self.alloc, lane, count)?;
+        let copies = copies_of(self.alloc, &self.items, keys.as_slice())?;
+        self.claim = Some(Mark {
+            standing: StandingClaim {
+                task,
+                pred: slot.pred,
+                count,
+            },
+            keys,
         });
         Ok(Claimed::Got(copies))
     }
@@ -103,11 +131,13 @@ impl PortObject {
     /// Takes the marked messages out and ends the claim. It takes no memory.
     pub fn consume(&mut self, task: TaskId)
         requires { IsTrue (can_consume self.old task) }
-        ensures { self.new ≡ after_consume self.old }
+        ensures state { self.new ≡ after_consume self.old }
+        ensures given { IsGiven self.old (Consume task) }
+        ensures step { self.new ≡ after self.old (Consume task) }
     {
         prove!(self.is_claimed_by(task));
-        if let Some(claim) = self.claim.take() {
-            take_out(&mut self.items, &claim.pred, claim.count);
+        if let Some(mark) = self.claim.take() {
+            take_marked(&mut self.items, &mut self.lanes, mark.keys.as_slice());
         }
     }
 
@@ -121,45 +151,40 @@ impl PortObject {
     /// Ends the claim; the messages stay as they are. It takes no memory.
     pub fn free(&mut self, task: TaskId)
         requires { IsTrue (can_free self.old task) }
-        ensures { self.new ≡ after_free self.old }
+        ensures state { self.new ≡ after_free self.old }
+        ensures given { IsGiven self.old (Free task) }
+        ensures step { self.new ≡ after self.old (Free task) }
     {
         prove!(self.is_claimed_by(task));
         self.claim = None;
-    }
-
-    /// The messages, oldest first.
-    pub fn items(&self) -> &[Msg]
-        ensures { result.now ≡ self.now.items }
-    {
-        &self.items
     }
 
     /// The message at the place, from 0 for the oldest; none past the last.
     pub fn item(&self, place: u32) -> Option<&Msg>
         ensures { option_copied result ≡ slice_get self.now.items place }
     {
-        message_at(&self.items, place)
+        item_at(&self.items, place)
     }
 
     /// How many messages the port holds.
     pub fn len(&self) -> u32
         ensures { result ≡ length self.now.items }
     {
-        self.items.len() as u32
+        self.items.len()
     }
 
     /// The task whose claim stands.
     pub fn claimed_by(&self) -> Option<TaskId>
         ensures { result ≡ claimant self.now }
     {
-        self.claim.as_ref().map(|claim| claim.task)
+        self.claim.as_ref().map(|mark| mark.standing.task)
     }
 
     fn is_claimed_by(&self, task: TaskId) -> bool
         ensures { result ≡ can_consume self.now task }
     {
         match &self.claim {
-            Some(claim) => task == claim.task,
+            Some(mark) => task == mark.standing.task,
             None => false,
         }
     }

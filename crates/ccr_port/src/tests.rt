@@ -1,5 +1,5 @@
 use super::*;
-use ccr_base::{List, Msg, MsgId, Pred, Slot, TaskId};
+use ccr_base::{List, Msg, MsgId, Pred, Slot, TaskId, Value};
 use std::alloc::Global;
 use std::process::Abort;
 use std::test::*;
@@ -30,7 +30,7 @@ fn post(rt: &impl Abort, alloc: Global, port: &mut PortObject, value: u64) {
             place: port.len(),
         },
         port: 2,
-        value,
+        value: Value::one(value),
         causes: List::new(alloc),
     };
     assert!(rt; port.may_post(&message));
@@ -47,7 +47,23 @@ fn has_values(messages: &[Msg], values: &[u64]) -> bool {
         && messages
             .iter()
             .zip(values)
-            .all(|(message, value)| message.value == *value)
+            .all(|(message, value)| message.value == Value::one(*value))
+}
+
+fn has_value(port: &PortObject, place: u32, value: u64) -> bool {
+    match port.item(place) {
+        Some(message) => message.value == Value::one(value),
+        None => false,
+    }
+}
+
+fn holds_values(port: &PortObject, values: &[u64]) -> bool {
+    for (place, value) in values.iter().enumerate() {
+        if !has_value(port, place as u32, *value) {
+            return false;
+        }
+    }
+    port.len() as usize == values.len() && port.item(port.len()).is_none()
 }
 
 fn got(reply: &Claimed, values: &[u64]) -> bool {
@@ -69,18 +85,37 @@ fn rival_claims(rt: HostRuntime) -> Result<(), Fail> {
     let reply = claim(&rt, &mut port, RIVAL, slot(1, 1, Pred::Any));
     assert!(rt; matches!(reply, Claimed::Busy(FIRST)));
     post(&rt, alloc, &mut port, 20);
-    assert!(rt; has_values(port.items(), &[3, 12, 4, 15, 20]));
+    assert!(rt; holds_values(&port, &[3, 12, 4, 15, 20]));
     assert!(rt; !port.may_consume(RIVAL));
     assert!(rt; port.may_consume(FIRST));
     port.consume(FIRST);
-    assert!(rt; has_values(port.items(), &[3, 4, 20]));
+    assert!(rt; holds_values(&port, &[3, 4, 20]));
     let reply = claim(&rt, &mut port, RIVAL, slot(2, 2, Pred::Ge(10)));
     assert!(rt; matches!(reply, Claimed::Short(1)));
     let reply = claim(&rt, &mut port, RIVAL, slot(2, 2, Pred::Lt(9)));
     assert!(rt; got(&reply, &[3, 4]));
     assert!(rt; port.may_free(RIVAL));
     port.free(RIVAL);
-    assert!(rt; has_values(port.items(), &[3, 4, 20]));
+    assert!(rt; holds_values(&port, &[3, 4, 20]));
     assert_eq!(rt; port.claimed_by(), None);
     Ok(())
+}
+
+fn post_all(rt: &impl Abort, alloc: Global, port: &mut PortObject, count: u64) {
+    for value in 0..count {
+        post(rt, alloc, port, value);
+    }
+}
+
+#[test]
+fn takes_a_thousand_of_ten_thousand(rt: HostRuntime) {
+    let alloc = rt.alloc();
+    let mut port = PortObject::new(alloc, 2);
+    post_all(&rt, alloc, &mut port, 10_000);
+    let reply = claim(&rt, &mut port, FIRST, slot(1_000, 1_000, Pred::Ge(9_000)));
+    assert!(rt; matches!(reply, Claimed::Got(_)));
+    assert!(rt; port.may_consume(FIRST));
+    port.consume(FIRST);
+    assert_eq!(rt; port.len(), 9_000);
+    assert!(rt; has_value(&port, 8_999, 8_999));
 }
