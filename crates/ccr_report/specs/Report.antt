@@ -10,7 +10,7 @@ use Rattle.ccr_model.specs.Posts.{posted, held}
 use Rattle.ccr_model.specs.Firings.{fired_at}
 use Rattle.ccr_model.specs.Counts.{totals}
 use Rattle.ccr_text.specs.Spelling.{text_of}
-use Rattle.ccr_trace.specs.Words.{branch_names, spot_word}
+use Rattle.ccr_spots.specs.Words.{branch_names, spot_word}
 use Rattle.ccr_report.specs.Counting.{taken_at, put_at, dropped_at}
 
 abbrev pub port_words : List Event → ℕ → List ℕ → List (List ℕ)

@@ -9,8 +9,8 @@ use crate::spots::{count_at, firings_at};
 use crate::tables::{port_counts, queue_counts};
 use ccr_base::{List, Name, OutOfMemory, Spot};
 use ccr_model::{Event, History, Totals};
+use ccr_spots::{branch_names, spot_text};
 use ccr_text::{put_bytes, put_line, put_number};
-use ccr_trace::{branch_names, spot_text};
 use ccr_wiring::{Parts, Wiring};
 use std::alloc::Global;
 

@@ -5,10 +5,11 @@ ghost use Rattle.ccr_text.specs.Spelling.{line_text};
 ghost use Rattle.ccr_trace.specs.Words.{task_word, message_word, spot_word, name_at, branch_names, cause_names};
 ghost use Rattle.ccr_trace.specs.HistoryText.{behind, cut_words, dropped_words, end_words, event_words};
 
-use crate::names::{cause_name, name_at};
+use crate::names::cause_name;
 use crate::words::{put_message, put_number_word, put_spot, put_task, put_word};
 use ccr_base::{CauseNo, List, Msg, MsgId, Name, OutOfMemory, Spot, TaskId};
 use ccr_model::{EndHow, Event};
+use ccr_spots::name_at;
 use ccr_text::put_bytes;
 use ccr_wiring::{CausePart, Parts};
 

@@ -17,10 +17,8 @@ mod words;
 mod writing;
 
 pub use laws::{lines_are_read_exactly, what_is_read_is_written, what_is_written_is_read};
-pub use names::branch_names;
 pub use reading::{ReadHistory, read_history};
 pub use refused::HistoryRefused;
-pub use words::spot_text;
 pub use writing::write_history;
 
 #[cfg(test)]

@@ -1,46 +1,10 @@
 //! The names that lines refer to by number.
 
-ghost use Rattle.std.specs.Prelude.{◌≡◌, ◌++◌, OnOk, IfOk, map};
-ghost use Rattle.ccr_trace.specs.Words.{branch_names, branch_names_of, cause_names, name_at};
+ghost use Rattle.std.specs.Prelude.{◌≡◌, map};
+ghost use Rattle.ccr_trace.specs.Words.{name_at};
 
-use ccr_base::{CauseNo, List, Name, OutOfMemory};
-use ccr_wiring::{ArbiterPart, CausePart, Parts};
-use std::alloc::Global;
-
-/// The names of the branches, which are numbered through all arbiters.
-pub fn branch_names(alloc: Global, parts: &Parts) -> Result<List<Name>, OutOfMemory>
-    ensures { IfOk result (λ names. names ≡ branch_names parts.now) }
-{
-    let mut names = List::new(alloc);
-    for arbiter in parts.arbiters.as_slice() {
-        add_branch_names(alloc, &mut names, arbiter)?;
-    }
-    Ok(names)
-}
-
-fn add_branch_names(
-    alloc: Global,
-    names: &mut List<Name>,
-    arbiter: &ArbiterPart,
-) -> Result<(), OutOfMemory>
-    ensures { OnOk result (names.new ≡ names.old ++ branch_names_of arbiter.now) }
-{
-    for part in arbiter.branches.as_slice() {
-        let name = part.name.copy(alloc)?;
-        names.push(name).map_err(|refused| refused.0)?;
-    }
-    Ok(())
-}
-
-/// The name at the number, or no byte.
-pub fn name_at(names: &[Name], number: u32) -> &[u8]
-    ensures { result.now ≡ name_at names.now number }
-{
-    match names.get(number as usize) {
-        Some(name) => name.as_slice(),
-        None => &[],
-    }
-}
+use ccr_base::CauseNo;
+use ccr_wiring::CausePart;
 
 /// The name of the cause of this number, or no byte.
 pub fn cause_name(causes: &[CausePart], number: CauseNo) -> &[u8]

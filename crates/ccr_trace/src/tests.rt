@@ -146,17 +146,3 @@ end t1.0 shed
     assert_eq!(rt; text.as_slice(), wanted);
     Ok(())
 }
-
-#[test]
-fn names(rt: HostRuntime) -> Result<(), Fail> {
-    let wiring = wiring(rt.alloc())?;
-    let branches = branch_names(rt.alloc(), wiring.parts())
-        .ok()
-        .ok_or("memory")?;
-    assert_eq!(rt; branches.as_slice().len(), 1);
-    let word = spot_text(rt.alloc(), branches.as_slice(), Spot::Site(0, 2))
-        .ok()
-        .ok_or("memory")?;
-    assert_eq!(rt; word.as_slice(), b"x@2".as_slice());
-    Ok(())
-}

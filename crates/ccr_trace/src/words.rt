@@ -1,12 +1,11 @@
 //! One more word at the end of a line, behind a space.
 
-ghost use Rattle.std.specs.Prelude.{◌≡◌, ◌++◌, ◌∷◌, IfOk, OnOk, decimal};
+ghost use Rattle.std.specs.Prelude.{◌≡◌, ◌++◌, ◌∷◌, OnOk, decimal};
 ghost use Rattle.ccr_trace.specs.Words.{task_word, message_word, spot_word};
 
-use crate::names::name_at;
 use ccr_base::{List, MsgId, Name, OutOfMemory, Spot, TaskId};
+use ccr_spots::put_spot_word;
 use ccr_text::{put_bytes, put_number};
-use std::alloc::Global;
 
 pub fn put_word(out: &mut List<u8>, word: &[u8]) -> Result<(), OutOfMemory>
     ensures { OnOk result (out.new ≡ out.old ++ 32 ∷ word.now) }
@@ -49,31 +48,10 @@ pub fn put_message(out: &mut List<u8>, message: MsgId) -> Result<(), OutOfMemory
     }
 }
 
-/// The word for the spot: its branch's name, or NAME@K for the branch's site K. `branches` are the names of all branches.
-pub fn spot_text(alloc: Global, branches: &[Name], spot: Spot) -> Result<List<u8>, OutOfMemory>
-    ensures { IfOk result (λ word. word ≡ spot_word branches.now spot) }
-{
-    let mut word = List::new(alloc);
-    put_spot_word(&mut word, branches, spot)?;
-    Ok(word)
-}
-
+/// The word for the spot. `branches` are the names of all branches.
 pub(crate) fn put_spot(out: &mut List<u8>, branches: &[Name], spot: Spot) -> Result<(), OutOfMemory>
     ensures { OnOk result (out.new ≡ out.old ++ 32 ∷ spot_word branches.now spot) }
 {
     put_bytes(out, b" ")?;
     put_spot_word(out, branches, spot)
-}
-
-fn put_spot_word(out: &mut List<u8>, branches: &[Name], spot: Spot) -> Result<(), OutOfMemory>
-    ensures { OnOk result (out.new ≡ out.old ++ spot_word branches.now spot) }
-{
-    match spot {
-        Spot::Branch(branch) => put_bytes(out, name_at(branches, branch)),
-        Spot::Site(branch, site) => {
-            put_bytes(out, name_at(branches, branch))?;
-            put_bytes(out, b"@")?;
-            put_number(out, u64::from(site))
-        }
-    }
 }

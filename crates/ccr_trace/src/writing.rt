@@ -4,9 +4,9 @@ ghost use Rattle.std.specs.Prelude.{◌≡◌, IfOk};
 ghost use Rattle.ccr_trace.specs.HistoryText.{history_text};
 
 use crate::events::put_event;
-use crate::names::branch_names;
 use ccr_base::{List, OutOfMemory};
 use ccr_model::History;
+use ccr_spots::branch_names;
 use ccr_text::put_bytes;
 use ccr_wiring::Wiring;
 use std::alloc::Global;

@@ -15,7 +15,7 @@ use std::alloc::Global;
 use std::marker::Model;
 
 /// The name of the port. The others are likewise.
-fn port_name(parts: &Parts, port: PortNo) -> &[u8]
+pub fn port_name(parts: &Parts, port: PortNo) -> &[u8]
     ensures { result.now ≡ port_name parts.now port }
 {
     match parts.ports.as_slice().get(port as usize) {
@@ -24,7 +24,7 @@ fn port_name(parts: &Parts, port: PortNo) -> &[u8]
     }
 }
 
-fn queue_name(parts: &Parts, queue: QueueNo) -> &[u8]
+pub fn queue_name(parts: &Parts, queue: QueueNo) -> &[u8]
     ensures { result.now ≡ queue_name parts.now queue }
 {
     match parts.queues.as_slice().get(queue as usize) {
@@ -33,7 +33,7 @@ fn queue_name(parts: &Parts, queue: QueueNo) -> &[u8]
     }
 }
 
-fn cause_name(parts: &Parts, cause: CauseNo) -> &[u8]
+pub fn cause_name(parts: &Parts, cause: CauseNo) -> &[u8]
     ensures { result.now ≡ cause_name parts.now cause }
 {
     match parts.causes.as_slice().get(cause as usize) {
@@ -42,7 +42,7 @@ fn cause_name(parts: &Parts, cause: CauseNo) -> &[u8]
     }
 }
 
-fn handler_name(parts: &Parts, handler: HandlerNo) -> &[u8]
+pub fn handler_name(parts: &Parts, handler: HandlerNo) -> &[u8]
     ensures { result.now ≡ handler_name parts.now handler }
 {
     match parts.handlers.as_slice().get(handler as usize) {
@@ -183,7 +183,7 @@ impl LineWords {
         Ok(())
     }
 
-    fn pattern(&mut self, parts: &Parts, pattern: &Pattern) -> Result<(), OutOfMemory>
+    pub fn pattern(&mut self, parts: &Parts, pattern: &Pattern) -> Result<(), OutOfMemory>
         ensures words { OnOk result (self.new ≡ self.old ++ pattern_words parts.now pattern.now) }
         ensures valued { OnOk result (IsPatternValued pattern.now) }
     {

@@ -43,7 +43,7 @@ fn put_line(out: &mut Text, words: &[Name]) -> Result<(), OutOfMemory>
 }
 
 /// What follows the first word of a line, up to its LF.
-fn put_spaced(out: &mut Text, words: &[Name]) -> Result<(), OutOfMemory>
+pub fn put_spaced(out: &mut Text, words: &[Name]) -> Result<(), OutOfMemory>
     ensures { OnOk result (out.new.items ≡ out.old.items ++ flat_map (λ word. 32 ∷ word) words.now) }
 {
     for word in words {

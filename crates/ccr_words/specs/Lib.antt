@@ -1,0 +1,5 @@
+pub mod Parts
+pub mod Table
+pub mod Said
+pub mod Parsing
+pub mod Clap

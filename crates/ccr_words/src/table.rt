@@ -1,0 +1,147 @@
+//! The table of the words, with the options that each may have.
+
+ghost use Rattle.std.specs.Prelude.{◌≡◌, ◌≤◌, IfSome, option_map};
+ghost use Rattle.std.specs.List.{list_all};
+ghost use Rattle.std.specs.Char.{is_ascii_digit};
+ghost use Rattle.ccr_words.specs.Table.{is_number, number, number_or, check_request, run_request, verify_request, load_request, request_of, IsSized};
+
+use crate::requests::{Command, Request};
+
+fn has_only_digits(text: &str) -> bool
+    ensures { result ≡ list_all is_ascii_digit text.now }
+{
+    text.bytes().all(|b| b.is_ascii_digit())
+}
+
+/// Decimal digits, and at least one.
+fn is_number(text: &str) -> bool
+    ensures { result ≡ is_number text.now }
+{
+    !text.is_empty() && has_only_digits(text)
+}
+
+/// A number of decimal digits between two bounds.
+fn number(text: &str, low: u32, high: u32) -> Option<u32>
+    ensures number { result ≡ number low high text.now }
+    ensures within { IfSome result (λ n. (low ≤ n) × (n ≤ high)) }
+{
+    if !is_number(text) {
+        return None;
+    }
+    match text.parse::<u32>() {
+        Ok(n) => { if low <= n && n <= high { Some(n) } else { None } }
+        Err(_) => None,
+    }
+}
+
+fn number_or(text: Option<&str>, default: u32, low: u32, high: u32) -> Option<u32>
+    ensures number { result ≡ number_or default low high (option_map (λ t. t.now) text.entry) }
+    ensures within { low ≤ default → default ≤ high → IfSome result (λ n. (low ≤ n) × (n ≤ high)) }
+{
+    match text {
+        Some(text) => number(text, low, high),
+        None => Some(default),
+    }
+}
+
+fn check_request(
+    workers: Option<&str>,
+    size: Option<&str>,
+    schedule: bool,
+    json: bool,
+) -> Option<Request>
+    ensures request { result ≡ check_request (option_map (λ t. t.now) workers.entry) (option_map (λ t. t.now) size.entry) schedule json }
+    ensures sized { IfSome result IsSized }
+{
+    if workers.is_some() || size.is_some() || schedule {
+        return None;
+    }
+    Some(Request::Read {
+        command: Command::Check,
+        json,
+    })
+}
+
+fn run_request(
+    workers: Option<&str>,
+    size: Option<&str>,
+    schedule: bool,
+    json: bool,
+) -> Option<Request>
+    ensures request { result ≡ run_request (option_map (λ t. t.now) workers.entry) (option_map (λ t. t.now) size.entry) schedule json }
+    ensures sized { IfSome result IsSized }
+{
+    if size.is_some() || schedule {
+        return None;
+    }
+    match number_or(workers, 0, 0, 0) {
+        Some(_) => Some(Request::Read {
+            command: Command::Run,
+            json,
+        }),
+        None => None,
+    }
+}
+
+fn verify_request(
+    workers: Option<&str>,
+    size: Option<&str>,
+    schedule: bool,
+    json: bool,
+) -> Option<Request>
+    ensures request { result ≡ verify_request (option_map (λ t. t.now) workers.entry) (option_map (λ t. t.now) size.entry) schedule json }
+    ensures sized { IfSome result IsSized }
+{
+    if workers.is_some() || size.is_some() || schedule || json {
+        return None;
+    }
+    Some(Request::Read {
+        command: Command::Verify,
+        json: false,
+    })
+}
+
+fn load_request(
+    workers: Option<&str>,
+    size: Option<&str>,
+    schedule: bool,
+    json: bool,
+) -> Option<Request>
+    ensures request { result ≡ load_request (option_map (λ t. t.now) workers.entry) (option_map (λ t. t.now) size.entry) schedule json }
+    ensures sized { IfSome result IsSized }
+{
+    if schedule {
+        return None;
+    }
+    match (
+        number_or(workers, 0, 0, 0),
+        number_or(size, 1000, 1, 10_000),
+    ) {
+        (Some(_), Some(size)) => Some(Request::Load { size, json }),
+        _ => None,
+    }
+}
+
+/// The word of the table, with the options that it may have.
+pub fn request_of(
+    word: &str,
+    workers: Option<&str>,
+    size: Option<&str>,
+    schedule: bool,
+    json: bool,
+) -> Option<Request>
+    ensures request { result ≡ request_of word.now (option_map (λ t. t.now) workers.entry) (option_map (λ t. t.now) size.entry) schedule json }
+    ensures sized { IfSome result IsSized }
+{
+    if word == "check" {
+        check_request(workers, size, schedule, json)
+    } else if word == "run" {
+        run_request(workers, size, schedule, json)
+    } else if word == "verify" {
+        verify_request(workers, size, schedule, json)
+    } else if word == "load" {
+        load_request(workers, size, schedule, json)
+    } else {
+        None
+    }
+}

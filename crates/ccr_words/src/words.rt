@@ -1,0 +1,44 @@
+//! What the words ask for.
+
+ghost use Rattle.std.specs.Prelude.{◌≡◌, IfOk, IfSome};
+ghost use Rattle.ccr_words.specs.Parts.{Given};
+ghost use Rattle.ccr_words.specs.Table.{meaning, IsSized};
+ghost use Rattle.ccr_words.specs.Said.{said};
+ghost use Rattle.ccr_words.specs.Parsing.{HasGiven};
+
+use crate::parsing::{matches_of, texts_of};
+use crate::requests::Request;
+use crate::table::request_of;
+use ccr_base::{Name, OutOfMemory};
+use clap::ArgMatches;
+use std::alloc::Global;
+
+/// What the matches ask for.
+fn request_of_matches(matches: &ArgMatches) -> Option<Request>
+    ensures request { (given : Given) → HasGiven matches.now given → result ≡ meaning given }
+    ensures sized { IfSome result IsSized }
+{
+    let workers = matches.get_str("workers");
+    let size = matches.get_str("size");
+    let schedule = matches.get_flag("schedule");
+    let json = matches.get_flag("json");
+    match matches.get_str("word") {
+        Some(word) => request_of(word, workers, size, schedule, json),
+        None => None,
+    }
+}
+
+/// What the words behind the program's name ask for; none where they aren't of the form (docs/FORMATS.md, "Words").
+#[tactic(auto, using(crate::proofs::Same::same_said))]
+pub fn read_words(alloc: Global, words: &[Name]) -> Result<Option<Request>, OutOfMemory>
+    ensures said { IfOk result (λ request. request ≡ said words.now) }
+    ensures sized { IfOk result (λ request. IfSome request IsSized) }
+{
+    match texts_of(alloc, words)? {
+        Some(texts) => match matches_of(alloc, texts.as_slice())? {
+            Some(matches) => Ok(request_of_matches(&matches)),
+            None => Ok(None),
+        },
+        None => Ok(None),
+    }
+}
