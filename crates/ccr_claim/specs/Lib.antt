@@ -1,0 +1,5 @@
+pub mod Asks
+pub mod Plans
+pub mod Attempts
+pub mod Firings
+pub mod Inside
