@@ -3,3 +3,4 @@ pub mod Plans
 pub mod Attempts
 pub mod Firings
 pub mod Inside
+pub mod Settling
