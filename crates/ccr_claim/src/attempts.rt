@@ -8,11 +8,11 @@ ghost use Rattle.ccr_claim.specs.Asks.{fits, may_come};
 ghost use Rattle.ccr_claim.specs.Attempts.{begun, next, sent, replied, given_up, port_of, IsAfter, IsAfterReply};
 
 use crate::firing::{Firing, ready};
-use crate::hand::{claim, completion, release, resumes, unanswered_by};
+use crate::hand::{claim, completion, release, resumes, stage_due, unanswered_by};
 use crate::outcomes::{Next, Outcome, Why};
 use crate::slots::{in_order, next_slot};
 use crate::stages::{Stage, Unanswered};
-use crate::{Ask, Asked, ClaimPlan, Had, Reply};
+use crate::{Ask, Asked, ClaimPlan, Due, Had, Reply};
 use ccr_base::{Cut, List, Msg, OutOfMemory, Place, PortNo, Slot, Task, TaskId};
 use std::alloc::Global;
 use std::collections::VecDeque;
@@ -125,11 +125,23 @@ impl Attempt {
         }
     }
 
+    /// Which replies the unanswered ask may have; none where there is none.
+    pub fn due(&self) -> Due
+        ensures { result ≡ self.now.due }
+    {
+        match self.unanswered {
+            Unanswered::Nothing => Due::Nothing,
+            Unanswered::Ask => stage_due(self.stage, Unanswered::Ask, &self.left),
+            Unanswered::Put => stage_due(self.stage, Unanswered::Put, &self.left),
+        }
+    }
+
     /// Takes in the answer to the ask that was made last. Where the attempt finds no memory for what is next, it is
     /// given up.
     pub fn got(&mut self, reply: Result<Reply, OutOfMemory>)
         requires { IsTrue (may_come self.old.due reply) }
-        ensures { IsAfter self.old reply self.new }
+        ensures after { IsAfter self.old reply self.new }
+        ensures quiet { self.new.due ≡ dues.Nothing }
     {
         match reply {
             Err(_) => {
@@ -142,7 +154,8 @@ impl Attempt {
 
     fn take_in(&mut self, reply: Reply)
         requires { IsTrue (fits self.old.due reply) }
-        ensures { IsAfterReply self.old reply self.new }
+        ensures after { IsAfterReply self.old reply self.new }
+        ensures quiet { self.new.due ≡ dues.Nothing }
     {
         let _ = &self.stage;
         match reply {

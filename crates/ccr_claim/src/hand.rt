@@ -1,16 +1,15 @@
 //! The asks of an attempt.
 
-ghost use Rattle.std.specs.Prelude.{◌≡◌, reverse, IfSome, List};
-ghost use Rattle.ccr_claim.specs.declared.plan.Had.{Had as HadOne};
+ghost use Rattle.std.specs.Prelude.{◌≡◌, reverse, IfSome};
 ghost use Rattle.ccr_claim.specs.Asks.{due_of};
 ghost use Rattle.ccr_claim.specs.Attempts.{claim_ask};
 ghost use Rattle.ccr_claim.specs.Firings.{ready_of};
-ghost use Rattle.ccr_claim.specs.Inside.{IsFirst, completing, releasing, unanswered_by, hand_due};
+ghost use Rattle.ccr_claim.specs.Inside.{IsFirst, completing, releasing, unanswered_by, hand_due, stage_due};
 ghost use Rattle.ccr_claim.specs.Plans.{commit_place, resumes};
 
 use crate::firing::Firing;
-use crate::stages::Unanswered;
-use crate::{Ask, Asked, ClaimPlan, Had};
+use crate::stages::{Stage, Unanswered};
+use crate::{Ask, Asked, ClaimPlan, Due, Had};
 use ccr_base::{Cut, Place, QueueNo, Slot, Spot, Task, TaskId};
 use std::collections::VecDeque;
 
@@ -114,5 +113,23 @@ pub fn unanswered_by(ask: &Ask) -> Unanswered
     match ask {
         Ask::Put(_) => Unanswered::Put,
         _ => Unanswered::Ask,
+    }
+}
+
+/// Which replies an ask in this stage may have. The next slot stands last.
+pub fn stage_due(stage: Stage, waiting: Unanswered, left: &[Slot]) -> Due
+    ensures { result ≡ stage_due stage (reverse left.now) waiting }
+{
+    match stage {
+        Stage::Booking => Due::Booking,
+        Stage::Claiming => match left.last() {
+            Some(slot) => Due::Claim(*slot),
+            None => Due::Commit,
+        },
+        Stage::Fired { .. } | Stage::GaveUp(_) => match waiting {
+            Unanswered::Nothing => Due::Nothing,
+            Unanswered::Ask => Due::Settled,
+            Unanswered::Put => Due::Put,
+        },
     }
 }

@@ -11,9 +11,12 @@ mod plan;
 mod slots;
 mod stages;
 
-pub use asks::{Ask, Asked, Due, Reply, due_of, settles};
+pub use asks::{Ask, Asked, Due, Reply, due_of, fits, may_come, settles};
 pub use attempts::Attempt;
 pub use ccr_places::{ClaimNote, Note};
 pub use laws::{attempts_settle, attempts_stop};
 pub use outcomes::{Next, Outcome, Why};
 pub use plan::{ClaimPlan, Had};
+
+#[cfg(test)]
+mod tests;
