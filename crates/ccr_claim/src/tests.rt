@@ -64,7 +64,7 @@ fn message(alloc: Global, port: u32, place: u32) -> Msg {
     Msg {
         id: MsgId::Script { actor: 0, place },
         port,
-        value: Value::from(place),
+        value: Value::one(u64::from(place)),
         causes: List::new(alloc),
     }
 }
