@@ -1,0 +1,2 @@
+pub mod Settled
+mod Worked

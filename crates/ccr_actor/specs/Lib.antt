@@ -1,0 +1,4 @@
+pub mod Plans
+pub mod Actors
+pub mod Hands
+pub mod Nets

@@ -1,0 +1,23 @@
+-- Lists of an actor's steps at a net: which are proper, and which ask may follow.
+use Rattle.std.specs.Prelude.{◌≡◌, ℕ, ◌+◌, Bool, true, false, nat_le, List, [], ◌∷◌, ◌++◌, length, map, Option, Some, None}
+use Rattle.ccr_wiring.specs.declared.parts.Parts.{Parts}
+use Rattle.ccr_claim.specs.declared.asks.Asked.{Asked}
+use Rattle.ccr_claim.specs.declared.asks.Reply.{Reply}
+use Rattle.ccr_actor.specs.Actors.{State, asked, next}
+
+-- a step: an ask, and what it was replied
+pub record Step : Type 0 where
+  pub asked : Asked
+  pub reply : Reply
+
+abbrev pub replies_of : List Step → List Reply
+replies_of steps = map (λ (step : Step). step.reply) steps
+
+-- each step behind the past ones is what the actor asks next, if it found no memory after so many steps in all
+abbrev pub AreNext : Parts → ℕ → Option ℕ → List Reply → List Step → Type 0
+AreNext wiring actor lack given [] = Unit {0}
+AreNext wiring actor lack given (step ∷ steps) = (next wiring actor lack given ≡ Some step.asked) × AreNext wiring actor lack (given ++ step.reply ∷ []) steps
+
+-- each step is what the actor asks next, and so is this one; from some step on it may be short
+abbrev pub IsProper : Parts → ℕ → List Step → Asked → Type 0
+IsProper wiring actor steps one = (lack : Option ℕ) × AreNext wiring actor lack [] steps × (next wiring actor lack (replies_of steps) ≡ Some one)

@@ -1,0 +1,69 @@
+-- What the wiring says of attempts: their plans, and the spots to drive.
+use Rattle.std.specs.Prelude.{ℕ, Bool, true, false, ◌==◌, List, [], ◌∷◌, filter}
+use Rattle.std.specs.List.{slice_get, list_any}
+use Rattle.std.specs.Option.{option_map_or}
+use Rattle.ccr_base.specs.declared.names.Spot.{Spot}
+use Rattle.ccr_base.specs.declared.names.Spot.TheVariants.{Branch, Site}
+use Rattle.ccr_base.specs.declared.patterns.Pattern.{Pattern}
+use Rattle.ccr_base.specs.declared.patterns.Pattern.TheVariants.{Slots}
+use Rattle.ccr_base.specs.declared.policies.Policy.{Policy}
+use Rattle.ccr_base.specs.declared.policies.Policy.TheVariants.{Throttle}
+use Rattle.ccr_wiring.specs.declared.parts.ArbiterPart.{ArbiterPart}
+use Rattle.ccr_wiring.specs.declared.parts.Kind.{Kind}
+use Rattle.ccr_wiring.specs.declared.parts.Kind.TheVariants as kinds
+use Rattle.ccr_wiring.specs.declared.parts.Parts.{Parts}
+use Rattle.ccr_wiring.specs.Wirings.{Seat, seat, site_port, spots, branch_of}
+use Rattle.ccr_claim.specs.declared.plan.ClaimPlan.{ClaimPlan}
+use Rattle.ccr_claim.specs.Plans.{any_slot, ports_in}
+
+-- the one message that a site takes
+abbrev pub one_of : ℕ → Pattern
+one_of port = Slots (any_slot port 1 1 ∷ [])
+
+-- a pattern that takes nothing
+abbrev pub no_pattern : Pattern
+no_pattern = Slots []
+
+-- what a firing at the spot takes
+abbrev pub pattern_at : Parts → Spot → Pattern
+pattern_at wiring (Branch branch) = option_map_or (λ (s : Seat). s.branch.pattern) (seat wiring branch) no_pattern
+pattern_at wiring (Site branch site) = option_map_or one_of (site_port wiring branch site) no_pattern
+
+-- the queue of the spot's branch
+abbrev pub queue_at : Parts → Spot → ℕ
+queue_at wiring spot = option_map_or (λ (s : Seat). s.branch.queue) (seat wiring (branch_of spot)) 0
+
+-- the domain of the spot's branch
+abbrev pub arbiter_at : Parts → Spot → ℕ
+arbiter_at wiring spot = option_map_or (λ (s : Seat). s.arbiter) (seat wiring (branch_of spot)) 0
+
+-- the plan of attempts on the spot
+abbrev pub plan_of : Parts → Spot → ClaimPlan
+plan_of wiring spot = record { spot = spot; pattern = pattern_at wiring spot; queue = queue_at wiring spot; arbiter = arbiter_at wiring spot }
+
+-- whether a firing at the spot takes messages of the port
+abbrev pub names_port : Parts → ℕ → Spot → Bool
+names_port wiring port spot = list_any (λ other. other == port) (ports_in (pattern_at wiring spot))
+
+-- the spots that name the port
+abbrev pub spots_at : Parts → ℕ → List Spot
+spots_at wiring port = filter (names_port wiring port) (spots wiring)
+
+-- whether the spot is a branch of the queue
+abbrev pub is_for : Parts → ℕ → Spot → Bool
+is_for wiring queue (Branch branch) = option_map_or (λ (s : Seat). s.branch.queue == queue) (seat wiring branch) false
+is_for wiring queue (Site branch site) = false
+
+-- the branches of a throttle queue
+abbrev pub throttled : Parts → ℕ → Policy → List Spot
+throttled wiring queue (Throttle n) = filter (is_for wiring queue) (spots wiring)
+throttled wiring queue _ = []
+
+abbrev pub is_interleave : Kind → Bool
+is_interleave kinds.Receive = false
+is_interleave kinds.Choice = false
+is_interleave kinds.Interleave = true
+
+-- whether the domain of this number is of Interleaves: so is the arbiter of its number, the least of the domain
+abbrev pub is_interleave_number : Parts → ℕ → Bool
+is_interleave_number wiring arbiter = option_map_or (λ (part : ArbiterPart). is_interleave part.kind) (slice_get wiring.arbiters arbiter) false

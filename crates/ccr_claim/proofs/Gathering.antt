@@ -1,0 +1,45 @@
+-- One more message gathered, and one more slot.
+use Rattle.std.proofs.Common.{◌≡◌, ℕ, ◌+◌, ◌<◌, List, [], ◌∷◌, ◌++◌, map, length, take, get_or, refl, ap, sym, ◌∙◌, arith}
+use Rattle.std.specs.List.{flat_map}
+use Rattle.std.proofs.lemmas.List.{map-append, append-nil, append_assoc, take_more}
+use Rattle.ccr_base.specs.declared.messages.Msg.{Msg}
+use Rattle.ccr_base.specs.declared.patterns.Slot.{Slot}
+use Rattle.ccr_cause.specs.Causes.{with_cause, union}
+use Rattle.ccr_claim.specs.declared.plan.Had.{Had}
+use Rattle.ccr_claim.specs.declared.firing.Gathered.{Gathered}
+use Rattle.ccr_claim.specs.Firings.{IsOf}
+use Rattle.ccr_claim.specs.Plans.{had_at, in_slots, names_of, values_of, causes_of}
+
+-- causes are joined from left to right
+pub union-append : (a b c : List ℕ) → union a (b ++ c) ≡ union (union a b) c
+union-append a [] c = refl
+union-append a (x ∷ b) c = union-append (with_cause a x) b c
+
+-- of one more list
+pub flat-push : {A : Type 0} {B : Type 0} (f : A → List B) → (xs : List A) (x : A) → flat_map f (xs ++ x ∷ []) ≡ flat_map f xs ++ f x
+flat-push f [] x = append-nil (f x)
+flat-push f (y ∷ xs) x = ap (λ ys. f y ++ ys) (flat-push f xs x) ∙ (rw append_assoc refl)
+
+-- the causes of one more message
+pub causes-push : (messages : List Msg) (m : Msg) → causes_of (messages ++ m ∷ []) ≡ union (causes_of messages) m.causes
+causes-push messages m = ap (union []) (flat-push (λ (m : Msg). m.causes) messages m) ∙ union-append [] (flat_map (λ (m : Msg). m.causes) messages) m.causes
+
+pub names-push : (messages : List Msg) (m : Msg) → names_of (messages ++ m ∷ []) ≡ names_of messages ++ m.id ∷ []
+names-push messages m = map-append (λ (m : Msg). m.id) messages (m ∷ [])
+
+pub values-push : (messages : List Msg) (m : Msg) → values_of (messages ++ m ∷ []) ≡ values_of messages ++ m.value ∷ []
+values-push messages m = map-append (λ (m : Msg). m.value) messages (m ∷ [])
+
+-- what one more slot's port gave
+pub slots-push : (slots : List Slot) (s : Slot) (had : List Had) → in_slots (slots ++ s ∷ []) had ≡ in_slots slots had ++ had_at had s.port
+slots-push slots s had = flat-push (λ (s : Slot). had_at had s.port) slots s
+
+-- the next message is gathered
+pub one_more : (before messages : List Msg) (i : ℕ) (x : Msg) (all new : Gathered) → i < length messages → x ≡ get_or messages i x → IsOf (before ++ take i messages) all → new.names.items ≡ all.names.items ++ x.id ∷ [] → new.values.items ≡ all.values.items ++ x.value ∷ [] → new.causes ≡ union all.causes x.causes → IsOf (before ++ take (i + 1) messages) new
+one_more before messages i x all new less at is names values causes =
+    let e : before ++ take (i + 1) messages ≡ (before ++ take i messages) ++ x ∷ [] = ap (λ ms. before ++ ms) (take_more messages i x less ∙ ap (λ y. take i messages ++ y ∷ []) (sym at)) ∙ sym (append_assoc before (take i messages) (x ∷ [])) in
+    rw e (record {
+      names = names ∙ ap (λ ys. ys ++ x.id ∷ []) is.names ∙ sym (names-push (before ++ take i messages) x);
+      values = values ∙ ap (λ ys. ys ++ x.value ∷ []) is.values ∙ sym (values-push (before ++ take i messages) x);
+      causes = causes ∙ ap (λ cs. union cs x.causes) is.causes ∙ sym (causes-push (before ++ take i messages) x);
+    })

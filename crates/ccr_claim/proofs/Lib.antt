@@ -1,0 +1,4 @@
+pub mod Gathering
+pub mod Replies
+pub mod Sorting
+pub mod Settled

@@ -1,0 +1,6 @@
+pub mod Asks
+pub mod Plans
+pub mod Attempts
+pub mod Firings
+pub mod Inside
+pub mod Settling

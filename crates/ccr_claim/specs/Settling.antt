@@ -1,0 +1,119 @@
+-- The asks of an attempt with their answers, and what they settle.
+use Rattle.std.specs.Prelude.{ℕ, Bool, true, false, List, [], ◌∷◌, ◌++◌, length, map, filter, flat_map, take, drop, reverse, nat_le, Option, Some, None, Ok, Err, if◌then◌else◌}
+use Rattle.std.specs.Bool.{IsTrue}
+use Rattle.ccr_base.specs.declared.names.Place.{Place}
+use Rattle.ccr_base.specs.declared.names.TaskId.{TaskId}
+use Rattle.ccr_base.specs.declared.tasks.Cut.{Cut}
+use Rattle.ccr_base.specs.declared.tasks.Task.{Task}
+use Rattle.ccr_claim.specs.declared.asks.Ask.TheVariants as asks
+use Rattle.ccr_claim.specs.declared.asks.Asked.{Asked}
+use Rattle.ccr_claim.specs.declared.asks.Reply.TheVariants as replies
+use Rattle.ccr_claim.specs.declared.outcomes.Next.{Next}
+use Rattle.ccr_claim.specs.declared.outcomes.Next.TheVariants as nexts
+use Rattle.ccr_claim.specs.declared.plan.ClaimPlan.{ClaimPlan}
+use Rattle.ccr_claim.specs.Asks.{Answer, is_settling, may_come}
+use Rattle.ccr_claim.specs.Attempts.{AttemptState, at_place, begun, next, sent, after, after_all, in_want, cut_ask, put_asks}
+
+-- an ask with its answer
+pub record Step : Type 0 where
+  pub asked : Asked
+  pub answer : Answer
+
+-- the ask, where it is one
+abbrev pub asked_in : Next → List Asked
+asked_in (nexts.Ask place ask) = at_place place ask ∷ []
+asked_in (nexts.Ended outcome) = []
+
+-- the step that this answer completes
+abbrev pub step_of : AttemptState → Answer → List Step
+step_of state answer = map (λ (asked : Asked). record { asked = asked; answer = answer }) (asked_in (next state))
+
+-- the steps that these answers complete
+abbrev pub steps_from : AttemptState → List Answer → List Step
+steps_from state [] = []
+steps_from state (answer ∷ answers) = step_of state answer ++ steps_from (after state answer) answers
+
+-- each answer is one that its ask may have
+abbrev pub MayFollow : AttemptState → List Answer → Type 0
+MayFollow state [] = Unit {0}
+MayFollow state (answer ∷ answers) = IsTrue (may_come (sent state).due answer) × MayFollow (after state answer) answers
+
+-- the attempt that found no memory after so many answers
+abbrev pub wanting : ClaimPlan → TaskId → ℕ → List Answer → AttemptState
+wanting plan task n answers = in_want (after_all (begun plan task) (take n answers))
+
+-- the steps of the attempt, if it found no memory after so many of them
+abbrev pub steps : ClaimPlan → TaskId → Option ℕ → List Answer → List Step
+steps plan task None answers = steps_from (begun plan task) answers
+steps plan task (Some n) answers = if nat_le n (length answers) then steps_from (begun plan task) (take n answers) ++ steps_from (wanting plan task n answers) (drop n answers) else steps_from (begun plan task) answers
+
+abbrev pub AreSplit : Bool → ClaimPlan → TaskId → ℕ → List Answer → Type 0
+AreSplit true plan task n answers = MayFollow (begun plan task) (take n answers) × MayFollow (wanting plan task n answers) (drop n answers)
+AreSplit false plan task n answers = MayFollow (begun plan task) answers
+
+-- its answers are such as its asks may have
+abbrev pub AreAnswers : ClaimPlan → TaskId → Option ℕ → List Answer → Type 0
+AreAnswers plan task None answers = MayFollow (begun plan task) answers
+AreAnswers plan task (Some n) answers = AreSplit (nat_le n (length answers)) plan task n answers
+
+-- the asks of the steps
+abbrev pub asks_of : List Step → List Asked
+asks_of past = map (λ (step : Step). step.asked) past
+
+-- those that settle
+abbrev pub settling : List Asked → List Asked
+settling asked = filter (λ (a : Asked). is_settling a.ask) asked
+
+abbrev pub got_at : Answer → Place → List Place
+got_at (Ok (replies.Got messages)) place = place ∷ []
+got_at _ place = []
+
+abbrev pub booked_at : Answer → Place → List Place
+booked_at (Ok replies.Booked) place = place ∷ []
+booked_at _ place = []
+
+-- what a commit fired
+pub record Shot : Type 0 where
+  pub task : Option Task
+  pub cuts : List Cut
+
+abbrev pub shot_by : Answer → List Shot
+shot_by (Ok (replies.Fired task cuts)) = record { task = task; cuts = cuts } ∷ []
+shot_by _ = []
+
+-- the places at which a claim got its messages
+abbrev pub claims : List Step → List Place
+claims past = flat_map (λ (step : Step). got_at step.answer step.asked.place) past
+
+-- the places at which the task was booked
+abbrev pub bookings : List Step → List Place
+bookings past = flat_map (λ (step : Step). booked_at step.answer step.asked.place) past
+
+-- the firings that were answered
+abbrev pub shots : List Step → List Shot
+shots past = flat_map (λ (step : Step). shot_by step.answer) past
+
+-- the tasks that they cut
+abbrev pub cuts_of : List Shot → List Cut
+cuts_of fired = flat_map (λ (shot : Shot). shot.cuts) fired
+
+abbrev pub free_at : TaskId → Place → Asked
+free_at task place = at_place place (asks.Free task)
+
+abbrev pub consume_at : TaskId → Place → Asked
+consume_at task place = at_place place (asks.Consume task)
+
+abbrev pub unbook_at : TaskId → Place → Asked
+unbook_at task place = at_place place (asks.Unbook task)
+
+-- each claim is freed, the last first, and then each booking ended
+abbrev pub released : TaskId → List Step → List Asked
+released task past = map (free_at task) (reverse (claims past)) ++ map (unbook_at task) (bookings past)
+
+-- the cut tasks are unbooked, and the task is put unless it waits
+abbrev pub shot_asks : Shot → List Asked
+shot_asks shot = map cut_ask shot.cuts ++ put_asks shot.task
+
+-- each claim is consumed, and then the firing completed
+abbrev pub completed : TaskId → List Step → List Asked
+completed task past = map (consume_at task) (claims past) ++ flat_map shot_asks (shots past)

@@ -1,0 +1,28 @@
+//! How an attempt ends, and what it does next.
+
+use crate::Ask;
+use ccr_base::{By, Place, PortNo, Task, TaskId};
+
+/// Why an attempt was given up: the reply that ended it, or want of memory.
+#[derive(Clone, Copy, Debug, PartialEq, Eq)]
+pub enum Why {
+    Full(u32),
+    Busy(PortNo, TaskId),
+    Short(PortNo, u32),
+    Dead(By),
+    Memory,
+}
+
+/// How an attempt ended. A task that waits was kept by its Interleave; else it was put, and may have dropped another.
+#[derive(Debug, Drop)]
+pub enum Outcome {
+    Fired { waits: bool, dropped: Option<Task> },
+    GaveUp(Why),
+}
+
+/// What an attempt does next.
+#[derive(Debug, Drop)]
+pub enum Next {
+    Ask(Place, Ask),
+    Ended(Outcome),
+}
