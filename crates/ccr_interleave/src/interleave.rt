@@ -92,7 +92,7 @@ impl InterleaveObject {
     pub fn commit(&mut self, task: Task) -> Result<Commit, OutOfMemory>
         requires { IsTrue (can_commit self.old.state task) }
         ensures reply { IfOk result (λ reply. reply ≡ commit_reply self.old task) }
-        ensures kept { IfOk result (λ reply. self.new ≡ after_commit self.old task) }
+        ensures state { IfOk result (λ reply. self.new ≡ after_commit self.old task) }
         ensures given { IfOk result (λ reply. (messages : List MsgId) → IsGiven self.old.state (commit_note task messages reply)) }
         ensures step { IfOk result (λ reply. (messages : List MsgId) → self.new.state ≡ after self.old.state (commit_note task messages reply)) }
         ensures err { OnErr result (self.new ≡ self.old) }
@@ -113,7 +113,7 @@ impl InterleaveObject {
         requires group { is_teardown_group (group_of self.old.state task.spot) ≡ false }
         requires live { self.old.state.teardown ≡ None }
         ensures reply { IfOk result (λ reply. reply ≡ commit_reply self.old task) }
-        ensures kept { IfOk result (λ reply. self.new ≡ after_wait self.old task) }
+        ensures state { IfOk result (λ reply. self.new ≡ after_wait self.old task) }
         ensures err { OnErr result (self.new ≡ self.old) }
     {
         self.waiting.reserve(1)?;
@@ -131,7 +131,7 @@ impl InterleaveObject {
         requires group { is_teardown_group (group_of self.old.state task.spot) ≡ true }
         requires live { self.old.state.teardown ≡ None }
         ensures reply { IfOk result (λ reply. reply ≡ commit_reply self.old task) }
-        ensures kept { IfOk result (λ reply. self.new ≡ after_wait self.old task) }
+        ensures state { IfOk result (λ reply. self.new ≡ after_wait self.old task) }
         ensures err { OnErr result (self.new ≡ self.old) }
     {
         self.waiting.reserve(1)?;
@@ -146,9 +146,9 @@ impl InterleaveObject {
     /// Hands out the oldest waiting task, where it may be admitted: a concurrent one where each admitted root that isn't
     /// noted over is concurrent, another where none is left. It takes no memory: the commit made the room.
     pub fn admit(&mut self) -> Option<Task>
-        ensures task { result ≡ next_task self.old }
+        ensures reply { result ≡ next_task self.old }
         ensures given { IsGiven self.old.state (Admit (option_map (λ task. task.id) result)) }
-        ensures kept { self.new ≡ after_next self.old }
+        ensures state { self.new ≡ after_next self.old }
         ensures step { self.new.state ≡ after self.old.state (Admit (option_map (λ task. task.id) result)) }
     {
         let spot = self.waiting.front()?.spot;
@@ -172,7 +172,7 @@ impl InterleaveObject {
     fn admit_oldest(&mut self) -> Option<Task>
         ensures task { result ≡ slice_get self.old.tasks 0 }
         ensures name { option_map (λ task. task.id) result ≡ option_map (λ waiting. waiting.task) (slice_get self.old.state.waiting 0) }
-        ensures kept { self.new ≡ after_oldest self.old }
+        ensures state { self.new ≡ after_oldest self.old }
     {
         let task = self.waiting.pop_front()?;
         let concurrent = is_concurrent(group_at(self.first, self.groups.as_slice(), task.spot));
@@ -196,7 +196,7 @@ impl InterleaveObject {
     /// Notes that the root is over. It takes no memory.
     pub fn over(&mut self, task: TaskId, root: TaskId, how: How)
         requires { IsTrue (can_be_over self.old.state root) }
-        ensures kept { self.new ≡ record self.old { state = after_over self.old.state root } }
+        ensures state { self.new ≡ record self.old { state = after_over self.old.state root } }
         ensures step { self.new.state ≡ after self.old.state (Over task root how) }
     {
         let standing = set_standing(&mut self.fired, root, Standing::Outside);
