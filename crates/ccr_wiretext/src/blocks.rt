@@ -6,7 +6,7 @@ ghost use Rattle.ccr_wiretext.specs.Blocks.{outside_line, handler_line, group_of
 
 use crate::cursor::Cursor;
 use crate::draft::{Block, Draft};
-use crate::forms::{arbiter_end_form, fail_form};
+use crate::forms::arbiter_end_form;
 use crate::keyword::Keyword;
 use crate::stop::Stop;
 use ccr_base::{Action, Group};
@@ -106,6 +106,10 @@ impl Draft {
             }
             Keyword::Choice => self.open_choice(words)?,
             Keyword::Interleave => self.open_interleave(words)?,
+            Keyword::Combine => {
+                let part = self.combine_form(words)?;
+                self.add_domain(part)?;
+            }
             Keyword::Poster => self.open_poster(words)?,
             _ => return Err(Stop::Code(3)),
         }
@@ -124,23 +128,23 @@ impl Draft {
         match first {
             Keyword::Post => {
                 let action = self.post_form(&part, words)?;
-                self.add_action(part, action)?;
+                self.add_action(part, &action)?;
             }
             Keyword::Fail => {
-                let action = fail_form(&part, words)?;
-                self.add_action(part, action)?;
+                let value = self.fail_form(&part, words)?;
+                self.add_action(part, &Action::Fail(value))?;
             }
             Keyword::Add => {
                 let cause = self.caused_form(&part, words)?;
-                self.add_action(part, Action::Add(cause))?;
+                self.add_action(part, &Action::Add(cause))?;
             }
             Keyword::Remove => {
                 let cause = self.caused_form(&part, words)?;
-                self.add_action(part, Action::Remove(cause))?;
+                self.add_action(part, &Action::Remove(cause))?;
             }
             Keyword::Await => {
                 let action = self.await_form(&part, words)?;
-                self.add_action(part, action)?;
+                self.add_action(part, &action)?;
             }
             Keyword::End => {
                 words.no_more()?;

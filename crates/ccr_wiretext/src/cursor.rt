@@ -1,16 +1,20 @@
 //! The words of a line, read from left to right: the places of one word or two.
 
 ghost use Rattle.std.specs.Prelude.{◌≡◌, ◌==◌, List, length, ℕ};
-ghost use Rattle.ccr_wiretext.specs.Names.{as_queue, as_cause, as_handler};
-ghost use Rattle.ccr_wiretext.specs.Places.{word, no_more, new_name, reference, port, number, number_within, policy, group, expr};
+ghost use Rattle.ccr_wiretext.specs.Names.{as_queue, as_cause, as_handler, as_arbiter};
+ghost use Rattle.ccr_wiretext.specs.Places.{word, no_more, new_name, reference, port, number, number_within, policy, group, value, part, expr, interleave};
 ghost use Rattle.ccr_wiretext.specs.Answers.{Gives, Leaves, LeavesBy};
 
 use crate::draft::Draft;
 use crate::keyword::is_text;
 use crate::named::{Named, Names};
 use crate::stop::Stop;
-use ccr_base::{CauseNo, Expr, Group, HandlerNo, Name, Policy, PortNo, QueueNo};
+use crate::values::value_in;
+use ccr_base::{
+    ArbiterNo, CauseNo, Expr, Group, HandlerNo, Name, Policy, PortNo, QueueNo, Value,
+};
 use ccr_text::{is_name, read_number};
+use std::alloc::Global;
 use std::marker::Model;
 
 /// The words that are left. Each method takes the words of one place, or tells the code of what stands there.
@@ -173,10 +177,51 @@ impl<'a> Cursor<'a> {
         }
     }
 
-    /// N, arg N, sum or count.
+    #[tactic(auto, unfolding(crate::specs::Places::reference))]
+    fn arbiter(&mut self, names: &Names) -> Result<ArbiterNo, Stop>
+        ensures { Leaves self.new result (reference as_arbiter names.now self.old) }
+    {
+        let name = self.word()?;
+        match names.get(name) {
+            Some(Named::Arbiter(number)) => Ok(number),
+            _ => Err(Stop::Code(7)),
+        }
+    }
+
+    #[tactic(auto, unfolding(crate::specs::Places::interleave))]
+    pub fn interleave(&mut self, draft: &Draft) -> Result<ArbiterNo, Stop>
+        ensures { Leaves self.new result (interleave draft.now self.old) }
+    {
+        let arbiter = self.arbiter(&draft.names)?;
+        if !draft.is_interleave(arbiter) {
+            return Err(Stop::Code(7));
+        }
+        Ok(arbiter)
+    }
+
+    /// A value in a text of this version.
+    #[tactic(auto, unfolding(crate::specs::Places::value))]
+    pub fn value(&mut self, alloc: Global, version: u32) -> Result<Value, Stop>
+        ensures { Leaves self.new result (value version self.old) }
+    {
+        let word = self.word()?;
+        value_in(alloc, version, word)
+    }
+
+    /// The two numbers behind part.
+    #[tactic(auto, unfolding(crate::specs::Places::part))]
+    fn part(&mut self) -> Result<Expr, Stop>
+        ensures { Leaves self.new result (part self.old) }
+    {
+        let message = self.number_within(0, 65535)?;
+        let place = self.number_within(0, 7)?;
+        Ok(Expr::Part(message, place))
+    }
+
+    /// A value, arg N, sum or count; in version 2 part N N too.
     #[tactic(auto, unfolding(crate::specs::Places::expr))]
-    pub fn expr(&mut self) -> Result<Expr, Stop>
-        ensures { Leaves self.new result (expr self.old) }
+    pub fn expr(&mut self, alloc: Global, version: u32) -> Result<Expr, Stop>
+        ensures { Leaves self.new result (expr version self.old) }
     {
         let name = self.word()?;
         if is_text(name, "sum") {
@@ -185,11 +230,10 @@ impl<'a> Cursor<'a> {
             Ok(Expr::Count)
         } else if is_text(name, "arg") {
             Ok(Expr::Arg(self.number_within(0, 65535)?))
+        } else if is_text(name, "part") && version == 2 {
+            self.part()
         } else {
-            match read_number(name) {
-                Some(value) => Ok(Expr::Number(value)),
-                None => Err(Stop::Code(5)),
-            }
+            Ok(Expr::Number(value_in(alloc, version, name)?))
         }
     }
 }

@@ -5,13 +5,15 @@ ghost use Rattle.std.specs.List.{list_any};
 ghost use Rattle.ccr_wiring.specs.Spots.{times};
 ghost use Rattle.ccr_wiretext.specs.Names.{named};
 ghost use Rattle.ccr_wiretext.specs.Answers.{Gives, GivesBy};
-ghost use Rattle.ccr_wiretext.specs.Forms.{budget_form, queue_form, name_form, set_form, cause_form, crowds, branch_tail, receive_room, receive_form, branch_form, post_form, fail_form, caused_form, await_form, script_form, arbiter_end_form};
+ghost use Rattle.ccr_wiretext.specs.Forms.{budget_form, queue_form, name_form, set_form, cause_form, combine_form, crowds, branch_tail, receive_room, receive_form, branch_form, post_form, fail_form, caused_form, await_form, script_form, arbiter_end_form};
 
 use crate::cursor::Cursor;
 use crate::draft::{Draft, copy_of};
 use crate::stop::Stop;
-use ccr_base::{Action, CauseNo, Group, OutOfMemory, PortNo, Sent};
-use ccr_wiring::{ArbiterPart, BranchPart, CausePart, HandlerPart, PosterPart, QueuePart, SetPart};
+use ccr_base::{Action, CauseNo, Expr, Group, OutOfMemory, PortNo, Sent};
+use ccr_wiring::{
+    ArbiterPart, BranchPart, CausePart, DomainPart, HandlerPart, PosterPart, QueuePart, SetPart,
+};
 
 /// Whether there is room for a branch behind those of the arbiters and those of an open block.
 fn has_branch_room(arbiters: &[ArbiterPart], begun: usize) -> bool
@@ -191,6 +193,18 @@ impl Draft {
         Ok(branch)
     }
 
+    /// combine INTERLEAVE INTERLEAVE ..
+    #[tactic(auto, unfolding(crate::specs::Forms::combine_form))]
+    pub fn combine_form(&self, mut words: Cursor<'_>) -> Result<DomainPart, Stop>
+        ensures { Gives result (combine_form self.now words.entry) }
+    {
+        if self.parts.domains.as_slice().len() >= 128 {
+            return Err(Stop::Code(10));
+        }
+        let members = words.combined(self.alloc, self)?;
+        Ok(DomainPart { members })
+    }
+
     /// A receive counts as an arbiter and as a branch.
     #[tactic(auto, unfolding(crate::specs::Forms::receive_room))]
     fn receive_room(&self) -> Result<(), Stop>
@@ -245,9 +259,22 @@ impl Draft {
             return Err(Stop::Code(10));
         }
         let port = words.port(self)?;
-        let value = words.expr()?;
+        let value = words.expr(self.alloc, self.parts.version)?;
         words.no_more()?;
         Ok(Action::Post(port, value))
+    }
+
+    /// fail EXPR.
+    #[tactic(auto, unfolding(crate::specs::Forms::fail_form))]
+    pub fn fail_form(&self, part: &HandlerPart, mut words: Cursor<'_>) -> Result<Expr, Stop>
+        ensures { Gives result (fail_form self.now part.now words.entry) }
+    {
+        if part.handler.actions.as_slice().len() >= 16 {
+            return Err(Stop::Code(10));
+        }
+        let value = words.expr(self.alloc, self.parts.version)?;
+        words.no_more()?;
+        Ok(value)
     }
 
     /// add CAUSE and remove CAUSE.
@@ -276,7 +303,7 @@ impl Draft {
         Ok(Action::Await(port))
     }
 
-    /// post PORT N CAUSE .., in a poster.
+    /// post PORT VALUE CAUSE .., in a poster.
     #[tactic(auto, unfolding(crate::specs::Forms::script_form))]
     pub fn script_form(&self, part: &PosterPart, mut words: Cursor<'_>) -> Result<Sent, Stop>
         ensures { Gives result (script_form self.now part.now words.entry) }
@@ -286,7 +313,7 @@ impl Draft {
             return Err(Stop::Code(10));
         }
         let port = words.port(self)?;
-        let value = words.number()?;
+        let value = words.value(self.alloc, self.parts.version)?;
         let causes = words.causes(self.alloc, &self.names)?;
         Ok(Sent {
             port,
@@ -294,19 +321,6 @@ impl Draft {
             causes,
         })
     }
-}
-
-/// fail EXPR.
-#[tactic(auto, unfolding(crate::specs::Forms::fail_form))]
-pub fn fail_form(part: &HandlerPart, mut words: Cursor<'_>) -> Result<Action, Stop>
-    ensures { Gives result (fail_form part.now words.entry) }
-{
-    if part.handler.actions.as_slice().len() >= 16 {
-        return Err(Stop::Code(10));
-    }
-    let value = words.expr()?;
-    words.no_more()?;
-    Ok(Action::Fail(value))
 }
 
 /// end of a choice or Interleave.

@@ -1,7 +1,7 @@
-//! The places of a line that go on up to its end: patterns, the members of a set, the causes of a post.
+//! The places of a line that go on up to its end: patterns, the members of a set, combined Interleaves, the causes of a post.
 
 ghost use Rattle.std.specs.Prelude.{◌≡◌, ◌==◌, []};
-ghost use Rattle.ccr_wiretext.specs.Patterns.{pred, new_port, slot, slots, taken, gathered, pattern, members, all_members, causes};
+ghost use Rattle.ccr_wiretext.specs.Patterns.{pred, new_port, slot, slots, taken, gathered, pattern, members, all_members, new_member, further, combined, causes};
 ghost use Rattle.ccr_wiretext.specs.Answers.{Gives, Leaves};
 ghost use Rattle.std.specs.List.{list_any};
 
@@ -9,9 +9,9 @@ use crate::cursor::Cursor;
 use crate::draft::Draft;
 use crate::keyword::is_text;
 use crate::named::Names;
-use crate::references::has_port;
+use crate::references::{has_port, is_combined};
 use crate::stop::Stop;
-use ccr_base::{CauseNo, List, Pattern, PortNo, Pred, Slot};
+use ccr_base::{ArbiterNo, CauseNo, List, Pattern, PortNo, Pred, Slot};
 use std::alloc::Global;
 
 /// Whether a slot has the port.
@@ -132,6 +132,36 @@ impl<'a> Cursor<'a> {
                 return Err(Stop::Code(10));
             }
             let next = self.new_port(draft, &found)?;
+            found.push(next)?;
+        }
+        Ok(List::from_vec(found))
+    }
+
+    /// An Interleave that no line before combines, and that isn't among those found before it.
+    #[tactic(auto, unfolding(crate::specs::Patterns::new_member))]
+    fn new_member(&mut self, draft: &Draft, found: &[ArbiterNo]) -> Result<ArbiterNo, Stop>
+        ensures { Leaves self.new result (new_member draft.now found.now self.old) }
+    {
+        let arbiter = self.interleave(draft)?;
+        if is_combined(draft.parts.domains.as_slice(), arbiter) || has_port(found, arbiter) {
+            return Err(Stop::Code(8));
+        }
+        Ok(arbiter)
+    }
+
+    /// 2 to 8 Interleaves, up to the end of the line.
+    #[tactic(auto, unfolding(crate::specs::Patterns::combined, crate::specs::Patterns::further))]
+    pub fn combined(&mut self, alloc: Global, draft: &Draft) -> Result<List<ArbiterNo>, Stop>
+        ensures { Gives result (combined draft.now self.old) }
+    {
+        let mut found = Vec::new(alloc);
+        found.push(self.new_member(draft, &[])?)?;
+        found.push(self.new_member(draft, &found)?)?;
+        'further: while !self.is_empty() {
+            if found.len() == 8 {
+                return Err(Stop::Code(10));
+            }
+            let next = self.new_member(draft, &found)?;
             found.push(next)?;
         }
         Ok(List::from_vec(found))
