@@ -231,8 +231,7 @@ expr_said version (w ∷ words) x e = elim (chosen (bytes_eq w (codes "sum")) (O
       | inr other3 ↦ elim (chosen (bytes_eq w (codes "part") && (version == 2)) (part words) _ (Ok x) other3.1) [
         | inl here ↦
             let said = part_said words x here.1 in
-            let tests = both (bytes_eq w (codes "part")) (version == 2) here.0 in
-            (
+            let tests = both (bytes_eq w (codes "part")) (version == 2) here.0 in (
               w ∷ said.first ∷ said.second ∷ [],
               ap (λ (v : Words). w ∷ v) said.spelled,
               subst (IsExpr version (w ∷ said.first ∷ said.second ∷ [])) said.is (record {

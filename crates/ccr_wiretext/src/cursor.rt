@@ -8,12 +8,11 @@ ghost use Rattle.ccr_wiretext.specs.Answers.{Gives, Leaves, LeavesBy};
 use crate::draft::Draft;
 use crate::keyword::is_text;
 use crate::named::{Named, Names};
-use crate::stop::Stop;
+use crate::stop::{Code, Stop};
 use crate::values::value_in;
-use ccr_base::{
-    ArbiterNo, CauseNo, Expr, Group, HandlerNo, Name, Policy, PortNo, QueueNo, Value,
-};
+use ccr_base::{ArbiterNo, CauseNo, Expr, Group, HandlerNo, Name, Policy, PortNo, QueueNo, Value};
 use ccr_text::{is_name, read_number};
+use ccr_wiring::{MAX_ARG, MAX_PLACE, MAX_POLICY};
 use std::alloc::Global;
 use std::marker::Model;
 
@@ -48,7 +47,7 @@ impl<'a> Cursor<'a> {
         ensures { LeavesBy (λ word. word.now) self.new result (word self.old) }
     {
         let Some((first, rest)) = self.rest.split_first() else {
-            return Err(Stop::Code(4));
+            return Err(Stop::Refused(Code::WordCount));
         };
         self.rest = rest;
         Ok(first.as_slice())
@@ -58,7 +57,7 @@ impl<'a> Cursor<'a> {
         ensures { Gives result (no_more self.now) }
     {
         if !self.rest.is_empty() {
-            return Err(Stop::Code(4));
+            return Err(Stop::Refused(Code::WordCount));
         }
         Ok(())
     }
@@ -70,10 +69,10 @@ impl<'a> Cursor<'a> {
     {
         let name = self.word()?;
         if !is_name(name) {
-            return Err(Stop::Code(14));
+            return Err(Stop::Refused(Code::NameForm));
         }
         if names.get(name).is_some() {
-            return Err(Stop::Code(6));
+            return Err(Stop::Refused(Code::Declared));
         }
         Ok(name)
     }
@@ -86,7 +85,7 @@ impl<'a> Cursor<'a> {
         let name = self.word()?;
         match draft.port(name) {
             Some(number) => Ok(number),
-            None => Err(Stop::Code(7)),
+            None => Err(Stop::Refused(Code::Reference)),
         }
     }
 
@@ -97,7 +96,7 @@ impl<'a> Cursor<'a> {
         let name = self.word()?;
         match names.get(name) {
             Some(Named::Queue(number)) => Ok(number),
-            _ => Err(Stop::Code(7)),
+            _ => Err(Stop::Refused(Code::Reference)),
         }
     }
 
@@ -108,7 +107,7 @@ impl<'a> Cursor<'a> {
         let name = self.word()?;
         match names.get(name) {
             Some(Named::Cause(number)) => Ok(number),
-            _ => Err(Stop::Code(7)),
+            _ => Err(Stop::Refused(Code::Reference)),
         }
     }
 
@@ -119,7 +118,7 @@ impl<'a> Cursor<'a> {
         let name = self.word()?;
         match names.get(name) {
             Some(Named::Handler(number)) => Ok(number),
-            _ => Err(Stop::Code(7)),
+            _ => Err(Stop::Refused(Code::Reference)),
         }
     }
 
@@ -130,7 +129,7 @@ impl<'a> Cursor<'a> {
         let digits = self.word()?;
         match read_number(digits) {
             Some(value) => Ok(value),
-            None => Err(Stop::Code(5)),
+            None => Err(Stop::Refused(Code::Number)),
         }
     }
 
@@ -140,7 +139,7 @@ impl<'a> Cursor<'a> {
     {
         let value = self.number()?;
         if value < u64::from(low) || u64::from(high) < value {
-            return Err(Stop::Code(10));
+            return Err(Stop::Refused(Code::Limit));
         }
         Ok(value as u32)
     }
@@ -154,11 +153,11 @@ impl<'a> Cursor<'a> {
         if is_text(name, "unbounded") {
             Ok(Policy::Unbounded)
         } else if is_text(name, "discard") {
-            Ok(Policy::Discard(self.number_within(1, 1000)?))
+            Ok(Policy::Discard(self.number_within(1, MAX_POLICY)?))
         } else if is_text(name, "throttle") {
-            Ok(Policy::Throttle(self.number_within(1, 1000)?))
+            Ok(Policy::Throttle(self.number_within(1, MAX_POLICY)?))
         } else {
-            Err(Stop::Code(3))
+            Err(Stop::Refused(Code::Keyword))
         }
     }
 
@@ -173,7 +172,7 @@ impl<'a> Cursor<'a> {
         } else if is_text(name, "always") {
             Ok(Group::Always)
         } else {
-            Err(Stop::Code(3))
+            Err(Stop::Refused(Code::Keyword))
         }
     }
 
@@ -184,7 +183,7 @@ impl<'a> Cursor<'a> {
         let name = self.word()?;
         match names.get(name) {
             Some(Named::Arbiter(number)) => Ok(number),
-            _ => Err(Stop::Code(7)),
+            _ => Err(Stop::Refused(Code::Reference)),
         }
     }
 
@@ -194,7 +193,7 @@ impl<'a> Cursor<'a> {
     {
         let arbiter = self.arbiter(&draft.names)?;
         if !draft.is_interleave(arbiter) {
-            return Err(Stop::Code(7));
+            return Err(Stop::Refused(Code::Reference));
         }
         Ok(arbiter)
     }
@@ -213,8 +212,8 @@ impl<'a> Cursor<'a> {
     fn part(&mut self) -> Result<Expr, Stop>
         ensures { Leaves self.new result (part self.old) }
     {
-        let message = self.number_within(0, 65535)?;
-        let place = self.number_within(0, 7)?;
+        let message = self.number_within(0, MAX_ARG)?;
+        let place = self.number_within(0, MAX_PLACE)?;
         Ok(Expr::Part(message, place))
     }
 
@@ -229,7 +228,7 @@ impl<'a> Cursor<'a> {
         } else if is_text(name, "count") {
             Ok(Expr::Count)
         } else if is_text(name, "arg") {
-            Ok(Expr::Arg(self.number_within(0, 65535)?))
+            Ok(Expr::Arg(self.number_within(0, MAX_ARG)?))
         } else if is_text(name, "part") && version == 2 {
             self.part()
         } else {

@@ -8,7 +8,8 @@ ghost use Rattle.ccr_wiretext.specs.Drafts.{nothing, with_budget, with_queue, wi
 use crate::named::{Named, Names};
 use ccr_base::{Action, Handler, List, Name, OutOfMemory, PortNo, Sent};
 use ccr_wiring::{
-    ArbiterPart, BranchPart, CausePart, DomainPart, HandlerPart, Kind, Parts, PosterPart, QueuePart, SetPart,
+    ArbiterPart, BranchPart, CausePart, DomainPart, HandlerPart, Kind, MAX_BUDGET, Parts,
+    PosterPart, QueuePart, SetPart,
 };
 use std::alloc::Global;
 use std::marker::Model;
@@ -83,7 +84,7 @@ impl Draft {
             alloc,
             parts: Parts {
                 version,
-                budget: 10000,
+                budget: MAX_BUDGET,
                 queues: List::new(alloc),
                 ports: List::new(alloc),
                 sets: List::new(alloc),
@@ -218,11 +219,7 @@ impl Draft {
     }
 
     /// An action more in the open handler.
-    pub fn add_action(
-        &mut self,
-        mut part: HandlerPart,
-        action: &Action,
-    ) -> Result<(), OutOfMemory>
+    pub fn add_action(&mut self, mut part: HandlerPart, action: &Action) -> Result<(), OutOfMemory>
         ensures { OnOk result (self.new ≡ with_action self.old part action.now) }
     {
         push_action(&mut part.handler.actions, action)?;

@@ -9,17 +9,19 @@ ghost use Rattle.ccr_wiretext.specs.Forms.{budget_form, queue_form, name_form, s
 
 use crate::cursor::Cursor;
 use crate::draft::{Draft, copy_of};
-use crate::stop::Stop;
+use crate::stop::{Code, Stop};
 use ccr_base::{Action, CauseNo, Expr, Group, OutOfMemory, PortNo, Sent};
 use ccr_wiring::{
-    ArbiterPart, BranchPart, CausePart, DomainPart, HandlerPart, PosterPart, QueuePart, SetPart,
+    ArbiterPart, BranchPart, CausePart, DomainPart, HandlerPart, MAX_ACTIONS, MAX_ARBITERS,
+    MAX_BRANCHES, MAX_BUDGET, MAX_CAUSES, MAX_DOMAINS, MAX_QUEUES, MAX_SCRIPT_POSTS, MAX_SETS,
+    MAX_SPOTS, PosterPart, QueuePart, SetPart,
 };
 
 /// Whether there is room for a branch behind those of the arbiters and those of an open block.
 fn has_branch_room(arbiters: &[ArbiterPart], begun: usize) -> bool
     ensures { result ≡ nat_lt (sum (map (λ arbiter. length arbiter.branches) arbiters.now) + begun) 256 }
 {
-    let mut left: usize = 256;
+    let mut left: usize = MAX_BRANCHES;
     for arbiter in arbiters {
         let count = arbiter.branches.as_slice().len();
         if count >= left {
@@ -41,7 +43,7 @@ fn has_receive_room(arbiters: &[ArbiterPart]) -> bool
 fn has_post_room(posters: &[PosterPart], begun: usize) -> bool
     ensures { result ≡ nat_lt (sum (map (λ poster. length poster.posts) posters.now) + begun) 10000 }
 {
-    let mut left: usize = 10_000;
+    let mut left: usize = MAX_SCRIPT_POSTS;
     for poster in posters {
         let count = poster.posts.as_slice().len();
         if count >= left {
@@ -63,7 +65,8 @@ fn is_crowded(port: PortNo, before: &[PortNo], new: &[PortNo]) -> bool
     ensures { result ≡ nat_lt 16 (times port (before.now ++ new.now)) }
 {
     let count = times(port, before);
-    count > 16 || times(port, new) > 16 - count
+    let most = MAX_SPOTS as usize;
+    count > most || times(port, new) > most - count
 }
 
 /// Whether one of the new ports stands more than 16 times in the two lists together.
@@ -80,9 +83,9 @@ impl Draft {
         ensures { Gives result (budget_form self.now words.entry) }
     {
         if self.budgeted {
-            return Err(Stop::Code(13));
+            return Err(Stop::Refused(Code::SecondBudget));
         }
-        let budget = words.number_within(0, 10_000)?;
+        let budget = words.number_within(0, MAX_BUDGET)?;
         words.no_more()?;
         Ok(budget)
     }
@@ -94,8 +97,8 @@ impl Draft {
         ensures new { IfOk result (λ part. named self.now.names part.name ≡ None) }
         ensures room { OnOk result (length self.now.parts.queues < 16) }
     {
-        if self.parts.queues.as_slice().len() >= 16 {
-            return Err(Stop::Code(10));
+        if self.parts.queues.as_slice().len() >= MAX_QUEUES {
+            return Err(Stop::Refused(Code::Limit));
         }
         let name = words.new_name(&self.names)?;
         let policy = words.policy()?;
@@ -117,7 +120,7 @@ impl Draft {
         ensures room { OnOk result (count < limit) }
     {
         if count >= limit {
-            return Err(Stop::Code(10));
+            return Err(Stop::Refused(Code::Limit));
         }
         let name = words.new_name(&self.names)?;
         words.no_more()?;
@@ -131,8 +134,8 @@ impl Draft {
         ensures new { IfOk result (λ part. named self.now.names part.name ≡ None) }
         ensures room { OnOk result (length self.now.parts.sets < 64) }
     {
-        if self.parts.sets.as_slice().len() >= 64 {
-            return Err(Stop::Code(10));
+        if self.parts.sets.as_slice().len() >= MAX_SETS {
+            return Err(Stop::Refused(Code::Limit));
         }
         let name = words.new_name(&self.names)?;
         let ports = words.members(self.alloc, self)?;
@@ -147,8 +150,8 @@ impl Draft {
         ensures new { IfOk result (λ part. named self.now.names part.name ≡ None) }
         ensures room { OnOk result (length self.now.parts.causes < 32) }
     {
-        if self.parts.causes.as_slice().len() >= 32 {
-            return Err(Stop::Code(10));
+        if self.parts.causes.as_slice().len() >= MAX_CAUSES {
+            return Err(Stop::Refused(Code::Limit));
         }
         let name = words.new_name(&self.names)?;
         let port = words.port(self)?;
@@ -188,7 +191,7 @@ impl Draft {
             pattern,
         };
         if self.crowds(&branch)? {
-            return Err(Stop::Code(12));
+            return Err(Stop::Refused(Code::Crowded));
         }
         Ok(branch)
     }
@@ -198,8 +201,8 @@ impl Draft {
     pub fn combine_form(&self, mut words: Cursor<'_>) -> Result<DomainPart, Stop>
         ensures { Gives result (combine_form self.now words.entry) }
     {
-        if self.parts.domains.as_slice().len() >= 128 {
-            return Err(Stop::Code(10));
+        if self.parts.domains.as_slice().len() >= MAX_DOMAINS {
+            return Err(Stop::Refused(Code::Limit));
         }
         let members = words.combined(self.alloc, self)?;
         Ok(DomainPart { members })
@@ -210,11 +213,11 @@ impl Draft {
     fn receive_room(&self) -> Result<(), Stop>
         ensures { Gives result (receive_room self.now) }
     {
-        if self.parts.arbiters.as_slice().len() >= 256 {
-            return Err(Stop::Code(10));
+        if self.parts.arbiters.as_slice().len() >= MAX_ARBITERS {
+            return Err(Stop::Refused(Code::Limit));
         }
         if !has_receive_room(self.parts.arbiters.as_slice()) {
-            return Err(Stop::Code(10));
+            return Err(Stop::Refused(Code::Limit));
         }
         Ok(())
     }
@@ -244,7 +247,7 @@ impl Draft {
     {
         let begun = part.branches.as_slice().len();
         if !has_branch_room(self.parts.arbiters.as_slice(), begun) {
-            return Err(Stop::Code(10));
+            return Err(Stop::Refused(Code::Limit));
         }
         let name = words.new_name(&self.names)?;
         self.branch_tail(name, group, words)
@@ -255,8 +258,8 @@ impl Draft {
     pub fn post_form(&self, part: &HandlerPart, mut words: Cursor<'_>) -> Result<Action, Stop>
         ensures { Gives result (post_form self.now part.now words.entry) }
     {
-        if part.handler.actions.as_slice().len() >= 16 {
-            return Err(Stop::Code(10));
+        if part.handler.actions.as_slice().len() >= MAX_ACTIONS {
+            return Err(Stop::Refused(Code::Limit));
         }
         let port = words.port(self)?;
         let value = words.expr(self.alloc, self.parts.version)?;
@@ -269,8 +272,8 @@ impl Draft {
     pub fn fail_form(&self, part: &HandlerPart, mut words: Cursor<'_>) -> Result<Expr, Stop>
         ensures { Gives result (fail_form self.now part.now words.entry) }
     {
-        if part.handler.actions.as_slice().len() >= 16 {
-            return Err(Stop::Code(10));
+        if part.handler.actions.as_slice().len() >= MAX_ACTIONS {
+            return Err(Stop::Refused(Code::Limit));
         }
         let value = words.expr(self.alloc, self.parts.version)?;
         words.no_more()?;
@@ -282,8 +285,8 @@ impl Draft {
     pub fn caused_form(&self, part: &HandlerPart, mut words: Cursor<'_>) -> Result<CauseNo, Stop>
         ensures { Gives result (caused_form self.now part.now words.entry) }
     {
-        if part.handler.actions.as_slice().len() >= 16 {
-            return Err(Stop::Code(10));
+        if part.handler.actions.as_slice().len() >= MAX_ACTIONS {
+            return Err(Stop::Refused(Code::Limit));
         }
         let cause = words.cause(&self.names)?;
         words.no_more()?;
@@ -295,8 +298,8 @@ impl Draft {
     pub fn await_form(&self, part: &HandlerPart, mut words: Cursor<'_>) -> Result<Action, Stop>
         ensures { Gives result (await_form self.now part.now words.entry) }
     {
-        if part.handler.actions.as_slice().len() >= 16 {
-            return Err(Stop::Code(10));
+        if part.handler.actions.as_slice().len() >= MAX_ACTIONS {
+            return Err(Stop::Refused(Code::Limit));
         }
         let port = words.port(self)?;
         words.no_more()?;
@@ -310,7 +313,7 @@ impl Draft {
     {
         let begun = part.posts.as_slice().len();
         if !has_post_room(self.parts.posters.as_slice(), begun) {
-            return Err(Stop::Code(10));
+            return Err(Stop::Refused(Code::Limit));
         }
         let port = words.port(self)?;
         let value = words.value(self.alloc, self.parts.version)?;
@@ -329,7 +332,7 @@ pub fn arbiter_end_form(part: &ArbiterPart, words: Cursor<'_>) -> Result<(), Sto
     ensures { Gives result (arbiter_end_form part.now words.entry) }
 {
     if part.branches.as_slice().is_empty() {
-        return Err(Stop::Code(11));
+        return Err(Stop::Refused(Code::Branchless));
     }
     words.no_more()
 }

@@ -10,7 +10,7 @@ use crate::cursor::Cursor;
 use crate::draft::{Block, Draft};
 use crate::keyword::{is_text, keyword_of};
 use crate::refused::ReadRefused;
-use crate::stop::Stop;
+use crate::stop::{Code, Stop};
 use ccr_base::Name;
 use ccr_text::{Line, split_lines};
 use ccr_wiring::{Parts, Unfit, Wiring};
@@ -84,7 +84,7 @@ impl Reader {
             Some(draft) => draft.line(keyword_of(first.as_slice()), Cursor::new(others)),
             None => {
                 let Some(version) = version_of(words) else {
-                    return Err(Stop::Code(2));
+                    return Err(Stop::Refused(Code::Version));
                 };
                 self.draft = Some(Draft::new(self.alloc, version));
                 Ok(())
@@ -98,7 +98,7 @@ impl Reader {
         ensures { GivesState self.new result (after_line self.old line.now) }
     {
         if !line.clean {
-            return Err(Stop::Code(1));
+            return Err(Stop::Refused(Code::Unclean));
         }
         self.words(line.words.as_slice())
     }
@@ -110,7 +110,7 @@ impl Reader {
     {
         let Reader { alloc: _, draft } = self;
         let Some(draft) = draft else {
-            return Err(Stop::Code(2));
+            return Err(Stop::Refused(Code::Version));
         };
         let Draft {
             alloc: _,
@@ -122,7 +122,7 @@ impl Reader {
         } = draft;
         match block {
             Block::Outside => Ok(parts),
-            _ => Err(Stop::Code(9)),
+            _ => Err(Stop::Refused(Code::OpenBlock)),
         }
     }
 }
@@ -132,7 +132,10 @@ fn refused(line: u32, stop: Stop) -> ReadRefused
 {
     match stop {
         Stop::Memory => ReadRefused::Memory,
-        Stop::Code(code) => ReadRefused::At { line, code },
+        Stop::Refused(code) => ReadRefused::At {
+            line,
+            code: code.number(),
+        },
     }
 }
 

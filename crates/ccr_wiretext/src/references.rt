@@ -27,7 +27,9 @@ pub fn has_port(ports: &[PortNo], port: PortNo) -> bool
 pub fn is_combined(domains: &[DomainPart], arbiter: ArbiterNo) -> bool
     ensures { result ≡ is_combined domains.now arbiter }
 {
-    domains.iter().any(|domain| has_port(domain.members.as_slice(), arbiter))
+    domains
+        .iter()
+        .any(|domain| has_port(domain.members.as_slice(), arbiter))
 }
 
 /// The place of the first slash.

@@ -4,7 +4,7 @@ ghost use Rattle.std.specs.Prelude.{◌≡◌, ◌∷◌, ◌<◌, [], IfSome, I
 ghost use Rattle.ccr_wiretext.specs.Answers.{Gives, GivesBy};
 ghost use Rattle.ccr_wiretext.specs.Places.{pieces, numbers_after, several, single, value_in};
 
-use crate::stop::Stop;
+use crate::stop::{Code, Stop};
 use ccr_base::Value;
 use ccr_text::read_number;
 use std::alloc::Global;
@@ -33,7 +33,7 @@ fn numbers_in(alloc: Global, word: &[u8]) -> Result<Vec<u64>, Stop>
     'pieces: while let Some(bytes) = rest {
         let (piece, after) = cut_piece(bytes);
         let Some(number) = read_number(piece) else {
-            return Err(Stop::Code(5));
+            return Err(Stop::Refused(Code::Number));
         };
         numbers.push(number)?;
         rest = after;
@@ -49,7 +49,7 @@ fn several(alloc: Global, word: &[u8]) -> Result<Value, Stop>
     let numbers = numbers_in(alloc, word)?;
     match Value::of(&numbers) {
         Some(value) => Ok(value),
-        None => Err(Stop::Code(10)),
+        None => Err(Stop::Refused(Code::Limit)),
     }
 }
 
@@ -59,7 +59,7 @@ fn single(word: &[u8]) -> Result<Value, Stop>
 {
     match read_number(word) {
         Some(number) => Ok(Value::one(number)),
-        None => Err(Stop::Code(5)),
+        None => Err(Stop::Refused(Code::Number)),
     }
 }
 
@@ -68,5 +68,9 @@ fn single(word: &[u8]) -> Result<Value, Stop>
 pub fn value_in(alloc: Global, version: u32, word: &[u8]) -> Result<Value, Stop>
     ensures { Gives result (value_in version word.now) }
 {
-    if version == 2 { several(alloc, word) } else { single(word) }
+    if version == 2 {
+        several(alloc, word)
+    } else {
+        single(word)
+    }
 }

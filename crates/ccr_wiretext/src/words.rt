@@ -7,8 +7,8 @@ ghost use Rattle.ccr_wiretext.specs.Values.{IsNumeral, IsValue, IsExprValued, Is
 
 use crate::draft::copy_of;
 use ccr_base::{
-    Action, ArbiterNo, CauseNo, Expr, Group, HandlerNo, List, Name, OutOfMemory, Pattern, Policy, PortNo,
-    Pred, QueueNo, Sent, Slot, Value,
+    Action, ArbiterNo, CauseNo, Expr, Group, HandlerNo, List, Name, OutOfMemory, Pattern, Policy,
+    PortNo, Pred, QueueNo, Sent, Slot, Value,
 };
 use ccr_wiring::{BranchPart, CausePart, DomainPart, Parts, QueuePart, SetPart};
 use std::alloc::Global;

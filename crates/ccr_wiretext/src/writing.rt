@@ -11,8 +11,8 @@ use crate::laws::what_is_written_is_read;
 use crate::words::LineWords;
 use ccr_base::{Action, List, Name, OutOfMemory, Sent};
 use ccr_wiring::{
-    ArbiterPart, BranchPart, CausePart, DomainPart, HandlerPart, Kind, Parts, PosterPart, QueuePart, SetPart,
-    Wiring,
+    ArbiterPart, BranchPart, CausePart, DomainPart, HandlerPart, Kind, Parts, PosterPart,
+    QueuePart, SetPart, Wiring,
 };
 use std::alloc::Global;
 
