@@ -12,13 +12,13 @@ use Rattle.ccr_wiretext.specs.declared.keyword.Keyword.{Keyword}
 use Rattle.ccr_wiretext.specs.declared.keyword.Keyword.TheVariants as keywords
 use Rattle.ccr_wiretext.specs.declared.draft.Block.{Block}
 use Rattle.ccr_wiretext.specs.declared.draft.Block.TheVariants as blocks
-use Rattle.ccr_wiretext.specs.Drafts.{Declared, with_budget, with_queue, with_port, with_set, with_cause, with_receive, with_handler, with_arbiter, with_poster, with_action, with_branch, with_post, end_handler, end_arbiter, end_poster}
+use Rattle.ccr_wiretext.specs.Drafts.{Declared, with_budget, with_queue, with_port, with_set, with_cause, with_receive, with_handler, with_arbiter, with_poster, with_domain, with_action, with_branch, with_post, end_handler, end_arbiter, end_poster}
 use Rattle.ccr_wiretext.specs.Places.{Words, no_more}
-use Rattle.ccr_wiretext.specs.Forms.{budget_form, queue_form, name_form, set_form, cause_form, receive_form, branch_form, post_form, fail_form, caused_form, await_form, script_form, end_form, arbiter_end_form}
+use Rattle.ccr_wiretext.specs.Forms.{budget_form, queue_form, name_form, set_form, cause_form, combine_form, receive_form, branch_form, post_form, fail_form, caused_form, await_form, script_form, end_form, arbiter_end_form}
 use Rattle.ccr_wiretext.specs.Blocks.{group_of, branch_line, apart, outside_line, handler_line, arbiter_line, poster_line, line_in}
 use Rattle.ccr_wiretext.specs.Lines.{IsBranch, SaysOutside, SaysInHandler, SaysInArbiter, SaysInPoster, Says}
 use Rattle.ccr_wiretext.proofs.Steps.{bind_ok, ok_is, no_more_ok}
-use Rattle.ccr_wiretext.proofs.Formed.{budget_said, budget_read, queue_said, queue_read, name_said, name_read, set_said, set_read, cause_said, cause_read, receive_said, receive_read, branch_said, branch_read, post_said, post_read, fail_said, fail_read, caused_said, caused_read, await_said, await_read, script_said, script_read, arbiter_end_said, arbiter_end_read}
+use Rattle.ccr_wiretext.proofs.Formed.{budget_said, budget_read, queue_said, queue_read, name_said, name_read, set_said, set_read, cause_said, cause_read, combine_said, combine_read, receive_said, receive_read, branch_said, branch_read, post_said, post_read, fail_said, fail_read, caused_said, caused_read, await_said, await_read, script_said, script_read, arbiter_end_said, arbiter_end_read}
 
 outside_said : (draft : Declared) (first : Keyword) (words : Words) (new : Declared) → outside_line draft first words ≡ Ok new → SaysOutside draft first words new
 unfolding outside_line
@@ -49,6 +49,9 @@ outside_said draft keywords.Choice words new e =
 outside_said draft keywords.Interleave words new e =
     let a = bind_ok (name_form 256 (length draft.parts.arbiters) draft words) (λ name. Ok (with_arbiter draft arbiters.Interleave name)) new e in
     (a.0, name_said 256 (length draft.parts.arbiters) draft words a.0 a.1, sym (ok_is (with_arbiter draft arbiters.Interleave a.0) new a.2))
+outside_said draft keywords.Combine words new e =
+    let a = bind_ok (combine_form draft words) (λ part. Ok (with_domain draft part)) new e in
+    (a.0, combine_said draft words a.0 a.1, sym (ok_is (with_domain draft a.0) new a.2))
 outside_said draft keywords.Poster words new e =
     let a = bind_ok (name_form 16 (length draft.parts.posters) draft words) (λ name. Ok (with_poster draft name)) new e in
     (a.0, name_said 16 (length draft.parts.posters) draft words a.0 a.1, sym (ok_is (with_poster draft a.0) new a.2))
@@ -75,6 +78,7 @@ outside_read draft keywords.Handler words new said = rw (name_read 256 (length d
 outside_read draft keywords.Receive words new said = rw (receive_read draft words said.0 said.1, said.2) refl
 outside_read draft keywords.Choice words new said = rw (name_read 256 (length draft.parts.arbiters) draft words said.0 said.1, said.2) refl
 outside_read draft keywords.Interleave words new said = rw (name_read 256 (length draft.parts.arbiters) draft words said.0 said.1, said.2) refl
+outside_read draft keywords.Combine words new said = rw (combine_read draft words said.0 said.1, said.2) refl
 outside_read draft keywords.Poster words new said = rw (name_read 16 (length draft.parts.posters) draft words said.0 said.1, said.2) refl
 outside_read draft keywords.Post words new said = absurd said
 outside_read draft keywords.Fail words new said = absurd said
@@ -99,15 +103,16 @@ handler_said draft part keywords.Handler words new e = absurd cc
 handler_said draft part keywords.Receive words new e = absurd cc
 handler_said draft part keywords.Choice words new e = absurd cc
 handler_said draft part keywords.Interleave words new e = absurd cc
+handler_said draft part keywords.Combine words new e = absurd cc
 handler_said draft part keywords.Poster words new e = absurd cc
 handler_said draft part keywords.Post words new e =
     let a = bind_ok (post_form draft part words) (λ action. Ok (with_action draft part action)) new e in
     let said = post_said draft part words a.0 a.1 in
     inr (a.0, said.0, said.1, sym (ok_is (with_action draft part a.0) new a.2))
 handler_said draft part keywords.Fail words new e =
-    let a = bind_ok (fail_form part words) (λ action. Ok (with_action draft part action)) new e in
+    let a = bind_ok (fail_form draft part words) (λ value. Ok (with_action draft part (actions.Fail value))) new e in
     let said = fail_said draft part words a.0 a.1 in
-    inr (a.0, said.0, said.1, sym (ok_is (with_action draft part a.0) new a.2))
+    inr (actions.Fail a.0, said.0, said.1, sym (ok_is (with_action draft part (actions.Fail a.0)) new a.2))
 handler_said draft part keywords.Add words new e =
     let a = bind_ok (caused_form draft part words) (λ cause. Ok (with_action draft part (actions.Add cause))) new e in
     let said = caused_said draft part words a.0 a.1 in
@@ -141,9 +146,14 @@ handler_read draft part keywords.Handler words new (inr said) = absurd said.2
 handler_read draft part keywords.Receive words new (inr said) = absurd said.2
 handler_read draft part keywords.Choice words new (inr said) = absurd said.2
 handler_read draft part keywords.Interleave words new (inr said) = absurd said.2
+handler_read draft part keywords.Combine words new (inr said) = absurd said.2
 handler_read draft part keywords.Poster words new (inr said) = absurd said.2
 handler_read draft part keywords.Post words new (inr said) = rw (post_read draft part words said.0 said.1 said.2, said.3) refl
-handler_read draft part keywords.Fail words new (inr said) = rw (fail_read draft part words said.0 said.1 said.2, said.3) refl
+handler_read draft part keywords.Fail words new (inr (actions.Post to value, room, said, is)) = absurd said
+handler_read draft part keywords.Fail words new (inr (actions.Fail value, room, said, is)) = rw (fail_read draft part words value room said, is) refl
+handler_read draft part keywords.Fail words new (inr (actions.Add cause, room, said, is)) = absurd said
+handler_read draft part keywords.Fail words new (inr (actions.Remove cause, room, said, is)) = absurd said
+handler_read draft part keywords.Fail words new (inr (actions.Await from, room, said, is)) = absurd said
 handler_read draft part keywords.Add words new (inr (actions.Post to value, room, said, is)) = absurd said
 handler_read draft part keywords.Add words new (inr (actions.Fail value, room, said, is)) = absurd said
 handler_read draft part keywords.Add words new (inr (actions.Add cause, room, said, is)) = rw (caused_read draft part words cause room said, is) refl
@@ -185,6 +195,7 @@ arbiter_said draft part keywords.Handler words new e = inr (branch_line_said dra
 arbiter_said draft part keywords.Receive words new e = inr (branch_line_said draft part (group_of part.kind keywords.Receive) words new e)
 arbiter_said draft part keywords.Choice words new e = inr (branch_line_said draft part (group_of part.kind keywords.Choice) words new e)
 arbiter_said draft part keywords.Interleave words new e = inr (branch_line_said draft part (group_of part.kind keywords.Interleave) words new e)
+arbiter_said draft part keywords.Combine words new e = inr (branch_line_said draft part (group_of part.kind keywords.Combine) words new e)
 arbiter_said draft part keywords.Poster words new e = inr (branch_line_said draft part (group_of part.kind keywords.Poster) words new e)
 arbiter_said draft part keywords.Post words new e = inr (branch_line_said draft part (group_of part.kind keywords.Post) words new e)
 arbiter_said draft part keywords.Fail words new e = inr (branch_line_said draft part (group_of part.kind keywords.Fail) words new e)
@@ -213,6 +224,7 @@ arbiter_read draft part keywords.Handler words new (inr said) = rw (said.1, bran
 arbiter_read draft part keywords.Receive words new (inr said) = rw (said.1, branch_read draft part said.0 words said.2 said.3, said.4) refl
 arbiter_read draft part keywords.Choice words new (inr said) = rw (said.1, branch_read draft part said.0 words said.2 said.3, said.4) refl
 arbiter_read draft part keywords.Interleave words new (inr said) = rw (said.1, branch_read draft part said.0 words said.2 said.3, said.4) refl
+arbiter_read draft part keywords.Combine words new (inr said) = rw (said.1, branch_read draft part said.0 words said.2 said.3, said.4) refl
 arbiter_read draft part keywords.Poster words new (inr said) = rw (said.1, branch_read draft part said.0 words said.2 said.3, said.4) refl
 arbiter_read draft part keywords.Post words new (inr said) = rw (said.1, branch_read draft part said.0 words said.2 said.3, said.4) refl
 arbiter_read draft part keywords.Fail words new (inr said) = rw (said.1, branch_read draft part said.0 words said.2 said.3, said.4) refl
@@ -237,6 +249,7 @@ poster_said draft part keywords.Handler words new e = absurd cc
 poster_said draft part keywords.Receive words new e = absurd cc
 poster_said draft part keywords.Choice words new e = absurd cc
 poster_said draft part keywords.Interleave words new e = absurd cc
+poster_said draft part keywords.Combine words new e = absurd cc
 poster_said draft part keywords.Poster words new e = absurd cc
 poster_said draft part keywords.Post words new e =
     let a = bind_ok (script_form draft part words) (λ post. Ok (with_post draft part post)) new e in
@@ -265,6 +278,7 @@ poster_read draft part keywords.Handler words new said = absurd said
 poster_read draft part keywords.Receive words new said = absurd said
 poster_read draft part keywords.Choice words new said = absurd said
 poster_read draft part keywords.Interleave words new said = absurd said
+poster_read draft part keywords.Combine words new said = absurd said
 poster_read draft part keywords.Poster words new said = absurd said
 poster_read draft part keywords.Post words new said = rw (script_read draft part words said.0 said.1, said.2) refl
 poster_read draft part keywords.Fail words new said = absurd said

@@ -1,6 +1,8 @@
 -- Parts of which nothing dangles and nothing lies outside its limits.
-use Rattle.std.proofs.Common.{◌≡◌, ℕ, ◌<◌, ◌≤◌, true, false, List, length, ◌⊎◌, arith}
-use Rattle.std.specs.Prelude.{◌==◌}
+use Rattle.std.proofs.Common.{◌≡◌, ℕ, ◌<◌, ◌≤◌, Bool, true, false, List, [], ◌∷◌, ◌++◌, length, zero, suc, ◌⊎◌, arith}
+use Rattle.std.specs.Prelude.{◌==◌, ◌&&◌, not}
+use Rattle.std.specs.List.{slice_get}
+use Rattle.std.specs.Option.{option_map_or}
 use Rattle.ccr_base.specs.declared.policies.Policy.{Policy}
 use Rattle.ccr_base.specs.declared.policies.Policy.TheVariants as policies
 use Rattle.ccr_base.specs.declared.handlers.Action.{Action}
@@ -16,8 +18,10 @@ use Rattle.ccr_wiring.specs.declared.parts.HandlerPart.{HandlerPart}
 use Rattle.ccr_wiring.specs.declared.parts.BranchPart.{BranchPart}
 use Rattle.ccr_wiring.specs.declared.parts.ArbiterPart.{ArbiterPart}
 use Rattle.ccr_wiring.specs.declared.parts.PosterPart.{PosterPart}
-use Rattle.ccr_wiring.specs.Groups.{may_have, is_receive, is_one_named}
+use Rattle.ccr_wiring.specs.declared.parts.DomainPart.{DomainPart}
+use Rattle.ccr_wiring.specs.Groups.{may_have, is_receive, is_interleave, is_one_named}
 use Rattle.ccr_wiring.specs.Repeats.{are_apart, slot_ports}
+use Rattle.ccr_wiring.specs.Versions.{is_long}
 use Rattle.ccr_wiretext.proofs.Each.{Each, each_more}
 
 abbrev pub PolicyFit : Policy → Type 0
@@ -25,9 +29,15 @@ PolicyFit policies.Unbounded = Unit {0}
 PolicyFit (policies.Discard n) = (1 ≤ n) × (n ≤ 1000)
 PolicyFit (policies.Throttle n) = (1 ≤ n) × (n ≤ 1000)
 
-abbrev pub ExprFit : Expr → Type 0
-ExprFit (exprs.Arg k) = k ≤ 65535
-ExprFit _ = Unit {0}
+-- what only version 2 has stands in no other
+abbrev pub OldFit : ℕ → Bool → Type 0
+OldFit version newer = (not (version == 2) && newer) ≡ false
+
+abbrev pub ExprFit : ℕ → Expr → Type 0
+ExprFit version (exprs.Number value) = OldFit version (is_long value)
+ExprFit version (exprs.Part message place) = OldFit version true × (message ≤ 65535) × (place ≤ 7)
+ExprFit version (exprs.Arg k) = k ≤ 65535
+ExprFit version _ = Unit {0}
 
 abbrev pub PortsFit : ℕ → List ℕ → Type 0
 PortsFit count numbers = Each (λ n. n < count) numbers
@@ -35,15 +45,15 @@ PortsFit count numbers = Each (λ n. n < count) numbers
 abbrev pub SetFit : ℕ → SetPart → Type 0
 SetFit ports part = PortsFit ports part.ports × (are_apart part.ports ≡ true) × (1 ≤ length part.ports) × (length part.ports ≤ 8)
 
-abbrev pub ActionFit : ℕ → ℕ → Action → Type 0
-ActionFit ports causes (actions.Post port value) = (port < ports) × ExprFit value
-ActionFit ports causes (actions.Fail value) = ExprFit value
-ActionFit ports causes (actions.Add cause) = cause < causes
-ActionFit ports causes (actions.Remove cause) = cause < causes
-ActionFit ports causes (actions.Await port) = port < ports
+abbrev pub ActionFit : ℕ → ℕ → ℕ → Action → Type 0
+ActionFit version ports causes (actions.Post port value) = (port < ports) × ExprFit version value
+ActionFit version ports causes (actions.Fail value) = ExprFit version value
+ActionFit version ports causes (actions.Add cause) = cause < causes
+ActionFit version ports causes (actions.Remove cause) = cause < causes
+ActionFit version ports causes (actions.Await port) = port < ports
 
-abbrev pub HandlerFit : ℕ → ℕ → HandlerPart → Type 0
-HandlerFit ports causes part = Each (ActionFit ports causes) part.handler.actions × (length part.handler.actions ≤ 16)
+abbrev pub HandlerFit : ℕ → ℕ → ℕ → HandlerPart → Type 0
+HandlerFit version ports causes part = Each (ActionFit version ports causes) part.handler.actions × (length part.handler.actions ≤ 16)
 
 abbrev pub SlotFit : ℕ → Slot → Type 0
 SlotFit ports slot = (slot.port < ports) × (slot.most ≡ slot.least) × (1 ≤ slot.least) × (slot.least ≤ 1000)
@@ -66,11 +76,18 @@ Shaped part = ((is_receive part.kind ≡ true) × (is_one_named part.name part.b
 abbrev pub ArbiterFit : ℕ → ℕ → ℕ → ArbiterPart → Type 0
 ArbiterFit queues handlers ports part = BranchesFit queues handlers ports part × Shaped part
 
-abbrev pub PostFit : ℕ → ℕ → Sent → Type 0
-PostFit ports causes post = (post.port < ports) × PortsFit causes post.causes × (are_apart post.causes ≡ true)
+abbrev pub PostFit : ℕ → ℕ → ℕ → Sent → Type 0
+PostFit version ports causes post = (post.port < ports) × PortsFit causes post.causes × (are_apart post.causes ≡ true) × OldFit version (is_long post.value)
 
-abbrev pub PosterFit : ℕ → ℕ → PosterPart → Type 0
-PosterFit ports causes part = Each (PostFit ports causes) part.posts
+abbrev pub PosterFit : ℕ → ℕ → ℕ → PosterPart → Type 0
+PosterFit version ports causes part = Each (PostFit version ports causes) part.posts
+
+-- the number of an Interleave
+abbrev pub InterleaveFit : List ArbiterPart → ℕ → Type 0
+InterleaveFit arbiters number = option_map_or (λ (arbiter : ArbiterPart). not (is_interleave arbiter.kind)) (slice_get arbiters number) true ≡ false
+
+abbrev pub DomainFit : List ArbiterPart → DomainPart → Type 0
+DomainFit arbiters part = Each (InterleaveFit arbiters) part.members × (2 ≤ length part.members) × (length part.members ≤ 8)
 
 -- ---- more ports, causes, queues and handlers leave what fits
 
@@ -80,15 +97,15 @@ ports_more n m less numbers fit = each_more (λ k. k < n) (λ k. k < m) (λ k be
 pub set_more : (n m : ℕ) → n ≤ m → (part : SetPart) → SetFit n part → SetFit m part
 set_more n m less part fit = (ports_more n m less part.ports fit.0, fit.1, fit.2, fit.3)
 
-action_more : (p q c d : ℕ) → p ≤ q → c ≤ d → (action : Action) → ActionFit p c action → ActionFit q d action
-action_more p q c d ports causes (actions.Post port value) fit = (omega arith, fit.1)
-action_more p q c d ports causes (actions.Fail value) fit = fit
-action_more p q c d ports causes (actions.Add cause) fit = omega arith
-action_more p q c d ports causes (actions.Remove cause) fit = omega arith
-action_more p q c d ports causes (actions.Await port) fit = omega arith
+action_more : (v p q c d : ℕ) → p ≤ q → c ≤ d → (action : Action) → ActionFit v p c action → ActionFit v q d action
+action_more v p q c d ports causes (actions.Post port value) fit = (omega arith, fit.1)
+action_more v p q c d ports causes (actions.Fail value) fit = fit
+action_more v p q c d ports causes (actions.Add cause) fit = omega arith
+action_more v p q c d ports causes (actions.Remove cause) fit = omega arith
+action_more v p q c d ports causes (actions.Await port) fit = omega arith
 
-pub handler_more : (p q c d : ℕ) → p ≤ q → c ≤ d → (part : HandlerPart) → HandlerFit p c part → HandlerFit q d part
-handler_more p q c d ports causes part fit = (each_more (ActionFit p c) (ActionFit q d) (action_more p q c d ports causes) part.handler.actions fit.0, fit.1)
+pub handler_more : (v p q c d : ℕ) → p ≤ q → c ≤ d → (part : HandlerPart) → HandlerFit v p c part → HandlerFit v q d part
+handler_more v p q c d ports causes part fit = (each_more (ActionFit v p c) (ActionFit v q d) (action_more v p q c d ports causes) part.handler.actions fit.0, fit.1)
 
 pattern_more : (p q : ℕ) → p ≤ q → (shape : Pattern) → PatternFit p shape → PatternFit q shape
 pattern_more p q ports (patterns.Slots slots) fit = (each_more (SlotFit p) (SlotFit q) (λ slot one. (omega (arith, one.0), one.1, one.2, one.3)) slots fit.0, fit.1, fit.2, fit.3)
@@ -105,8 +122,16 @@ branches_more k l h i p q queues handlers ports part fit =
 pub arbiter_more : (k l h i p q : ℕ) → k ≤ l → h ≤ i → p ≤ q → (part : ArbiterPart) → ArbiterFit k h p part → ArbiterFit l i q part
 arbiter_more k l h i p q queues handlers ports part fit = (branches_more k l h i p q queues handlers ports part fit.0, fit.1)
 
-post_more : (p q c d : ℕ) → p ≤ q → c ≤ d → (post : Sent) → PostFit p c post → PostFit q d post
-post_more p q c d ports causes post fit = (omega (arith, fit.0), ports_more c d causes post.causes fit.1, fit.2)
+post_more : (v p q c d : ℕ) → p ≤ q → c ≤ d → (post : Sent) → PostFit v p c post → PostFit v q d post
+post_more v p q c d ports causes post fit = (omega (arith, fit.0), ports_more c d causes post.causes fit.1, fit.2, fit.3)
 
-pub poster_more : (p q c d : ℕ) → p ≤ q → c ≤ d → (part : PosterPart) → PosterFit p c part → PosterFit q d part
-poster_more p q c d ports causes part fit = each_more (PostFit p c) (PostFit q d) (post_more p q c d ports causes) part.posts fit
+pub poster_more : (v p q c d : ℕ) → p ≤ q → c ≤ d → (part : PosterPart) → PosterFit v p c part → PosterFit v q d part
+poster_more v p q c d ports causes part fit = each_more (PostFit v p c) (PostFit v q d) (post_more v p q c d ports causes) part.posts fit
+
+interleave_more : (arbiters : List ArbiterPart) (arbiter : ArbiterPart) (n : ℕ) → InterleaveFit arbiters n → InterleaveFit (arbiters ++ arbiter ∷ []) n
+interleave_more [] arbiter n fit = absurd cc
+interleave_more (other ∷ arbiters) arbiter zero fit = fit
+interleave_more (other ∷ arbiters) arbiter (suc n) fit = interleave_more arbiters arbiter n fit
+
+pub domain_more : (arbiters : List ArbiterPart) (arbiter : ArbiterPart) (part : DomainPart) → DomainFit arbiters part → DomainFit (arbiters ++ arbiter ∷ []) part
+domain_more arbiters arbiter part fit = (each_more (InterleaveFit arbiters) (InterleaveFit (arbiters ++ arbiter ∷ [])) (interleave_more arbiters arbiter) part.members fit.0, fit.1, fit.2)

@@ -3,6 +3,7 @@ use Rattle.std.proofs.Common.{◌≡◌, ℕ, ◌+◌, ◌<◌, false, List, [],
 use Rattle.std.specs.Prelude.{not, ◌==◌}
 use Rattle.ccr_base.specs.declared.handlers.Action.{Action}
 use Rattle.ccr_base.specs.declared.handlers.Action.TheVariants as actions
+use Rattle.ccr_base.specs.declared.handlers.Expr.{Expr}
 use Rattle.ccr_base.specs.declared.messages.Sent.{Sent}
 use Rattle.ccr_base.specs.declared.policies.Group.{Group}
 use Rattle.ccr_wiring.specs.declared.parts.QueuePart.{QueuePart}
@@ -12,18 +13,19 @@ use Rattle.ccr_wiring.specs.declared.parts.BranchPart.{BranchPart}
 use Rattle.ccr_wiring.specs.declared.parts.ArbiterPart.{ArbiterPart}
 use Rattle.ccr_wiring.specs.declared.parts.HandlerPart.{HandlerPart}
 use Rattle.ccr_wiring.specs.declared.parts.PosterPart.{PosterPart}
+use Rattle.ccr_wiring.specs.declared.parts.DomainPart.{DomainPart}
 use Rattle.ccr_wiretext.specs.declared.keyword.Keyword.TheVariants as keywords
 use Rattle.ccr_wiretext.specs.Names.{as_queue, as_cause, as_handler}
 use Rattle.ccr_wiretext.specs.Drafts.{Declared, branch_count, script_count}
-use Rattle.ccr_wiretext.specs.Places.{Words, unless, limited, no_more, new_name, reference, port, number, number_within, policy, group, expr}
-use Rattle.ccr_wiretext.specs.Patterns.{pattern, all_members, causes}
-use Rattle.ccr_wiretext.specs.Forms.{crowds, budget_form, queue_form, name_form, set_form, cause_form, branch_tail, receive_room, receive_form, branch_form, post_form, fail_form, caused_form, await_form, script_form, arbiter_end_form}
+use Rattle.ccr_wiretext.specs.Places.{Words, unless, limited, no_more, new_name, reference, port, number_within, policy, group, value, expr}
+use Rattle.ccr_wiretext.specs.Patterns.{pattern, all_members, combined, causes}
+use Rattle.ccr_wiretext.specs.Forms.{crowds, budget_form, queue_form, name_form, set_form, cause_form, combine_form, branch_tail, receive_room, receive_form, branch_form, post_form, fail_form, caused_form, await_form, script_form, arbiter_end_form}
 use Rattle.ccr_wiretext.specs.Grammar.{IsNew, IsGroup, IsExpr, AreCauses}
-use Rattle.ccr_wiretext.specs.Lines.{IsBudget, IsQueue, IsName, IsSet, IsCause, IsBranchTail, IsReceive, IsBranch, IsAction, IsPost}
+use Rattle.ccr_wiretext.specs.Lines.{IsBudget, IsQueue, IsName, IsSet, IsCause, IsCombine, IsBranchTail, IsReceive, IsBranch, IsAction, IsPost}
 use Rattle.ccr_wiretext.proofs.Steps.{bind_ok, ok_is, unless_ok, no_more_ok, not_true, limit_ok, limit_read}
-use Rattle.ccr_wiretext.proofs.Placed.{new_name_said, new_name_read, reference_said, reference_read, number_said, number_read, within_said, within_read, policy_said, policy_read, group_said, group_read, expr_said, expr_read}
+use Rattle.ccr_wiretext.proofs.Placed.{new_name_said, new_name_read, reference_said, reference_read, within_said, within_read, policy_said, policy_read, group_said, group_read, value_said, value_read, expr_said, expr_read}
 use Rattle.ccr_wiretext.proofs.Slashed.{port_said, port_read}
-use Rattle.ccr_wiretext.proofs.Patterned.{pattern_said, pattern_read, all_members_said, all_members_read, causes_said, causes_read}
+use Rattle.ccr_wiretext.proofs.Patterned.{pattern_said, pattern_read, all_members_said, all_members_read, combined_said, combined_read, causes_said, causes_read}
 
 -- budget N
 pub budget_said : (draft : Declared) (words : Words) (n : ℕ) → budget_form draft words ≡ Ok n → IsBudget draft words n
@@ -136,6 +138,20 @@ unfolding cause_form
 cause_read draft words part said =
     rw (said.spelled, limit_read 32 (length draft.parts.causes) said.room, new_name_read draft.names part.name (said.port ∷ []) said.name, port_read draft said.port part.port [] said.refers) refl
 
+-- combine INTERLEAVE INTERLEAVE ..
+pub combine_said : (draft : Declared) (words : Words) (part : DomainPart) → combine_form draft words ≡ Ok part → IsCombine draft words part
+unfolding combine_form
+combine_said draft words part e =
+    let room = bind_ok (limited 128 (length draft.parts.domains)) _ part e in
+    let members = bind_ok (combined draft words) _ part room.2 in
+    let said = combined_said draft words members.0 members.1 in
+    let made : DomainPart = record { members = members.0 } in
+    subst (IsCombine draft words) (ok_is made part members.2) (record { room = limit_ok 128 (length draft.parts.domains) room.0 room.1; members = said.0; some = said.1; few = said.2 })
+
+pub combine_read : (draft : Declared) (words : Words) (part : DomainPart) → IsCombine draft words part → combine_form draft words ≡ Ok part
+unfolding combine_form
+combine_read draft words part said = rw (limit_read 128 (length draft.parts.domains) said.room, combined_read draft words part.members said.members said.some said.few) refl
+
 -- QUEUE HANDLER PATTERN
 tail_said : (draft : Declared) (name : List ℕ) (g : Group) (words : Words) (branch : BranchPart) → branch_tail draft name g words ≡ Ok branch → (name ≡ branch.name) × (g ≡ branch.group) × IsBranchTail draft words branch
 unfolding branch_tail
@@ -235,10 +251,10 @@ unfolding post_form
 post_said draft part words action e =
     let room = bind_ok (limited 16 (length part.handler.actions)) _ action e in
     let to = bind_ok (port draft words) _ action room.2 in
-    let value = bind_ok (expr to.0.1) _ action to.2 in
+    let value = bind_ok (expr draft.parts.version to.0.1) _ action to.2 in
     let none = bind_ok (no_more value.0.1) _ action value.2 in
     let referred = port_said draft words to.0 to.1 in
-    let valued = expr_said to.0.1 value.0 value.1 in
+    let valued = expr_said draft.parts.version to.0.1 value.0 value.1 in
     subst (λ (a : Action). (length part.handler.actions < 16) × IsAction draft keywords.Post words a) (ok_is (actions.Post to.0.0 value.0.0) action none.2) (
       limit_ok 16 (length part.handler.actions) room.0 room.1,
       (
@@ -253,7 +269,7 @@ post_said draft part words action e =
 pub post_read : (draft : Declared) (part : HandlerPart) (words : Words) (action : Action) → length part.handler.actions < 16 → IsAction draft keywords.Post words action → post_form draft part words ≡ Ok action
 unfolding post_form
 post_read draft part words (actions.Post to value) room said =
-    let valued : expr said.1 ≡ Ok (value, []) = ap expr (sym (append-nil said.1)) ∙ expr_read said.1 value [] said.4 in
+    let valued : expr draft.parts.version said.1 ≡ Ok (value, []) = ap (expr draft.parts.version) (sym (append-nil said.1)) ∙ expr_read draft.parts.version said.1 value [] said.4 in
     rw (said.2, limit_read 16 (length part.handler.actions) room, port_read draft said.0 to said.1 said.3, valued) refl
 post_read draft part words (actions.Fail value) room said = absurd said
 post_read draft part words (actions.Add cause) room said = absurd said
@@ -261,26 +277,22 @@ post_read draft part words (actions.Remove cause) room said = absurd said
 post_read draft part words (actions.Await from) room said = absurd said
 
 -- fail EXPR
-pub fail_said : (draft : Declared) (part : HandlerPart) (words : Words) (action : Action) → fail_form part words ≡ Ok action → (length part.handler.actions < 16) × IsAction draft keywords.Fail words action
+pub fail_said : (draft : Declared) (part : HandlerPart) (words : Words) (v : Expr) → fail_form draft part words ≡ Ok v → (length part.handler.actions < 16) × IsAction draft keywords.Fail words (actions.Fail v)
 unfolding fail_form
-fail_said draft part words action e =
-    let room = bind_ok (limited 16 (length part.handler.actions)) _ action e in
-    let value = bind_ok (expr words) _ action room.2 in
-    let none = bind_ok (no_more value.0.1) _ action value.2 in
-    let valued = expr_said words value.0 value.1 in
+fail_said draft part words v e =
+    let room = bind_ok (limited 16 (length part.handler.actions)) _ v e in
+    let value = bind_ok (expr draft.parts.version words) _ v room.2 in
+    let none = bind_ok (no_more value.0.1) _ v value.2 in
+    let valued = expr_said draft.parts.version words value.0 value.1 in
     let whole : valued.0 ≡ words = sym (append-nil valued.0) ∙ rw (← (no_more_ok value.0.1 none.0 none.1)) (sym valued.1) in
-    subst (λ (a : Action). (length part.handler.actions < 16) × IsAction draft keywords.Fail words a) (ok_is (actions.Fail value.0.0) action none.2)
-    (limit_ok 16 (length part.handler.actions) room.0 room.1, subst (λ v. IsExpr v value.0.0) whole valued.2)
+    subst (λ (x : Expr). (length part.handler.actions < 16) × IsAction draft keywords.Fail words (actions.Fail x)) (ok_is value.0.0 v none.2)
+    (limit_ok 16 (length part.handler.actions) room.0 room.1, subst (λ v. IsExpr draft.parts.version v value.0.0) whole valued.2)
 
-pub fail_read : (draft : Declared) (part : HandlerPart) (words : Words) (action : Action) → length part.handler.actions < 16 → IsAction draft keywords.Fail words action → fail_form part words ≡ Ok action
+pub fail_read : (draft : Declared) (part : HandlerPart) (words : Words) (v : Expr) → length part.handler.actions < 16 → IsAction draft keywords.Fail words (actions.Fail v) → fail_form draft part words ≡ Ok v
 unfolding fail_form
-fail_read draft part words (actions.Fail value) room said =
-    let valued : expr words ≡ Ok (value, []) = ap expr (sym (append-nil words)) ∙ expr_read words value [] said in
+fail_read draft part words v room said =
+    let valued : expr draft.parts.version words ≡ Ok (v, []) = ap (expr draft.parts.version) (sym (append-nil words)) ∙ expr_read draft.parts.version words v [] said in
     rw (limit_read 16 (length part.handler.actions) room, valued) refl
-fail_read draft part words (actions.Post to value) room said = absurd said
-fail_read draft part words (actions.Add cause) room said = absurd said
-fail_read draft part words (actions.Remove cause) room said = absurd said
-fail_read draft part words (actions.Await from) room said = absurd said
 
 -- add CAUSE and remove CAUSE
 pub caused_said : (draft : Declared) (part : HandlerPart) (words : Words) (cause : ℕ) → caused_form draft part words ≡ Ok cause → (length part.handler.actions < 16) × IsAction draft keywords.Add words (actions.Add cause)
@@ -316,16 +328,16 @@ await_read draft part words (actions.Fail value) room said = absurd said
 await_read draft part words (actions.Add cause) room said = absurd said
 await_read draft part words (actions.Remove cause) room said = absurd said
 
--- post PORT N CAUSE .., in a poster
+-- post PORT VALUE CAUSE .., in a poster
 pub script_said : (draft : Declared) (part : PosterPart) (words : Words) (post : Sent) → script_form draft part words ≡ Ok post → IsPost draft part words post
 unfolding script_form
 script_said draft part words post e =
     let room = bind_ok (limited 10000 (script_count draft.parts + length part.posts)) _ post e in
     let to = bind_ok (port draft words) _ post room.2 in
-    let value = bind_ok (number to.0.1) _ post to.2 in
+    let value = bind_ok (value draft.parts.version to.0.1) _ post to.2 in
     let all = bind_ok (causes draft.names [] value.0.1) _ post value.2 in
     let referred = port_said draft words to.0 to.1 in
-    let valued = number_said to.0.1 value.0 value.1 in
+    let valued = value_said draft.parts.version to.0.1 value.0 value.1 in
     let caused = causes_said draft.names [] value.0.1 all.0 all.1 in
     let made : Sent = record { port = to.0.0; value = value.0.0; causes = all.0 } in
     subst (IsPost draft part words) (ok_is made post all.2) (record {
@@ -335,14 +347,14 @@ script_said draft part words post e =
       rest = value.0.1;
       spelled = referred.1 ∙ ap (λ (v : Words). referred.0 ∷ v) valued.1;
       refers = referred.2;
-      number = valued.2;
+      numbers = valued.2;
       causes = subst (λ v. AreCauses draft.names [] v value.0.1) (sym caused.1) caused.2;
     })
 
 pub script_read : (draft : Declared) (part : PosterPart) (words : Words) (post : Sent) → IsPost draft part words post → script_form draft part words ≡ Ok post
 unfolding script_form
 script_read draft part words post said =
-    rw (said.spelled, limit_read 10000 (script_count draft.parts + length part.posts) said.room, port_read draft said.to post.port (said.value ∷ said.rest) said.refers, number_read said.value post.value said.rest said.number, causes_read draft.names [] post.causes said.rest said.causes) refl
+    rw (said.spelled, limit_read 10000 (script_count draft.parts + length part.posts) said.room, port_read draft said.to post.port (said.value ∷ said.rest) said.refers, value_read draft.parts.version said.value post.value said.rest said.numbers, causes_read draft.names [] post.causes said.rest said.causes) refl
 
 -- end of a choice or Interleave
 pub arbiter_end_said : (part : ArbiterPart) (words : Words) (y : Unit {0}) → arbiter_end_form part words ≡ Ok y → (words ≡ []) × ((length part.branches == 0) ≡ false)

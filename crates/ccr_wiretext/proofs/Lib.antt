@@ -3,13 +3,14 @@ pub mod Slots
 pub mod Rooms
 pub mod Written
 pub mod Steps
+pub mod Each
+pub mod Commas
 pub mod Placed
 pub mod Slashed
 pub mod Patterned
 pub mod Formed
 pub mod Blocked
 pub mod Texts
-pub mod Each
 pub mod Fit
 pub mod NamesApart
 pub mod Spotted

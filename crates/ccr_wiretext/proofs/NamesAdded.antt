@@ -49,7 +49,7 @@ kind_more old new h i queues ports causes handlers (kinds.Port n) fit = omega ar
 kind_more old new h i queues ports causes handlers (kinds.Set n) fit = tt
 kind_more old new h i queues ports causes handlers (kinds.Cause n) fit = omega arith
 kind_more old new h i queues ports causes handlers (kinds.Handler n) fit = omega arith
-kind_more old new h i queues ports causes handlers kinds.Arbiter fit = tt
+kind_more old new h i queues ports causes handlers (kinds.Arbiter n) fit = tt
 kind_more old new h i queues ports causes handlers kinds.Branch fit = tt
 kind_more old new h i queues ports causes handlers kinds.Poster fit = tt
 

@@ -1,7 +1,8 @@
 -- What a text says has no code of refusal.
-use Rattle.std.proofs.Common.{◌≡◌, ℕ, ◌<◌, ◌≤◌, true, false, List, [], ◌∷◌, ◌++◌, length, None, inl, inr, refl, ap, subst, ◌∙◌, arith, append-nil}
-use Rattle.std.specs.Prelude.{◌==◌, not, nat_lt}
+use Rattle.std.proofs.Common.{◌≡◌, ℕ, ◌<◌, ◌≤◌, Bool, true, false, cond, List, [], ◌∷◌, ◌++◌, length, Some, None, inl, inr, refl, sym, ap, subst, ◌∙◌, arith, append-nil}
+use Rattle.std.specs.Prelude.{◌==◌, ◌&&◌, ◌||◌, not, nat_lt, codes}
 use Rattle.std.specs.List.{list_any}
+use Rattle.std.specs.Str.{bytes_eq}
 use Rattle.std.proofs.lemmas.Bool.Decides.{nat_tests}
 use Rattle.ccr_base.specs.declared.policies.Policy.{Policy}
 use Rattle.ccr_base.specs.declared.policies.Policy.TheVariants as policies
@@ -17,11 +18,13 @@ use Rattle.ccr_wiring.specs.declared.parts.Parts.{Parts}
 use Rattle.ccr_wiring.specs.declared.parts.QueuePart.{QueuePart}
 use Rattle.ccr_wiring.specs.declared.parts.BranchPart.{BranchPart}
 use Rattle.ccr_wiring.specs.declared.parts.ArbiterPart.{ArbiterPart}
+use Rattle.ccr_wiring.specs.declared.parts.DomainPart.{DomainPart}
 use Rattle.ccr_wiring.specs.Groups.{may_have, is_misgrouped, has_strange_group, has_misgrouped, is_branchless, has_branchless}
 use Rattle.ccr_wiring.specs.Names.{declared_names, has_repeated_name, has_malformed_name}
-use Rattle.ccr_wiring.specs.References.{is_beyond, action_is_dangling, pattern_is_dangling, branch_is_dangling, post_is_dangling, set_is_dangling, cause_is_dangling, handler_is_dangling, arbiter_is_dangling, poster_is_dangling, has_dangling}
+use Rattle.ccr_wiring.specs.References.{is_beyond, action_is_dangling, pattern_is_dangling, branch_is_dangling, post_is_dangling, set_is_dangling, cause_is_dangling, handler_is_dangling, arbiter_is_dangling, poster_is_dangling, no_interleave, domain_is_dangling, has_dangling}
 use Rattle.ccr_wiring.specs.Repeats.{branch_repeats, arbiter_repeats, set_repeats, post_repeats, poster_repeats, has_repeat}
-use Rattle.ccr_wiring.specs.Limits.{policy_is_outside, expr_is_outside, action_is_outside, slot_is_outside, pattern_is_outside, branch_is_outside, queue_is_outside, set_is_outside, handler_is_outside, arbiter_is_outside, has_too_many, has_outside}
+use Rattle.ccr_wiring.specs.Limits.{policy_is_outside, expr_is_outside, action_is_outside, slot_is_outside, pattern_is_outside, branch_is_outside, queue_is_outside, set_is_outside, handler_is_outside, arbiter_is_outside, domain_is_outside, has_too_many, has_outside}
+use Rattle.ccr_wiring.specs.Versions.{has_strange_version, is_long, expr_is_newer, action_is_newer, handler_is_newer, poster_is_newer, has_newer}
 use Rattle.ccr_wiring.specs.Spots.{times, named_ports, has_crowded_port}
 use Rattle.ccr_wiring.specs.Codes.{code_of}
 use Rattle.ccr_text.specs.Words.{is_name_of}
@@ -31,9 +34,11 @@ use Rattle.ccr_wiretext.specs.declared.draft.Block.TheVariants as blocks
 use Rattle.ccr_wiretext.specs.Names.{Naming}
 use Rattle.ccr_wiretext.specs.Keywords.{keyword}
 use Rattle.ccr_wiretext.specs.Drafts.{Declared, nothing}
+use Rattle.ccr_wiretext.specs.Places.{Words}
+use Rattle.ccr_wiretext.specs.Reading.{version_word, version_of}
 use Rattle.ccr_wiretext.specs.Lines.{AreLines, AreHeadedLines, IsText}
 use Rattle.ccr_wiretext.proofs.Each.{Each, each_false, none_passes}
-use Rattle.ccr_wiretext.proofs.Fit.{PolicyFit, ExprFit, ActionFit, SlotFit, PatternFit, BranchFit, ArbiterFit, Shaped, SetFit, HandlerFit, PostFit, PosterFit}
+use Rattle.ccr_wiretext.proofs.Fit.{PolicyFit, OldFit, ExprFit, ActionFit, SlotFit, PatternFit, BranchFit, ArbiterFit, Shaped, SetFit, HandlerFit, PostFit, PosterFit, InterleaveFit, DomainFit}
 use Rattle.ccr_wiretext.proofs.Spotted.{Uncrowded}
 use Rattle.ccr_wiretext.proofs.Sound.{Counts, Fits, Sound, is_cause_fit}
 use Rattle.ccr_wiretext.proofs.SoundLines.{SoundDraft, line_sound}
@@ -52,7 +57,7 @@ above least n more = grind (arith, nat_tests, more)
 numbers_named : (count : ℕ) (numbers : List ℕ) → Each (λ n. n < count) numbers → list_any (is_beyond count) numbers ≡ false
 numbers_named count numbers fit = each_false (λ n. n < count) (is_beyond count) (below count) numbers fit
 
-action_named : (parts : Parts) (action : Action) → ActionFit (length parts.ports) (length parts.causes) action → action_is_dangling parts action ≡ false
+action_named : (parts : Parts) (action : Action) → ActionFit parts.version (length parts.ports) (length parts.causes) action → action_is_dangling parts action ≡ false
 action_named parts (actions.Post port value) fit = below (length parts.ports) port fit.0
 action_named parts (actions.Fail value) fit = refl
 action_named parts (actions.Add cause) fit = below (length parts.causes) cause fit
@@ -66,7 +71,7 @@ pattern_named parts (patterns.Gather total first second) fit = rw (below (length
 branch_named_so : (parts : Parts) (branch : BranchPart) → BranchFit (length parts.queues) (length parts.handlers) (length parts.ports) branch → branch_is_dangling parts branch ≡ false
 branch_named_so parts branch fit = rw (below (length parts.queues) branch.queue fit.0, below (length parts.handlers) branch.handler fit.1, pattern_named parts branch.pattern fit.2) refl
 
-post_named : (parts : Parts) (post : Sent) → PostFit (length parts.ports) (length parts.causes) post → post_is_dangling parts post ≡ false
+post_named : (parts : Parts) (post : Sent) → PostFit parts.version (length parts.ports) (length parts.causes) post → post_is_dangling parts post ≡ false
 post_named parts post fit = rw (below (length parts.ports) post.port fit.0, numbers_named (length parts.causes) post.causes fit.1) refl
 
 arbiter_named_so : (parts : Parts) (part : ArbiterPart) → ArbiterFit (length parts.queues) (length parts.handlers) (length parts.ports) part → arbiter_is_dangling parts part ≡ false
@@ -78,9 +83,10 @@ none_dangles : (parts : Parts) → Fits parts → has_dangling parts ≡ false
 none_dangles parts fits = rw (
   each_false (SetFit (length parts.ports)) (set_is_dangling parts) (λ part fit. numbers_named (length parts.ports) part.ports fit.0) parts.sets fits.sets,
   each_false (is_cause_fit (length parts.ports)) (cause_is_dangling parts) (λ part fit. below (length parts.ports) part.port fit) parts.causes fits.causes,
-  each_false (HandlerFit (length parts.ports) (length parts.causes)) (handler_is_dangling parts) (λ part fit. each_false (ActionFit (length parts.ports) (length parts.causes)) (action_is_dangling parts) (action_named parts) part.handler.actions fit.0) parts.handlers fits.handlers,
+  each_false (HandlerFit parts.version (length parts.ports) (length parts.causes)) (handler_is_dangling parts) (λ part fit. each_false (ActionFit parts.version (length parts.ports) (length parts.causes)) (action_is_dangling parts) (action_named parts) part.handler.actions fit.0) parts.handlers fits.handlers,
   each_false (ArbiterFit (length parts.queues) (length parts.handlers) (length parts.ports)) (arbiter_is_dangling parts) (arbiter_named_so parts) parts.arbiters fits.arbiters,
-  each_false (PosterFit (length parts.ports) (length parts.causes)) (poster_is_dangling parts) (λ part fit. each_false (PostFit (length parts.ports) (length parts.causes)) (post_is_dangling parts) (post_named parts) part.posts fit) parts.posters fits.posters,
+  each_false (PosterFit parts.version (length parts.ports) (length parts.causes)) (poster_is_dangling parts) (λ part fit. each_false (PostFit parts.version (length parts.ports) (length parts.causes)) (post_is_dangling parts) (post_named parts) part.posts fit) parts.posters fits.posters,
+  each_false (DomainFit parts.arbiters) (domain_is_dangling parts) (λ part fit. each_false (InterleaveFit parts.arbiters) (no_interleave parts) (λ n one. one) part.members fit.0) parts.domains fits.domains,
 ) refl
 
 -- ---- repeats
@@ -95,7 +101,8 @@ none_repeats parts fits = rw (
   each_false (ArbiterFit (length parts.queues) (length parts.handlers) (length parts.ports)) arbiter_repeats
       (λ part fit. each_false (λ (branch : BranchPart). BranchFit (length parts.queues) (length parts.handlers) (length parts.ports) branch × (may_have part.kind branch.group ≡ true)) branch_repeats
       (λ branch one. pattern_once (length parts.ports) branch branch.pattern refl one.0.2) part.branches fit.0) parts.arbiters fits.arbiters,
-  each_false (PosterFit (length parts.ports) (length parts.causes)) poster_repeats (λ part fit. each_false (PostFit (length parts.ports) (length parts.causes)) post_repeats (λ post one. rw one.2 refl) part.posts fit) parts.posters fits.posters,
+  each_false (PosterFit parts.version (length parts.ports) (length parts.causes)) poster_repeats (λ part fit. each_false (PostFit parts.version (length parts.ports) (length parts.causes)) post_repeats (λ post one. rw one.2 refl) part.posts fit) parts.posters fits.posters,
+  fits.combined,
 ) refl
 
 -- ---- limits
@@ -105,18 +112,19 @@ policy_within policies.Unbounded fit = refl
 policy_within (policies.Discard n) fit = rw (above 1 n fit.0, within 1000 n fit.1) refl
 policy_within (policies.Throttle n) fit = rw (above 1 n fit.0, within 1000 n fit.1) refl
 
-expr_within : (value : Expr) → ExprFit value → expr_is_outside value ≡ false
-expr_within (exprs.Number n) fit = refl
-expr_within (exprs.Arg k) fit = rw (above 0 k (omega arith), within 65535 k fit) refl
-expr_within exprs.Sum fit = refl
-expr_within exprs.Count fit = refl
+expr_within : (version : ℕ) (value : Expr) → ExprFit version value → expr_is_outside value ≡ false
+expr_within version (exprs.Number value) fit = refl
+expr_within version (exprs.Part message place) fit = rw (above 0 message (omega arith), within 65535 message fit.1, above 0 place (omega arith), within 7 place fit.2) refl
+expr_within version (exprs.Arg k) fit = rw (above 0 k (omega arith), within 65535 k fit) refl
+expr_within version exprs.Sum fit = refl
+expr_within version exprs.Count fit = refl
 
-action_within : (ports causes : ℕ) (action : Action) → ActionFit ports causes action → action_is_outside action ≡ false
-action_within ports causes (actions.Post port value) fit = expr_within value fit.1
-action_within ports causes (actions.Fail value) fit = expr_within value fit
-action_within ports causes (actions.Add cause) fit = refl
-action_within ports causes (actions.Remove cause) fit = refl
-action_within ports causes (actions.Await port) fit = refl
+action_within : (version ports causes : ℕ) (action : Action) → ActionFit version ports causes action → action_is_outside action ≡ false
+action_within version ports causes (actions.Post port value) fit = expr_within version value fit.1
+action_within version ports causes (actions.Fail value) fit = expr_within version value fit
+action_within version ports causes (actions.Add cause) fit = refl
+action_within version ports causes (actions.Remove cause) fit = refl
+action_within version ports causes (actions.Await port) fit = refl
 
 slot_within : (ports : ℕ) (slot : Slot) → SlotFit ports slot → slot_is_outside slot ≡ false
 slot_within ports slot fit =
@@ -136,12 +144,49 @@ none_outside parts c fits = rw (
   few parts c,
   each_false (λ (part : QueuePart). PolicyFit part.policy) queue_is_outside (λ part fit. policy_within part.policy fit) parts.queues fits.queues,
   each_false (SetFit (length parts.ports)) set_is_outside (λ part fit. rw (above 1 (length part.ports) fit.2, within 8 (length part.ports) fit.3) refl) parts.sets fits.sets,
-  each_false (HandlerFit (length parts.ports) (length parts.causes)) handler_is_outside
-      (λ part fit. rw (within 16 (length part.handler.actions) fit.1, each_false (ActionFit (length parts.ports) (length parts.causes)) action_is_outside (action_within (length parts.ports) (length parts.causes)) part.handler.actions fit.0) refl) parts.handlers fits.handlers,
+  each_false (HandlerFit parts.version (length parts.ports) (length parts.causes)) handler_is_outside
+      (λ part fit. rw (within 16 (length part.handler.actions) fit.1, each_false (ActionFit parts.version (length parts.ports) (length parts.causes)) action_is_outside (action_within parts.version (length parts.ports) (length parts.causes)) part.handler.actions fit.0) refl) parts.handlers fits.handlers,
   each_false (ArbiterFit (length parts.queues) (length parts.handlers) (length parts.ports)) arbiter_is_outside
       (λ part fit. each_false (λ (branch : BranchPart). BranchFit (length parts.queues) (length parts.handlers) (length parts.ports) branch × (may_have part.kind branch.group ≡ true)) branch_is_outside
       (λ branch one. pattern_within (length parts.ports) branch.pattern one.0.2) part.branches fit.0) parts.arbiters fits.arbiters,
+  within 128 (length parts.domains) c.domains,
+  each_false (DomainFit parts.arbiters) domain_is_outside (λ part fit. rw (above 2 (length part.members) fit.1, within 8 (length part.members) fit.2) refl) parts.domains fits.domains,
 ) refl
+
+-- ---- versions
+
+in_first : (version : ℕ) (newer : Bool) → (version == 1) ≡ true → OldFit version newer → newer ≡ false
+in_first version newer first fit = let other : (version == 2) ≡ false = grind (arith, nat_tests, first) in sym (ap (λ t. not t && newer) other) ∙ fit
+
+old_expr : (version : ℕ) (value : Expr) → (version == 1) ≡ true → ExprFit version value → expr_is_newer value ≡ false
+old_expr version (exprs.Number value) first fit = in_first version (is_long value) first fit
+old_expr version (exprs.Part message place) first fit = in_first version true first fit.0
+old_expr version (exprs.Arg k) first fit = refl
+old_expr version exprs.Sum first fit = refl
+old_expr version exprs.Count first fit = refl
+
+old_action : (version ports causes : ℕ) → (version == 1) ≡ true → (action : Action) → ActionFit version ports causes action → action_is_newer action ≡ false
+old_action version ports causes first (actions.Post port value) fit = old_expr version value first fit.1
+old_action version ports causes first (actions.Fail value) fit = old_expr version value first fit
+old_action version ports causes first (actions.Add cause) fit = refl
+old_action version ports causes first (actions.Remove cause) fit = refl
+old_action version ports causes first (actions.Await port) fit = refl
+
+none_newer : (parts : Parts) → Fits parts → has_newer parts ≡ false
+none_newer parts fits = by (parts.version == 1) refl
+  where
+    by : (t : Bool) → (parts.version == 1) ≡ t → has_newer parts ≡ false
+    by false e = rw e refl
+    by true e =
+        let handlers : list_any handler_is_newer parts.handlers ≡ false =
+        each_false (HandlerFit parts.version (length parts.ports) (length parts.causes)) handler_is_newer
+        (λ part fit. each_false (ActionFit parts.version (length parts.ports) (length parts.causes)) action_is_newer (old_action parts.version (length parts.ports) (length parts.causes) e) part.handler.actions fit.0)
+        parts.handlers fits.handlers in
+        let posters : list_any poster_is_newer parts.posters ≡ false =
+        each_false (PosterFit parts.version (length parts.ports) (length parts.causes)) poster_is_newer
+        (λ part fit. each_false (PostFit parts.version (length parts.ports) (length parts.causes)) (λ (post : Sent). is_long post.value) (λ post one. in_first parts.version (is_long post.value) e one.3) part.posts fit)
+        parts.posters fits.posters in
+        rw (e, handlers, posters) refl
 
 -- ---- groups
 
@@ -173,12 +218,31 @@ sound_parts parts names spotted s =
     let apart : has_repeated_name parts ≡ false = s.apart.apart in
     let branched : has_branchless parts ≡ false = each_false (ArbiterFit (length parts.queues) (length parts.handlers) (length parts.ports)) is_branchless (arbiter_branched (length parts.queues) (length parts.handlers) (length parts.ports)) parts.arbiters s.fits.arbiters in
     let formed : has_malformed_name parts ≡ false = each_false (λ name. is_name_of name ≡ true) (λ name. not (is_name_of name)) (λ name e. rw e refl) (declared_names parts) s.apart.formed in
-    rw (grouped, apart, none_dangles parts s.fits, none_repeats parts s.fits, none_outside parts s.counts s.fits, branched, uncrowded_parts parts spotted s.spots s.uncrowded, formed) refl
+    rw (s.version, grouped, none_newer parts s.fits, apart, none_dangles parts s.fits, none_repeats parts s.fits, none_outside parts s.counts s.fits, branched, uncrowded_parts parts spotted s.spots s.uncrowded, formed) refl
 
-nothing_sound : SoundDraft nothing
-nothing_sound = record {
-  counts = record { budget = omega arith; queues = omega arith; ports = omega arith; sets = omega arith; causes = omega arith; handlers = omega arith; arbiters = omega arith; branches = omega arith; posters = omega arith; posts = omega arith };
-  fits = record { queues = tt; sets = tt; causes = tt; handlers = tt; arbiters = tt; posters = tt };
+version_known : (word : List ℕ) (version : ℕ) → version_word word ≡ Some version → (not (version == 1) && not (version == 2)) ≡ false
+version_known word version e = by (bytes_eq word (codes "1")) (bytes_eq word (codes "2")) e
+  where
+    by : (a b : Bool) → cond a (Some 1) (cond b (Some 2) None) ≡ Some version → (not (version == 1) && not (version == 2)) ≡ false
+    by true b h = let is : 1 ≡ version = cc in rw (← is) refl
+    by false true h = let is : 2 ≡ version = cc in rw (← is) refl
+    by false false h = absurd cc
+
+head_known : (words : Words) (version : ℕ) → version_of words ≡ Some version → (not (version == 1) && not (version == 2)) ≡ false
+head_known [] version e = absurd cc
+head_known (first ∷ []) version e = absurd cc
+head_known (first ∷ second ∷ []) version e = by (bytes_eq first (codes "ccr")) e
+  where
+    by : (t : Bool) → cond t (version_word second) None ≡ Some version → (not (version == 1) && not (version == 2)) ≡ false
+    by true h = version_known second version h
+    by false h = absurd cc
+head_known (first ∷ second ∷ third ∷ words) version e = absurd cc
+
+nothing_sound : (version : ℕ) → (not (version == 1) && not (version == 2)) ≡ false → SoundDraft (nothing version)
+nothing_sound version known = record {
+  counts = record { budget = omega arith; queues = omega arith; ports = omega arith; sets = omega arith; causes = omega arith; handlers = omega arith; arbiters = omega arith; branches = omega arith; posters = omega arith; posts = omega arith; domains = omega arith };
+  fits = record { queues = tt; sets = tt; causes = tt; handlers = tt; arbiters = tt; posters = tt; domains = tt; combined = refl };
+  version = known;
   known = tt;
   apart = record { apart = refl; formed = tt; fresh = λ name none. refl };
   spots = refl;
@@ -197,7 +261,7 @@ lines_have_none draft (line ∷ lines) parts sound (clean, inr said) =
 headed_have_none : (lines : List Line) (parts : Parts) → AreHeadedLines lines parts → code_of parts ≡ None
 headed_have_none [] parts said = absurd said
 headed_have_none (line ∷ lines) parts (clean, inl said) = headed_have_none lines parts said.1
-headed_have_none (line ∷ lines) parts (clean, inr said) = lines_have_none nothing lines parts nothing_sound said.1
+headed_have_none (line ∷ lines) parts (clean, inr said) = lines_have_none (nothing said.0) lines parts (nothing_sound said.0 (head_known line.words said.0 said.1)) said.2
 
 -- the parts that a text says have no code of refusal
 pub text_has_none : (text : List ℕ) (parts : Parts) → IsText text parts → code_of parts ≡ None

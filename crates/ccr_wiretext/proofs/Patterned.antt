@@ -1,6 +1,6 @@
--- Patterns, members of a set and causes of a post: what is read is in the grammar, and what is in the grammar is read.
+-- Patterns, members of a set, combined Interleaves and causes of a post: what is read is in the grammar, and what is in the grammar is read.
 use Rattle.std.proofs.Common.{◌≡◌, ℕ, zero, suc, ◌≤◌, Bool, true, false, List, [], ◌∷◌, ◌++◌, length, Result, Ok, Err, inl, inr, refl, sym, ap, subst, ◌∙◌, append_assoc, append-nil, arith}
-use Rattle.std.specs.Prelude.{◌==◌, not, codes}
+use Rattle.std.specs.Prelude.{◌==◌, ◌||◌, not, codes}
 use Rattle.std.specs.Str.{bytes_eq}
 use Rattle.std.specs.Option.{option_and_then}
 use Rattle.std.specs.List.{list_any}
@@ -12,11 +12,12 @@ use Rattle.ccr_base.specs.declared.patterns.Pattern.TheVariants as patterns
 use Rattle.ccr_wiring.specs.Repeats.{has_port}
 use Rattle.ccr_wiretext.specs.Names.{Naming, named, as_cause}
 use Rattle.ccr_wiretext.specs.Drafts.{Declared}
-use Rattle.ccr_wiretext.specs.Places.{Words, ◌>>=◌, unless, or_code, no_more, port, number, number_within}
-use Rattle.ccr_wiretext.specs.Patterns.{pred, new_port, slot, slots, taken, gathered, pattern, members, all_members, causes}
-use Rattle.ccr_wiretext.specs.Grammar.{IsPort, IsPred, IsSlot, IsSlots, IsGather, IsPattern, ArePorts, AreCauses}
+use Rattle.ccr_wiretext.specs.Places.{Words, ◌>>=◌, unless, or_code, no_more, port, number, number_within, interleave}
+use Rattle.ccr_wiretext.specs.Patterns.{pred, new_port, slot, slots, taken, gathered, pattern, members, all_members, is_combined, new_member, further, combined, causes}
+use Rattle.ccr_wiretext.specs.Grammar.{IsPort, IsPred, IsSlot, IsSlots, IsGather, IsPattern, ArePorts, IsInterleave, AreInterleaves, AreCauses}
 use Rattle.ccr_wiretext.proofs.Steps.{bind_ok, ok_is, unless_ok, or_code_ok, no_more_ok, chosen, not_true, same_word}
-use Rattle.ccr_wiretext.proofs.Placed.{within_said, within_read, number_read, limit_as, numbered_said, keyed}
+use Rattle.ccr_wiretext.proofs.Placed.{within_said, within_read, number_read, limit_as, numbered_said, keyed, interleave_said, interleave_read}
+use Rattle.ccr_wiretext.proofs.Each.{neither}
 use Rattle.ccr_wiretext.proofs.Slashed.{port_said, port_read}
 
 -- PREDICATE
@@ -240,6 +241,65 @@ unfolding all_members
 all_members_read draft words [] said some few = absurd (omega arith)
 all_members_read draft words (n ∷ more) said some few =
     rw (said.2, port_read draft said.0 n said.1 said.3, members_read draft 7 (n ∷ []) more said.1 said.5 (omega arith)) refl
+
+-- one Interleave more
+new_member_said : (draft : Declared) (found : List ℕ) (words : Words) (x : ℕ × Words) → new_member draft found words ≡ Ok x
+    → (word : List ℕ) × (words ≡ word ∷ x.1) × IsInterleave draft word x.0 × (is_combined draft.parts.domains x.0 ≡ false) × (has_port found x.0 ≡ false)
+unfolding new_member
+new_member_said draft found words x e =
+    let to = bind_ok (interleave draft words) (λ next. unless (not (is_combined draft.parts.domains next.0 || has_port found next.0)) 8 >>= λ apart. Ok next) x e in
+    let apart = bind_ok (unless (not (is_combined draft.parts.domains to.0.0 || has_port found to.0.0)) 8) (λ apart. Ok to.0) x to.2 in
+    let said = interleave_said draft words to.0 to.1 in
+    let new = neither (is_combined draft.parts.domains to.0.0) (has_port found to.0.0) (not_true _ (unless_ok _ 8 apart.0 apart.1)) in
+    subst (λ (y : ℕ × Words). (word : List ℕ) × (words ≡ word ∷ y.1) × IsInterleave draft word y.0 × (is_combined draft.parts.domains y.0 ≡ false) × (has_port found y.0 ≡ false)) (ok_is to.0 x apart.2)
+    (said.0, said.1, said.2, new.0, new.1)
+
+new_member_read : (draft : Declared) (found : List ℕ) (word : List ℕ) (n : ℕ) (rest : Words) → IsInterleave draft word n → is_combined draft.parts.domains n ≡ false → has_port found n ≡ false
+    → new_member draft found (word ∷ rest) ≡ Ok (n, rest)
+unfolding new_member
+new_member_read draft found word n rest said free new = rw (interleave_read draft word n rest said, free, new) refl
+
+-- further Interleaves
+further_said : (draft : Declared) (room : ℕ) (found : List ℕ) (words : Words) (all : List ℕ) → further draft room found words ≡ Ok all
+    → (more : List ℕ) × (all ≡ found ++ more) × AreInterleaves draft found more words × (length more ≤ room)
+unfolding further
+further_said draft room found [] all e = ([], sym (ok_is found all e) ∙ sym (append-nil found), refl, omega arith)
+further_said draft zero found (w ∷ words) all e = absurd cc
+further_said draft (suc room) found (w ∷ words) all e =
+    let next = bind_ok (new_member draft found (w ∷ words)) (λ next. further draft room (found ++ next.0 ∷ []) next.1) all e in
+    let one = new_member_said draft found (w ∷ words) next.0 next.1 in
+    let rest = further_said draft room (found ++ next.0.0 ∷ []) next.0.1 all next.2 in
+    (next.0.0 ∷ rest.0, rest.1 ∙ append_assoc found (next.0.0 ∷ []) rest.0, (one.0, next.0.1, one.1, one.2, one.3, one.4, rest.2), omega (arith, rest.3))
+
+further_read : (draft : Declared) (room : ℕ) (found more : List ℕ) (words : Words) → AreInterleaves draft found more words → length more ≤ room → further draft room found words ≡ Ok (found ++ more)
+unfolding further
+further_read draft room found [] words said few = rw (said, append-nil found) refl
+further_read draft zero found (n ∷ more) words said few = absurd (omega arith)
+further_read draft (suc room) found (n ∷ more) words said few =
+    rw (said.2, new_member_read draft found said.0 n said.1 said.3 said.4 said.5, further_read draft room (found ++ n ∷ []) more said.1 said.6 (omega arith), append_assoc found (n ∷ []) more) refl
+
+-- combined Interleaves
+pub combined_said : (draft : Declared) (words : Words) (all : List ℕ) → combined draft words ≡ Ok all → AreInterleaves draft [] all words × (2 ≤ length all) × (length all ≤ 8)
+unfolding combined
+combined_said draft words all e =
+    let first = bind_ok (new_member draft [] words) (λ first. new_member draft (first.0 ∷ []) first.1 >>= λ second. further draft 6 (first.0 ∷ second.0 ∷ []) second.1) all e in
+    let second = bind_ok (new_member draft (first.0.0 ∷ []) first.0.1) (λ second. further draft 6 (first.0.0 ∷ second.0 ∷ []) second.1) all first.2 in
+    let one = new_member_said draft [] words first.0 first.1 in
+    let two = new_member_said draft (first.0.0 ∷ []) first.0.1 second.0 second.1 in
+    let more = further_said draft 6 (first.0.0 ∷ second.0.0 ∷ []) second.0.1 all second.2 in
+    let behind : AreInterleaves draft (first.0.0 ∷ []) (second.0.0 ∷ more.0) first.0.1 = (two.0, second.0.1, two.1, two.2, two.3, two.4, more.2) in
+    let said : AreInterleaves draft [] (first.0.0 ∷ second.0.0 ∷ more.0) words = (one.0, first.0.1, one.1, one.2, one.3, one.4, behind) in
+    subst (λ (v : List ℕ). AreInterleaves draft [] v words × (2 ≤ length v) × (length v ≤ 8)) (sym more.1) (said, omega arith, omega (arith, more.3))
+
+pub combined_read : (draft : Declared) (words : Words) (all : List ℕ) → AreInterleaves draft [] all words → 2 ≤ length all → length all ≤ 8 → combined draft words ≡ Ok all
+unfolding combined
+combined_read draft words [] said some few = absurd (omega arith)
+combined_read draft words (n ∷ []) said some few = absurd (omega arith)
+combined_read draft words (n ∷ m ∷ more) said some few =
+    let next = said.6 in
+    let first : new_member draft [] words ≡ Ok (n, said.1) = ap (new_member draft []) said.2 ∙ new_member_read draft [] said.0 n said.1 said.3 said.4 said.5 in
+    let second : new_member draft (n ∷ []) said.1 ≡ Ok (m, next.1) = ap (new_member draft (n ∷ [])) next.2 ∙ new_member_read draft (n ∷ []) next.0 m next.1 next.3 next.4 next.5 in
+    rw (first, second, further_read draft 6 (n ∷ m ∷ []) more next.1 next.6 (omega arith)) refl
 
 -- the causes of a post
 pub causes_said : (names : Naming) (found : List ℕ) (words : Words) (all : List ℕ) → causes names found words ≡ Ok all

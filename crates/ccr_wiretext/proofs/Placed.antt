@@ -1,6 +1,6 @@
 -- The places of one word or two: what is read is in the grammar, and what is in the grammar is read.
 use Rattle.std.proofs.Common.{◌≡◌, ℕ, Bool, true, false, List, [], ◌∷◌, ◌++◌, Option, Some, None, Result, Ok, Err, inl, inr, refl, sym, ap, subst, ◌∙◌, arith}
-use Rattle.std.specs.Prelude.{nat_le, ◌&&◌, not, is_some, codes}
+use Rattle.std.specs.Prelude.{nat_le, ◌&&◌, ◌==◌, not, is_some, codes}
 use Rattle.std.specs.Option.{option_and_then}
 use Rattle.std.specs.Str.{bytes_eq}
 use Rattle.std.proofs.lemmas.Bool.Decides.{nat_tests}
@@ -11,11 +11,15 @@ use Rattle.ccr_base.specs.declared.policies.Group.TheVariants as groups
 use Rattle.ccr_base.specs.declared.handlers.Expr.{Expr}
 use Rattle.ccr_base.specs.declared.handlers.Expr.TheVariants as exprs
 use Rattle.ccr_text.specs.Words.{number_of, is_name_of}
+use Rattle.ccr_wiring.specs.References.{no_interleave}
 use Rattle.ccr_wiretext.specs.declared.named.Named.{Named}
-use Rattle.ccr_wiretext.specs.Names.{Naming, named}
-use Rattle.ccr_wiretext.specs.Places.{Words, ◌>>=◌, unless, or_code, word, new_name, reference, number, number_within, policy, group, expr}
-use Rattle.ccr_wiretext.specs.Grammar.{IsNew, Refers, IsNumber, IsWithin, IsPolicy, IsGroup, IsExpr}
-use Rattle.ccr_wiretext.proofs.Steps.{bind_ok, ok_is, unless_ok, or_code_ok, word_ok, none_is, chosen, same_word}
+use Rattle.ccr_wiretext.specs.Names.{Naming, named, as_arbiter}
+use Rattle.ccr_wiretext.specs.Drafts.{Declared}
+use Rattle.ccr_wiretext.specs.Places.{Words, ◌>>=◌, unless, or_code, word, new_name, reference, number, number_within, numbers_after, several, single, value_in, value, part, policy, group, expr, interleave}
+use Rattle.ccr_wiretext.specs.Grammar.{IsNew, Refers, IsNumber, IsWithin, IsPolicy, IsGroup, IsValueWord, IsPart, IsExpr, IsInterleave}
+use Rattle.ccr_wiretext.proofs.Steps.{bind_ok, ok_is, unless_ok, or_code_ok, word_ok, none_is, not_true, chosen, same_word}
+use Rattle.ccr_wiretext.proofs.Each.{both}
+use Rattle.ccr_wiretext.proofs.Commas.{value_in_said, value_in_read, no_value}
 
 -- NAME
 pub new_name_said : (names : Naming) (words : Words) (x : List ℕ × Words) → new_name names words ≡ Ok x → (words ≡ x.0 ∷ x.1) × IsNew names x.0
@@ -149,42 +153,135 @@ group_read word groups.Teardown rest said = absurd said
 group_read word groups.Exclusive rest said = absurd said
 group_read word groups.Concurrent rest said = absurd said
 
--- a number is no keyword
-not_word : (digits : List ℕ) (n : ℕ) (text : List ℕ) → IsNumber digits n → number_of text ≡ None → bytes_eq digits text ≡ false
-not_word digits n text said none = by (bytes_eq digits text) refl
-  where
-    by : (b : Bool) → bytes_eq digits text ≡ b → b ≡ false
-    by false e = refl
-    by true e = absurd (let h : Some n ≡ None = sym said ∙ ap number_of (same_word digits text e) ∙ none in cc)
+-- an Interleave
+pub interleave_said : (draft : Declared) (words : Words) (x : ℕ × Words) → interleave draft words ≡ Ok x → (word : List ℕ) × (words ≡ word ∷ x.1) × IsInterleave draft word x.0
+unfolding interleave
+interleave_said draft words x e =
+    let a = bind_ok (reference as_arbiter draft.names words) (λ arbiter. unless (not (no_interleave draft.parts arbiter.0)) 7 >>= λ kind. Ok arbiter) x e in
+    let b = bind_ok (unless (not (no_interleave draft.parts a.0.0)) 7) (λ kind. Ok a.0) x a.2 in
+    let said = reference_said as_arbiter draft.names words a.0 a.1 in
+    subst (λ (y : ℕ × Words). (word : List ℕ) × (words ≡ word ∷ y.1) × IsInterleave draft word y.0) (ok_is a.0 x b.2) (said.0, said.1, (said.2, not_true _ (unless_ok _ 7 b.0 b.1)))
+
+pub interleave_read : (draft : Declared) (word : List ℕ) (n : ℕ) (rest : Words) → IsInterleave draft word n → interleave draft (word ∷ rest) ≡ Ok (n, rest)
+unfolding interleave
+interleave_read draft word n rest said = rw (reference_read as_arbiter draft.names word n rest said.0, said.1) refl
+
+-- VALUE
+pub value_said : (version : ℕ) (words : Words) (x : List ℕ × Words) → value version words ≡ Ok x → (word : List ℕ) × (words ≡ word ∷ x.1) × IsValueWord version word x.0
+unfolding value
+value_said version [] x e = absurd cc
+value_said version (w ∷ words) x e =
+    let a = bind_ok (value_in version w) (λ numbers. Ok (numbers, words)) x e in
+    subst (λ (y : List ℕ × Words). (word : List ℕ) × (w ∷ words ≡ word ∷ y.1) × IsValueWord version word y.0) (ok_is (a.0, words) x a.2) (w, refl, value_in_said version w a.0 a.1)
+
+pub value_read : (version : ℕ) (word numbers : List ℕ) (rest : Words) → IsValueWord version word numbers → value version (word ∷ rest) ≡ Ok (numbers, rest)
+unfolding value
+value_read version word numbers rest said = rw (value_in_read version word numbers said) refl
+
+-- what is told of the two numbers behind `part`
+record IsTwo (words : Words) (x : Expr × Words) : Type 0 where
+  message : ℕ
+  place : ℕ
+  first : List ℕ
+  second : List ℕ
+  spelled : words ≡ first ∷ second ∷ x.1
+  counted : IsWithin 0 65535 first message
+  within : IsWithin 0 7 second place
+  is : exprs.Part message place ≡ x.0
+
+part_said : (words : Words) (x : Expr × Words) → part words ≡ Ok x → IsTwo words x
+unfolding part
+part_said words x e =
+    let a = bind_ok (number_within 0 65535 words) _ x e in
+    let b = bind_ok (number_within 0 7 a.0.1) _ x a.2 in
+    let one = within_said 0 65535 words a.0 a.1 in
+    let two = within_said 0 7 a.0.1 b.0 b.1 in
+    let same : (exprs.Part a.0.0 b.0.0, b.0.1) ≡ x = ok_is (exprs.Part a.0.0 b.0.0, b.0.1) x b.2 in
+    record {
+      message = a.0.0;
+      place = b.0.0;
+      first = one.0;
+      second = two.0;
+      spelled = one.1 ∙ ap (λ (v : Words). one.0 ∷ v) two.1 ∙ ap (λ (p : Expr × Words). one.0 ∷ two.0 ∷ p.1) same;
+      counted = one.2;
+      within = two.2;
+      is = ap (λ (p : Expr × Words). p.0) same;
+    }
+
+part_read : (first second : List ℕ) (message place : ℕ) (rest : Words) → IsWithin 0 65535 first message → IsWithin 0 7 second place → part (first ∷ second ∷ rest) ≡ Ok (exprs.Part message place, rest)
+unfolding part
+part_read first second message place rest counted within = rw (within_read 0 65535 first message (second ∷ rest) counted, within_read 0 7 second place rest within) refl
 
 -- EXPR
-pub expr_said : (words : Words) (x : Expr × Words) → expr words ≡ Ok x → (front : Words) × (words ≡ front ++ x.1) × IsExpr front x.0
+pub expr_said : (version : ℕ) (words : Words) (x : Expr × Words) → expr version words ≡ Ok x → (front : Words) × (words ≡ front ++ x.1) × IsExpr version front x.0
 unfolding expr
-expr_said [] x e = absurd cc
-expr_said (w ∷ words) x e = elim (chosen (bytes_eq w (codes "sum")) (Ok (exprs.Sum, words)) _ (Ok x) e) [
+expr_said version [] x e = absurd cc
+expr_said version (w ∷ words) x e = elim (chosen (bytes_eq w (codes "sum")) (Ok (exprs.Sum, words)) _ (Ok x) e) [
   | inl here ↦
-      subst (λ (y : Expr × Words). (front : Words) × (w ∷ words ≡ front ++ y.1) × IsExpr front y.0) (ok_is (exprs.Sum, words) x here.1)
+      subst (λ (y : Expr × Words). (front : Words) × (w ∷ words ≡ front ++ y.1) × IsExpr version front y.0) (ok_is (exprs.Sum, words) x here.1)
       (w ∷ [], refl, ap (λ (v : List ℕ). v ∷ []) (same_word w (codes "sum") here.0))
   | inr other1 ↦ elim (chosen (bytes_eq w (codes "count")) (Ok (exprs.Count, words)) _ (Ok x) other1.1) [
     | inl here ↦
-        subst (λ (y : Expr × Words). (front : Words) × (w ∷ words ≡ front ++ y.1) × IsExpr front y.0) (ok_is (exprs.Count, words) x here.1)
+        subst (λ (y : Expr × Words). (front : Words) × (w ∷ words ≡ front ++ y.1) × IsExpr version front y.0) (ok_is (exprs.Count, words) x here.1)
         (w ∷ [], refl, ap (λ (v : List ℕ). v ∷ []) (same_word w (codes "count") here.0))
     | inr other2 ↦ elim (chosen (bytes_eq w (codes "arg")) (number_within 0 65535 words >>= limit_as exprs.Arg) _ (Ok x) other2.1) [
       | inl here ↦
           let said = bounded_said 0 65535 exprs.Arg words x here.1 in
-          (w ∷ said.1 ∷ [], ap (λ (v : Words). w ∷ v) said.2, subst (IsExpr (w ∷ said.1 ∷ [])) said.4 (said.1, keyed w (codes "arg") said.1 here.0, said.3))
-      | inr other3 ↦
-          let a = bind_ok (or_code (number_of w) 5) (λ value. Ok (exprs.Number value, words)) x other3.1 in
-          subst (λ (y : Expr × Words). (front : Words) × (w ∷ words ≡ front ++ y.1) × IsExpr front y.0) (ok_is (exprs.Number a.0, words) x a.2)
-          (w ∷ [], refl, (w, refl, or_code_ok (number_of w) 5 a.0 a.1))
+          (w ∷ said.1 ∷ [], ap (λ (v : Words). w ∷ v) said.2, subst (IsExpr version (w ∷ said.1 ∷ [])) said.4 (said.1, keyed w (codes "arg") said.1 here.0, said.3))
+      | inr other3 ↦ elim (chosen (bytes_eq w (codes "part") && (version == 2)) (part words) _ (Ok x) other3.1) [
+        | inl here ↦
+            let said = part_said words x here.1 in
+            let tests = both (bytes_eq w (codes "part")) (version == 2) here.0 in (
+              w ∷ said.first ∷ said.second ∷ [],
+              ap (λ (v : Words). w ∷ v) said.spelled,
+              subst (IsExpr version (w ∷ said.first ∷ said.second ∷ [])) said.is (record {
+                newer = tests.1;
+                first = said.first;
+                second = said.second;
+                spelled = ap (λ (v : List ℕ). v ∷ said.first ∷ said.second ∷ []) (same_word w (codes "part") tests.0);
+                counted = said.counted;
+                within = said.within;
+              }),
+            )
+        | inr other4 ↦
+            let a = bind_ok (value_in version w) (λ numbers. Ok (exprs.Number numbers, words)) x other4.1 in
+            subst (λ (y : Expr × Words). (front : Words) × (w ∷ words ≡ front ++ y.1) × IsExpr version front y.0) (ok_is (exprs.Number a.0, words) x a.2)
+            (w ∷ [], refl, (w, refl, value_in_said version w a.0 a.1))
+      ]
     ]
   ]
 ]
 
-pub expr_read : (front : Words) (value : Expr) (rest : Words) → IsExpr front value → expr (front ++ rest) ≡ Ok (value, rest)
+-- keywords are no values
+sum_none : (several (codes "sum") ≡ Err 5) × (single (codes "sum") ≡ Err 5)
+unfolding several numbers_after single
+sum_none = (refl, refl)
+
+count_none : (several (codes "count") ≡ Err 5) × (single (codes "count") ≡ Err 5)
+unfolding several numbers_after single
+count_none = (refl, refl)
+
+arg_none : (several (codes "arg") ≡ Err 5) × (single (codes "arg") ≡ Err 5)
+unfolding several numbers_after single
+arg_none = (refl, refl)
+
+part_none : (several (codes "part") ≡ Err 5) × (single (codes "part") ≡ Err 5)
+unfolding several numbers_after single
+part_none = (refl, refl)
+
+number_expr : (version : ℕ) (word value : List ℕ) (rest : Words) → IsValueWord version word value → expr version (word ∷ rest) ≡ Ok (exprs.Number value, rest)
 unfolding expr
-expr_read front (exprs.Number n) rest said =
-    rw (said.1, not_word said.0 n (codes "sum") said.2 refl, not_word said.0 n (codes "count") said.2 refl, not_word said.0 n (codes "arg") said.2 refl, said.2) refl
-expr_read front (exprs.Arg k) rest said = rw (said.1, within_read 0 65535 said.0 k rest said.2) refl
-expr_read front exprs.Sum rest said = rw said refl
-expr_read front exprs.Count rest said = rw said refl
+number_expr version word value rest said =
+    let not_sum = no_value version word value (codes "sum") said sum_none.0 sum_none.1 in
+    let not_count = no_value version word value (codes "count") said count_none.0 count_none.1 in
+    let not_arg = no_value version word value (codes "arg") said arg_none.0 arg_none.1 in
+    let not_part = no_value version word value (codes "part") said part_none.0 part_none.1 in
+    rw (not_sum, not_count, not_arg, not_part, value_in_read version word value said) refl
+
+pub expr_read : (version : ℕ) (front : Words) (value : Expr) (rest : Words) → IsExpr version front value → expr version (front ++ rest) ≡ Ok (value, rest)
+unfolding expr
+expr_read version front (exprs.Number value) rest said = ap (λ (v : Words). expr version (v ++ rest)) said.1 ∙ number_expr version said.0 value rest said.2
+expr_read version front (exprs.Part message place) rest said = rw (said.spelled, said.newer, part_read said.first said.second message place rest said.counted said.within) refl
+expr_read version front (exprs.Arg k) rest said = rw (said.1, within_read 0 65535 said.0 k rest said.2) refl
+expr_read version front exprs.Sum rest said = rw said refl
+expr_read version front exprs.Count rest said = rw said refl

@@ -7,6 +7,7 @@ pub mod Handling
 pub mod Shapes
 pub mod Firing
 pub mod Arbiters
+pub mod Combining
 pub mod Posting
 pub mod Validity
 pub mod Fitting

@@ -1,5 +1,5 @@
 -- What the lines so far declare has no code of refusal, but for a branch that an open block may still get.
-use Rattle.std.proofs.Common.{◌≡◌, ℕ, ◌+◌, ◌<◌, ◌≤◌, false, List, [], ◌∷◌, ◌++◌, length, arith, length-append}
+use Rattle.std.proofs.Common.{◌≡◌, ℕ, ◌+◌, ◌<◌, ◌≤◌, true, false, List, [], ◌∷◌, ◌++◌, length, arith, length-append}
 use Rattle.ccr_wiring.specs.declared.parts.Parts.{Parts}
 use Rattle.ccr_wiring.specs.declared.parts.SetPart.{SetPart}
 use Rattle.ccr_wiring.specs.declared.parts.CausePart.{CausePart}
@@ -7,7 +7,10 @@ use Rattle.ccr_wiring.specs.declared.parts.QueuePart.{QueuePart}
 use Rattle.ccr_wiring.specs.declared.parts.HandlerPart.{HandlerPart}
 use Rattle.ccr_wiring.specs.declared.parts.ArbiterPart.{ArbiterPart}
 use Rattle.ccr_wiring.specs.declared.parts.PosterPart.{PosterPart}
+use Rattle.ccr_wiring.specs.declared.parts.DomainPart.{DomainPart}
 use Rattle.ccr_wiring.specs.Groups.{is_receive}
+use Rattle.ccr_wiring.specs.Repeats.{are_apart, members_in_all}
+use Rattle.ccr_wiring.specs.Versions.{has_strange_version}
 use Rattle.ccr_wiring.specs.Names.{declared_names}
 use Rattle.ccr_wiring.specs.Spots.{branches_named, named_ports}
 use Rattle.ccr_wiretext.specs.declared.named.Named.{Named}
@@ -17,7 +20,7 @@ use Rattle.ccr_wiretext.specs.declared.draft.Block.TheVariants as blocks
 use Rattle.ccr_wiretext.specs.Names.{Naming}
 use Rattle.ccr_wiretext.specs.Drafts.{branch_count, script_count}
 use Rattle.ccr_wiretext.proofs.Each.{Each, each_push, each_more}
-use Rattle.ccr_wiretext.proofs.Fit.{PolicyFit, SetFit, HandlerFit, BranchesFit, ArbiterFit, PosterFit, set_more, handler_more, arbiter_more, poster_more}
+use Rattle.ccr_wiretext.proofs.Fit.{PolicyFit, SetFit, HandlerFit, BranchesFit, ArbiterFit, PosterFit, DomainFit, set_more, handler_more, arbiter_more, poster_more, domain_more}
 use Rattle.ccr_wiretext.proofs.NamesApart.{NamesApart}
 use Rattle.ccr_wiretext.proofs.Spotted.{Uncrowded}
 
@@ -49,9 +52,9 @@ KindFit parts handlers _ = Unit {0}
 -- what stands in the open block
 abbrev pub OpenFit : Parts → Block → Type 0
 OpenFit parts blocks.Outside = Unit {0}
-OpenFit parts (blocks.Handler part) = HandlerFit (length parts.ports) (length parts.causes) part × (length parts.handlers < 256)
+OpenFit parts (blocks.Handler part) = HandlerFit parts.version (length parts.ports) (length parts.causes) part × (length parts.handlers < 256)
 OpenFit parts (blocks.Arbiter part) = BranchesFit (length parts.queues) (length parts.handlers) (length parts.ports) part × (is_receive part.kind ≡ false) × (length parts.arbiters < 256) × (branch_count parts + length part.branches ≤ 256)
-OpenFit parts (blocks.Poster part) = PosterFit (length parts.ports) (length parts.causes) part × (length parts.posters < 16) × (script_count parts + length part.posts ≤ 10000)
+OpenFit parts (blocks.Poster part) = PosterFit parts.version (length parts.ports) (length parts.causes) part × (length parts.posters < 16) × (script_count parts + length part.posts ≤ 10000)
 
 -- the numbers of the parts are within their limits
 pub record Counts (parts : Parts) : Type 0 where
@@ -65,19 +68,23 @@ pub record Counts (parts : Parts) : Type 0 where
   pub branches : branch_count parts ≤ 256
   pub posters : length parts.posters ≤ 16
   pub posts : script_count parts ≤ 10000
+  pub domains : length parts.domains ≤ 128
 
 -- each part is fit
 pub record Fits (parts : Parts) : Type 0 where
   pub queues : Each (λ (part : QueuePart). PolicyFit part.policy) parts.queues
   pub sets : Each (SetFit (length parts.ports)) parts.sets
   pub causes : Each (λ (part : CausePart). part.port < length parts.ports) parts.causes
-  pub handlers : Each (HandlerFit (length parts.ports) (length parts.causes)) parts.handlers
+  pub handlers : Each (HandlerFit parts.version (length parts.ports) (length parts.causes)) parts.handlers
   pub arbiters : Each (ArbiterFit (length parts.queues) (length parts.handlers) (length parts.ports)) parts.arbiters
-  pub posters : Each (PosterFit (length parts.ports) (length parts.causes)) parts.posters
+  pub posters : Each (PosterFit parts.version (length parts.ports) (length parts.causes)) parts.posters
+  pub domains : Each (DomainFit parts.arbiters) parts.domains
+  pub combined : are_apart (members_in_all parts.domains) ≡ true
 
 pub record Sound (parts : Parts) (names : Naming) (spotted : List ℕ) (block : Block) : Type 0 where
   pub counts : Counts parts
   pub fits : Fits parts
+  pub version : has_strange_version parts ≡ false
   pub known : Each (λ (entry : List ℕ × Named). KindFit parts (handlers_named parts block) entry.1) names
   pub apart : NamesApart names (declared_names (whole parts block))
   pub spots : spotted ≡ named_ports parts ++ open_ports parts block
@@ -99,6 +106,8 @@ queue_fits parts part fits fit =
       handlers = fits.handlers;
       arbiters = each_more _ _ (arbiter_more (length parts.queues) (length (parts.queues ++ part ∷ [])) (length parts.handlers) (length parts.handlers) (length parts.ports) (length parts.ports) grows (omega arith) (omega arith)) parts.arbiters fits.arbiters;
       posters = fits.posters;
+      domains = fits.domains;
+      combined = fits.combined;
     }
 
 pub port_fits : (parts : Parts) (name : List ℕ) → Fits parts → Fits (record parts { ports = parts.ports ++ name ∷ [] })
@@ -109,9 +118,11 @@ port_fits parts name fits =
       queues = fits.queues;
       sets = each_more _ _ (set_more (length parts.ports) more grows) parts.sets fits.sets;
       causes = each_more (is_cause_fit (length parts.ports)) (is_cause_fit more) (λ part below. omega (arith, below)) parts.causes fits.causes;
-      handlers = each_more _ _ (handler_more (length parts.ports) more (length parts.causes) (length parts.causes) grows (omega arith)) parts.handlers fits.handlers;
+      handlers = each_more _ _ (handler_more parts.version (length parts.ports) more (length parts.causes) (length parts.causes) grows (omega arith)) parts.handlers fits.handlers;
       arbiters = each_more _ _ (arbiter_more (length parts.queues) (length parts.queues) (length parts.handlers) (length parts.handlers) (length parts.ports) more (omega arith) (omega arith) grows) parts.arbiters fits.arbiters;
-      posters = each_more _ _ (poster_more (length parts.ports) more (length parts.causes) (length parts.causes) grows (omega arith)) parts.posters fits.posters;
+      posters = each_more _ _ (poster_more parts.version (length parts.ports) more (length parts.causes) (length parts.causes) grows (omega arith)) parts.posters fits.posters;
+      domains = fits.domains;
+      combined = fits.combined;
     }
 
 pub set_fits : (parts : Parts) (part : SetPart) → Fits parts → SetFit (length parts.ports) part → Fits (record parts { sets = parts.sets ++ part ∷ [] })
@@ -122,6 +133,8 @@ set_fits parts part fits fit = record {
   handlers = fits.handlers;
   arbiters = fits.arbiters;
   posters = fits.posters;
+  domains = fits.domains;
+  combined = fits.combined;
 }
 
 pub cause_fits : (parts : Parts) (part : CausePart) → Fits parts → part.port < length parts.ports → Fits (record parts { causes = parts.causes ++ part ∷ [] })
@@ -132,21 +145,25 @@ cause_fits parts part fits fit =
       queues = fits.queues;
       sets = fits.sets;
       causes = each_push (is_cause_fit (length parts.ports)) parts.causes part fits.causes fit;
-      handlers = each_more _ _ (handler_more (length parts.ports) (length parts.ports) (length parts.causes) more (omega arith) grows) parts.handlers fits.handlers;
+      handlers = each_more _ _ (handler_more parts.version (length parts.ports) (length parts.ports) (length parts.causes) more (omega arith) grows) parts.handlers fits.handlers;
       arbiters = fits.arbiters;
-      posters = each_more _ _ (poster_more (length parts.ports) (length parts.ports) (length parts.causes) more (omega arith) grows) parts.posters fits.posters;
+      posters = each_more _ _ (poster_more parts.version (length parts.ports) (length parts.ports) (length parts.causes) more (omega arith) grows) parts.posters fits.posters;
+      domains = fits.domains;
+      combined = fits.combined;
     }
 
-pub handler_fits : (parts : Parts) (part : HandlerPart) → Fits parts → HandlerFit (length parts.ports) (length parts.causes) part → Fits (record parts { handlers = parts.handlers ++ part ∷ [] })
+pub handler_fits : (parts : Parts) (part : HandlerPart) → Fits parts → HandlerFit parts.version (length parts.ports) (length parts.causes) part → Fits (record parts { handlers = parts.handlers ++ part ∷ [] })
 handler_fits parts part fits fit =
     let grows : length parts.handlers ≤ length (parts.handlers ++ part ∷ []) = omega (arith, length-append {A = HandlerPart} parts.handlers (part ∷ [])) in
     record {
       queues = fits.queues;
       sets = fits.sets;
       causes = fits.causes;
-      handlers = each_push (HandlerFit (length parts.ports) (length parts.causes)) parts.handlers part fits.handlers fit;
+      handlers = each_push (HandlerFit parts.version (length parts.ports) (length parts.causes)) parts.handlers part fits.handlers fit;
       arbiters = each_more _ _ (arbiter_more (length parts.queues) (length parts.queues) (length parts.handlers) (length (parts.handlers ++ part ∷ [])) (length parts.ports) (length parts.ports) (omega arith) grows (omega arith)) parts.arbiters fits.arbiters;
       posters = fits.posters;
+      domains = fits.domains;
+      combined = fits.combined;
     }
 
 pub arbiter_fits : (parts : Parts) (part : ArbiterPart) → Fits parts → ArbiterFit (length parts.queues) (length parts.handlers) (length parts.ports) part → Fits (record parts { arbiters = parts.arbiters ++ part ∷ [] })
@@ -157,14 +174,30 @@ arbiter_fits parts part fits fit = record {
   handlers = fits.handlers;
   arbiters = each_push (ArbiterFit (length parts.queues) (length parts.handlers) (length parts.ports)) parts.arbiters part fits.arbiters fit;
   posters = fits.posters;
+  domains = each_more (DomainFit parts.arbiters) (DomainFit (parts.arbiters ++ part ∷ [])) (domain_more parts.arbiters part) parts.domains fits.domains;
+  combined = fits.combined;
 }
 
-pub poster_fits : (parts : Parts) (part : PosterPart) → Fits parts → PosterFit (length parts.ports) (length parts.causes) part → Fits (record parts { posters = parts.posters ++ part ∷ [] })
+pub poster_fits : (parts : Parts) (part : PosterPart) → Fits parts → PosterFit parts.version (length parts.ports) (length parts.causes) part → Fits (record parts { posters = parts.posters ++ part ∷ [] })
 poster_fits parts part fits fit = record {
   queues = fits.queues;
   sets = fits.sets;
   causes = fits.causes;
   handlers = fits.handlers;
   arbiters = fits.arbiters;
-  posters = each_push (PosterFit (length parts.ports) (length parts.causes)) parts.posters part fits.posters fit;
+  posters = each_push (PosterFit parts.version (length parts.ports) (length parts.causes)) parts.posters part fits.posters fit;
+  domains = fits.domains;
+  combined = fits.combined;
+}
+
+pub domain_fits : (parts : Parts) (part : DomainPart) → Fits parts → DomainFit parts.arbiters part → are_apart (members_in_all (parts.domains ++ part ∷ [])) ≡ true → Fits (record parts { domains = parts.domains ++ part ∷ [] })
+domain_fits parts part fits fit apart = record {
+  queues = fits.queues;
+  sets = fits.sets;
+  causes = fits.causes;
+  handlers = fits.handlers;
+  arbiters = fits.arbiters;
+  posters = fits.posters;
+  domains = each_push (DomainFit parts.arbiters) parts.domains part fits.domains fit;
+  combined = apart;
 }

@@ -12,9 +12,11 @@ use Rattle.ccr_wiring.specs.declared.parts.HandlerPart.{HandlerPart}
 use Rattle.ccr_wiring.specs.declared.parts.BranchPart.{BranchPart}
 use Rattle.ccr_wiring.specs.declared.parts.ArbiterPart.{ArbiterPart}
 use Rattle.ccr_wiring.specs.declared.parts.PosterPart.{PosterPart}
+use Rattle.ccr_wiring.specs.declared.parts.DomainPart.{DomainPart}
 use Rattle.ccr_wiring.specs.declared.parts.Kind.{Kind}
 use Rattle.ccr_wiring.specs.declared.parts.Kind.TheVariants as arbiters
 use Rattle.ccr_wiring.specs.Groups.{is_receive, may_have}
+use Rattle.ccr_wiring.specs.Repeats.{are_apart, members_in_all}
 use Rattle.ccr_wiring.specs.Spots.{branch_named, branches_named, named_ports}
 use Rattle.ccr_wiretext.specs.declared.keyword.Keyword.{Keyword}
 use Rattle.ccr_wiretext.specs.declared.keyword.Keyword.TheVariants as keywords
@@ -26,13 +28,13 @@ use Rattle.ccr_wiretext.specs.Names.{Naming}
 use Rattle.ccr_wiretext.specs.Drafts.{Declared, receiver}
 use Rattle.ccr_wiretext.specs.Places.{Words}
 use Rattle.ccr_wiretext.specs.Blocks.{group_of, apart}
-use Rattle.ccr_wiretext.specs.Lines.{IsBudget, IsQueue, IsName, IsSet, IsCause, IsReceive, IsBranch, IsAction, IsPost, SaysOutside, SaysInPoster, Says}
+use Rattle.ccr_wiretext.specs.Lines.{IsBudget, IsQueue, IsName, IsSet, IsCause, IsCombine, IsReceive, IsBranch, IsAction, IsPost, SaysOutside, SaysInPoster, Says}
 use Rattle.ccr_wiretext.proofs.Steps.{same_name}
 use Rattle.ccr_wiretext.proofs.Each.{each_push}
 use Rattle.ccr_wiretext.proofs.Fit.{ActionFit, BranchFit, PostFit}
 use Rattle.ccr_wiretext.proofs.Spotted.{uncrowded_more, arbiters_same}
-use Rattle.ccr_wiretext.proofs.Sound.{KindFit, Sound, queue_fits, port_fits, set_fits, cause_fits, handler_fits, arbiter_fits, poster_fits}
-use Rattle.ccr_wiretext.proofs.Told.{policy_fit, members_fit, causes_fit, branch_fit, action_fit, port_there, receive_group, group_may}
+use Rattle.ccr_wiretext.proofs.Sound.{KindFit, Sound, queue_fits, port_fits, set_fits, cause_fits, handler_fits, arbiter_fits, poster_fits, domain_fits}
+use Rattle.ccr_wiretext.proofs.Told.{policy_fit, members_fit, causes_fit, branch_fit, action_fit, value_fit, interleaves_fit, port_there, receive_group, group_may}
 use Rattle.ccr_wiretext.proofs.NamesAdded.{sum_push, one_more, flat_push, known_more, queue_adds, port_adds, set_adds, cause_adds, handler_adds, arbiter_adds, branch_adds, poster_adds, names_same, posters_same}
 
 -- the ports that an arbiter's spots name
@@ -43,8 +45,9 @@ arbiter_named parts part = branches_named parts part.branches
 
 budget_sound : (draft : Declared) (words : Words) (n : ℕ) → Sound draft.parts draft.names draft.spotted blocks.Outside → IsBudget draft words n → Sound (record draft.parts { budget = n }) draft.names draft.spotted blocks.Outside
 budget_sound draft words n s said = let c = s.counts in record {
-  counts = record { budget = said.within.below; queues = c.queues; ports = c.ports; sets = c.sets; causes = c.causes; handlers = c.handlers; arbiters = c.arbiters; branches = c.branches; posters = c.posters; posts = c.posts };
-  fits = record { queues = s.fits.queues; sets = s.fits.sets; causes = s.fits.causes; handlers = s.fits.handlers; arbiters = s.fits.arbiters; posters = s.fits.posters };
+  counts = record { budget = said.within.below; queues = c.queues; ports = c.ports; sets = c.sets; causes = c.causes; handlers = c.handlers; arbiters = c.arbiters; branches = c.branches; posters = c.posters; posts = c.posts; domains = c.domains };
+  fits = record { queues = s.fits.queues; sets = s.fits.sets; causes = s.fits.causes; handlers = s.fits.handlers; arbiters = s.fits.arbiters; posters = s.fits.posters; domains = s.fits.domains; combined = s.fits.combined };
+  version = s.version;
   known = known_more draft.parts (record draft.parts { budget = n }) (length draft.parts.handlers) (length draft.parts.handlers) (omega arith) (omega arith) (omega arith) (omega arith) draft.names s.known;
   apart = s.apart;
   spots = s.spots;
@@ -61,8 +64,9 @@ queue_sound draft words part s said =
     let new : Parts = record draft.parts { queues = draft.parts.queues ++ part ∷ [] } in
     let h : ℕ = length draft.parts.handlers in
     record {
-      counts = record { budget = c.budget; queues = omega arith; ports = c.ports; sets = c.sets; causes = c.causes; handlers = c.handlers; arbiters = c.arbiters; branches = c.branches; posters = c.posters; posts = c.posts };
+      counts = record { budget = c.budget; queues = omega arith; ports = c.ports; sets = c.sets; causes = c.causes; handlers = c.handlers; arbiters = c.arbiters; branches = c.branches; posters = c.posters; posts = c.posts; domains = c.domains };
       fits = queue_fits draft.parts part s.fits (policy_fit said.rule part.policy said.policy);
+      version = s.version;
       known = each_push (λ (entry : List ℕ × Named). KindFit new h entry.1) draft.names (part.name, kinds.Queue (length draft.parts.queues))
           (known_more draft.parts new h h (omega arith) (omega arith) (omega arith) (omega arith) draft.names s.known) (omega arith);
       apart = queue_adds draft.parts draft.names part (kinds.Queue (length draft.parts.queues)) said.name s.apart;
@@ -80,8 +84,9 @@ port_sound draft words name s said =
     let new : Parts = record draft.parts { ports = draft.parts.ports ++ name ∷ [] } in
     let h : ℕ = length draft.parts.handlers in
     record {
-      counts = record { budget = c.budget; queues = c.queues; ports = omega arith; sets = c.sets; causes = c.causes; handlers = c.handlers; arbiters = c.arbiters; branches = c.branches; posters = c.posters; posts = c.posts };
+      counts = record { budget = c.budget; queues = c.queues; ports = omega arith; sets = c.sets; causes = c.causes; handlers = c.handlers; arbiters = c.arbiters; branches = c.branches; posters = c.posters; posts = c.posts; domains = c.domains };
       fits = port_fits draft.parts name s.fits;
+      version = s.version;
       known = each_push (λ (entry : List ℕ × Named). KindFit new h entry.1) draft.names (name, kinds.Port (length draft.parts.ports))
           (known_more draft.parts new h h (omega arith) (omega arith) (omega arith) (omega arith) draft.names s.known) (omega arith);
       apart = port_adds draft.parts draft.names name (kinds.Port (length draft.parts.ports)) said.new s.apart;
@@ -100,8 +105,9 @@ set_sound draft words part s said =
     let h : ℕ = length draft.parts.handlers in
     let fit = members_fit draft h s.known part.ports said.rest said.ports in
     record {
-      counts = record { budget = c.budget; queues = c.queues; ports = c.ports; sets = omega arith; causes = c.causes; handlers = c.handlers; arbiters = c.arbiters; branches = c.branches; posters = c.posters; posts = c.posts };
+      counts = record { budget = c.budget; queues = c.queues; ports = c.ports; sets = omega arith; causes = c.causes; handlers = c.handlers; arbiters = c.arbiters; branches = c.branches; posters = c.posters; posts = c.posts; domains = c.domains };
       fits = set_fits draft.parts part s.fits (fit.0, fit.1, said.some, said.few);
+      version = s.version;
       known = each_push (λ (entry : List ℕ × Named). KindFit new h entry.1) draft.names (part.name, kinds.Set (length draft.parts.sets))
           (known_more draft.parts new h h (omega arith) (omega arith) (omega arith) (omega arith) draft.names s.known) tt;
       apart = set_adds draft.parts draft.names part (kinds.Set (length draft.parts.sets)) said.name s.apart;
@@ -119,8 +125,9 @@ cause_sound draft words part s said =
     let new : Parts = record draft.parts { causes = draft.parts.causes ++ part ∷ [] } in
     let h : ℕ = length draft.parts.handlers in
     record {
-      counts = record { budget = c.budget; queues = c.queues; ports = c.ports; sets = c.sets; causes = omega arith; handlers = c.handlers; arbiters = c.arbiters; branches = c.branches; posters = c.posters; posts = c.posts };
+      counts = record { budget = c.budget; queues = c.queues; ports = c.ports; sets = c.sets; causes = omega arith; handlers = c.handlers; arbiters = c.arbiters; branches = c.branches; posters = c.posters; posts = c.posts; domains = c.domains };
       fits = cause_fits draft.parts part s.fits (port_there draft h said.port part.port s.known said.refers);
+      version = s.version;
       known = each_push (λ (entry : List ℕ × Named). KindFit new h entry.1) draft.names (part.name, kinds.Cause (length draft.parts.causes))
           (known_more draft.parts new h h (omega arith) (omega arith) (omega arith) (omega arith) draft.names s.known) (omega arith);
       apart = cause_adds draft.parts draft.names part (kinds.Cause (length draft.parts.causes)) said.name s.apart;
@@ -140,14 +147,34 @@ receive_sound draft words branch s said =
     let new : Parts = record draft.parts { arbiters = draft.parts.arbiters ++ receiver branch ∷ [] } in
     let h : ℕ = length draft.parts.handlers in
     record {
-      counts = record { budget = c.budget; queues = c.queues; ports = c.ports; sets = c.sets; causes = c.causes; handlers = c.handlers; arbiters = omega arith; branches = omega (arith, counted); posters = c.posters; posts = c.posts };
+      counts = record { budget = c.budget; queues = c.queues; ports = c.ports; sets = c.sets; causes = c.causes; handlers = c.handlers; arbiters = omega arith; branches = omega (arith, counted); posters = c.posters; posts = c.posts; domains = c.domains };
       fits = arbiter_fits draft.parts (receiver branch) s.fits (((branch_fit draft h s.known said.rest branch said.tail, receive_group said.group branch.group said.grouped), tt), inl (refl, same_name branch.name));
+      version = s.version;
       known = each_push (λ (entry : List ℕ × Named). KindFit new h entry.1) draft.names (branch.name, kinds.Branch)
           (known_more draft.parts new h h (omega arith) (omega arith) (omega arith) (omega arith) draft.names s.known) tt;
       apart = arbiter_adds draft.parts draft.names (receiver branch) branch.name kinds.Branch refl said.name s.apart;
       spots = ap (λ (t : List ℕ). t ++ branch_named draft.parts branch) (s.spots ∙ append-nil (named_ports draft.parts))
           ∙ sym (flat_push (arbiter_named draft.parts) draft.parts.arbiters (receiver branch) ∙ ap (λ (t : List ℕ). named_ports draft.parts ++ t) (append-nil (branch_named draft.parts branch))) ∙ sym (append-nil (flat_map (arbiter_named draft.parts) (draft.parts.arbiters ++ receiver branch ∷ [])));
       uncrowded = uncrowded_more draft branch s.uncrowded said.tail.uncrowded;
+      begun = tt;
+    }
+
+domain_sound : (draft : Declared) (words : Words) (part : DomainPart) → Sound draft.parts draft.names draft.spotted blocks.Outside → IsCombine draft words part
+    → Sound (record draft.parts { domains = draft.parts.domains ++ part ∷ [] }) draft.names draft.spotted blocks.Outside
+domain_sound draft words part s said =
+    let c = s.counts in
+    let more = one_more draft.parts.domains part in
+    let room = said.room in
+    let earlier : List ℕ = members_in_all draft.parts.domains in
+    let fit = interleaves_fit draft [] part.members words (rw (append-nil earlier) s.fits.combined) said.members in
+    record {
+      counts = record { budget = c.budget; queues = c.queues; ports = c.ports; sets = c.sets; causes = c.causes; handlers = c.handlers; arbiters = c.arbiters; branches = c.branches; posters = c.posters; posts = c.posts; domains = omega arith };
+      fits = domain_fits draft.parts part s.fits (fit.0, said.some, said.few) (ap are_apart (flat_push (λ (domain : DomainPart). domain.members) draft.parts.domains part) ∙ fit.1);
+      version = s.version;
+      known = known_more draft.parts (record draft.parts { domains = draft.parts.domains ++ part ∷ [] }) (length draft.parts.handlers) (length draft.parts.handlers) (omega arith) (omega arith) (omega arith) (omega arith) draft.names s.known;
+      apart = s.apart;
+      spots = s.spots;
+      uncrowded = s.uncrowded;
       begun = tt;
     }
 
@@ -160,6 +187,7 @@ handler_sound draft words name s said =
     record {
       counts = s.counts;
       fits = s.fits;
+      version = s.version;
       known = each_push (λ (entry : List ℕ × Named). KindFit draft.parts (h + 1) entry.1) draft.names (name, kinds.Handler h)
           (known_more draft.parts draft.parts h (h + 1) (omega arith) (omega arith) (omega arith) (omega arith) draft.names s.known) (omega arith);
       apart = handler_adds draft.parts draft.names (record { name = name; handler = record { actions = [] } }) (kinds.Handler h) said.new s.apart;
@@ -169,15 +197,16 @@ handler_sound draft words name s said =
     }
 
 block_sound : (draft : Declared) (words : Words) (name : List ℕ) (kind : Kind) → is_receive kind ≡ false → Sound draft.parts draft.names draft.spotted blocks.Outside → IsName 256 (length draft.parts.arbiters) draft words name
-    → Sound draft.parts (draft.names ++ (name, kinds.Arbiter) ∷ []) draft.spotted (blocks.Arbiter (record { name = name; kind = kind; branches = [] }))
+    → Sound draft.parts (draft.names ++ (name, kinds.Arbiter (length draft.parts.arbiters)) ∷ []) draft.spotted (blocks.Arbiter (record { name = name; kind = kind; branches = [] }))
 block_sound draft words name kind block s said =
     let h : ℕ = length draft.parts.handlers in
     let branches = s.counts.branches in
     record {
       counts = s.counts;
       fits = s.fits;
-      known = each_push (λ (entry : List ℕ × Named). KindFit draft.parts h entry.1) draft.names (name, kinds.Arbiter) s.known tt;
-      apart = arbiter_adds draft.parts draft.names (record { name = name; kind = kind; branches = [] }) name kinds.Arbiter (rw block refl) said.new s.apart;
+      version = s.version;
+      known = each_push (λ (entry : List ℕ × Named). KindFit draft.parts h entry.1) draft.names (name, kinds.Arbiter (length draft.parts.arbiters)) s.known tt;
+      apart = arbiter_adds draft.parts draft.names (record { name = name; kind = kind; branches = [] }) name (kinds.Arbiter (length draft.parts.arbiters)) (rw block refl) said.new s.apart;
       spots = s.spots;
       uncrowded = s.uncrowded;
       begun = (tt, block, said.room, omega arith);
@@ -191,6 +220,7 @@ poster_sound draft words name s said =
     record {
       counts = s.counts;
       fits = s.fits;
+      version = s.version;
       known = each_push (λ (entry : List ℕ × Named). KindFit draft.parts h entry.1) draft.names (name, kinds.Poster) s.known tt;
       apart = poster_adds draft.parts draft.names (record { name = name; posts = [] }) kinds.Poster said.new s.apart;
       spots = s.spots;
@@ -207,11 +237,12 @@ action_sound draft part first words action s room said =
     record {
       counts = s.counts;
       fits = s.fits;
+      version = s.version;
       known = s.known;
       apart = names_same draft.parts draft.names part (record part { handler = record { actions = part.handler.actions ++ action ∷ [] } }) refl s.apart;
       spots = s.spots;
       uncrowded = s.uncrowded;
-      begun = ((each_push (ActionFit (length draft.parts.ports) (length draft.parts.causes)) part.handler.actions action s.begun.0.0 (action_fit draft (length draft.parts.handlers + 1) s.known first words action said), omega arith), s.begun.1);
+      begun = ((each_push (ActionFit draft.parts.version (length draft.parts.ports) (length draft.parts.causes)) part.handler.actions action s.begun.0.0 (action_fit draft (length draft.parts.handlers + 1) s.known first words action said), omega arith), s.begun.1);
     }
 
 post_sound : (draft : Declared) (part : PosterPart) (words : Words) (post : Sent) → Sound draft.parts draft.names draft.spotted (blocks.Poster part) → IsPost draft part words post
@@ -224,11 +255,12 @@ post_sound draft part words post s said =
     record {
       counts = s.counts;
       fits = s.fits;
+      version = s.version;
       known = s.known;
       apart = posters_same draft.parts draft.names part (record part { posts = part.posts ++ post ∷ [] }) refl s.apart;
       spots = s.spots;
       uncrowded = s.uncrowded;
-      begun = (each_push (PostFit (length draft.parts.ports) (length draft.parts.causes)) part.posts post s.begun.0 (port_there draft h said.to post.port s.known said.refers, caused.0, caused.1), s.begun.1, omega arith);
+      begun = (each_push (PostFit draft.parts.version (length draft.parts.ports) (length draft.parts.causes)) part.posts post s.begun.0 (port_there draft h said.to post.port s.known said.refers, caused.0, caused.1, value_fit draft.parts.version said.value post.value said.numbers), s.begun.1, omega arith);
     }
 
 branch_sound : (draft : Declared) (part : ArbiterPart) (first : Keyword) (g : Group) (words : Words) (branch : BranchPart) → Sound draft.parts draft.names draft.spotted (blocks.Arbiter part) → group_of part.kind first ≡ Some g → IsBranch draft part g words branch
@@ -242,6 +274,7 @@ branch_sound draft part first g words branch s may said =
     record {
       counts = s.counts;
       fits = s.fits;
+      version = s.version;
       known = each_push (λ (entry : List ℕ × Named). KindFit draft.parts h entry.1) draft.names (branch.name, kinds.Branch) s.known tt;
       apart = branch_adds draft.parts draft.names part branch kinds.Branch s.begun.1 said.name s.apart;
       spots = ap (λ (t : List ℕ). t ++ branch_named draft.parts branch) s.spots ∙ append_assoc (named_ports draft.parts) (arbiter_named draft.parts part) (branch_named draft.parts branch)
@@ -259,8 +292,9 @@ handler_closed parts names spotted part s =
     let room = s.begun.1 in
     let new : Parts = record parts { handlers = parts.handlers ++ part ∷ [] } in
     record {
-      counts = record { budget = c.budget; queues = c.queues; ports = c.ports; sets = c.sets; causes = c.causes; handlers = omega arith; arbiters = c.arbiters; branches = c.branches; posters = c.posters; posts = c.posts };
+      counts = record { budget = c.budget; queues = c.queues; ports = c.ports; sets = c.sets; causes = c.causes; handlers = omega arith; arbiters = c.arbiters; branches = c.branches; posters = c.posters; posts = c.posts; domains = c.domains };
       fits = handler_fits parts part s.fits s.begun.0;
+      version = s.version;
       known = known_more parts new (length parts.handlers + 1) (length (parts.handlers ++ part ∷ [])) (omega arith) (omega arith) (omega arith) (omega arith) names s.known;
       apart = s.apart;
       spots = s.spots ∙ ap (λ (t : List ℕ). t ++ []) (sym (arbiters_same (length parts.queues) (length parts.ports) parts part parts.arbiters s.fits.arbiters));
@@ -278,8 +312,9 @@ arbiter_closed parts names spotted part some s =
     let new : Parts = record parts { arbiters = parts.arbiters ++ part ∷ [] } in
     let h : ℕ = length parts.handlers in
     record {
-      counts = record { budget = c.budget; queues = c.queues; ports = c.ports; sets = c.sets; causes = c.causes; handlers = c.handlers; arbiters = omega arith; branches = omega (arith, counted); posters = c.posters; posts = c.posts };
+      counts = record { budget = c.budget; queues = c.queues; ports = c.ports; sets = c.sets; causes = c.causes; handlers = c.handlers; arbiters = omega arith; branches = omega (arith, counted); posters = c.posters; posts = c.posts; domains = c.domains };
       fits = arbiter_fits parts part s.fits (s.begun.0, inr (s.begun.1, some));
+      version = s.version;
       known = known_more parts new h h (omega arith) (omega arith) (omega arith) (omega arith) names s.known;
       apart = s.apart;
       spots = s.spots ∙ sym (flat_push (arbiter_named parts) parts.arbiters part) ∙ sym (append-nil (flat_map (arbiter_named parts) (parts.arbiters ++ part ∷ [])));
@@ -297,8 +332,9 @@ poster_closed parts names spotted part s =
     let new : Parts = record parts { posters = parts.posters ++ part ∷ [] } in
     let h : ℕ = length parts.handlers in
     record {
-      counts = record { budget = c.budget; queues = c.queues; ports = c.ports; sets = c.sets; causes = c.causes; handlers = c.handlers; arbiters = c.arbiters; branches = c.branches; posters = omega arith; posts = omega (arith, counted) };
+      counts = record { budget = c.budget; queues = c.queues; ports = c.ports; sets = c.sets; causes = c.causes; handlers = c.handlers; arbiters = c.arbiters; branches = c.branches; posters = omega arith; posts = omega (arith, counted); domains = c.domains };
       fits = poster_fits parts part s.fits s.begun.0;
+      version = s.version;
       known = known_more parts new h h (omega arith) (omega arith) (omega arith) (omega arith) names s.known;
       apart = s.apart;
       spots = s.spots;
@@ -325,6 +361,7 @@ outside_sound draft keywords.Handler words new e s (x, said, is) = subst SoundDr
 outside_sound draft keywords.Receive words new e s (x, said, is) = subst SoundDraft (sym is) (stays _ _ _ draft.block e (receive_sound draft words x s said))
 outside_sound draft keywords.Choice words new e s (x, said, is) = subst SoundDraft (sym is) (block_sound draft words x arbiters.Choice refl s said)
 outside_sound draft keywords.Interleave words new e s (x, said, is) = subst SoundDraft (sym is) (block_sound draft words x arbiters.Interleave refl s said)
+outside_sound draft keywords.Combine words new e s (x, said, is) = subst SoundDraft (sym is) (stays _ _ _ draft.block e (domain_sound draft words x s said))
 outside_sound draft keywords.Poster words new e s (x, said, is) = subst SoundDraft (sym is) (poster_sound draft words x s said)
 outside_sound draft keywords.Post words new e s said = absurd said
 outside_sound draft keywords.Fail words new e s said = absurd said
@@ -348,6 +385,7 @@ in_poster_sound draft part keywords.Handler words new s said = absurd said
 in_poster_sound draft part keywords.Receive words new s said = absurd said
 in_poster_sound draft part keywords.Choice words new s said = absurd said
 in_poster_sound draft part keywords.Interleave words new s said = absurd said
+in_poster_sound draft part keywords.Combine words new s said = absurd said
 in_poster_sound draft part keywords.Poster words new s said = absurd said
 in_poster_sound draft part keywords.Post words new s (x, said, is) = subst SoundDraft (sym is) (post_sound (apart draft) part words x s said)
 in_poster_sound draft part keywords.Fail words new s said = absurd said

@@ -1,5 +1,5 @@
 -- Whole texts: what is read is in the grammar, and what is in the grammar is read.
-use Rattle.std.proofs.Common.{◌≡◌, ℕ, true, false, List, [], ◌∷◌, Some, None, Result, Ok, Err, ◌⊎◌, inl, inr, refl, sym, subst, ◌∙◌}
+use Rattle.std.proofs.Common.{◌≡◌, ℕ, Bool, true, false, cond, List, Option, [], ◌∷◌, Some, None, Result, Ok, Err, ◌⊎◌, inl, inr, refl, sym, ap, subst, ◌∙◌}
 use Rattle.std.specs.Prelude.{max, codes}
 use Rattle.std.specs.Str.{bytes_eq}
 use Rattle.ccr_text.specs.declared.lines.Line.{Line}
@@ -9,12 +9,11 @@ use Rattle.ccr_wiretext.specs.declared.draft.Block.{Block}
 use Rattle.ccr_wiretext.specs.declared.draft.Block.TheVariants as blocks
 use Rattle.ccr_wiretext.specs.Keywords.{keyword}
 use Rattle.ccr_wiretext.specs.Drafts.{Declared, nothing}
-use Rattle.ccr_wiretext.specs.Places.{Words, unless}
+use Rattle.ccr_wiretext.specs.Places.{Words, or_code}
 use Rattle.ccr_wiretext.specs.Blocks.{line_in}
-use Rattle.ccr_wiretext.specs.Reading.{So, is_comment, is_head, after_words, after_all, after_line, closed, at_end, at_line, reading_after, reading_text}
+use Rattle.ccr_wiretext.specs.Reading.{So, is_comment, version_word, version_of, after_words, after_all, after_line, closed, at_end, at_line, reading_after, reading_text}
 use Rattle.ccr_wiretext.specs.Lines.{Says, IsBlank, AreLines, AreHeadedLines, IsText}
-use Rattle.ccr_wiretext.proofs.Each.{both}
-use Rattle.ccr_wiretext.proofs.Steps.{bind_ok, ok_is, unless_ok, chosen, same_word}
+use Rattle.ccr_wiretext.proofs.Steps.{bind_ok, ok_is, or_code_ok, chosen, same_word}
 use Rattle.ccr_wiretext.proofs.Blocked.{line_said, line_read}
 
 -- a line that is no comment, by its first word
@@ -49,18 +48,25 @@ blank_after : (so : So) (line : Line) → line.clean ≡ true → IsBlank line.w
 unfolding after_line
 blank_after so line clean blank = rw clean (words_blank so line.words blank)
 
-head_words : (words : Words) → is_head words ≡ true → after_all None words ≡ Ok (Some nothing)
-unfolding after_all after_words
-head_words [] e = absurd cc
-head_words (first ∷ []) e = absurd cc
-head_words (first ∷ second ∷ []) e =
-    let plain : is_comment first ≡ false = rw (same_word first (codes "ccr") (both (bytes_eq first (codes "ccr")) (bytes_eq second (codes "1")) e).0) refl in
-    rw (plain, e) refl
-head_words (first ∷ second ∷ third ∷ words) e = absurd cc
+version_first : (first second : List ℕ) (version : ℕ) → version_of (first ∷ second ∷ []) ≡ Some version → bytes_eq first (codes "ccr") ≡ true
+version_first first second version e = by (bytes_eq first (codes "ccr")) e
+  where
+    by : (t : Bool) → cond t (version_word second) None ≡ Some version → t ≡ true
+    by true h = refl
+    by false h = absurd cc
 
-head_after : (line : Line) → line.clean ≡ true → is_head line.words ≡ true → after_line None line ≡ Ok (Some nothing)
+head_words : (words : Words) (version : ℕ) → version_of words ≡ Some version → after_all None words ≡ Ok (Some (nothing version))
+unfolding after_all after_words
+head_words [] version e = absurd cc
+head_words (first ∷ []) version e = absurd cc
+head_words (first ∷ second ∷ []) version e =
+    let plain : is_comment first ≡ false = rw (same_word first (codes "ccr") (version_first first second version e)) refl in
+    rw (plain, e) refl
+head_words (first ∷ second ∷ third ∷ words) version e = absurd cc
+
+head_after : (line : Line) (version : ℕ) → line.clean ≡ true → version_of line.words ≡ Some version → after_line None line ≡ Ok (Some (nothing version))
 unfolding after_line
-head_after line clean head = rw clean (head_words line.words head)
+head_after line version clean head = rw clean (head_words line.words version head)
 
 told_after : (so new : So) (line : Line) → line.clean ≡ true → (first : List ℕ) (words : Words) → line.words ≡ first ∷ words → is_comment first ≡ false → after_words so first words ≡ Ok new → after_line so line ≡ Ok new
 unfolding after_line after_all
@@ -113,11 +119,11 @@ says_lines : (draft next : Declared) (first : List ℕ) (words : Words) → Says
 unfolding after_words
 says_lines draft next first words said = rw (line_read draft.block draft (keyword first) words next said) refl
 
-told_head : (new : So) (first : List ℕ) (words : Words) → after_words None first words ≡ Ok new → (is_head (first ∷ words) ≡ true) × (new ≡ Some nothing)
+told_head : (new : So) (first : List ℕ) (words : Words) → after_words None first words ≡ Ok new → (version : ℕ) × (version_of (first ∷ words) ≡ Some version) × (new ≡ Some (nothing version))
 unfolding after_words
 told_head new first words e =
-    let a = bind_ok (unless (is_head (first ∷ words)) 2) (λ done. Ok (Some nothing)) new e in
-    (unless_ok _ 2 a.0 a.1, sym (ok_is (Some nothing) new a.2))
+    let a = bind_ok (or_code (version_of (first ∷ words)) 2) (λ version. Ok (Some (nothing version))) new e in
+    (a.0, or_code_ok _ 2 a.0 a.1, sym (ok_is (Some (nothing a.0)) new a.2))
 
 lines_said : (draft : Declared) (last : ℕ) (lines : List Line) (parts : Parts) → reading_after (Some draft) last lines ≡ Ok parts → AreLines draft lines parts
 lines_said draft last [] parts e = end_said draft last parts e
@@ -151,7 +157,7 @@ headed_said last (line ∷ lines) parts e =
         | inl blank ↦ inl (blank.0, headed_said line.number lines parts (subst (λ so. reading_after so line.number lines ≡ Ok parts) (sym blank.1) step.2))
         | inr told ↦
             let head = told_head step.0 told.first told.others told.told in
-            inr (rw told.spelled head.0, lines_said nothing line.number lines parts (subst (λ so. reading_after so line.number lines ≡ Ok parts) head.1 step.2))
+            inr (head.0, ap version_of told.spelled ∙ head.1, lines_said (nothing head.0) line.number lines parts (subst (λ so. reading_after so line.number lines ≡ Ok parts) head.2 step.2))
       ],
     )
 
@@ -160,7 +166,7 @@ headed_read last [] parts said = absurd said
 headed_read last (line ∷ lines) parts (clean, inl said) =
     step_read None None last line lines (blank_after None line clean said.0) ∙ headed_read line.number lines parts said.1
 headed_read last (line ∷ lines) parts (clean, inr said) =
-    step_read None (Some nothing) last line lines (head_after line clean said.0) ∙ lines_read nothing line.number lines parts said.1
+    step_read None (Some (nothing said.0)) last line lines (head_after line said.0 clean said.1) ∙ lines_read (nothing said.0) line.number lines parts said.2
 
 -- a text that was read is one of these parts
 pub text_said : (text : List ℕ) (parts : Parts) → reading_text text ≡ Ok parts → IsText text parts

@@ -16,10 +16,12 @@ use Rattle.ccr_base.specs.declared.patterns.Pattern.{Pattern}
 use Rattle.ccr_base.specs.declared.patterns.Pattern.TheVariants as patterns
 use Rattle.ccr_wiring.specs.declared.parts.Parts.{Parts}
 use Rattle.ccr_wiring.specs.declared.parts.BranchPart.{BranchPart}
+use Rattle.ccr_wiring.specs.declared.parts.DomainPart.{DomainPart}
 use Rattle.ccr_wiring.specs.declared.parts.Kind.{Kind}
 use Rattle.ccr_wiring.specs.declared.parts.Kind.TheVariants as arbiters
 use Rattle.ccr_wiring.specs.Groups.{may_have}
-use Rattle.ccr_wiring.specs.Repeats.{has_port, are_apart, slot_ports}
+use Rattle.ccr_wiring.specs.Repeats.{has_port, are_apart, slot_ports, members_in_all}
+use Rattle.ccr_wiring.specs.Versions.{is_long}
 use Rattle.ccr_wiretext.specs.declared.keyword.Keyword.{Keyword}
 use Rattle.ccr_wiretext.specs.declared.keyword.Keyword.TheVariants as keywords
 use Rattle.ccr_wiretext.specs.declared.named.Named.{Named}
@@ -27,12 +29,13 @@ use Rattle.ccr_wiretext.specs.declared.named.Named.TheVariants as kinds
 use Rattle.ccr_wiretext.specs.Names.{Naming, named, as_port, as_queue, as_cause, as_handler}
 use Rattle.ccr_wiretext.specs.Drafts.{Declared}
 use Rattle.ccr_wiretext.specs.Places.{Words}
-use Rattle.ccr_wiretext.specs.Grammar.{Refers, IsPort, IsPolicy, IsExpr, IsSlots, IsPattern, ArePorts, AreCauses, IsGroup}
+use Rattle.ccr_wiretext.specs.Grammar.{Refers, IsPort, IsPolicy, IsValueWord, IsExpr, IsSlots, IsPattern, ArePorts, AreInterleaves, AreCauses, IsGroup}
+use Rattle.ccr_wiretext.specs.Patterns.{is_combined}
 use Rattle.ccr_wiretext.specs.Blocks.{group_of}
 use Rattle.ccr_wiretext.specs.Lines.{IsAction, IsBranchTail}
 use Rattle.ccr_wiretext.proofs.Steps.{then_some}
 use Rattle.ccr_wiretext.proofs.Each.{Each, neither}
-use Rattle.ccr_wiretext.proofs.Fit.{PolicyFit, ExprFit, PortsFit, ActionFit, SlotFit, PatternFit, BranchFit}
+use Rattle.ccr_wiretext.proofs.Fit.{PolicyFit, OldFit, ExprFit, PortsFit, ActionFit, SlotFit, PatternFit, BranchFit, InterleaveFit}
 use Rattle.ccr_wiretext.proofs.NamesApart.{named_each}
 use Rattle.ccr_wiretext.proofs.Sound.{KindFit}
 
@@ -46,7 +49,7 @@ kind_port parts handlers n (kinds.Queue k) fit e = absurd cc
 kind_port parts handlers n (kinds.Set k) fit e = absurd cc
 kind_port parts handlers n (kinds.Cause k) fit e = absurd cc
 kind_port parts handlers n (kinds.Handler k) fit e = absurd cc
-kind_port parts handlers n kinds.Arbiter fit e = absurd cc
+kind_port parts handlers n (kinds.Arbiter k) fit e = absurd cc
 kind_port parts handlers n kinds.Branch fit e = absurd cc
 kind_port parts handlers n kinds.Poster fit e = absurd cc
 
@@ -56,7 +59,7 @@ kind_queue parts handlers n (kinds.Port k) fit e = absurd cc
 kind_queue parts handlers n (kinds.Set k) fit e = absurd cc
 kind_queue parts handlers n (kinds.Cause k) fit e = absurd cc
 kind_queue parts handlers n (kinds.Handler k) fit e = absurd cc
-kind_queue parts handlers n kinds.Arbiter fit e = absurd cc
+kind_queue parts handlers n (kinds.Arbiter k) fit e = absurd cc
 kind_queue parts handlers n kinds.Branch fit e = absurd cc
 kind_queue parts handlers n kinds.Poster fit e = absurd cc
 
@@ -66,7 +69,7 @@ kind_cause parts handlers n (kinds.Queue k) fit e = absurd cc
 kind_cause parts handlers n (kinds.Set k) fit e = absurd cc
 kind_cause parts handlers n (kinds.Port k) fit e = absurd cc
 kind_cause parts handlers n (kinds.Handler k) fit e = absurd cc
-kind_cause parts handlers n kinds.Arbiter fit e = absurd cc
+kind_cause parts handlers n (kinds.Arbiter k) fit e = absurd cc
 kind_cause parts handlers n kinds.Branch fit e = absurd cc
 kind_cause parts handlers n kinds.Poster fit e = absurd cc
 
@@ -76,7 +79,7 @@ kind_handler parts handlers n (kinds.Queue k) fit e = absurd cc
 kind_handler parts handlers n (kinds.Set k) fit e = absurd cc
 kind_handler parts handlers n (kinds.Port k) fit e = absurd cc
 kind_handler parts handlers n (kinds.Cause k) fit e = absurd cc
-kind_handler parts handlers n kinds.Arbiter fit e = absurd cc
+kind_handler parts handlers n (kinds.Arbiter k) fit e = absurd cc
 kind_handler parts handlers n kinds.Branch fit e = absurd cc
 kind_handler parts handlers n kinds.Poster fit e = absurd cc
 
@@ -99,11 +102,20 @@ policy_fit words policies.Unbounded said = tt
 policy_fit words (policies.Discard n) said = (said.2.above, said.2.below)
 policy_fit words (policies.Throttle n) said = (said.2.above, said.2.below)
 
-expr_fit : (words : Words) (value : Expr) → IsExpr words value → ExprFit value
-expr_fit words (exprs.Number n) said = tt
-expr_fit words (exprs.Arg k) said = said.2.below
-expr_fit words exprs.Sum said = tt
-expr_fit words exprs.Count said = tt
+both_false : (a b : Bool) → b ≡ false → (a && b) ≡ false
+both_false true b e = e
+both_false false b e = refl
+
+pub value_fit : (version : ℕ) (word value : List ℕ) → IsValueWord version word value → OldFit version (is_long value)
+value_fit version word value (inl (older, said)) = both_false (not (version == 2)) (is_long value) (rw said.alone refl)
+value_fit version word value (inr (newer, said)) = rw newer refl
+
+expr_fit : (version : ℕ) (words : Words) (value : Expr) → IsExpr version words value → ExprFit version value
+expr_fit version words (exprs.Number value) said = value_fit version said.0 value said.2
+expr_fit version words (exprs.Part message place) said = (rw said.newer refl, said.counted.below, said.within.below)
+expr_fit version words (exprs.Arg k) said = said.2.below
+expr_fit version words exprs.Sum said = tt
+expr_fit version words exprs.Count said = tt
 
 -- ---- numbers of which each is none of those found before it
 
@@ -139,6 +151,27 @@ ports_fit draft handlers known found (port ∷ ports) words apart said =
 pub members_fit : (draft : Declared) (handlers : ℕ) → Known draft.parts handlers draft.names → (ports : List ℕ) (words : Words) → ArePorts draft [] ports words
     → PortsFit (length draft.parts.ports) ports × (are_apart ports ≡ true)
 members_fit draft handlers known ports words said = ports_fit draft handlers known [] ports words refl said
+
+any_on : (f : ℕ → Bool) (xs ys : List ℕ) → list_any f xs ≡ false → list_any f ys ≡ false → list_any f (xs ++ ys) ≡ false
+any_on f [] ys first second = second
+any_on f (x ∷ xs) ys first second = let parts = neither (f x) (list_any f xs) first in rw (parts.0, any_on f xs ys parts.1 second) refl
+
+-- what no domain has is none of all members
+free_all : (domains : List DomainPart) (n : ℕ) → is_combined domains n ≡ false → has_port (members_in_all domains) n ≡ false
+free_all [] n free = refl
+free_all (domain ∷ domains) n free =
+    let parts = neither (has_port domain.members n) (is_combined domains n) free in
+    any_on (λ other. other == n) domain.members (members_in_all domains) parts.0 (free_all domains n parts.1)
+
+pub interleaves_fit : (draft : Declared) (found members : List ℕ) (words : Words) → are_apart (members_in_all draft.parts.domains ++ found) ≡ true → AreInterleaves draft found members words
+    → Each (InterleaveFit draft.parts.arbiters) members × (are_apart (members_in_all draft.parts.domains ++ (found ++ members)) ≡ true)
+interleaves_fit draft found [] words apart said = (tt, rw (append-nil found) apart)
+interleaves_fit draft found (n ∷ members) words apart said =
+    let earlier : List ℕ = members_in_all draft.parts.domains in
+    let new : has_port (earlier ++ found) n ≡ false = any_on (λ other. other == n) earlier found (free_all draft.parts.domains n said.4) said.5 in
+    let next : are_apart (earlier ++ (found ++ n ∷ [])) ≡ true = subst (λ all. are_apart all ≡ true) (append_assoc earlier found (n ∷ [])) (apart_push (earlier ++ found) n apart new) in
+    let rest = interleaves_fit draft (found ++ n ∷ []) members said.1 next said.6 in
+    ((said.3.1, rest.0), subst (λ all. are_apart (earlier ++ all) ≡ true) (append_assoc found (n ∷ []) members) rest.1)
 
 causes_go : (draft : Declared) (handlers : ℕ) → Known draft.parts handlers draft.names → (found causes : List ℕ) (words : Words) → are_apart found ≡ true → AreCauses draft.names found causes words
     → PortsFit (length draft.parts.causes) causes × (are_apart (found ++ causes) ≡ true)
@@ -183,7 +216,7 @@ branch_fit draft handlers known words branch said = (
   pattern_fit draft handlers known said.shape branch.pattern said.pattern,
 )
 
-pub action_fit : (draft : Declared) (handlers : ℕ) → Known draft.parts handlers draft.names → (first : Keyword) (words : Words) (action : Action) → IsAction draft first words action → ActionFit (length draft.parts.ports) (length draft.parts.causes) action
+pub action_fit : (draft : Declared) (handlers : ℕ) → Known draft.parts handlers draft.names → (first : Keyword) (words : Words) (action : Action) → IsAction draft first words action → ActionFit draft.parts.version (length draft.parts.ports) (length draft.parts.causes) action
 action_fit draft handlers known keywords.Budget words action said = absurd said
 action_fit draft handlers known keywords.Queue words action said = absurd said
 action_fit draft handlers known keywords.Port words action said = absurd said
@@ -193,14 +226,15 @@ action_fit draft handlers known keywords.Handler words action said = absurd said
 action_fit draft handlers known keywords.Receive words action said = absurd said
 action_fit draft handlers known keywords.Choice words action said = absurd said
 action_fit draft handlers known keywords.Interleave words action said = absurd said
+action_fit draft handlers known keywords.Combine words action said = absurd said
 action_fit draft handlers known keywords.Poster words action said = absurd said
-action_fit draft handlers known keywords.Post words (actions.Post port value) said = (port_there draft handlers said.0 port known said.3, expr_fit said.1 value said.4)
+action_fit draft handlers known keywords.Post words (actions.Post port value) said = (port_there draft handlers said.0 port known said.3, expr_fit draft.parts.version said.1 value said.4)
 action_fit draft handlers known keywords.Post words (actions.Fail value) said = absurd said
 action_fit draft handlers known keywords.Post words (actions.Add cause) said = absurd said
 action_fit draft handlers known keywords.Post words (actions.Remove cause) said = absurd said
 action_fit draft handlers known keywords.Post words (actions.Await port) said = absurd said
 action_fit draft handlers known keywords.Fail words (actions.Post port value) said = absurd said
-action_fit draft handlers known keywords.Fail words (actions.Fail value) said = expr_fit words value said
+action_fit draft handlers known keywords.Fail words (actions.Fail value) said = expr_fit draft.parts.version words value said
 action_fit draft handlers known keywords.Fail words (actions.Add cause) said = absurd said
 action_fit draft handlers known keywords.Fail words (actions.Remove cause) said = absurd said
 action_fit draft handlers known keywords.Fail words (actions.Await port) said = absurd said
@@ -246,6 +280,7 @@ group_may arbiters.Receive keywords.Handler g e = absurd cc
 group_may arbiters.Receive keywords.Receive g e = absurd cc
 group_may arbiters.Receive keywords.Choice g e = absurd cc
 group_may arbiters.Receive keywords.Interleave g e = absurd cc
+group_may arbiters.Receive keywords.Combine g e = absurd cc
 group_may arbiters.Receive keywords.Poster g e = absurd cc
 group_may arbiters.Receive keywords.Post g e = absurd cc
 group_may arbiters.Receive keywords.Fail g e = absurd cc
@@ -267,6 +302,7 @@ group_may arbiters.Choice keywords.Handler g e = absurd cc
 group_may arbiters.Choice keywords.Receive g e = absurd cc
 group_may arbiters.Choice keywords.Choice g e = absurd cc
 group_may arbiters.Choice keywords.Interleave g e = absurd cc
+group_may arbiters.Choice keywords.Combine g e = absurd cc
 group_may arbiters.Choice keywords.Poster g e = absurd cc
 group_may arbiters.Choice keywords.Post g e = absurd cc
 group_may arbiters.Choice keywords.Fail g e = absurd cc
@@ -288,6 +324,7 @@ group_may arbiters.Interleave keywords.Handler g e = absurd cc
 group_may arbiters.Interleave keywords.Receive g e = absurd cc
 group_may arbiters.Interleave keywords.Choice g e = absurd cc
 group_may arbiters.Interleave keywords.Interleave g e = absurd cc
+group_may arbiters.Interleave keywords.Combine g e = absurd cc
 group_may arbiters.Interleave keywords.Poster g e = absurd cc
 group_may arbiters.Interleave keywords.Post g e = absurd cc
 group_may arbiters.Interleave keywords.Fail g e = absurd cc

@@ -5,12 +5,13 @@ use Rattle.ccr_wiretext.specs.declared.stop.Stop.{Stop}
 use Rattle.ccr_wiretext.specs.declared.stop.Stop.TheVariants as stops
 use Rattle.ccr_wiretext.specs.declared.refused.ReadRefused.{ReadRefused}
 use Rattle.ccr_wiretext.specs.declared.refused.ReadRefused.TheVariants as refusals
+use Rattle.ccr_wiretext.specs.Codes.{code_number}
 use Rattle.ccr_wiretext.specs.Places.{Words}
 use Rattle.ccr_wiretext.specs.Lines.{IsText}
 
 abbrev pub Fails : {Y : Type 0} → Stop → Result Y ℕ → Type 0
 Fails stops.Memory read = Unit {0}
-Fails (stops.Code code) read = read ≡ Err code
+Fails (stops.Refused code) read = read ≡ Err (code_number code)
 
 abbrev pub Gives : {X : Type 0} → Result X Stop → Result X ℕ → Type 0
 Gives (Ok x) read = read ≡ Ok x
@@ -37,7 +38,7 @@ Leaves rest result read = LeavesBy (λ x. x) rest result read
 -- what is answered where a line stops the reading
 abbrev pub refused : ℕ → Stop → ReadRefused
 refused line stops.Memory = refusals.Memory
-refused line (stops.Code code) = refusals.At line code
+refused line (stops.Refused code) = refusals.At line (code_number code)
 
 -- the parts, or the first offending line and its code
 abbrev pub IsReading : Result Parts ReadRefused → Result Parts (ℕ × ℕ) → Type 0

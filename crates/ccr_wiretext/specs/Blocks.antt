@@ -12,9 +12,9 @@ use Rattle.ccr_wiretext.specs.declared.keyword.Keyword.{Keyword}
 use Rattle.ccr_wiretext.specs.declared.keyword.Keyword.TheVariants as keywords
 use Rattle.ccr_wiretext.specs.declared.draft.Block.{Block}
 use Rattle.ccr_wiretext.specs.declared.draft.Block.TheVariants as blocks
-use Rattle.ccr_wiretext.specs.Drafts.{Declared, with_budget, with_queue, with_port, with_set, with_cause, with_receive, with_handler, with_arbiter, with_poster, with_action, with_branch, with_post, end_handler, end_arbiter, end_poster}
+use Rattle.ccr_wiretext.specs.Drafts.{Declared, with_budget, with_queue, with_port, with_set, with_cause, with_receive, with_handler, with_arbiter, with_poster, with_domain, with_action, with_branch, with_post, end_handler, end_arbiter, end_poster}
 use Rattle.ccr_wiretext.specs.Places.{Words, ◌>>=◌}
-use Rattle.ccr_wiretext.specs.Forms.{budget_form, queue_form, name_form, set_form, cause_form, receive_form, branch_form, post_form, fail_form, caused_form, await_form, script_form, end_form, arbiter_end_form}
+use Rattle.ccr_wiretext.specs.Forms.{budget_form, queue_form, name_form, set_form, cause_form, combine_form, receive_form, branch_form, post_form, fail_form, caused_form, await_form, script_form, end_form, arbiter_end_form}
 
 unfoldable pub outside_line : Declared → Keyword → Words → Result Declared ℕ
 outside_line draft keywords.Budget words = budget_form draft words >>= λ budget. Ok (with_budget draft budget)
@@ -26,12 +26,13 @@ outside_line draft keywords.Handler words = name_form 256 (length draft.parts.ha
 outside_line draft keywords.Receive words = receive_form draft words >>= λ branch. Ok (with_receive draft branch)
 outside_line draft keywords.Choice words = name_form 256 (length draft.parts.arbiters) draft words >>= λ name. Ok (with_arbiter draft arbiters.Choice name)
 outside_line draft keywords.Interleave words = name_form 256 (length draft.parts.arbiters) draft words >>= λ name. Ok (with_arbiter draft arbiters.Interleave name)
+outside_line draft keywords.Combine words = combine_form draft words >>= λ part. Ok (with_domain draft part)
 outside_line draft keywords.Poster words = name_form 16 (length draft.parts.posters) draft words >>= λ name. Ok (with_poster draft name)
 outside_line draft _ words = Err 3
 
 unfoldable pub handler_line : Declared → HandlerPart → Keyword → Words → Result Declared ℕ
 handler_line draft part keywords.Post words = post_form draft part words >>= λ action. Ok (with_action draft part action)
-handler_line draft part keywords.Fail words = fail_form part words >>= λ action. Ok (with_action draft part action)
+handler_line draft part keywords.Fail words = fail_form draft part words >>= λ value. Ok (with_action draft part (actions.Fail value))
 handler_line draft part keywords.Add words = caused_form draft part words >>= λ cause. Ok (with_action draft part (actions.Add cause))
 handler_line draft part keywords.Remove words = caused_form draft part words >>= λ cause. Ok (with_action draft part (actions.Remove cause))
 handler_line draft part keywords.Await words = await_form draft part words >>= λ action. Ok (with_action draft part action)

@@ -12,6 +12,7 @@ use Rattle.ccr_wiring.specs.declared.parts.ArbiterPart.{ArbiterPart}
 use Rattle.ccr_wiring.specs.declared.parts.BranchPart.{BranchPart}
 use Rattle.ccr_wiring.specs.declared.parts.HandlerPart.{HandlerPart}
 use Rattle.ccr_wiring.specs.declared.parts.PosterPart.{PosterPart}
+use Rattle.ccr_wiring.specs.declared.parts.DomainPart.{DomainPart}
 use Rattle.ccr_wiring.specs.declared.parts.Kind.{Kind}
 use Rattle.ccr_wiring.specs.declared.parts.Kind.TheVariants as arbiters
 use Rattle.ccr_wiring.specs.Limits.{posts_in_all}
@@ -31,10 +32,10 @@ pub record Declared : Type 0 where
   pub spotted : List ℕ
   pub block : Block
 
--- before the first declaration
-abbrev pub nothing : Declared
-nothing = record {
-  parts = record { budget = 10000; queues = []; ports = []; sets = []; causes = []; handlers = []; arbiters = []; posters = [] };
+-- before the first declaration, by the version
+abbrev pub nothing : ℕ → Declared
+nothing version = record {
+  parts = record { version = version; budget = 10000; queues = []; ports = []; sets = []; causes = []; handlers = []; arbiters = []; domains = []; posters = [] };
   budgeted = false;
   names = [];
   spotted = [];
@@ -72,12 +73,16 @@ receiver branch = record { name = branch.name; kind = arbiters.Receive; branches
 abbrev pub with_receive : Declared → BranchPart → Declared
 with_receive draft branch = with_name (record (with_spots draft branch) { parts = record draft.parts { arbiters = draft.parts.arbiters ++ receiver branch ∷ [] } }) branch.name kinds.Branch
 
+-- Interleaves are combined, which declares no name
+abbrev pub with_domain : Declared → DomainPart → Declared
+with_domain draft part = record draft { parts = record draft.parts { domains = draft.parts.domains ++ part ∷ [] } }
+
 -- a block opens, and its name is declared
 abbrev pub with_handler : Declared → List ℕ → Declared
 with_handler draft name = with_name (record draft { block = blocks.Handler (record { name = name; handler = record { actions = [] } }) }) name (kinds.Handler (length draft.parts.handlers))
 
 abbrev pub with_arbiter : Declared → Kind → List ℕ → Declared
-with_arbiter draft kind name = with_name (record draft { block = blocks.Arbiter (record { name = name; kind = kind; branches = [] }) }) name kinds.Arbiter
+with_arbiter draft kind name = with_name (record draft { block = blocks.Arbiter (record { name = name; kind = kind; branches = [] }) }) name (kinds.Arbiter (length draft.parts.arbiters))
 
 abbrev pub with_poster : Declared → List ℕ → Declared
 with_poster draft name = with_name (record draft { block = blocks.Poster (record { name = name; posts = [] }) }) name kinds.Poster

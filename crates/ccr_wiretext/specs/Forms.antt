@@ -3,6 +3,7 @@ use Rattle.std.specs.Prelude.{ℕ, Bool, not, List, [], ◌++◌, ◌+◌, ◌==
 use Rattle.std.specs.List.{list_any}
 use Rattle.ccr_base.specs.declared.handlers.Action.{Action}
 use Rattle.ccr_base.specs.declared.handlers.Action.TheVariants as actions
+use Rattle.ccr_base.specs.declared.handlers.Expr.{Expr}
 use Rattle.ccr_base.specs.declared.messages.Sent.{Sent}
 use Rattle.ccr_base.specs.declared.policies.Group.{Group}
 use Rattle.ccr_wiring.specs.declared.parts.QueuePart.{QueuePart}
@@ -12,11 +13,12 @@ use Rattle.ccr_wiring.specs.declared.parts.BranchPart.{BranchPart}
 use Rattle.ccr_wiring.specs.declared.parts.ArbiterPart.{ArbiterPart}
 use Rattle.ccr_wiring.specs.declared.parts.HandlerPart.{HandlerPart}
 use Rattle.ccr_wiring.specs.declared.parts.PosterPart.{PosterPart}
+use Rattle.ccr_wiring.specs.declared.parts.DomainPart.{DomainPart}
 use Rattle.ccr_wiring.specs.Spots.{branch_named, times}
 use Rattle.ccr_wiretext.specs.Names.{as_queue, as_cause, as_handler}
 use Rattle.ccr_wiretext.specs.Drafts.{Declared, branch_count, script_count}
-use Rattle.ccr_wiretext.specs.Places.{Words, ◌>>=◌, unless, limited, no_more, new_name, reference, port, number, number_within, policy, group, expr}
-use Rattle.ccr_wiretext.specs.Patterns.{pattern, all_members, causes}
+use Rattle.ccr_wiretext.specs.Places.{Words, ◌>>=◌, unless, limited, no_more, new_name, reference, port, number_within, policy, group, value, expr}
+use Rattle.ccr_wiretext.specs.Patterns.{pattern, all_members, combined, causes}
 
 -- budget N. A second one is code 13
 unfoldable pub budget_form : Declared → Words → Result ℕ ℕ
@@ -60,6 +62,13 @@ cause_form draft words = do
   done ← no_more to.1
   Ok (record { name = name.0; port = to.0 })
 
+-- combine INTERLEAVE INTERLEAVE ..
+unfoldable pub combine_form : Declared → Words → Result DomainPart ℕ
+combine_form draft words = do
+  room ← limited 128 (length draft.parts.domains)
+  members ← combined draft words
+  Ok (record { members = members })
+
 -- with this branch more than 16 spots name one of the ports that it and its sites name: code 12
 unfoldable pub crowds : Declared → BranchPart → Bool
 crowds draft branch = list_any (λ port. nat_lt 16 (times port (draft.spotted ++ branch_named draft.parts branch))) (branch_named draft.parts branch)
@@ -99,17 +108,17 @@ unfoldable pub post_form : Declared → HandlerPart → Words → Result Action 
 post_form draft part words = do
   room ← limited 16 (length part.handler.actions)
   to ← port draft words
-  value ← expr to.1
+  value ← expr draft.parts.version to.1
   done ← no_more value.1
   Ok (actions.Post to.0 value.0)
 
 -- fail EXPR
-unfoldable pub fail_form : HandlerPart → Words → Result Action ℕ
-fail_form part words = do
+unfoldable pub fail_form : Declared → HandlerPart → Words → Result Expr ℕ
+fail_form draft part words = do
   room ← limited 16 (length part.handler.actions)
-  value ← expr words
+  value ← expr draft.parts.version words
   done ← no_more value.1
-  Ok (actions.Fail value.0)
+  Ok value.0
 
 -- add CAUSE and remove CAUSE
 unfoldable pub caused_form : Declared → HandlerPart → Words → Result ℕ ℕ
@@ -127,12 +136,12 @@ await_form draft part words = do
   done ← no_more from.1
   Ok (actions.Await from.0)
 
--- post PORT N CAUSE .., in a poster
+-- post PORT VALUE CAUSE .., in a poster
 unfoldable pub script_form : Declared → PosterPart → Words → Result Sent ℕ
 script_form draft part words = do
   room ← limited 10000 (script_count draft.parts + length part.posts)
   to ← port draft words
-  value ← number to.1
+  value ← value draft.parts.version to.1
   all ← causes draft.names [] value.1
   Ok (record { port = to.0; value = value.0; causes = all })
 

@@ -1,7 +1,7 @@
 -- The grammar of the places and lines, apart from reading: which words say what. No codes, and no order of looking.
 use Rattle.std.specs.Prelude.{◌≡◌, ℕ, ◌≤◌, true, false, ◌==◌, List, [], ◌∷◌, ◌++◌, length, Option, Some, None, ◌⊎◌, codes}
 use Rattle.std.specs.Option.{option_and_then}
-use Rattle.std.specs.List.{list_any}
+use Rattle.std.specs.List.{list_any, join_with_byte}
 use Rattle.ccr_base.specs.declared.policies.Policy.{Policy}
 use Rattle.ccr_base.specs.declared.policies.Policy.TheVariants as policies
 use Rattle.ccr_base.specs.declared.policies.Group.{Group}
@@ -14,10 +14,12 @@ use Rattle.ccr_base.specs.declared.patterns.Slot.{Slot}
 use Rattle.ccr_base.specs.declared.patterns.Pattern.{Pattern}
 use Rattle.ccr_base.specs.declared.patterns.Pattern.TheVariants as patterns
 use Rattle.ccr_text.specs.Words.{number_of, is_name_of}
+use Rattle.ccr_wiring.specs.References.{no_interleave}
 use Rattle.ccr_wiring.specs.Repeats.{has_port}
 use Rattle.ccr_wiretext.specs.declared.named.Named.{Named}
-use Rattle.ccr_wiretext.specs.Names.{Naming, named, as_port, as_set, as_cause}
+use Rattle.ccr_wiretext.specs.Names.{Naming, named, as_port, as_set, as_cause, as_arbiter}
 use Rattle.ccr_wiretext.specs.Drafts.{Declared, members_of}
+use Rattle.ccr_wiretext.specs.Patterns.{is_combined}
 use Rattle.ccr_wiretext.specs.Places.{Words}
 
 -- a name that may be declared here
@@ -69,11 +71,45 @@ IsGroup word groups.Once = word ≡ codes "once"
 IsGroup word groups.Always = word ≡ codes "always"
 IsGroup word _ = ⊥
 
-abbrev pub IsExpr : Words → Expr → Type 0
-IsExpr words (exprs.Number n) = (digits : List ℕ) × (words ≡ digits ∷ []) × IsNumber digits n
-IsExpr words (exprs.Arg k) = (digits : List ℕ) × (words ≡ codes "arg" ∷ digits ∷ []) × IsWithin 0 65535 digits k
-IsExpr words exprs.Sum = words ≡ codes "sum" ∷ []
-IsExpr words exprs.Count = words ≡ codes "count" ∷ []
+-- digits of numbers
+abbrev pub AreNumbers : List (List ℕ) → List ℕ → Type 0
+AreNumbers [] [] = Unit {0}
+AreNumbers (digits ∷ more) (n ∷ numbers) = IsNumber digits n × AreNumbers more numbers
+AreNumbers _ _ = ⊥
+
+-- digits of 1 to 8 numbers, with commas between them
+pub record IsList (word value : List ℕ) : Type 0 where
+  pub digits : List (List ℕ)
+  pub spelled : word ≡ join_with_byte 44 digits
+  pub numbers : AreNumbers digits value
+  pub some : 1 ≤ length value
+  pub few : length value ≤ 8
+
+-- digits of one number
+pub record IsOne (word value : List ℕ) : Type 0 where
+  pub one : ℕ
+  pub alone : value ≡ one ∷ []
+  pub number : IsNumber word one
+
+-- the word of a value: one number, in version 2 a list of them
+abbrev pub IsValueWord : ℕ → List ℕ → List ℕ → Type 0
+IsValueWord version word value = (((version == 2) ≡ false) × IsOne word value) ⊎ (((version == 2) ≡ true) × IsList word value)
+
+-- part, and which number of which message's value. Only in version 2
+pub record IsPart (version : ℕ) (words : Words) (message place : ℕ) : Type 0 where
+  pub newer : (version == 2) ≡ true
+  pub first : List ℕ
+  pub second : List ℕ
+  pub spelled : words ≡ codes "part" ∷ first ∷ second ∷ []
+  pub counted : IsWithin 0 65535 first message
+  pub within : IsWithin 0 7 second place
+
+abbrev pub IsExpr : ℕ → Words → Expr → Type 0
+IsExpr version words (exprs.Number value) = (word : List ℕ) × (words ≡ word ∷ []) × IsValueWord version word value
+IsExpr version words (exprs.Part message place) = IsPart version words message place
+IsExpr version words (exprs.Arg k) = (digits : List ℕ) × (words ≡ codes "arg" ∷ digits ∷ []) × IsWithin 0 65535 digits k
+IsExpr version words exprs.Sum = words ≡ codes "sum" ∷ []
+IsExpr version words exprs.Count = words ≡ codes "count" ∷ []
 
 abbrev pub IsPred : Words → Pred → Type 0
 IsPred words preds.Any = words ≡ codes "any" ∷ []
@@ -121,6 +157,17 @@ ArePorts draft found [] words = words ≡ []
 ArePorts draft found (port ∷ ports) words =
     (word : List ℕ) × (rest : Words) × (words ≡ word ∷ rest) × IsPort draft word port
     × (has_port found port ≡ false) × ArePorts draft (found ++ port ∷ []) ports rest
+
+-- the name of an Interleave
+abbrev pub IsInterleave : Declared → List ℕ → ℕ → Type 0
+IsInterleave draft word number = Refers as_arbiter draft.names word number × (no_interleave draft.parts number ≡ false)
+
+-- Interleaves of which each is none of those found before it, and stands in no line before
+abbrev pub AreInterleaves : Declared → List ℕ → List ℕ → Words → Type 0
+AreInterleaves draft found [] words = words ≡ []
+AreInterleaves draft found (number ∷ numbers) words =
+    (word : List ℕ) × (rest : Words) × (words ≡ word ∷ rest) × IsInterleave draft word number
+    × (is_combined draft.parts.domains number ≡ false) × (has_port found number ≡ false) × AreInterleaves draft (found ++ number ∷ []) numbers rest
 
 -- causes of which each is none of those found before it
 abbrev pub AreCauses : Naming → List ℕ → List ℕ → Words → Type 0

@@ -2,7 +2,7 @@
 use Rattle.std.specs.Prelude.{ℕ, List, codes, if◌then◌else◌}
 use Rattle.std.specs.Str.{bytes_eq}
 use Rattle.ccr_wiretext.specs.declared.keyword.Keyword.{Keyword}
-use Rattle.ccr_wiretext.specs.declared.keyword.Keyword.TheVariants.{Budget, Queue, Port, Portset, Cause, Handler, Receive, Choice, Interleave, Poster, Post, Fail, Add, Remove, Await, Branch, Teardown, Exclusive, Concurrent, End, Other}
+use Rattle.ccr_wiretext.specs.declared.keyword.Keyword.TheVariants.{Budget, Queue, Port, Portset, Cause, Handler, Receive, Choice, Interleave, Combine, Poster, Post, Fail, Add, Remove, Await, Branch, Teardown, Exclusive, Concurrent, End, Other}
 
 -- the keyword of a line in a block that a word is, or Other
 abbrev pub keyword_in_block : List ℕ → Keyword
@@ -30,4 +30,5 @@ keyword word =
     if bytes_eq word (codes "receive") then Receive else
     if bytes_eq word (codes "choice") then Choice else
     if bytes_eq word (codes "interleave") then Interleave else
+    if bytes_eq word (codes "combine") then Combine else
     if bytes_eq word (codes "poster") then Poster else keyword_in_block word

@@ -6,6 +6,7 @@ pub mod Patterns
 pub mod Forms
 pub mod Blocks
 pub mod Reading
+pub mod Codes
 pub mod Answers
 pub mod Spelling
 pub mod Grammar

@@ -12,6 +12,7 @@ use Rattle.ccr_wiring.specs.declared.parts.BranchPart.{BranchPart}
 use Rattle.ccr_wiring.specs.declared.parts.ArbiterPart.{ArbiterPart}
 use Rattle.ccr_wiring.specs.declared.parts.HandlerPart.{HandlerPart}
 use Rattle.ccr_wiring.specs.declared.parts.PosterPart.{PosterPart}
+use Rattle.ccr_wiring.specs.declared.parts.DomainPart.{DomainPart}
 use Rattle.ccr_wiring.specs.declared.parts.Kind.TheVariants as arbiters
 use Rattle.ccr_text.specs.declared.lines.Line.{Line}
 use Rattle.ccr_text.specs.Lines.{lines_of}
@@ -21,12 +22,12 @@ use Rattle.ccr_wiretext.specs.declared.draft.Block.{Block}
 use Rattle.ccr_wiretext.specs.declared.draft.Block.TheVariants as blocks
 use Rattle.ccr_wiretext.specs.Keywords.{keyword}
 use Rattle.ccr_wiretext.specs.Names.{as_queue, as_cause, as_handler}
-use Rattle.ccr_wiretext.specs.Drafts.{Declared, branch_count, script_count, nothing, with_budget, with_queue, with_port, with_set, with_cause, with_receive, with_handler, with_arbiter, with_poster, with_action, with_branch, with_post, end_handler, end_arbiter, end_poster}
+use Rattle.ccr_wiretext.specs.Drafts.{Declared, branch_count, script_count, nothing, with_budget, with_queue, with_port, with_set, with_cause, with_receive, with_handler, with_arbiter, with_poster, with_domain, with_action, with_branch, with_post, end_handler, end_arbiter, end_poster}
 use Rattle.ccr_wiretext.specs.Places.{Words}
 use Rattle.ccr_wiretext.specs.Forms.{crowds}
 use Rattle.ccr_wiretext.specs.Blocks.{group_of, apart}
-use Rattle.ccr_wiretext.specs.Reading.{is_comment, is_head}
-use Rattle.ccr_wiretext.specs.Grammar.{IsNew, Refers, IsPort, IsNumber, IsWithin, IsPolicy, IsGroup, IsExpr, IsPattern, ArePorts, AreCauses}
+use Rattle.ccr_wiretext.specs.Reading.{is_comment, version_of}
+use Rattle.ccr_wiretext.specs.Grammar.{IsNew, Refers, IsPort, IsWithin, IsPolicy, IsGroup, IsValueWord, IsExpr, IsPattern, ArePorts, AreInterleaves, AreCauses}
 
 -- budget N
 pub record IsBudget (draft : Declared) (words : Words) (budget : ℕ) : Type 0 where
@@ -67,6 +68,13 @@ pub record IsCause (draft : Declared) (words : Words) (part : CausePart) : Type 
   pub name : IsNew draft.names part.name
   pub refers : IsPort draft port part.port
 
+-- combine INTERLEAVE INTERLEAVE ..
+pub record IsCombine (draft : Declared) (words : Words) (part : DomainPart) : Type 0 where
+  pub room : length draft.parts.domains < 128
+  pub members : AreInterleaves draft [] part.members words
+  pub some : 2 ≤ length part.members
+  pub few : length part.members ≤ 8
+
 -- QUEUE HANDLER PATTERN
 pub record IsBranchTail (draft : Declared) (words : Words) (branch : BranchPart) : Type 0 where
   pub queue : List ℕ
@@ -100,14 +108,14 @@ pub record IsBranch (draft : Declared) (part : ArbiterPart) (group : Group) (wor
 
 -- an action's words behind the first, by the action
 abbrev pub IsAction : Declared → Keyword → Words → Action → Type 0
-IsAction draft keywords.Post words (actions.Post port value) = (to : List ℕ) × (rest : Words) × (words ≡ to ∷ rest) × IsPort draft to port × IsExpr rest value
-IsAction draft keywords.Fail words (actions.Fail value) = IsExpr words value
+IsAction draft keywords.Post words (actions.Post port value) = (to : List ℕ) × (rest : Words) × (words ≡ to ∷ rest) × IsPort draft to port × IsExpr draft.parts.version rest value
+IsAction draft keywords.Fail words (actions.Fail value) = IsExpr draft.parts.version words value
 IsAction draft keywords.Add words (actions.Add cause) = (name : List ℕ) × (words ≡ name ∷ []) × Refers as_cause draft.names name cause
 IsAction draft keywords.Remove words (actions.Remove cause) = (name : List ℕ) × (words ≡ name ∷ []) × Refers as_cause draft.names name cause
 IsAction draft keywords.Await words (actions.Await port) = (from : List ℕ) × (words ≡ from ∷ []) × IsPort draft from port
 IsAction draft _ words _ = ⊥
 
--- post PORT N CAUSE .., in a poster
+-- post PORT VALUE CAUSE .., in a poster
 pub record IsPost (draft : Declared) (part : PosterPart) (words : Words) (post : Sent) : Type 0 where
   pub room : script_count draft.parts + length part.posts < 10000
   pub to : List ℕ
@@ -115,7 +123,7 @@ pub record IsPost (draft : Declared) (part : PosterPart) (words : Words) (post :
   pub rest : Words
   pub spelled : words ≡ to ∷ value ∷ rest
   pub refers : IsPort draft to post.port
-  pub number : IsNumber value post.value
+  pub numbers : IsValueWord draft.parts.version value post.value
   pub causes : AreCauses draft.names [] post.causes rest
 
 -- what a line outside blocks declares
@@ -129,6 +137,7 @@ SaysOutside draft keywords.Handler words new = (name : List ℕ) × IsName 256 (
 SaysOutside draft keywords.Receive words new = (branch : BranchPart) × IsReceive draft words branch × (new ≡ with_receive draft branch)
 SaysOutside draft keywords.Choice words new = (name : List ℕ) × IsName 256 (length draft.parts.arbiters) draft words name × (new ≡ with_arbiter draft arbiters.Choice name)
 SaysOutside draft keywords.Interleave words new = (name : List ℕ) × IsName 256 (length draft.parts.arbiters) draft words name × (new ≡ with_arbiter draft arbiters.Interleave name)
+SaysOutside draft keywords.Combine words new = (part : DomainPart) × IsCombine draft words part × (new ≡ with_domain draft part)
 SaysOutside draft keywords.Poster words new = (name : List ℕ) × IsName 16 (length draft.parts.posters) draft words name × (new ≡ with_poster draft name)
 SaysOutside draft _ words new = ⊥
 
@@ -170,12 +179,12 @@ AreLines draft (line ∷ lines) parts = (line.clean ≡ true) × (
     ⊎ ((first : List ℕ) × (words : Words) × (new : Declared) × (line.words ≡ first ∷ words) × (is_comment first ≡ false)
     × Says draft.block draft (keyword first) words new × AreLines new lines parts))
 
--- `ccr 1` is the first line that isn't blank
+-- `ccr 1` or `ccr 2` is the first line that isn't blank
 abbrev pub AreHeadedLines : List Line → Parts → Type 0
 AreHeadedLines [] parts = ⊥
 AreHeadedLines (line ∷ lines) parts = (line.clean ≡ true) × (
     (IsBlank line.words × AreHeadedLines lines parts)
-    ⊎ ((is_head line.words ≡ true) × AreLines nothing lines parts))
+    ⊎ ((version : ℕ) × (version_of line.words ≡ Some version) × AreLines (nothing version) lines parts))
 
 -- the text says these parts
 abbrev pub IsText : List ℕ → Parts → Type 0

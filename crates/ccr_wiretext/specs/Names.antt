@@ -30,6 +30,10 @@ abbrev pub as_cause : Named → Option ℕ
 as_cause (kinds.Cause n) = Some n
 as_cause _ = None
 
+abbrev pub as_arbiter : Named → Option ℕ
+as_arbiter (kinds.Arbiter n) = Some n
+as_arbiter _ = None
+
 abbrev pub as_handler : Named → Option ℕ
 as_handler (kinds.Handler n) = Some n
 as_handler _ = None

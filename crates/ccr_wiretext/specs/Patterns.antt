@@ -1,5 +1,5 @@
--- The places of a line that go on up to its end: patterns, the members of a set, the causes of a post.
-use Rattle.std.specs.Prelude.{ℕ, zero, suc, List, [], ◌∷◌, ◌++◌, Result, Ok, Err, ◌==◌, not, if◌then◌else◌, codes}
+-- The places of a line that go on up to its end: patterns, the members of a set, combined Interleaves, the causes of a post.
+use Rattle.std.specs.Prelude.{ℕ, Bool, zero, suc, List, [], ◌∷◌, ◌++◌, Result, Ok, Err, ◌==◌, ◌||◌, not, if◌then◌else◌, codes}
 use Rattle.std.specs.Option.{option_and_then}
 use Rattle.std.specs.List.{list_any}
 use Rattle.std.specs.Str.{bytes_eq}
@@ -8,10 +8,11 @@ use Rattle.ccr_base.specs.declared.patterns.Pred.TheVariants as preds
 use Rattle.ccr_base.specs.declared.patterns.Slot.{Slot}
 use Rattle.ccr_base.specs.declared.patterns.Pattern.{Pattern}
 use Rattle.ccr_base.specs.declared.patterns.Pattern.TheVariants as patterns
+use Rattle.ccr_wiring.specs.declared.parts.DomainPart.{DomainPart}
 use Rattle.ccr_wiring.specs.Repeats.{has_port}
 use Rattle.ccr_wiretext.specs.Names.{Naming, named, as_cause}
 use Rattle.ccr_wiretext.specs.Drafts.{Declared}
-use Rattle.ccr_wiretext.specs.Places.{Words, ◌>>=◌, unless, or_code, word, no_more, port, number, number_within}
+use Rattle.ccr_wiretext.specs.Places.{Words, ◌>>=◌, unless, or_code, word, no_more, port, number, number_within, interleave}
 
 -- any, eq N, lt N or ge N
 unfoldable pub pred : Words → Result (Pred × Words) ℕ
@@ -84,6 +85,32 @@ unfoldable pub all_members : Declared → Words → Result (List ℕ) ℕ
 all_members draft words = do
   first ← port draft words
   members draft 7 (first.0 ∷ []) first.1
+
+-- the Interleave stands in one of these domains
+abbrev pub is_combined : List DomainPart → ℕ → Bool
+is_combined domains number = list_any (λ (domain : DomainPart). has_port domain.members number) domains
+
+-- an Interleave that no line before combines, and that isn't among those found before it
+unfoldable pub new_member : Declared → List ℕ → Words → Result (ℕ × Words) ℕ
+new_member draft found words = do
+  next ← interleave draft words
+  apart ← unless (not (is_combined draft.parts.domains next.0 || has_port found next.0)) 8
+  Ok next
+
+-- further Interleaves behind those that were found, as long as words are left and there is room
+unfoldable pub further : Declared → ℕ → List ℕ → Words → Result (List ℕ) ℕ
+further draft room found [] = Ok found
+further draft zero found (first ∷ words) = Err 10
+further draft (suc room) found (first ∷ words) = do
+  next ← new_member draft found (first ∷ words)
+  further draft room (found ++ next.0 ∷ []) next.1
+
+-- 2 to 8 Interleaves
+unfoldable pub combined : Declared → Words → Result (List ℕ) ℕ
+combined draft words = do
+  first ← new_member draft [] words
+  second ← new_member draft (first.0 ∷ []) first.1
+  further draft 6 (first.0 ∷ second.0 ∷ []) second.1
 
 -- causes behind those that were found, up to the end of the line
 unfoldable pub causes : Naming → List ℕ → Words → Result (List ℕ) ℕ

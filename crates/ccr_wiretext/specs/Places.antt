@@ -1,7 +1,8 @@
 -- What may stand in one place of a line, and the code where something else stands there.
 -- A place is read from the words that are left; it gives a value and the words behind it, or a code.
-use Rattle.std.specs.Prelude.{ℕ, Bool, List, [], ◌∷◌, ◌+◌, Option, Some, None, Result, Ok, Err, nat_lt, nat_le, ◌==◌, ◌&&◌, not, is_some, take, drop, position, if◌then◌else◌, codes}
+use Rattle.std.specs.Prelude.{ℕ, Bool, List, [], ◌∷◌, ◌+◌, Option, ◌++◌, Some, None, Result, Ok, Err, nat_lt, nat_le, ◌==◌, ◌&&◌, not, is_some, take, drop, position, if◌then◌else◌, codes}
 use Rattle.std.specs.Option.{option_and_then}
+use Rattle.std.specs.List.{slice_split}
 use Rattle.std.specs.Str.{bytes_eq}
 use Rattle.ccr_base.specs.declared.policies.Policy.{Policy}
 use Rattle.ccr_base.specs.declared.policies.Policy.TheVariants as policies
@@ -9,10 +10,12 @@ use Rattle.ccr_base.specs.declared.policies.Group.{Group}
 use Rattle.ccr_base.specs.declared.policies.Group.TheVariants as groups
 use Rattle.ccr_base.specs.declared.handlers.Expr.{Expr}
 use Rattle.ccr_base.specs.declared.handlers.Expr.TheVariants as exprs
+use Rattle.ccr_base.specs.Values.{value_of_numbers}
 use Rattle.ccr_text.specs.Words.{number_of, is_name_of}
 use Rattle.ccr_wiring.specs.Repeats.{has_port}
 use Rattle.ccr_wiretext.specs.declared.named.Named.{Named}
-use Rattle.ccr_wiretext.specs.Names.{Naming, named, as_port, as_set}
+use Rattle.ccr_wiring.specs.References.{no_interleave}
+use Rattle.ccr_wiretext.specs.Names.{Naming, named, as_port, as_set, as_arbiter}
 use Rattle.ccr_wiretext.specs.Drafts.{Declared, members_of}
 
 -- the words that are left
@@ -122,11 +125,54 @@ group words = do
       if bytes_eq name.0 (codes "always") then Ok (groups.Always, name.1) else
       Err 3
 
--- N, arg N, sum or count
-unfoldable pub expr : Words → Result (Expr × Words) ℕ
-expr words = do
+-- the pieces of a word between its commas
+abbrev pub pieces : List ℕ → List (List ℕ)
+pieces word = slice_split (λ b. b == 44) word
+
+-- the numbers of the pieces, behind those that were found
+unfoldable pub numbers_after : List ℕ → List (List ℕ) → Result (List ℕ) ℕ
+numbers_after found [] = Ok found
+numbers_after found (piece ∷ more) = or_code (number_of piece) 5 >>= λ number. numbers_after (found ++ number ∷ []) more
+
+-- numbers with commas between them: a ninth is code 10, once all of them are numbers
+unfoldable pub several : List ℕ → Result (List ℕ) ℕ
+several word = numbers_after [] (pieces word) >>= λ numbers. or_code (value_of_numbers numbers) 10
+
+-- one number
+unfoldable pub single : List ℕ → Result (List ℕ) ℕ
+single word = or_code (number_of word) 5 >>= λ number. Ok (number ∷ [])
+
+-- the value that a word is: one number, in version 2 one or more
+unfoldable pub value_in : ℕ → List ℕ → Result (List ℕ) ℕ
+value_in version word = if version == 2 then several word else single word
+
+-- a value
+unfoldable pub value : ℕ → Words → Result (List ℕ × Words) ℕ
+value version words = do
+  first ← word words
+  numbers ← value_in version first.0
+  Ok (numbers, first.1)
+
+-- which number of which message's value
+unfoldable pub part : Words → Result (Expr × Words) ℕ
+part words = do
+  message ← number_within 0 65535 words
+  place ← number_within 0 7 message.1
+  Ok (exprs.Part message.0 place.0, place.1)
+
+-- a value, arg N, sum or count, in version 2 part N N too
+unfoldable pub expr : ℕ → Words → Result (Expr × Words) ℕ
+expr version words = do
   name ← word words
   if bytes_eq name.0 (codes "sum") then Ok (exprs.Sum, name.1) else
       if bytes_eq name.0 (codes "count") then Ok (exprs.Count, name.1) else
       if bytes_eq name.0 (codes "arg") then (number_within 0 65535 name.1 >>= λ place. Ok (exprs.Arg place.0, place.1)) else
-      (or_code (number_of name.0) 5 >>= λ value. Ok (exprs.Number value, name.1))
+      if bytes_eq name.0 (codes "part") && (version == 2) then part name.1 else
+      (value_in version name.0 >>= λ numbers. Ok (exprs.Number numbers, name.1))
+
+-- an Interleave
+unfoldable pub interleave : Declared → Words → Result (ℕ × Words) ℕ
+interleave draft words = do
+  arbiter ← reference as_arbiter draft.names words
+  kind ← unless (not (no_interleave draft.parts arbiter.0)) 7
+  Ok arbiter

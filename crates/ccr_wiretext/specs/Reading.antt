@@ -8,7 +8,7 @@ use Rattle.ccr_wiretext.specs.declared.draft.Block.{Block}
 use Rattle.ccr_wiretext.specs.declared.draft.Block.TheVariants as blocks
 use Rattle.ccr_wiretext.specs.Keywords.{keyword}
 use Rattle.ccr_wiretext.specs.Drafts.{Declared, nothing}
-use Rattle.ccr_wiretext.specs.Places.{Words, ◌>>=◌, unless}
+use Rattle.ccr_wiretext.specs.Places.{Words, ◌>>=◌, or_code}
 use Rattle.ccr_wiretext.specs.Blocks.{line_in}
 
 -- a comment begins with #
@@ -16,18 +16,22 @@ abbrev pub is_comment : List ℕ → Bool
 is_comment [] = false
 is_comment (b ∷ bytes) = b == 35
 
--- ccr 1
-abbrev pub is_head : Words → Bool
-is_head (first ∷ second ∷ []) = bytes_eq first (codes "ccr") && bytes_eq second (codes "1")
-is_head _ = false
+-- the version that a word gives
+abbrev pub version_word : List ℕ → Option ℕ
+version_word word = if bytes_eq word (codes "1") then Some 1 else if bytes_eq word (codes "2") then Some 2 else None
 
--- what is declared so far: None before `ccr 1`
+-- the version of the line `ccr 1` or `ccr 2`
+abbrev pub version_of : Words → Option ℕ
+version_of (first ∷ second ∷ []) = if bytes_eq first (codes "ccr") then version_word second else None
+version_of _ = None
+
+-- what is declared so far: None before the line that gives the version
 abbrev pub So : Type 0
 So = Option Declared
 
 -- after a line whose first word is no comment
 unfoldable pub after_words : So → List ℕ → Words → Result So ℕ
-after_words None first words = unless (is_head (first ∷ words)) 2 >>= λ done. Ok (Some nothing)
+after_words None first words = or_code (version_of (first ∷ words)) 2 >>= λ version. Ok (Some (nothing version))
 after_words (Some draft) first words = line_in draft.block draft (keyword first) words >>= λ new. Ok (Some new)
 
 -- a line without words or with a comment is skipped

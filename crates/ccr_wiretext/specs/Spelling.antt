@@ -1,6 +1,6 @@
 -- The canonical text of the parts: which lines it has, and which words stand on each.
-use Rattle.std.specs.Prelude.{ℕ, List, [], ◌∷◌, ◌++◌, map, flat_map, codes, decimal, unwrap_or}
-use Rattle.std.specs.List.{slice_get}
+use Rattle.std.specs.Prelude.{ℕ, List, [], ◌∷◌, ◌++◌, ◌==◌, if◌then◌else◌, map, flat_map, codes, decimal, unwrap_or}
+use Rattle.std.specs.List.{slice_get, join_with_byte}
 use Rattle.std.specs.Option.{option_map_or}
 use Rattle.ccr_base.specs.declared.policies.Policy.{Policy}
 use Rattle.ccr_base.specs.declared.policies.Policy.TheVariants as policies
@@ -24,6 +24,7 @@ use Rattle.ccr_wiring.specs.declared.parts.HandlerPart.{HandlerPart}
 use Rattle.ccr_wiring.specs.declared.parts.BranchPart.{BranchPart}
 use Rattle.ccr_wiring.specs.declared.parts.ArbiterPart.{ArbiterPart}
 use Rattle.ccr_wiring.specs.declared.parts.PosterPart.{PosterPart}
+use Rattle.ccr_wiring.specs.declared.parts.DomainPart.{DomainPart}
 use Rattle.ccr_wiring.specs.declared.parts.Kind.TheVariants as arbiters
 use Rattle.ccr_text.specs.Spelling.{text_of}
 use Rattle.ccr_wiretext.specs.Places.{Words}
@@ -40,6 +41,13 @@ cause_name parts cause = option_map_or (λ (part : CausePart). part.name) (slice
 
 abbrev pub handler_name : Parts → ℕ → List ℕ
 handler_name parts handler = option_map_or (λ (part : HandlerPart). part.name) (slice_get parts.handlers handler) []
+
+abbrev pub arbiter_name : Parts → ℕ → List ℕ
+arbiter_name parts arbiter = option_map_or (λ (part : ArbiterPart). part.name) (slice_get parts.arbiters arbiter) []
+
+-- the line that gives the version
+abbrev pub version_words : ℕ → Words
+version_words version = codes "ccr" ∷ (if version == 2 then codes "2" else codes "1") ∷ []
 
 abbrev pub budget_words : ℕ → Words
 budget_words budget = codes "budget" ∷ decimal budget ∷ []
@@ -61,8 +69,13 @@ set_words parts part = codes "portset" ∷ part.name ∷ map (port_name parts) p
 abbrev pub cause_words : Parts → CausePart → Words
 cause_words parts part = codes "cause" ∷ part.name ∷ port_name parts part.port ∷ []
 
+-- the numbers of a value, with commas between them
+abbrev pub value_word : List ℕ → List ℕ
+value_word value = join_with_byte 44 (map decimal value)
+
 abbrev pub expr_words : Expr → Words
-expr_words (exprs.Number n) = decimal n ∷ []
+expr_words (exprs.Number value) = value_word value ∷ []
+expr_words (exprs.Part message place) = codes "part" ∷ decimal message ∷ decimal place ∷ []
 expr_words (exprs.Arg k) = codes "arg" ∷ decimal k ∷ []
 expr_words exprs.Sum = codes "sum" ∷ []
 expr_words exprs.Count = codes "count" ∷ []
@@ -118,23 +131,26 @@ arbiter_lines parts part = elim part.kind [
   | arbiters.Interleave ↦ block_lines parts (codes "interleave") part
 ]
 
+abbrev pub combine_words : Parts → DomainPart → Words
+combine_words parts part = codes "combine" ∷ map (arbiter_name parts) part.members
+
 abbrev pub post_words : Parts → Sent → Words
-post_words parts post = codes "post" ∷ port_name parts post.port ∷ decimal post.value ∷ map (cause_name parts) post.causes
+post_words parts post = codes "post" ∷ port_name parts post.port ∷ value_word post.value ∷ map (cause_name parts) post.causes
 
 abbrev pub poster_lines : Parts → PosterPart → List Words
 poster_lines parts part = (codes "poster" ∷ part.name ∷ []) ∷ (map (post_words parts) part.posts ++ end_words ∷ [])
 
--- the head, the budget (always) and the queues
+-- the version, the budget (always) and the queues
 unfoldable pub queue_lines : Parts → List Words
-queue_lines parts = (codes "ccr" ∷ codes "1" ∷ []) ∷ budget_words parts.budget ∷ map queue_words parts.queues
+queue_lines parts = version_words parts.version ∷ budget_words parts.budget ∷ map queue_words parts.queues
 
 -- the ports, the port sets and the causes
 unfoldable pub port_lines : Parts → List Words
 port_lines parts = map port_words parts.ports ++ map (set_words parts) parts.sets ++ map (cause_words parts) parts.causes
 
--- the handlers, the arbiters and the posters
+-- the handlers, the arbiters, the combined Interleaves and the posters
 unfoldable pub acting_lines : Parts → List Words
-acting_lines parts = flat_map (handler_lines parts) parts.handlers ++ flat_map (arbiter_lines parts) parts.arbiters ++ flat_map (poster_lines parts) parts.posters
+acting_lines parts = flat_map (handler_lines parts) parts.handlers ++ flat_map (arbiter_lines parts) parts.arbiters ++ map (combine_words parts) parts.domains ++ flat_map (poster_lines parts) parts.posters
 
 -- the lines in their order, each kind in the order of its numbers
 abbrev pub canonical_lines : Parts → List Words

@@ -1,5 +1,5 @@
--- The numbers of a wiring that stand for messages' values. Each is of 64 bits, as a value is.
-use Rattle.std.specs.Prelude.{ℕ, ◌^◌, ◌<◌}
+-- The values of a wiring: each is 1 to 8 numbers of 64 bits.
+use Rattle.std.specs.Prelude.{ℕ, ◌^◌, ◌<◌, ◌≤◌, List, length}
 use Rattle.std.specs.List.{All}
 use Rattle.ccr_base.specs.declared.handlers.Expr.{Expr}
 use Rattle.ccr_base.specs.declared.handlers.Expr.TheVariants as exprs
@@ -17,13 +17,17 @@ use Rattle.ccr_wiring.specs.declared.parts.BranchPart.{BranchPart}
 use Rattle.ccr_wiring.specs.declared.parts.ArbiterPart.{ArbiterPart}
 use Rattle.ccr_wiring.specs.declared.parts.PosterPart.{PosterPart}
 
--- a number that a message may carry
-abbrev pub IsValue : ℕ → Type 0
-IsValue n = n < 2 ^ 64
+-- a number of 64 bits
+abbrev pub IsNumeral : ℕ → Type 0
+IsNumeral n = n < 2 ^ 64
 
--- the number of an expression
+-- numbers that a message may carry
+unfoldable pub IsValue : List ℕ → Type 0
+IsValue value = All IsNumeral value × (1 ≤ length value) × (length value ≤ 8)
+
+-- the value of an expression
 abbrev pub IsExprValued : Expr → Type 0
-IsExprValued (exprs.Number n) = IsValue n
+IsExprValued (exprs.Number value) = IsValue value
 IsExprValued _ = Unit {0}
 
 -- what an action posts
@@ -39,9 +43,9 @@ IsHandlerValued part = All IsActionValued part.handler.actions
 -- what a predicate compares with
 abbrev pub IsPredValued : Pred → Type 0
 IsPredValued preds.Any = Unit {0}
-IsPredValued (preds.Eq n) = IsValue n
-IsPredValued (preds.Lt n) = IsValue n
-IsPredValued (preds.Ge n) = IsValue n
+IsPredValued (preds.Eq n) = IsNumeral n
+IsPredValued (preds.Lt n) = IsNumeral n
+IsPredValued (preds.Ge n) = IsNumeral n
 
 -- the predicates of a pattern
 abbrev pub IsPatternValued : Pattern → Type 0

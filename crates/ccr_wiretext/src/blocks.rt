@@ -6,11 +6,13 @@ ghost use Rattle.ccr_wiretext.specs.Blocks.{outside_line, handler_line, group_of
 
 use crate::cursor::Cursor;
 use crate::draft::{Block, Draft};
-use crate::forms::{arbiter_end_form, fail_form};
+use crate::forms::arbiter_end_form;
 use crate::keyword::Keyword;
-use crate::stop::Stop;
+use crate::stop::{Code, Stop};
 use ccr_base::{Action, Group};
-use ccr_wiring::{ArbiterPart, HandlerPart, Kind, PosterPart};
+use ccr_wiring::{
+    ArbiterPart, HandlerPart, Kind, MAX_ARBITERS, MAX_HANDLERS, MAX_PORTS, MAX_POSTERS, PosterPart,
+};
 use std::mem;
 
 /// The group of a branch that begins with the word, by the kind of its arbiter.
@@ -32,7 +34,7 @@ impl Draft {
         ensures { GivesState self.new result (outside_line self.old Keyword.Port words.entry) }
     {
         let count = self.parts.ports.as_slice().len();
-        let name = self.name_form(256, count, words)?;
+        let name = self.name_form(MAX_PORTS, count, words)?;
         self.add_port(name)?;
         Ok(())
     }
@@ -42,7 +44,7 @@ impl Draft {
         ensures { GivesState self.new result (outside_line self.old Keyword.Handler words.entry) }
     {
         let count = self.parts.handlers.as_slice().len();
-        let name = self.name_form(256, count, words)?;
+        let name = self.name_form(MAX_HANDLERS, count, words)?;
         self.begin_handler(name)?;
         Ok(())
     }
@@ -52,7 +54,7 @@ impl Draft {
         ensures { GivesState self.new result (outside_line self.old Keyword.Choice words.entry) }
     {
         let count = self.parts.arbiters.as_slice().len();
-        let name = self.name_form(256, count, words)?;
+        let name = self.name_form(MAX_ARBITERS, count, words)?;
         self.begin_arbiter(Kind::Choice, name)?;
         Ok(())
     }
@@ -62,7 +64,7 @@ impl Draft {
         ensures { GivesState self.new result (outside_line self.old Keyword.Interleave words.entry) }
     {
         let count = self.parts.arbiters.as_slice().len();
-        let name = self.name_form(256, count, words)?;
+        let name = self.name_form(MAX_ARBITERS, count, words)?;
         self.begin_arbiter(Kind::Interleave, name)?;
         Ok(())
     }
@@ -72,7 +74,7 @@ impl Draft {
         ensures { GivesState self.new result (outside_line self.old Keyword.Poster words.entry) }
     {
         let count = self.parts.posters.as_slice().len();
-        let name = self.name_form(16, count, words)?;
+        let name = self.name_form(MAX_POSTERS, count, words)?;
         self.begin_poster(name)?;
         Ok(())
     }
@@ -106,8 +108,12 @@ impl Draft {
             }
             Keyword::Choice => self.open_choice(words)?,
             Keyword::Interleave => self.open_interleave(words)?,
+            Keyword::Combine => {
+                let part = self.combine_form(words)?;
+                self.add_domain(part)?;
+            }
             Keyword::Poster => self.open_poster(words)?,
-            _ => return Err(Stop::Code(3)),
+            _ => return Err(Stop::Refused(Code::Keyword)),
         }
         Ok(())
     }
@@ -124,29 +130,29 @@ impl Draft {
         match first {
             Keyword::Post => {
                 let action = self.post_form(&part, words)?;
-                self.add_action(part, action)?;
+                self.add_action(part, &action)?;
             }
             Keyword::Fail => {
-                let action = fail_form(&part, words)?;
-                self.add_action(part, action)?;
+                let value = self.fail_form(&part, words)?;
+                self.add_action(part, &Action::Fail(value))?;
             }
             Keyword::Add => {
                 let cause = self.caused_form(&part, words)?;
-                self.add_action(part, Action::Add(cause))?;
+                self.add_action(part, &Action::Add(cause))?;
             }
             Keyword::Remove => {
                 let cause = self.caused_form(&part, words)?;
-                self.add_action(part, Action::Remove(cause))?;
+                self.add_action(part, &Action::Remove(cause))?;
             }
             Keyword::Await => {
                 let action = self.await_form(&part, words)?;
-                self.add_action(part, action)?;
+                self.add_action(part, &action)?;
             }
             Keyword::End => {
                 words.no_more()?;
                 self.end_handler(part)?;
             }
-            _ => return Err(Stop::Code(3)),
+            _ => return Err(Stop::Refused(Code::Keyword)),
         }
         Ok(())
     }
@@ -166,7 +172,7 @@ impl Draft {
             return Ok(());
         }
         let Some(group) = group_of(part.kind, first) else {
-            return Err(Stop::Code(3));
+            return Err(Stop::Refused(Code::Keyword));
         };
         let branch = self.branch_form(&part, group, words)?;
         self.add_branch(part, branch)?;
@@ -191,7 +197,7 @@ impl Draft {
                 words.no_more()?;
                 self.end_poster(part)?;
             }
-            _ => return Err(Stop::Code(3)),
+            _ => return Err(Stop::Refused(Code::Keyword)),
         }
         Ok(())
     }

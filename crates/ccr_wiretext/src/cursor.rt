@@ -1,16 +1,19 @@
 //! The words of a line, read from left to right: the places of one word or two.
 
 ghost use Rattle.std.specs.Prelude.{◌≡◌, ◌==◌, List, length, ℕ};
-ghost use Rattle.ccr_wiretext.specs.Names.{as_queue, as_cause, as_handler};
-ghost use Rattle.ccr_wiretext.specs.Places.{word, no_more, new_name, reference, port, number, number_within, policy, group, expr};
+ghost use Rattle.ccr_wiretext.specs.Names.{as_queue, as_cause, as_handler, as_arbiter};
+ghost use Rattle.ccr_wiretext.specs.Places.{word, no_more, new_name, reference, port, number, number_within, policy, group, value, part, expr, interleave};
 ghost use Rattle.ccr_wiretext.specs.Answers.{Gives, Leaves, LeavesBy};
 
 use crate::draft::Draft;
 use crate::keyword::is_text;
 use crate::named::{Named, Names};
-use crate::stop::Stop;
-use ccr_base::{CauseNo, Expr, Group, HandlerNo, Name, Policy, PortNo, QueueNo};
+use crate::stop::{Code, Stop};
+use crate::values::value_in;
+use ccr_base::{ArbiterNo, CauseNo, Expr, Group, HandlerNo, Name, Policy, PortNo, QueueNo, Value};
 use ccr_text::{is_name, read_number};
+use ccr_wiring::{MAX_ARG, MAX_PLACE, MAX_POLICY};
+use std::alloc::Global;
 use std::marker::Model;
 
 /// The words that are left. Each method takes the words of one place, or tells the code of what stands there.
@@ -44,7 +47,7 @@ impl<'a> Cursor<'a> {
         ensures { LeavesBy (λ word. word.now) self.new result (word self.old) }
     {
         let Some((first, rest)) = self.rest.split_first() else {
-            return Err(Stop::Code(4));
+            return Err(Stop::Refused(Code::WordCount));
         };
         self.rest = rest;
         Ok(first.as_slice())
@@ -54,7 +57,7 @@ impl<'a> Cursor<'a> {
         ensures { Gives result (no_more self.now) }
     {
         if !self.rest.is_empty() {
-            return Err(Stop::Code(4));
+            return Err(Stop::Refused(Code::WordCount));
         }
         Ok(())
     }
@@ -66,10 +69,10 @@ impl<'a> Cursor<'a> {
     {
         let name = self.word()?;
         if !is_name(name) {
-            return Err(Stop::Code(14));
+            return Err(Stop::Refused(Code::NameForm));
         }
         if names.get(name).is_some() {
-            return Err(Stop::Code(6));
+            return Err(Stop::Refused(Code::Declared));
         }
         Ok(name)
     }
@@ -82,7 +85,7 @@ impl<'a> Cursor<'a> {
         let name = self.word()?;
         match draft.port(name) {
             Some(number) => Ok(number),
-            None => Err(Stop::Code(7)),
+            None => Err(Stop::Refused(Code::Reference)),
         }
     }
 
@@ -93,7 +96,7 @@ impl<'a> Cursor<'a> {
         let name = self.word()?;
         match names.get(name) {
             Some(Named::Queue(number)) => Ok(number),
-            _ => Err(Stop::Code(7)),
+            _ => Err(Stop::Refused(Code::Reference)),
         }
     }
 
@@ -104,7 +107,7 @@ impl<'a> Cursor<'a> {
         let name = self.word()?;
         match names.get(name) {
             Some(Named::Cause(number)) => Ok(number),
-            _ => Err(Stop::Code(7)),
+            _ => Err(Stop::Refused(Code::Reference)),
         }
     }
 
@@ -115,7 +118,7 @@ impl<'a> Cursor<'a> {
         let name = self.word()?;
         match names.get(name) {
             Some(Named::Handler(number)) => Ok(number),
-            _ => Err(Stop::Code(7)),
+            _ => Err(Stop::Refused(Code::Reference)),
         }
     }
 
@@ -126,7 +129,7 @@ impl<'a> Cursor<'a> {
         let digits = self.word()?;
         match read_number(digits) {
             Some(value) => Ok(value),
-            None => Err(Stop::Code(5)),
+            None => Err(Stop::Refused(Code::Number)),
         }
     }
 
@@ -136,7 +139,7 @@ impl<'a> Cursor<'a> {
     {
         let value = self.number()?;
         if value < u64::from(low) || u64::from(high) < value {
-            return Err(Stop::Code(10));
+            return Err(Stop::Refused(Code::Limit));
         }
         Ok(value as u32)
     }
@@ -150,11 +153,11 @@ impl<'a> Cursor<'a> {
         if is_text(name, "unbounded") {
             Ok(Policy::Unbounded)
         } else if is_text(name, "discard") {
-            Ok(Policy::Discard(self.number_within(1, 1000)?))
+            Ok(Policy::Discard(self.number_within(1, MAX_POLICY)?))
         } else if is_text(name, "throttle") {
-            Ok(Policy::Throttle(self.number_within(1, 1000)?))
+            Ok(Policy::Throttle(self.number_within(1, MAX_POLICY)?))
         } else {
-            Err(Stop::Code(3))
+            Err(Stop::Refused(Code::Keyword))
         }
     }
 
@@ -169,14 +172,55 @@ impl<'a> Cursor<'a> {
         } else if is_text(name, "always") {
             Ok(Group::Always)
         } else {
-            Err(Stop::Code(3))
+            Err(Stop::Refused(Code::Keyword))
         }
     }
 
-    /// N, arg N, sum or count.
+    #[tactic(auto, unfolding(crate::specs::Places::reference))]
+    fn arbiter(&mut self, names: &Names) -> Result<ArbiterNo, Stop>
+        ensures { Leaves self.new result (reference as_arbiter names.now self.old) }
+    {
+        let name = self.word()?;
+        match names.get(name) {
+            Some(Named::Arbiter(number)) => Ok(number),
+            _ => Err(Stop::Refused(Code::Reference)),
+        }
+    }
+
+    #[tactic(auto, unfolding(crate::specs::Places::interleave))]
+    pub fn interleave(&mut self, draft: &Draft) -> Result<ArbiterNo, Stop>
+        ensures { Leaves self.new result (interleave draft.now self.old) }
+    {
+        let arbiter = self.arbiter(&draft.names)?;
+        if !draft.is_interleave(arbiter) {
+            return Err(Stop::Refused(Code::Reference));
+        }
+        Ok(arbiter)
+    }
+
+    /// A value in a text of this version.
+    #[tactic(auto, unfolding(crate::specs::Places::value))]
+    pub fn value(&mut self, alloc: Global, version: u32) -> Result<Value, Stop>
+        ensures { Leaves self.new result (value version self.old) }
+    {
+        let word = self.word()?;
+        value_in(alloc, version, word)
+    }
+
+    /// The two numbers behind part.
+    #[tactic(auto, unfolding(crate::specs::Places::part))]
+    fn part(&mut self) -> Result<Expr, Stop>
+        ensures { Leaves self.new result (part self.old) }
+    {
+        let message = self.number_within(0, MAX_ARG)?;
+        let place = self.number_within(0, MAX_PLACE)?;
+        Ok(Expr::Part(message, place))
+    }
+
+    /// A value, arg N, sum or count; in version 2 part N N too.
     #[tactic(auto, unfolding(crate::specs::Places::expr))]
-    pub fn expr(&mut self) -> Result<Expr, Stop>
-        ensures { Leaves self.new result (expr self.old) }
+    pub fn expr(&mut self, alloc: Global, version: u32) -> Result<Expr, Stop>
+        ensures { Leaves self.new result (expr version self.old) }
     {
         let name = self.word()?;
         if is_text(name, "sum") {
@@ -184,12 +228,11 @@ impl<'a> Cursor<'a> {
         } else if is_text(name, "count") {
             Ok(Expr::Count)
         } else if is_text(name, "arg") {
-            Ok(Expr::Arg(self.number_within(0, 65535)?))
+            Ok(Expr::Arg(self.number_within(0, MAX_ARG)?))
+        } else if is_text(name, "part") && version == 2 {
+            self.part()
         } else {
-            match read_number(name) {
-                Some(value) => Ok(Expr::Number(value)),
-                None => Err(Stop::Code(5)),
-            }
+            Ok(Expr::Number(value_in(alloc, version, name)?))
         }
     }
 }

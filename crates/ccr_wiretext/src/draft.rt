@@ -3,12 +3,13 @@
 ghost use Rattle.std.specs.Prelude.{◌≡◌, ◌<◌, None, OnOk, IfOk, length, [], ◌∷◌, ◌++◌};
 ghost use Rattle.ccr_wiring.specs.Spots.{branch_named};
 ghost use Rattle.ccr_wiretext.specs.Names.{named};
-ghost use Rattle.ccr_wiretext.specs.Drafts.{nothing, with_budget, with_queue, with_port, with_set, with_cause, with_receive, with_handler, with_arbiter, with_poster, with_action, with_branch, with_post, end_handler, end_arbiter, end_poster};
+ghost use Rattle.ccr_wiretext.specs.Drafts.{nothing, with_budget, with_queue, with_port, with_set, with_cause, with_receive, with_handler, with_arbiter, with_poster, with_domain, with_action, with_branch, with_post, end_handler, end_arbiter, end_poster};
 
 use crate::named::{Named, Names};
 use ccr_base::{Action, Handler, List, Name, OutOfMemory, PortNo, Sent};
 use ccr_wiring::{
-    ArbiterPart, BranchPart, CausePart, HandlerPart, Kind, Parts, PosterPart, QueuePart, SetPart,
+    ArbiterPart, BranchPart, CausePart, DomainPart, HandlerPart, Kind, MAX_BUDGET, Parts,
+    PosterPart, QueuePart, SetPart,
 };
 use std::alloc::Global;
 use std::marker::Model;
@@ -54,6 +55,17 @@ fn push<T: Drop>(list: &mut List<T>, item: T) -> Result<(), OutOfMemory>
     list.push(item).map_err(|(refused, _)| refused)
 }
 
+/// Adds a copy of the action.
+fn push_action(list: &mut List<Action>, action: &Action) -> Result<(), OutOfMemory>
+    ensures { OnOk result (list.new ≡ list.old ++ action.now ∷ []) }
+{
+    match *action {
+        Action::Post(port, value) => push(list, Action::Post(port, value)),
+        Action::Fail(value) => push(list, Action::Fail(value)),
+        other => push(list, other),
+    }
+}
+
 fn push_all(list: &mut List<PortNo>, items: &[PortNo]) -> Result<(), OutOfMemory>
     ensures { OnOk result (list.new ≡ list.old ++ items.now) }
 {
@@ -64,19 +76,22 @@ fn push_all(list: &mut List<PortNo>, items: &[PortNo]) -> Result<(), OutOfMemory
 }
 
 impl Draft {
-    pub fn new(alloc: Global) -> Self
-        ensures { result ≡ nothing }
+    /// Nothing, in a text of this version.
+    pub fn new(alloc: Global, version: u32) -> Self
+        ensures { result ≡ nothing version }
     {
         Draft {
             alloc,
             parts: Parts {
-                budget: 10000,
+                version,
+                budget: MAX_BUDGET,
                 queues: List::new(alloc),
                 ports: List::new(alloc),
                 sets: List::new(alloc),
                 causes: List::new(alloc),
                 handlers: List::new(alloc),
                 arbiters: List::new(alloc),
+                domains: List::new(alloc),
                 posters: List::new(alloc),
             },
             budgeted: false,
@@ -170,10 +185,12 @@ impl Draft {
     }
 
     pub fn begin_arbiter(&mut self, kind: Kind, name: &[u8]) -> Result<(), OutOfMemory>
-        requires { named self.old.names name.now ≡ None }
+        requires new { named self.old.names name.now ≡ None }
+        requires room { length self.old.parts.arbiters < 256 }
         ensures { OnOk result (self.new ≡ with_arbiter self.old kind name.now) }
     {
-        self.names.add(name, Named::Arbiter)?;
+        let number = self.parts.arbiters.as_slice().len() as u32;
+        self.names.add(name, Named::Arbiter(number))?;
         let name = copy_of(self.alloc, name)?;
         let branches = List::new(self.alloc);
         self.block = Block::Arbiter(ArbiterPart {
@@ -195,11 +212,17 @@ impl Draft {
         Ok(())
     }
 
-    /// An action more in the open handler.
-    pub fn add_action(&mut self, mut part: HandlerPart, action: Action) -> Result<(), OutOfMemory>
-        ensures { OnOk result (self.new ≡ with_action self.old part action) }
+    pub fn add_domain(&mut self, part: DomainPart) -> Result<(), OutOfMemory>
+        ensures { OnOk result (self.new ≡ with_domain self.old part) }
     {
-        push(&mut part.handler.actions, action)?;
+        push(&mut self.parts.domains, part)
+    }
+
+    /// An action more in the open handler.
+    pub fn add_action(&mut self, mut part: HandlerPart, action: &Action) -> Result<(), OutOfMemory>
+        ensures { OnOk result (self.new ≡ with_action self.old part action.now) }
+    {
+        push_action(&mut part.handler.actions, action)?;
         self.block = Block::Handler(part);
         Ok(())
     }

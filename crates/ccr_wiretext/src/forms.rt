@@ -5,19 +5,23 @@ ghost use Rattle.std.specs.List.{list_any};
 ghost use Rattle.ccr_wiring.specs.Spots.{times};
 ghost use Rattle.ccr_wiretext.specs.Names.{named};
 ghost use Rattle.ccr_wiretext.specs.Answers.{Gives, GivesBy};
-ghost use Rattle.ccr_wiretext.specs.Forms.{budget_form, queue_form, name_form, set_form, cause_form, crowds, branch_tail, receive_room, receive_form, branch_form, post_form, fail_form, caused_form, await_form, script_form, arbiter_end_form};
+ghost use Rattle.ccr_wiretext.specs.Forms.{budget_form, queue_form, name_form, set_form, cause_form, combine_form, crowds, branch_tail, receive_room, receive_form, branch_form, post_form, fail_form, caused_form, await_form, script_form, arbiter_end_form};
 
 use crate::cursor::Cursor;
 use crate::draft::{Draft, copy_of};
-use crate::stop::Stop;
-use ccr_base::{Action, CauseNo, Group, OutOfMemory, PortNo, Sent};
-use ccr_wiring::{ArbiterPart, BranchPart, CausePart, HandlerPart, PosterPart, QueuePart, SetPart};
+use crate::stop::{Code, Stop};
+use ccr_base::{Action, CauseNo, Expr, Group, OutOfMemory, PortNo, Sent};
+use ccr_wiring::{
+    ArbiterPart, BranchPart, CausePart, DomainPart, HandlerPart, MAX_ACTIONS, MAX_ARBITERS,
+    MAX_BRANCHES, MAX_BUDGET, MAX_CAUSES, MAX_DOMAINS, MAX_QUEUES, MAX_SCRIPT_POSTS, MAX_SETS,
+    MAX_SPOTS, PosterPart, QueuePart, SetPart,
+};
 
 /// Whether there is room for a branch behind those of the arbiters and those of an open block.
 fn has_branch_room(arbiters: &[ArbiterPart], begun: usize) -> bool
     ensures { result ≡ nat_lt (sum (map (λ arbiter. length arbiter.branches) arbiters.now) + begun) 256 }
 {
-    let mut left: usize = 256;
+    let mut left: usize = MAX_BRANCHES;
     for arbiter in arbiters {
         let count = arbiter.branches.as_slice().len();
         if count >= left {
@@ -39,7 +43,7 @@ fn has_receive_room(arbiters: &[ArbiterPart]) -> bool
 fn has_post_room(posters: &[PosterPart], begun: usize) -> bool
     ensures { result ≡ nat_lt (sum (map (λ poster. length poster.posts) posters.now) + begun) 10000 }
 {
-    let mut left: usize = 10_000;
+    let mut left: usize = MAX_SCRIPT_POSTS;
     for poster in posters {
         let count = poster.posts.as_slice().len();
         if count >= left {
@@ -61,7 +65,8 @@ fn is_crowded(port: PortNo, before: &[PortNo], new: &[PortNo]) -> bool
     ensures { result ≡ nat_lt 16 (times port (before.now ++ new.now)) }
 {
     let count = times(port, before);
-    count > 16 || times(port, new) > 16 - count
+    let most = MAX_SPOTS as usize;
+    count > most || times(port, new) > most - count
 }
 
 /// Whether one of the new ports stands more than 16 times in the two lists together.
@@ -78,9 +83,9 @@ impl Draft {
         ensures { Gives result (budget_form self.now words.entry) }
     {
         if self.budgeted {
-            return Err(Stop::Code(13));
+            return Err(Stop::Refused(Code::SecondBudget));
         }
-        let budget = words.number_within(0, 10_000)?;
+        let budget = words.number_within(0, MAX_BUDGET)?;
         words.no_more()?;
         Ok(budget)
     }
@@ -92,8 +97,8 @@ impl Draft {
         ensures new { IfOk result (λ part. named self.now.names part.name ≡ None) }
         ensures room { OnOk result (length self.now.parts.queues < 16) }
     {
-        if self.parts.queues.as_slice().len() >= 16 {
-            return Err(Stop::Code(10));
+        if self.parts.queues.as_slice().len() >= MAX_QUEUES {
+            return Err(Stop::Refused(Code::Limit));
         }
         let name = words.new_name(&self.names)?;
         let policy = words.policy()?;
@@ -115,7 +120,7 @@ impl Draft {
         ensures room { OnOk result (count < limit) }
     {
         if count >= limit {
-            return Err(Stop::Code(10));
+            return Err(Stop::Refused(Code::Limit));
         }
         let name = words.new_name(&self.names)?;
         words.no_more()?;
@@ -129,8 +134,8 @@ impl Draft {
         ensures new { IfOk result (λ part. named self.now.names part.name ≡ None) }
         ensures room { OnOk result (length self.now.parts.sets < 64) }
     {
-        if self.parts.sets.as_slice().len() >= 64 {
-            return Err(Stop::Code(10));
+        if self.parts.sets.as_slice().len() >= MAX_SETS {
+            return Err(Stop::Refused(Code::Limit));
         }
         let name = words.new_name(&self.names)?;
         let ports = words.members(self.alloc, self)?;
@@ -145,8 +150,8 @@ impl Draft {
         ensures new { IfOk result (λ part. named self.now.names part.name ≡ None) }
         ensures room { OnOk result (length self.now.parts.causes < 32) }
     {
-        if self.parts.causes.as_slice().len() >= 32 {
-            return Err(Stop::Code(10));
+        if self.parts.causes.as_slice().len() >= MAX_CAUSES {
+            return Err(Stop::Refused(Code::Limit));
         }
         let name = words.new_name(&self.names)?;
         let port = words.port(self)?;
@@ -186,9 +191,21 @@ impl Draft {
             pattern,
         };
         if self.crowds(&branch)? {
-            return Err(Stop::Code(12));
+            return Err(Stop::Refused(Code::Crowded));
         }
         Ok(branch)
+    }
+
+    /// combine INTERLEAVE INTERLEAVE ..
+    #[tactic(auto, unfolding(crate::specs::Forms::combine_form))]
+    pub fn combine_form(&self, mut words: Cursor<'_>) -> Result<DomainPart, Stop>
+        ensures { Gives result (combine_form self.now words.entry) }
+    {
+        if self.parts.domains.as_slice().len() >= MAX_DOMAINS {
+            return Err(Stop::Refused(Code::Limit));
+        }
+        let members = words.combined(self.alloc, self)?;
+        Ok(DomainPart { members })
     }
 
     /// A receive counts as an arbiter and as a branch.
@@ -196,11 +213,11 @@ impl Draft {
     fn receive_room(&self) -> Result<(), Stop>
         ensures { Gives result (receive_room self.now) }
     {
-        if self.parts.arbiters.as_slice().len() >= 256 {
-            return Err(Stop::Code(10));
+        if self.parts.arbiters.as_slice().len() >= MAX_ARBITERS {
+            return Err(Stop::Refused(Code::Limit));
         }
         if !has_receive_room(self.parts.arbiters.as_slice()) {
-            return Err(Stop::Code(10));
+            return Err(Stop::Refused(Code::Limit));
         }
         Ok(())
     }
@@ -230,7 +247,7 @@ impl Draft {
     {
         let begun = part.branches.as_slice().len();
         if !has_branch_room(self.parts.arbiters.as_slice(), begun) {
-            return Err(Stop::Code(10));
+            return Err(Stop::Refused(Code::Limit));
         }
         let name = words.new_name(&self.names)?;
         self.branch_tail(name, group, words)
@@ -241,13 +258,26 @@ impl Draft {
     pub fn post_form(&self, part: &HandlerPart, mut words: Cursor<'_>) -> Result<Action, Stop>
         ensures { Gives result (post_form self.now part.now words.entry) }
     {
-        if part.handler.actions.as_slice().len() >= 16 {
-            return Err(Stop::Code(10));
+        if part.handler.actions.as_slice().len() >= MAX_ACTIONS {
+            return Err(Stop::Refused(Code::Limit));
         }
         let port = words.port(self)?;
-        let value = words.expr()?;
+        let value = words.expr(self.alloc, self.parts.version)?;
         words.no_more()?;
         Ok(Action::Post(port, value))
+    }
+
+    /// fail EXPR.
+    #[tactic(auto, unfolding(crate::specs::Forms::fail_form))]
+    pub fn fail_form(&self, part: &HandlerPart, mut words: Cursor<'_>) -> Result<Expr, Stop>
+        ensures { Gives result (fail_form self.now part.now words.entry) }
+    {
+        if part.handler.actions.as_slice().len() >= MAX_ACTIONS {
+            return Err(Stop::Refused(Code::Limit));
+        }
+        let value = words.expr(self.alloc, self.parts.version)?;
+        words.no_more()?;
+        Ok(value)
     }
 
     /// add CAUSE and remove CAUSE.
@@ -255,8 +285,8 @@ impl Draft {
     pub fn caused_form(&self, part: &HandlerPart, mut words: Cursor<'_>) -> Result<CauseNo, Stop>
         ensures { Gives result (caused_form self.now part.now words.entry) }
     {
-        if part.handler.actions.as_slice().len() >= 16 {
-            return Err(Stop::Code(10));
+        if part.handler.actions.as_slice().len() >= MAX_ACTIONS {
+            return Err(Stop::Refused(Code::Limit));
         }
         let cause = words.cause(&self.names)?;
         words.no_more()?;
@@ -268,25 +298,25 @@ impl Draft {
     pub fn await_form(&self, part: &HandlerPart, mut words: Cursor<'_>) -> Result<Action, Stop>
         ensures { Gives result (await_form self.now part.now words.entry) }
     {
-        if part.handler.actions.as_slice().len() >= 16 {
-            return Err(Stop::Code(10));
+        if part.handler.actions.as_slice().len() >= MAX_ACTIONS {
+            return Err(Stop::Refused(Code::Limit));
         }
         let port = words.port(self)?;
         words.no_more()?;
         Ok(Action::Await(port))
     }
 
-    /// post PORT N CAUSE .., in a poster.
+    /// post PORT VALUE CAUSE .., in a poster.
     #[tactic(auto, unfolding(crate::specs::Forms::script_form))]
     pub fn script_form(&self, part: &PosterPart, mut words: Cursor<'_>) -> Result<Sent, Stop>
         ensures { Gives result (script_form self.now part.now words.entry) }
     {
         let begun = part.posts.as_slice().len();
         if !has_post_room(self.parts.posters.as_slice(), begun) {
-            return Err(Stop::Code(10));
+            return Err(Stop::Refused(Code::Limit));
         }
         let port = words.port(self)?;
-        let value = words.number()?;
+        let value = words.value(self.alloc, self.parts.version)?;
         let causes = words.causes(self.alloc, &self.names)?;
         Ok(Sent {
             port,
@@ -296,26 +326,13 @@ impl Draft {
     }
 }
 
-/// fail EXPR.
-#[tactic(auto, unfolding(crate::specs::Forms::fail_form))]
-pub fn fail_form(part: &HandlerPart, mut words: Cursor<'_>) -> Result<Action, Stop>
-    ensures { Gives result (fail_form part.now words.entry) }
-{
-    if part.handler.actions.as_slice().len() >= 16 {
-        return Err(Stop::Code(10));
-    }
-    let value = words.expr()?;
-    words.no_more()?;
-    Ok(Action::Fail(value))
-}
-
 /// end of a choice or Interleave.
 #[tactic(auto, unfolding(crate::specs::Forms::arbiter_end_form))]
 pub fn arbiter_end_form(part: &ArbiterPart, words: Cursor<'_>) -> Result<(), Stop>
     ensures { Gives result (arbiter_end_form part.now words.entry) }
 {
     if part.branches.as_slice().is_empty() {
-        return Err(Stop::Code(11));
+        return Err(Stop::Refused(Code::Branchless));
     }
     words.no_more()
 }

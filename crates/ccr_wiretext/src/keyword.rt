@@ -23,6 +23,7 @@ pub enum Keyword {
     Receive,
     Choice,
     Interleave,
+    Combine,
     Poster,
     Post,
     Fail,
@@ -90,6 +91,8 @@ pub fn keyword_of(word: &[u8]) -> Keyword
         Keyword::Choice
     } else if is_text(word, "interleave") {
         Keyword::Interleave
+    } else if is_text(word, "combine") {
+        Keyword::Combine
     } else if is_text(word, "poster") {
         Keyword::Poster
     } else {

@@ -15,7 +15,7 @@ pub enum Named {
     Set(u32),
     Cause(u32),
     Handler(u32),
-    Arbiter,
+    Arbiter(u32),
     Branch,
     Poster,
 }

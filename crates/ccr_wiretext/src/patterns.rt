@@ -1,7 +1,7 @@
-//! The places of a line that go on up to its end: patterns, the members of a set, the causes of a post.
+//! The places of a line that go on up to its end: patterns, the members of a set, combined Interleaves, the causes of a post.
 
 ghost use Rattle.std.specs.Prelude.{◌≡◌, ◌==◌, []};
-ghost use Rattle.ccr_wiretext.specs.Patterns.{pred, new_port, slot, slots, taken, gathered, pattern, members, all_members, causes};
+ghost use Rattle.ccr_wiretext.specs.Patterns.{pred, new_port, slot, slots, taken, gathered, pattern, members, all_members, new_member, further, combined, causes};
 ghost use Rattle.ccr_wiretext.specs.Answers.{Gives, Leaves};
 ghost use Rattle.std.specs.List.{list_any};
 
@@ -9,9 +9,10 @@ use crate::cursor::Cursor;
 use crate::draft::Draft;
 use crate::keyword::is_text;
 use crate::named::Names;
-use crate::references::has_port;
-use crate::stop::Stop;
-use ccr_base::{CauseNo, List, Pattern, PortNo, Pred, Slot};
+use crate::references::{has_port, is_combined};
+use crate::stop::{Code, Stop};
+use ccr_base::{ArbiterNo, CauseNo, List, Pattern, PortNo, Pred, Slot};
+use ccr_wiring::{MAX_COUNT, MAX_MEMBERS, MAX_SET_PORTS, MAX_SLOTS};
 use std::alloc::Global;
 
 /// Whether a slot has the port.
@@ -37,7 +38,7 @@ impl<'a> Cursor<'a> {
         } else if is_text(name, "ge") {
             Ok(Pred::Ge(self.number()?))
         } else {
-            Err(Stop::Code(3))
+            Err(Stop::Refused(Code::Keyword))
         }
     }
 
@@ -48,7 +49,7 @@ impl<'a> Cursor<'a> {
     {
         let port = self.port(draft)?;
         if has_port(found, port) {
-            return Err(Stop::Code(8));
+            return Err(Stop::Refused(Code::Repeat));
         }
         Ok(port)
     }
@@ -60,9 +61,9 @@ impl<'a> Cursor<'a> {
     {
         let port = self.port(draft)?;
         if has_slot(found, port) {
-            return Err(Stop::Code(8));
+            return Err(Stop::Refused(Code::Repeat));
         }
-        let count = self.number_within(1, 1000)?;
+        let count = self.number_within(1, MAX_COUNT)?;
         let pred = self.pred()?;
         Ok(Slot {
             port,
@@ -80,8 +81,8 @@ impl<'a> Cursor<'a> {
         let mut found = Vec::new(alloc);
         found.push(self.slot(draft, &[])?)?;
         'slots: while !self.is_empty() {
-            if found.len() == 8 {
-                return Err(Stop::Code(10));
+            if found.len() == MAX_SLOTS {
+                return Err(Stop::Refused(Code::Limit));
             }
             let next = self.slot(draft, &found)?;
             found.push(next)?;
@@ -94,7 +95,7 @@ impl<'a> Cursor<'a> {
     fn gathered(&mut self, draft: &Draft) -> Result<Pattern, Stop>
         ensures { Gives result (gathered draft.now self.old) }
     {
-        let total = self.number_within(1, 1000)?;
+        let total = self.number_within(1, MAX_COUNT)?;
         let first = self.port(draft)?;
         let second = self.new_port(draft, &[first])?;
         self.no_more()?;
@@ -116,7 +117,7 @@ impl<'a> Cursor<'a> {
         } else if is_text(name, "gather") {
             self.gathered(draft)
         } else {
-            Err(Stop::Code(3))
+            Err(Stop::Refused(Code::Keyword))
         }
     }
 
@@ -128,10 +129,40 @@ impl<'a> Cursor<'a> {
         let mut found = Vec::new(alloc);
         found.push(self.port(draft)?)?;
         'members: while !self.is_empty() {
-            if found.len() == 8 {
-                return Err(Stop::Code(10));
+            if found.len() == MAX_SET_PORTS {
+                return Err(Stop::Refused(Code::Limit));
             }
             let next = self.new_port(draft, &found)?;
+            found.push(next)?;
+        }
+        Ok(List::from_vec(found))
+    }
+
+    /// An Interleave that no line before combines, and that isn't among those found before it.
+    #[tactic(auto, unfolding(crate::specs::Patterns::new_member))]
+    fn new_member(&mut self, draft: &Draft, found: &[ArbiterNo]) -> Result<ArbiterNo, Stop>
+        ensures { Leaves self.new result (new_member draft.now found.now self.old) }
+    {
+        let arbiter = self.interleave(draft)?;
+        if is_combined(draft.parts.domains.as_slice(), arbiter) || has_port(found, arbiter) {
+            return Err(Stop::Refused(Code::Repeat));
+        }
+        Ok(arbiter)
+    }
+
+    /// 2 to 8 Interleaves, up to the end of the line.
+    #[tactic(auto, unfolding(crate::specs::Patterns::combined, crate::specs::Patterns::further))]
+    pub fn combined(&mut self, alloc: Global, draft: &Draft) -> Result<List<ArbiterNo>, Stop>
+        ensures { Gives result (combined draft.now self.old) }
+    {
+        let mut found = Vec::new(alloc);
+        found.push(self.new_member(draft, &[])?)?;
+        found.push(self.new_member(draft, &found)?)?;
+        'further: while !self.is_empty() {
+            if found.len() == MAX_MEMBERS {
+                return Err(Stop::Refused(Code::Limit));
+            }
+            let next = self.new_member(draft, &found)?;
             found.push(next)?;
         }
         Ok(List::from_vec(found))
@@ -146,7 +177,7 @@ impl<'a> Cursor<'a> {
         'causes: while !self.is_empty() {
             let next = self.cause(names)?;
             if has_port(&found, next) {
-                return Err(Stop::Code(8));
+                return Err(Stop::Refused(Code::Repeat));
             }
             found.push(next)?;
         }

@@ -4,20 +4,20 @@ ghost use Rattle.std.specs.Prelude.{◌≡◌, ◌≤◌, length, None, IfOk, If
 ghost use Rattle.ccr_wiring.specs.Valid.{IsValid};
 ghost use Rattle.ccr_wiretext.specs.Answers.{Gives, GivesState, IsReading, IsNoText, refused};
 ghost use Rattle.ccr_wiretext.specs.Lines.{IsText};
-ghost use Rattle.ccr_wiretext.specs.Reading.{is_comment, is_head, after_all, after_line, at_end, reading, reading_text};
+ghost use Rattle.ccr_wiretext.specs.Reading.{is_comment, version_word, version_of, after_all, after_line, at_end, reading, reading_text};
 
 use crate::cursor::Cursor;
 use crate::draft::{Block, Draft};
 use crate::keyword::{is_text, keyword_of};
 use crate::refused::ReadRefused;
-use crate::stop::Stop;
+use crate::stop::{Code, Stop};
 use ccr_base::Name;
 use ccr_text::{Line, split_lines};
 use ccr_wiring::{Parts, Unfit, Wiring};
 use std::alloc::Global;
 use std::marker::Model;
 
-/// What is declared so far: nothing before the line `ccr 1`.
+/// What is declared so far: nothing before the line that gives the version.
 #[derive(Drop)]
 struct Reader {
     alloc: Global,
@@ -41,10 +41,26 @@ fn is_comment_word(word: &[u8]) -> bool
     }
 }
 
-fn is_head_line(words: &[Name]) -> bool
-    ensures { result ≡ is_head words.now }
+fn version_word(word: &[u8]) -> Option<u32>
+    ensures { result ≡ version_word word.now }
 {
-    words.len() == 2 && is_text(words[0].as_slice(), "ccr") && is_text(words[1].as_slice(), "1")
+    if is_text(word, "1") {
+        Some(1)
+    } else if is_text(word, "2") {
+        Some(2)
+    } else {
+        None
+    }
+}
+
+/// The version of the line `ccr 1` or `ccr 2`.
+fn version_of(words: &[Name]) -> Option<u32>
+    ensures { result ≡ version_of words.now }
+{
+    match words {
+        [first, second] if is_text(first.as_slice(), "ccr") => version_word(second.as_slice()),
+        _ => None,
+    }
 }
 
 impl Reader {
@@ -67,10 +83,10 @@ impl Reader {
         match &mut self.draft {
             Some(draft) => draft.line(keyword_of(first.as_slice()), Cursor::new(others)),
             None => {
-                if !is_head_line(words) {
-                    return Err(Stop::Code(2));
-                }
-                self.draft = Some(Draft::new(self.alloc));
+                let Some(version) = version_of(words) else {
+                    return Err(Stop::Refused(Code::Version));
+                };
+                self.draft = Some(Draft::new(self.alloc, version));
                 Ok(())
             }
         }
@@ -82,7 +98,7 @@ impl Reader {
         ensures { GivesState self.new result (after_line self.old line.now) }
     {
         if !line.clean {
-            return Err(Stop::Code(1));
+            return Err(Stop::Refused(Code::Unclean));
         }
         self.words(line.words.as_slice())
     }
@@ -94,7 +110,7 @@ impl Reader {
     {
         let Reader { alloc: _, draft } = self;
         let Some(draft) = draft else {
-            return Err(Stop::Code(2));
+            return Err(Stop::Refused(Code::Version));
         };
         let Draft {
             alloc: _,
@@ -106,7 +122,7 @@ impl Reader {
         } = draft;
         match block {
             Block::Outside => Ok(parts),
-            _ => Err(Stop::Code(9)),
+            _ => Err(Stop::Refused(Code::OpenBlock)),
         }
     }
 }
@@ -116,7 +132,10 @@ fn refused(line: u32, stop: Stop) -> ReadRefused
 {
     match stop {
         Stop::Memory => ReadRefused::Memory,
-        Stop::Code(code) => ReadRefused::At { line, code },
+        Stop::Refused(code) => ReadRefused::At {
+            line,
+            code: code.number(),
+        },
     }
 }
 

@@ -1,9 +1,11 @@
 //! The ports that words mean, and the ports that a branch's spots name.
 
-ghost use Rattle.std.specs.Prelude.{◌≡◌, ◌<◌, ◌==◌, ◌++◌, IfOk, IfSome, OnOk, length};
+ghost use Rattle.std.specs.Prelude.{◌≡◌, ◌<◌, ◌==◌, ◌++◌, not, IfOk, IfSome, OnOk, length};
 ghost use Rattle.ccr_wiring.specs.Wirings.{actions_of, awaited};
 ghost use Rattle.ccr_wiring.specs.Spots.{pattern_ports, branch_named};
 ghost use Rattle.ccr_wiring.specs.Repeats.{has_port};
+ghost use Rattle.ccr_wiring.specs.References.{no_interleave};
+ghost use Rattle.ccr_wiretext.specs.Patterns.{is_combined};
 ghost use Rattle.ccr_wiretext.specs.Drafts.{members_of};
 ghost use Rattle.ccr_wiretext.specs.Places.{slash_place, set_port, port_of};
 ghost use Rattle.std.specs.Option.{option_and_then};
@@ -11,14 +13,23 @@ ghost use Rattle.ccr_wiretext.specs.Names.{named, as_port, as_set};
 
 use crate::draft::Draft;
 use crate::named::Named;
-use ccr_base::{Action, HandlerNo, OutOfMemory, Pattern, PortNo};
-use ccr_wiring::BranchPart;
+use ccr_base::{Action, ArbiterNo, HandlerNo, OutOfMemory, Pattern, PortNo};
+use ccr_wiring::{BranchPart, DomainPart, Kind};
 
 /// Whether the port is among the ports.
 pub fn has_port(ports: &[PortNo], port: PortNo) -> bool
     ensures { result ≡ has_port ports.now port }
 {
     ports.iter().any(|other| *other == port)
+}
+
+/// Whether a domain has the arbiter.
+pub fn is_combined(domains: &[DomainPart], arbiter: ArbiterNo) -> bool
+    ensures { result ≡ is_combined domains.now arbiter }
+{
+    domains
+        .iter()
+        .any(|domain| has_port(domain.members.as_slice(), arbiter))
 }
 
 /// The place of the first slash.
@@ -78,6 +89,15 @@ impl Draft {
         };
         let set = self.port_set(&name[..place])?;
         self.set_port(set, &name[place + 1..])
+    }
+
+    pub fn is_interleave(&self, arbiter: ArbiterNo) -> bool
+        ensures { result ≡ not (no_interleave self.now.parts arbiter) }
+    {
+        match self.parts.arbiters.as_slice().get(arbiter as usize) {
+            Some(part) => matches!(part.kind, Kind::Interleave),
+            None => false,
+        }
     }
 
     fn actions(&self, handler: HandlerNo) -> &[Action]

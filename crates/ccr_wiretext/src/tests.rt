@@ -1,9 +1,19 @@
+//! Rows of texts. A row is `LINE CODE TEXT`: the line and code with which the text is refused, 0 and 0 where it is read.
+//! `;` in a text stands for LF, and `COUNT|BEFORE|BEHIND|LAST` for so many times what stands before and behind a
+//! number, and the last line.
+
+ghost use Rattle.std.specs.Prelude.{◌≢◌, ◌<◌, [], length};
+
 use super::*;
+use ccr_base::OutOfMemory;
+use ccr_text::read_number;
+use std::alloc::Global;
 use std::test::*;
 
 mod canonical;
 mod limits;
 mod lines;
+mod newer;
 mod words;
 
 /// The line and code with which a text is refused, 0 and 0 where it is read.
@@ -21,24 +31,86 @@ fn refusal(rt: &HostRuntime, text: &[u8]) -> (u32, u8) {
 /// Seven lines that a text may begin with.
 const BASE: &str = "ccr 1\nqueue q unbounded\nhandler h\nend\nport a\nport b\ncause u a\n";
 
-/// The refusal of these lines behind the seven.
-fn refusal_behind(rt: &HostRuntime, lines: &str) -> (u32, u8) {
-    let mut text = Vec::new(rt.alloc());
-    if text.extend_from_slice(BASE.as_bytes()).is_err() {
-        return (0, 97);
+/// What stands before the first such byte, and what stands behind it.
+fn cut(bytes: &[u8], at: u8) -> (&[u8], &[u8])
+    ensures { bytes.now ≢ [] → length result.1.now < length bytes.now }
+{
+    for (place, byte) in bytes.iter().enumerate() {
+        if *byte == at {
+            return (&bytes[..place], &bytes[place + 1..]);
+        }
     }
-    if text.extend_from_slice(lines.as_bytes()).is_err() {
-        return (0, 97);
-    }
-    refusal(rt, &text)
+    (bytes, &[])
 }
 
-/// Each text is refused at that line with that code.
-fn are_refused(rt: &HostRuntime, rows: &[(&str, u32, u8)]) -> bool {
-    rows.iter().all(|(text, line, code)| refusal(rt, text.as_bytes()) == (*line, *code))
+/// Adds the bytes, with LF for each `;`.
+fn add(text: &mut Vec<u8>, bytes: &[u8]) -> Result<(), OutOfMemory> {
+    for byte in bytes {
+        text.push(if *byte == b';' { b'\n' } else { *byte })?;
+    }
+    Ok(())
 }
 
-/// The same of lines behind the seven.
-fn are_refused_behind(rt: &HostRuntime, rows: &[(&str, u32, u8)]) -> bool {
-    rows.iter().all(|(lines, line, code)| refusal_behind(rt, lines) == (*line, *code))
+/// Adds so many times what stands before and behind a number, from 0 on.
+fn add_repeated(
+    text: &mut Vec<u8>,
+    alloc: Global,
+    count: u64,
+    before: &[u8],
+    behind: &[u8],
+) -> Result<(), OutOfMemory> {
+    for number in 0..count {
+        let digits = number.to_string(alloc)?;
+        add(text, before)?;
+        text.extend_from_slice(digits.as_bytes())?;
+        add(text, behind)?;
+    }
+    Ok(())
+}
+
+/// The text of a row, behind what a text begins with.
+fn text_of(alloc: Global, base: &str, lines: &[u8]) -> Result<Vec<u8>, OutOfMemory> {
+    let mut text = Vec::new(alloc);
+    add(&mut text, base.as_bytes())?;
+    let (count, rest) = cut(lines, b'|');
+    if rest.is_empty() {
+        add(&mut text, lines)?;
+        return Ok(text);
+    }
+    let (before, rest) = cut(rest, b'|');
+    let (behind, last) = cut(rest, b'|');
+    add_repeated(
+        &mut text,
+        alloc,
+        read_number(count).unwrap_or(0),
+        before,
+        behind,
+    )?;
+    add(&mut text, last)?;
+    Ok(text)
+}
+
+fn is_right(rt: &HostRuntime, base: &str, row: &[u8]) -> bool {
+    let (line, rest) = cut(row, b' ');
+    let (code, lines) = cut(rest, b' ');
+    let Ok(text) = text_of(rt.alloc(), base, lines) else {
+        return false;
+    };
+    let (at, with) = refusal(rt, &text);
+    read_number(line) == Some(u64::from(at)) && read_number(code) == Some(u64::from(with))
+}
+
+/// The number of the first row that isn't right, from 1 on; 0 where all are.
+fn first_wrong(rt: &HostRuntime, base: &str, rows: &str) -> u32 {
+    let mut rest = rows.as_bytes();
+    let mut number: u32 = 0;
+    'rows: while !rest.is_empty() {
+        let (row, after) = cut(rest, b'\n');
+        number = number.saturating_add(1);
+        if !is_right(rt, base, row) {
+            return number;
+        }
+        rest = after;
+    }
+    0
 }

@@ -1,16 +1,16 @@
 //! The words of the canonical lines.
 
 ghost use Rattle.std.specs.Prelude.{◌≡◌, [], ◌∷◌, ◌++◌, OnOk, IfOk, map, flat_map, decimal};
-ghost use Rattle.ccr_wiretext.specs.Spelling.{port_name, queue_name, cause_name, handler_name, budget_words, policy_words, queue_words, port_words, set_words, cause_words, expr_words, action_words, end_words, pred_words, slot_words, pattern_words, group_words, branch_words, post_words};
+ghost use Rattle.ccr_wiretext.specs.Spelling.{port_name, queue_name, cause_name, handler_name, arbiter_name, version_words, combine_words, value_word, budget_words, policy_words, queue_words, port_words, set_words, cause_words, expr_words, action_words, end_words, pred_words, slot_words, pattern_words, group_words, branch_words, post_words};
 ghost use Rattle.std.specs.List.{All};
-ghost use Rattle.ccr_wiretext.specs.Values.{IsValue, IsExprValued, IsActionValued, IsPredValued, IsPatternValued};
+ghost use Rattle.ccr_wiretext.specs.Values.{IsNumeral, IsValue, IsExprValued, IsActionValued, IsPredValued, IsPatternValued};
 
 use crate::draft::copy_of;
 use ccr_base::{
-    Action, CauseNo, Expr, Group, HandlerNo, List, Name, OutOfMemory, Pattern, Policy, PortNo,
-    Pred, QueueNo, Sent, Slot,
+    Action, ArbiterNo, CauseNo, Expr, Group, HandlerNo, List, Name, OutOfMemory, Pattern, Policy,
+    PortNo, Pred, QueueNo, Sent, Slot, Value,
 };
-use ccr_wiring::{BranchPart, CausePart, Parts, QueuePart, SetPart};
+use ccr_wiring::{BranchPart, CausePart, DomainPart, Parts, QueuePart, SetPart};
 use std::alloc::Global;
 use std::marker::Model;
 
@@ -49,6 +49,66 @@ pub fn handler_name(parts: &Parts, handler: HandlerNo) -> &[u8]
         Some(part) => part.name.as_slice(),
         None => &[],
     }
+}
+
+fn arbiter_name(parts: &Parts, arbiter: ArbiterNo) -> &[u8]
+    ensures { result.now ≡ arbiter_name parts.now arbiter }
+{
+    match parts.arbiters.as_slice().get(arbiter as usize) {
+        Some(part) => part.name.as_slice(),
+        None => &[],
+    }
+}
+
+/// Adds the digits of a number.
+fn put_digits(alloc: Global, out: &mut Vec<u8>, number: u64) -> Result<(), OutOfMemory>
+    ensures text { OnOk result (out.new.items ≡ out.old.items ++ decimal number) }
+    ensures valued { OnOk result (IsNumeral number) }
+{
+    let digits = number.to_string(alloc)?;
+    out.extend_from_slice(digits.as_bytes())?;
+    Ok(())
+}
+
+/// Adds a comma and the digits of a number, for each.
+fn put_further(alloc: Global, out: &mut Vec<u8>, numbers: &[u64]) -> Result<(), OutOfMemory>
+    ensures text { OnOk result (out.new.items ≡ out.old.items ++ flat_map (λ number. 44 ∷ decimal number) numbers.now) }
+    ensures valued { OnOk result (All IsNumeral numbers.now) }
+{
+    for number in numbers {
+        out.push(b',')?;
+        put_digits(alloc, out, *number)?;
+    }
+    Ok(())
+}
+
+/// Adds the digits of numbers, with commas between them.
+#[tactic(auto, using(crate::proofs::Commas::value_put, crate::proofs::Commas::numerals_more))]
+fn put_numbers(
+    alloc: Global,
+    out: &mut Vec<u8>,
+    first: u64,
+    others: &[u64],
+) -> Result<(), OutOfMemory>
+    ensures text { OnOk result (out.new.items ≡ out.old.items ++ value_word (first ∷ others.now)) }
+    ensures valued { OnOk result (All IsNumeral (first ∷ others.now)) }
+{
+    put_digits(alloc, out, first)?;
+    put_further(alloc, out, others)
+}
+
+/// The digits of a value's numbers, with commas between them.
+#[tactic(auto, unfolding(crate::specs::Values::IsValue))]
+fn value_word(alloc: Global, value: &Value) -> Result<Vec<u8>, OutOfMemory>
+    ensures word { IfOk result (λ word. word.items ≡ value_word value.now) }
+    ensures valued { OnOk result (IsValue value.now) }
+{
+    let Some((first, others)) = value.numbers().split_first() else {
+        unreachable!()
+    };
+    let mut word = Vec::new(alloc);
+    put_numbers(alloc, &mut word, *first, others)?;
+    Ok(word)
 }
 
 /// The words of a line that is written, from the first on.
@@ -98,7 +158,7 @@ impl LineWords {
 
     fn number(&mut self, number: u64) -> Result<(), OutOfMemory>
         ensures words { OnOk result (self.new ≡ self.old ++ decimal number ∷ []) }
-        ensures valued { OnOk result (IsValue number) }
+        ensures valued { OnOk result (IsNumeral number) }
     {
         let digits = number.to_string(self.alloc)?;
         self.word(digits.as_bytes())
@@ -106,10 +166,18 @@ impl LineWords {
 
     fn keyed(&mut self, word: &str, number: u64) -> Result<(), OutOfMemory>
         ensures words { OnOk result (self.new ≡ self.old ++ word.now ∷ decimal number ∷ []) }
-        ensures valued { OnOk result (IsValue number) }
+        ensures valued { OnOk result (IsNumeral number) }
     {
         self.text(word)?;
         self.number(number)
+    }
+
+    fn value(&mut self, value: &Value) -> Result<(), OutOfMemory>
+        ensures words { OnOk result (self.new ≡ self.old ++ value_word value.now ∷ []) }
+        ensures valued { OnOk result (IsValue value.now) }
+    {
+        let word = value_word(self.alloc, value)?;
+        self.word(&word)
     }
 
     fn policy(&mut self, policy: Policy) -> Result<(), OutOfMemory>
@@ -127,7 +195,11 @@ impl LineWords {
         ensures valued { OnOk result (IsExprValued expr) }
     {
         match expr {
-            Expr::Number(value) => self.number(value),
+            Expr::Number(value) => self.value(&value),
+            Expr::Part(message, place) => {
+                self.keyed("part", u64::from(message))?;
+                self.number(u64::from(place))
+            }
             Expr::Arg(place) => self.keyed("arg", u64::from(place)),
             Expr::Sum => self.text("sum"),
             Expr::Count => self.text("count"),
@@ -151,6 +223,15 @@ impl LineWords {
     {
         for port in ports {
             self.word(port_name(parts, *port))?;
+        }
+        Ok(())
+    }
+
+    fn arbiters(&mut self, parts: &Parts, arbiters: &[ArbiterNo]) -> Result<(), OutOfMemory>
+        ensures { OnOk result (self.new ≡ self.old ++ map (arbiter_name parts.now) arbiters.now) }
+    {
+        for arbiter in arbiters {
+            self.word(arbiter_name(parts, *arbiter))?;
         }
         Ok(())
     }
@@ -231,6 +312,18 @@ impl LineWords {
         self.word(name)
     }
 
+    /// The line that gives the version.
+    pub fn version(&mut self, version: u32) -> Result<(), OutOfMemory>
+        ensures { OnOk result (self.new ≡ self.old ++ version_words version) }
+    {
+        self.text("ccr")?;
+        if version == 2 {
+            self.text("2")
+        } else {
+            self.text("1")
+        }
+    }
+
     pub fn budget(&mut self, budget: u32) -> Result<(), OutOfMemory>
         ensures { OnOk result (self.new ≡ self.old ++ budget_words budget) }
     {
@@ -258,11 +351,18 @@ impl LineWords {
         self.word(port_name(parts, part.port))
     }
 
-    pub fn action(&mut self, parts: &Parts, action: Action) -> Result<(), OutOfMemory>
-        ensures words { OnOk result (self.new ≡ self.old ++ action_words parts.now action) }
-        ensures valued { OnOk result (IsActionValued action) }
+    pub fn domain(&mut self, parts: &Parts, part: &DomainPart) -> Result<(), OutOfMemory>
+        ensures { OnOk result (self.new ≡ self.old ++ combine_words parts.now part.now) }
     {
-        match action {
+        self.text("combine")?;
+        self.arbiters(parts, part.members.as_slice())
+    }
+
+    pub fn action(&mut self, parts: &Parts, action: &Action) -> Result<(), OutOfMemory>
+        ensures words { OnOk result (self.new ≡ self.old ++ action_words parts.now action.now) }
+        ensures valued { OnOk result (IsActionValued action.now) }
+    {
+        match *action {
             Action::Post(port, value) => {
                 self.named("post", port_name(parts, port))?;
                 self.expr(value)
@@ -292,7 +392,7 @@ impl LineWords {
         ensures valued { OnOk result (IsValue post.now.value) }
     {
         self.named("post", port_name(parts, post.port))?;
-        self.number(post.value)?;
+        self.value(&post.value)?;
         self.causes(parts, post.causes.as_slice())
     }
 

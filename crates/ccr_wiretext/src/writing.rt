@@ -1,18 +1,18 @@
 //! The canonical text, line by line.
 
-ghost use Rattle.std.specs.Prelude.{◌≡◌, ◌++◌, [], ◌∷◌, OnOk, IfOk, map, flat_map, codes};
+ghost use Rattle.std.specs.Prelude.{◌≡◌, ◌++◌, [], ◌∷◌, OnOk, IfOk, map, flat_map};
 ghost use Rattle.ccr_text.specs.Spelling.{line_text, text_of};
 ghost use Rattle.std.specs.List.{All};
 ghost use Rattle.ccr_wiretext.specs.Reading.{reading_text};
 ghost use Rattle.ccr_wiretext.specs.Values.{IsValue, IsActionValued, IsHandlerValued, IsPatternValued, IsArbiterValued, IsPosterValued, IsValued};
-ghost use Rattle.ccr_wiretext.specs.Spelling.{budget_words, queue_words, port_words, set_words, cause_words, action_words, end_words, handler_lines, branch_words, block_lines, arbiter_lines, post_words, poster_lines, queue_lines, port_lines, acting_lines, canonical_lines, spelling};
+ghost use Rattle.ccr_wiretext.specs.Spelling.{version_words, budget_words, queue_words, port_words, set_words, cause_words, action_words, end_words, handler_lines, branch_words, combine_words, block_lines, arbiter_lines, post_words, poster_lines, queue_lines, port_lines, acting_lines, canonical_lines, spelling};
 
 use crate::laws::what_is_written_is_read;
 use crate::words::LineWords;
 use ccr_base::{Action, List, Name, OutOfMemory, Sent};
 use ccr_wiring::{
-    ArbiterPart, BranchPart, CausePart, HandlerPart, Kind, Parts, PosterPart, QueuePart, SetPart,
-    Wiring,
+    ArbiterPart, BranchPart, CausePart, DomainPart, HandlerPart, Kind, Parts, PosterPart,
+    QueuePart, SetPart, Wiring,
 };
 use std::alloc::Global;
 
@@ -140,7 +140,7 @@ fn put_actions(
 {
     for action in actions {
         let mut line = LineWords::new(alloc);
-        line.action(parts, *action)?;
+        line.action(parts, action)?;
         put_line(out, line.as_slice())?;
     }
     Ok(())
@@ -239,6 +239,22 @@ fn put_arbiters(
     Ok(())
 }
 
+fn put_domains(
+    alloc: Global,
+    out: &mut Text,
+    parts: &Parts,
+    domains: &[DomainPart],
+) -> Result<(), OutOfMemory>
+    ensures { OnOk result (out.new.items ≡ out.old.items ++ text_of (map (combine_words parts.now) domains.now)) }
+{
+    for part in domains {
+        let mut line = LineWords::new(alloc);
+        line.domain(parts, part)?;
+        put_line(out, line.as_slice())?;
+    }
+    Ok(())
+}
+
 fn put_posts(
     alloc: Global,
     out: &mut Text,
@@ -285,19 +301,20 @@ fn put_posters(
     Ok(())
 }
 
-fn put_head(out: &mut Text) -> Result<(), OutOfMemory>
-    ensures { OnOk result (out.new.items ≡ out.old.items ++ line_text (codes "ccr" ∷ codes "1" ∷ [])) }
+fn put_version(alloc: Global, out: &mut Text, version: u32) -> Result<(), OutOfMemory>
+    ensures { OnOk result (out.new.items ≡ out.old.items ++ line_text (version_words version)) }
 {
-    out.extend_from_slice(b"ccr 1\n")?;
-    Ok(())
+    let mut line = LineWords::new(alloc);
+    line.version(version)?;
+    put_line(out, line.as_slice())
 }
 
-/// The head, the budget and the queues.
+/// The version, the budget and the queues.
 #[tactic(auto, unfolding(crate::specs::Spelling::queue_lines))]
 fn put_queue_lines(alloc: Global, out: &mut Text, parts: &Parts) -> Result<(), OutOfMemory>
     ensures { OnOk result (out.new.items ≡ out.old.items ++ text_of (queue_lines parts.now)) }
 {
-    put_head(out)?;
+    put_version(alloc, out, parts.version)?;
     put_budget(alloc, out, parts.budget)?;
     put_queues(alloc, out, parts.queues.as_slice())
 }
@@ -312,7 +329,7 @@ fn put_port_lines(alloc: Global, out: &mut Text, parts: &Parts) -> Result<(), Ou
     put_causes(alloc, out, parts, parts.causes.as_slice())
 }
 
-/// The handlers, the arbiters and the posters.
+/// The handlers, the arbiters, the combined Interleaves and the posters.
 #[tactic(auto, unfolding(crate::specs::Spelling::acting_lines))]
 fn put_acting_lines(alloc: Global, out: &mut Text, parts: &Parts) -> Result<(), OutOfMemory>
     ensures text { OnOk result (out.new.items ≡ out.old.items ++ text_of (acting_lines parts.now)) }
@@ -320,6 +337,7 @@ fn put_acting_lines(alloc: Global, out: &mut Text, parts: &Parts) -> Result<(), 
 {
     put_handlers(alloc, out, parts, parts.handlers.as_slice())?;
     put_arbiters(alloc, out, parts, parts.arbiters.as_slice())?;
+    put_domains(alloc, out, parts, parts.domains.as_slice())?;
     put_posters(alloc, out, parts, parts.posters.as_slice())
 }
 

@@ -1,11 +1,10 @@
 -- The canonical lines of all arbiters.
-use Rattle.std.proofs.Common.{◌≡◌, ℕ, ◌+◌, ◌<◌, ◌≤◌, true, false, List, [], ◌∷◌, ◌++◌, length, map, inl, inr, refl, sym, ap, subst, ◌∙◌, arith, append_assoc, append-nil}
+use Rattle.std.proofs.Common.{◌≡◌, ℕ, ◌+◌, ◌<◌, ◌≤◌, true, false, List, [], ◌∷◌, ◌++◌, length, map, inl, inr, refl, sym, ap, subst, ◌∙◌, arith, append_assoc, append-nil, add-zero, zero-add}
 use Rattle.std.specs.Prelude.{◌==◌, sum, flat_map}
 use Rattle.std.specs.List.{All}
 use Rattle.std.specs.Str.{bytes_eq}
 use Rattle.std.proofs.lemmas.Bool.Decides.{nat_tests}
 use Rattle.std.proofs.lemmas.List.{flat_map_more}
-use Rattle.std.proofs.lemmas.List.Concat.{flat_map-append}
 use Rattle.ccr_wiring.specs.declared.parts.Parts.{Parts}
 use Rattle.ccr_wiring.specs.declared.parts.BranchPart.{BranchPart}
 use Rattle.ccr_wiring.specs.declared.parts.ArbiterPart.{ArbiterPart}
@@ -29,8 +28,25 @@ use Rattle.ccr_wiretext.proofs.Round.Shapes.{KnowsAll}
 use Rattle.ccr_wiretext.proofs.Round.Firing.{branch_entries, arbiter_entries, next_fine, knows_more, choice_open, interleave_open, block_leads, receive_step}
 
 -- the names that arbiters declare
-abbrev pub firing_entries : List ArbiterPart → Naming
-firing_entries parts = flat_map arbiter_entries parts
+abbrev pub firing_entries : ℕ → List ArbiterPart → Naming
+firing_entries number [] = []
+firing_entries number (part ∷ parts) = arbiter_entries number part ++ firing_entries (number + 1) parts
+
+firing_append : (number : ℕ) (xs ys : List ArbiterPart) → firing_entries number (xs ++ ys) ≡ firing_entries number xs ++ firing_entries (number + length xs) ys
+firing_append number [] ys = rw (add-zero number) refl
+firing_append number (part ∷ xs) ys =
+    let counted : number + length (part ∷ xs) ≡ number + 1 + length xs = omega arith in
+    rw (counted, firing_append (number + 1) xs ys) (sym (append_assoc (arbiter_entries number part) (firing_entries (number + 1) xs) (firing_entries (number + 1 + length xs) ys)))
+
+-- behind some arbiters
+firing_behind : (done rest : List ArbiterPart) → firing_entries 0 (done ++ rest) ≡ firing_entries 0 done ++ firing_entries (length done) rest
+firing_behind done rest = firing_append 0 done rest ∙ ap (λ n. firing_entries 0 done ++ firing_entries n rest) (zero-add (length done))
+
+-- one arbiter more
+firing_more : (front : Naming) (done : List ArbiterPart) (part : ArbiterPart) → (front ++ firing_entries 0 done) ++ arbiter_entries (length done) part ≡ front ++ firing_entries 0 (done ++ part ∷ [])
+firing_more front done part =
+    append_assoc front (firing_entries 0 done) (arbiter_entries (length done) part)
+    ∙ ap (λ (v : Naming). front ++ v) (ap (λ (v : Naming). firing_entries 0 done ++ v) (sym (append-nil (arbiter_entries (length done) part))) ∙ sym (firing_behind done (part ∷ [])))
 
 -- the ports that an arbiter's spots name
 abbrev arbiter_named : Parts → ArbiterPart → List ℕ
@@ -38,12 +54,12 @@ arbiter_named parts part = branches_named parts part.branches
 
 -- an arbiter more
 abbrev after : Parts → Naming → List ℕ → ArbiterPart → Declared
-after parts names spotted part = outside (record parts { arbiters = parts.arbiters ++ part ∷ [] }) (names ++ arbiter_entries part) (spotted ++ arbiter_named parts part)
+after parts names spotted part = outside (record parts { arbiters = parts.arbiters ++ part ∷ [] }) (names ++ arbiter_entries (length parts.arbiters) part) (spotted ++ arbiter_named parts part)
 
 -- what is needed of an arbiter that comes next
 record IsReady (whole parts : Parts) (names : Naming) (spotted : List ℕ) (part : ArbiterPart) : Type 0 where
   knows : KnowsAll whole names
-  good : Good (names_of (names ++ arbiter_entries part))
+  good : Good (names_of (names ++ arbiter_entries (length parts.arbiters) part))
   fit : ArbiterFit (length whole.queues) (length whole.handlers) (length whole.ports) part
   valued : IsArbiterValued part
   fine : Uncrowded (spotted ++ arbiter_named parts part)
@@ -90,35 +106,36 @@ arbiter_leads again whole parts names spotted name arbiters.Receive branches rea
     receive_leads again whole parts names spotted name branches (receive_one (as_receive name branches) refl ready.fit.1) ready
 arbiter_leads again whole parts names spotted name arbiters.Choice branches ready =
     let part : ArbiterPart = record { name = name; kind = arbiters.Choice; branches = branches } in
-    let new = is_new names name kinds.Arbiter (branch_entries branches) ready.good in
+    let new = is_new names name (kinds.Arbiter (length parts.arbiters)) (branch_entries branches) ready.good in
     block_leads again whole parts names spotted _ part ready.knows (choice_open parts names spotted name new ready.room) ready.good ready.fit refl ready.valued ready.fine ready.branch_room (block_some part refl ready.fit.1)
 arbiter_leads again whole parts names spotted name arbiters.Interleave branches ready =
     let part : ArbiterPart = record { name = name; kind = arbiters.Interleave; branches = branches } in
-    let new = is_new names name kinds.Arbiter (branch_entries branches) ready.good in
+    let new = is_new names name (kinds.Arbiter (length parts.arbiters)) (branch_entries branches) ready.good in
     block_leads again whole parts names spotted _ part ready.knows (interleave_open parts names spotted name new ready.room) ready.good ready.fit refl ready.valued ready.fine ready.branch_room (block_some part refl ready.fit.1)
 
 -- the names up to the next arbiter, and its own, are good
-next_good : (front : Naming) (done : List ArbiterPart) (part : ArbiterPart) (rest all : List ArbiterPart) → done ++ part ∷ rest ≡ all → Good (names_of (front ++ firing_entries all)) → Good (names_of ((front ++ firing_entries done) ++ arbiter_entries part))
+next_good : (front : Naming) (done : List ArbiterPart) (part : ArbiterPart) (rest all : List ArbiterPart) → done ++ part ∷ rest ≡ all → Good (names_of (front ++ firing_entries 0 all)) → Good (names_of ((front ++ firing_entries 0 done) ++ arbiter_entries (length done) part))
 next_good front done part rest all e good =
-    let here : Naming = (front ++ firing_entries done) ++ arbiter_entries part in
-    let split : front ++ firing_entries all ≡ here ++ firing_entries rest =
-    ap (λ xs. front ++ firing_entries xs) (sym e) ∙ ap (λ (v : Naming). front ++ v) (flat_map-append arbiter_entries done (part ∷ rest))
-    ∙ sym (append_assoc front (firing_entries done) (arbiter_entries part ++ firing_entries rest)) ∙ sym (append_assoc (front ++ firing_entries done) (arbiter_entries part) (firing_entries rest)) in
-    good_front (names_of here) (names_of (firing_entries rest)) (subst Good (names_append here (firing_entries rest)) (subst (λ (v : Naming). Good (names_of v)) split good))
+    let here : Naming = (front ++ firing_entries 0 done) ++ arbiter_entries (length done) part in
+    let behind : Naming = firing_entries (length done + 1) rest in
+    let split : front ++ firing_entries 0 all ≡ here ++ behind =
+    ap (λ xs. front ++ firing_entries 0 xs) (sym e) ∙ ap (λ (v : Naming). front ++ v) (firing_behind done (part ∷ rest))
+    ∙ sym (append_assoc front (firing_entries 0 done) (arbiter_entries (length done) part ++ behind)) ∙ sym (append_assoc (front ++ firing_entries 0 done) (arbiter_entries (length done) part) behind) in
+    good_front (names_of here) (names_of behind) (subst Good (names_append here behind) (subst (λ (v : Naming). Good (names_of v)) split good))
 
 pub arbiters_lead : Again → (whole parts : Parts) (front : Naming) (all : List ArbiterPart) → KnowsAll whole front → Each (ArbiterFit (length whole.queues) (length whole.handlers) (length whole.ports)) all → All IsArbiterValued all
-    → Good (names_of (front ++ firing_entries all)) → Uncrowded ([] ++ arbiters_named parts all) → length all ≤ 256 → sum (map (λ (arbiter : ArbiterPart). length arbiter.branches) all) ≤ 256
-    → Leads (outside (record parts { arbiters = [] }) front []) (flat_map (arbiter_lines whole) all) (outside (record parts { arbiters = all }) (front ++ firing_entries all) ([] ++ arbiters_named parts all))
+    → Good (names_of (front ++ firing_entries 0 all)) → Uncrowded ([] ++ arbiters_named parts all) → length all ≤ 256 → sum (map (λ (arbiter : ArbiterPart). length arbiter.branches) all) ≤ 256
+    → Leads (outside (record parts { arbiters = [] }) front []) (flat_map (arbiter_lines whole) all) (outside (record parts { arbiters = all }) (front ++ firing_entries 0 all) ([] ++ arbiters_named parts all))
 arbiters_lead again whole parts front all knows fit valued good fine room branch_room =
     leads_from (outside (record parts { arbiters = [] }) (front ++ []) []) _ _ _ (ap (λ n. outside (record parts { arbiters = [] }) n []) (append-nil front))
-    (walk (arbiter_lines whole) (λ done. outside (record parts { arbiters = done }) (front ++ firing_entries done) ([] ++ arbiters_named parts done)) all
+    (walk (arbiter_lines whole) (λ done. outside (record parts { arbiters = done }) (front ++ firing_entries 0 done) ([] ++ arbiters_named parts done)) all
     (λ done part rest e.
     let before : Parts = record parts { arbiters = done } in
-    let names : Naming = front ++ firing_entries done in
+    let names : Naming = front ++ firing_entries 0 done in
     let spotted : List ℕ = [] ++ arbiters_named parts done in
     leads_to (outside before names spotted) (after before names spotted part) _ (arbiter_lines whole part)
     (arbiter_leads again whole before names spotted part.name part.kind part.branches (record {
-      knows = knows_more whole front (firing_entries done) knows;
+      knows = knows_more whole front (firing_entries 0 done) knows;
       good = next_good front done part rest all e good;
       fit = each_at (ArbiterFit (length whole.queues) (length whole.handlers) (length whole.ports)) done part rest all e fit;
       valued = all_at IsArbiterValued done part rest all e valued;
@@ -126,5 +143,5 @@ arbiters_lead again whole parts front all knows fit valued good fine room branch
       room = room_before 256 done part rest all e room;
       branch_room = room_for (λ (arbiter : ArbiterPart). length arbiter.branches) 256 done part rest all e branch_room;
     }))
-    (ap (λ n. outside (record parts { arbiters = done ++ part ∷ [] }) n (spotted ++ arbiter_named parts part)) (flat_map_more arbiter_entries front done part)
-    ∙ ap (λ s. outside (record parts { arbiters = done ++ part ∷ [] }) (front ++ firing_entries (done ++ part ∷ [])) s) (flat_map_more (arbiter_named parts) [] done part))))
+    (ap (λ n. outside (record parts { arbiters = done ++ part ∷ [] }) n (spotted ++ arbiter_named parts part)) (firing_more front done part)
+    ∙ ap (λ s. outside (record parts { arbiters = done ++ part ∷ [] }) (front ++ firing_entries 0 (done ++ part ∷ [])) s) (flat_map_more (arbiter_named parts) [] done part))))

@@ -40,12 +40,12 @@ use Rattle.ccr_wiretext.proofs.Round.Shapes.{KnowsAll, tail_words, tail_says, ta
 abbrev pub branch_entries : List BranchPart → Naming
 branch_entries branches = entries (λ (branch : BranchPart). branch.name) (λ n. kinds.Branch) 0 branches
 
--- the names that an arbiter declares
-abbrev pub arbiter_entries : ArbiterPart → Naming
-arbiter_entries part = elim part.kind [
+-- the names that an arbiter of this number declares
+abbrev pub arbiter_entries : ℕ → ArbiterPart → Naming
+arbiter_entries number part = elim part.kind [
   | arbiters.Receive ↦ (part.name, kinds.Branch) ∷ []
-  | arbiters.Choice ↦ (part.name, kinds.Arbiter) ∷ [] ++ branch_entries part.branches
-  | arbiters.Interleave ↦ (part.name, kinds.Arbiter) ∷ [] ++ branch_entries part.branches
+  | arbiters.Choice ↦ (part.name, kinds.Arbiter number) ∷ [] ++ branch_entries part.branches
+  | arbiters.Interleave ↦ (part.name, kinds.Arbiter number) ∷ [] ++ branch_entries part.branches
 ]
 
 -- ---- no port is crowded up to here
@@ -202,12 +202,12 @@ interleave_open parts names spotted name new room = record {
 -- a block whose first line opens it
 pub block_leads : Again → (whole parts : Parts) (names : Naming) (spotted : List ℕ) (first : List ℕ) (part : ArbiterPart) → KnowsAll whole names
     → IsStep (outside parts names spotted) (first ∷ part.name ∷ []) (with_arbiter (outside parts names spotted) part.kind part.name)
-    → Good (names_of (names ++ ((part.name, kinds.Arbiter) ∷ [] ++ branch_entries part.branches))) → ArbiterFit (length whole.queues) (length whole.handlers) (length whole.ports) part → is_receive part.kind ≡ false → IsArbiterValued part
+    → Good (names_of (names ++ ((part.name, kinds.Arbiter (length parts.arbiters)) ∷ [] ++ branch_entries part.branches))) → ArbiterFit (length whole.queues) (length whole.handlers) (length whole.ports) part → is_receive part.kind ≡ false → IsArbiterValued part
     → Uncrowded (spotted ++ branches_named parts part.branches) → branch_count parts + length part.branches ≤ 256 → (length part.branches == 0) ≡ false
     → Leads (outside parts names spotted) (block_lines whole first part)
-    (outside (record parts { arbiters = parts.arbiters ++ part ∷ [] }) (names ++ ((part.name, kinds.Arbiter) ∷ [] ++ branch_entries part.branches)) (spotted ++ branches_named parts part.branches))
+    (outside (record parts { arbiters = parts.arbiters ++ part ∷ [] }) (names ++ ((part.name, kinds.Arbiter (length parts.arbiters)) ∷ [] ++ branch_entries part.branches)) (spotted ++ branches_named parts part.branches))
 block_leads again whole parts names spotted first part knows step good fit block valued fine room some =
-    let entry : Naming = (part.name, kinds.Arbiter) ∷ [] in
+    let entry : Naming = (part.name, kinds.Arbiter (length parts.arbiters)) ∷ [] in
     let front : Naming = names ++ entry in
     let same : front ++ branch_entries part.branches ≡ names ++ (entry ++ branch_entries part.branches) = append_assoc names entry (branch_entries part.branches) in
     let named : List ℕ = spotted ++ branches_named parts part.branches in

@@ -1,22 +1,26 @@
 -- A valid wiring, whole: it fits, it is small, its names are good and no port is crowded.
 use Rattle.std.proofs.Common.{◌≡◌, ℕ, ◌<◌, ◌≤◌, Bool, true, false, List, length, refl, arith}
-use Rattle.std.specs.Prelude.{◌==◌, ◌||◌, nat_lt}
+use Rattle.std.specs.Prelude.{◌==◌, ◌&&◌, ◌||◌, not, nat_lt}
 use Rattle.std.specs.List.{list_any}
 use Rattle.ccr_wiring.specs.declared.parts.Parts.{Parts}
 use Rattle.ccr_wiring.specs.declared.parts.QueuePart.{QueuePart}
 use Rattle.ccr_wiring.specs.declared.parts.CausePart.{CausePart}
+use Rattle.ccr_wiring.specs.declared.parts.HandlerPart.{HandlerPart}
+use Rattle.ccr_wiring.specs.declared.parts.PosterPart.{PosterPart}
 use Rattle.ccr_wiring.specs.Groups.{is_misgrouped, is_branchless}
 use Rattle.ccr_wiring.specs.Names.{declared_names}
-use Rattle.ccr_wiring.specs.References.{set_is_dangling, cause_is_dangling, handler_is_dangling, arbiter_is_dangling, poster_is_dangling, has_dangling_set, has_dangling_cause, has_dangling_handler, has_dangling_arbiter, has_dangling_poster}
-use Rattle.ccr_wiring.specs.Repeats.{arbiter_repeats, set_repeats, poster_repeats, has_repeating_set, has_repeating_arbiter, has_repeating_poster}
-use Rattle.ccr_wiring.specs.Limits.{policy_is_outside, set_is_outside, handler_is_outside, arbiter_is_outside, has_branches_above, has_posts_above, has_too_many, has_outside_queue, has_outside_set, has_outside_handler, has_outside_arbiter}
+use Rattle.ccr_wiring.specs.References.{set_is_dangling, cause_is_dangling, handler_is_dangling, arbiter_is_dangling, poster_is_dangling, has_dangling_set, has_dangling_cause, has_dangling_handler, has_dangling_arbiter, has_dangling_poster, domain_is_dangling, has_dangling_domain}
+use Rattle.ccr_wiring.specs.Repeats.{arbiter_repeats, set_repeats, poster_repeats, has_repeating_set, has_repeating_arbiter, has_repeating_poster, are_apart, members_in_all, has_repeating_domain}
+use Rattle.ccr_wiring.specs.Limits.{policy_is_outside, set_is_outside, handler_is_outside, arbiter_is_outside, has_branches_above, has_posts_above, has_too_many, has_outside_queue, has_outside_set, has_outside_handler, has_outside_arbiter, domain_is_outside, has_outside_domain}
+use Rattle.ccr_wiring.specs.Versions.{has_strange_version, handler_is_newer, poster_is_newer, has_newer}
+use Rattle.ccr_wiretext.proofs.Steps.{not_false}
 use Rattle.ccr_wiring.specs.Spots.{times, named_ports}
 use Rattle.ccr_wiretext.proofs.Each.{neither}
-use Rattle.ccr_wiretext.proofs.Fit.{PolicyFit, ArbiterFit, SetFit, HandlerFit, PosterFit}
+use Rattle.ccr_wiretext.proofs.Fit.{PolicyFit, OldFit, ArbiterFit, SetFit, HandlerFit, PosterFit, DomainFit}
 use Rattle.ccr_wiretext.proofs.Spotted.{Uncrowded, times_none, among}
 use Rattle.ccr_wiretext.proofs.Sound.{Counts, Fits}
 use Rattle.ccr_wiretext.proofs.Round.Namings.{Good}
-use Rattle.ccr_wiretext.proofs.Round.Validity.{each_if, none_of_two, below, within, policy_fits, set_fits, handler_fits, arbiter_fits, poster_fits, NoCode}
+use Rattle.ccr_wiretext.proofs.Round.Validity.{each_if, none_of_two, below, within, policy_fits, set_fits, handler_fits, arbiter_fits, poster_fits, domain_fits, newer_in, old_each, NoCode}
 
 -- the tests of which one is that numbers name something. The others are likewise
 record There (parts : Parts) : Type 0 where
@@ -25,25 +29,29 @@ record There (parts : Parts) : Type 0 where
   handlers : has_dangling_handler parts ≡ false
   arbiters : has_dangling_arbiter parts ≡ false
   posters : has_dangling_poster parts ≡ false
+  domains : has_dangling_domain parts ≡ false
 
 there : (parts : Parts) → NoCode parts → There parts
 there parts none =
-    let a = neither (has_dangling_set parts || has_dangling_cause parts || has_dangling_handler parts || has_dangling_arbiter parts) (has_dangling_poster parts) none.there in
+    let z = neither (has_dangling_set parts || has_dangling_cause parts || has_dangling_handler parts || has_dangling_arbiter parts || has_dangling_poster parts) (has_dangling_domain parts) none.there in
+    let a = neither (has_dangling_set parts || has_dangling_cause parts || has_dangling_handler parts || has_dangling_arbiter parts) (has_dangling_poster parts) z.0 in
     let b = neither (has_dangling_set parts || has_dangling_cause parts || has_dangling_handler parts) (has_dangling_arbiter parts) a.0 in
     let c = neither (has_dangling_set parts || has_dangling_cause parts) (has_dangling_handler parts) b.0 in
     let d = neither (has_dangling_set parts) (has_dangling_cause parts) c.0 in
-    record { sets = d.0; causes = d.1; handlers = c.1; arbiters = b.1; posters = a.1 }
+    record { sets = d.0; causes = d.1; handlers = c.1; arbiters = b.1; posters = a.1; domains = z.1 }
 
 record Once (parts : Parts) : Type 0 where
   sets : has_repeating_set parts ≡ false
   arbiters : has_repeating_arbiter parts ≡ false
   posters : has_repeating_poster parts ≡ false
+  domains : has_repeating_domain parts ≡ false
 
 once : (parts : Parts) → NoCode parts → Once parts
 once parts none =
-    let a = neither (has_repeating_set parts || has_repeating_arbiter parts) (has_repeating_poster parts) none.once in
+    let z = neither (has_repeating_set parts || has_repeating_arbiter parts || has_repeating_poster parts) (has_repeating_domain parts) none.once in
+    let a = neither (has_repeating_set parts || has_repeating_arbiter parts) (has_repeating_poster parts) z.0 in
     let b = neither (has_repeating_set parts) (has_repeating_arbiter parts) a.0 in
-    record { sets = b.0; arbiters = b.1; posters = a.1 }
+    record { sets = b.0; arbiters = b.1; posters = a.1; domains = z.1 }
 
 record Within (parts : Parts) : Type 0 where
   budget : nat_lt 10000 parts.budget ≡ false
@@ -52,15 +60,17 @@ record Within (parts : Parts) : Type 0 where
   sets : has_outside_set parts ≡ false
   handlers : has_outside_handler parts ≡ false
   arbiters : has_outside_arbiter parts ≡ false
+  domains : has_outside_domain parts ≡ false
 
 inside : (parts : Parts) → NoCode parts → Within parts
 inside parts none =
-    let a = neither (nat_lt 10000 parts.budget || has_too_many parts || has_outside_queue parts || has_outside_set parts || has_outside_handler parts) (has_outside_arbiter parts) none.inside in
+    let z = neither (nat_lt 10000 parts.budget || has_too_many parts || has_outside_queue parts || has_outside_set parts || has_outside_handler parts || has_outside_arbiter parts) (has_outside_domain parts) none.inside in
+    let a = neither (nat_lt 10000 parts.budget || has_too_many parts || has_outside_queue parts || has_outside_set parts || has_outside_handler parts) (has_outside_arbiter parts) z.0 in
     let b = neither (nat_lt 10000 parts.budget || has_too_many parts || has_outside_queue parts || has_outside_set parts) (has_outside_handler parts) a.0 in
     let c = neither (nat_lt 10000 parts.budget || has_too_many parts || has_outside_queue parts) (has_outside_set parts) b.0 in
     let d = neither (nat_lt 10000 parts.budget || has_too_many parts) (has_outside_queue parts) c.0 in
     let e = neither (nat_lt 10000 parts.budget) (has_too_many parts) d.0 in
-    record { budget = e.0; many = e.1; queues = d.1; sets = c.1; handlers = b.1; arbiters = a.1 }
+    record { budget = e.0; many = e.1; queues = d.1; sets = c.1; handlers = b.1; arbiters = a.1; domains = z.1 }
 
 pub valid_counts : (parts : Parts) → NoCode parts → Counts parts
 valid_counts parts none =
@@ -93,13 +103,30 @@ valid_counts parts none =
       branches = within 256 _ b.1;
       posters = within 16 (length parts.posters) c.1;
       posts = within 10000 _ a.1;
+      domains = within 128 (length parts.domains) (neither (nat_lt 128 (length parts.domains)) (list_any domain_is_outside parts.domains) limits.domains).0;
     }
+
+-- what only version 2 has stands in no other
+record Olds (parts : Parts) : Type 0 where
+  handlers : OldFit parts.version (list_any handler_is_newer parts.handlers)
+  posters : OldFit parts.version (list_any poster_is_newer parts.posters)
+
+olds : (parts : Parts) → NoCode parts → Olds parts
+olds parts none =
+    let parted = by (parts.version == 1) (parts.version == 2) (list_any handler_is_newer parts.handlers) (list_any poster_is_newer parts.posters) none.version none.newer in
+    record { handlers = parted.0; posters = parted.1 }
+  where
+    by : (a b x y : Bool) → (not a && not b) ≡ false → (a && (x || y)) ≡ false → ((not b && x) ≡ false) × ((not b && y) ≡ false)
+    by a true x y known new = (refl, refl)
+    by true false x y known new = neither x y new
+    by false false x y known new = absurd cc
 
 pub valid_fits : (parts : Parts) → NoCode parts → Fits parts
 valid_fits parts none =
     let named = there parts none in
     let apart = once parts none in
     let limits = inside parts none in
+    let old = olds parts none in
     record {
       queues = each_if (λ (part : QueuePart). PolicyFit part.policy) (λ (part : QueuePart). policy_is_outside part.policy) (λ part e. policy_fits part.policy e) parts.queues limits.queues;
       sets = each_if (SetFit (length parts.ports)) (λ part. set_is_dangling parts part || (set_repeats part || set_is_outside part))
@@ -109,9 +136,14 @@ valid_fits parts none =
           set_fits parts part a.0 b.0 b.1)
           parts.sets (none_of_two (set_is_dangling parts) (λ part. set_repeats part || set_is_outside part) parts.sets named.sets (none_of_two set_repeats set_is_outside parts.sets apart.sets limits.sets));
       causes = each_if (λ (part : CausePart). part.port < length parts.ports) (cause_is_dangling parts) (λ part e. below (length parts.ports) part.port e) parts.causes named.causes;
-      handlers = each_if (HandlerFit (length parts.ports) (length parts.causes)) (λ part. handler_is_dangling parts part || handler_is_outside part)
-          (λ part e. let a = neither (handler_is_dangling parts part) (handler_is_outside part) e in handler_fits parts part a.0 a.1)
-          parts.handlers (none_of_two (handler_is_dangling parts) handler_is_outside parts.handlers named.handlers limits.handlers);
+      handlers = each_if (HandlerFit parts.version (length parts.ports) (length parts.causes)) (λ part. handler_is_dangling parts part || (handler_is_outside part || newer_in parts.version handler_is_newer part))
+          (λ part e.
+          let a = neither (handler_is_dangling parts part) (handler_is_outside part || newer_in parts.version handler_is_newer part) e in
+          let b = neither (handler_is_outside part) (newer_in parts.version handler_is_newer part) a.1 in
+          handler_fits parts part a.0 b.0 b.1)
+          parts.handlers
+          (none_of_two (handler_is_dangling parts) (λ part. handler_is_outside part || newer_in parts.version handler_is_newer part) parts.handlers named.handlers
+          (none_of_two handler_is_outside (newer_in parts.version handler_is_newer) parts.handlers limits.handlers (old_each parts.version handler_is_newer parts.handlers old.handlers)));
       arbiters = each_if (ArbiterFit (length parts.queues) (length parts.handlers) (length parts.ports))
           (λ part. (arbiter_is_dangling parts part || arbiter_repeats part) || (arbiter_is_outside part || (is_misgrouped part || is_branchless part)))
           (λ part e.
@@ -124,9 +156,18 @@ valid_fits parts none =
           (none_of_two (λ part. arbiter_is_dangling parts part || arbiter_repeats part) (λ part. arbiter_is_outside part || (is_misgrouped part || is_branchless part)) parts.arbiters
           (none_of_two (arbiter_is_dangling parts) arbiter_repeats parts.arbiters named.arbiters apart.arbiters)
           (none_of_two arbiter_is_outside (λ part. is_misgrouped part || is_branchless part) parts.arbiters limits.arbiters (none_of_two is_misgrouped is_branchless parts.arbiters none.grouped none.branched)));
-      posters = each_if (PosterFit (length parts.ports) (length parts.causes)) (λ part. poster_is_dangling parts part || poster_repeats part)
-          (λ part e. let a = neither (poster_is_dangling parts part) (poster_repeats part) e in poster_fits parts part a.0 a.1)
-          parts.posters (none_of_two (poster_is_dangling parts) poster_repeats parts.posters named.posters apart.posters);
+      posters = each_if (PosterFit parts.version (length parts.ports) (length parts.causes)) (λ part. poster_is_dangling parts part || (poster_repeats part || newer_in parts.version poster_is_newer part))
+          (λ part e.
+          let a = neither (poster_is_dangling parts part) (poster_repeats part || newer_in parts.version poster_is_newer part) e in
+          let b = neither (poster_repeats part) (newer_in parts.version poster_is_newer part) a.1 in
+          poster_fits parts part a.0 b.0 b.1)
+          parts.posters
+          (none_of_two (poster_is_dangling parts) (λ part. poster_repeats part || newer_in parts.version poster_is_newer part) parts.posters named.posters
+          (none_of_two poster_repeats (newer_in parts.version poster_is_newer) parts.posters apart.posters (old_each parts.version poster_is_newer parts.posters old.posters)));
+      domains = each_if (DomainFit parts.arbiters) (λ part. domain_is_dangling parts part || domain_is_outside part)
+          (λ part e. let a = neither (domain_is_dangling parts part) (domain_is_outside part) e in domain_fits parts part a.0 a.1)
+          parts.domains (none_of_two (domain_is_dangling parts) domain_is_outside parts.domains named.domains (neither (nat_lt 128 (length parts.domains)) (list_any domain_is_outside parts.domains) limits.domains).1);
+      combined = not_false (are_apart (members_in_all parts.domains)) apart.domains;
     }
 
 pub valid_names : (parts : Parts) → NoCode parts → Good (declared_names parts)

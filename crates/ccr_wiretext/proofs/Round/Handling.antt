@@ -24,7 +24,7 @@ use Rattle.ccr_wiretext.proofs.Round.Known.{handler_entries, KnowsPorts, KnowsCa
 
 -- ---- one action
 
-action_step : Again → (whole parts : Parts) (names : Naming) (part : HandlerPart) (action : Action) → KnowsPorts whole names → KnowsCauses whole names → ActionFit (length whole.ports) (length whole.causes) action → IsActionValued action
+action_step : Again → (whole parts : Parts) (names : Naming) (part : HandlerPart) (action : Action) → KnowsPorts whole names → KnowsCauses whole names → ActionFit parts.version (length whole.ports) (length whole.causes) action → IsActionValued action
     → length part.handler.actions < 16 → IsStep (inside parts names [] (blocks.Handler part)) (action_words whole action) (with_action (outside parts names []) part action)
 unfolding keyword
 action_step again whole parts names part (actions.Post port value) ports causes fit valued room = record {
@@ -34,8 +34,8 @@ action_step again whole parts names part (actions.Post port value) ports causes 
   spelled = refl;
   keyed = refl;
   plain = refl;
-  clean = word_more (codes "post") (port_name whole port ∷ expr_words value) (refl, refl) (word_more (port_name whole port) (expr_words value) (port_word whole names ports port fit.0) (expr_clean again value fit.1 valued));
-  says = inr (actions.Post port value, room, (port_name whole port, expr_words value, refl, port_says whole (outside parts names []) ports port fit.0, expr_says again value fit.1 valued), refl);
+  clean = word_more (codes "post") (port_name whole port ∷ expr_words value) (refl, refl) (word_more (port_name whole port) (expr_words value) (port_word whole names ports port fit.0) (expr_clean again parts.version value fit.1 valued));
+  says = inr (actions.Post port value, room, (port_name whole port, expr_words value, refl, port_says whole (outside parts names []) ports port fit.0, expr_says again parts.version value fit.1 valued), refl);
 }
 action_step again whole parts names part (actions.Fail value) ports causes fit valued room = record {
   first = codes "fail";
@@ -44,8 +44,8 @@ action_step again whole parts names part (actions.Fail value) ports causes fit v
   spelled = refl;
   keyed = refl;
   plain = refl;
-  clean = word_more (codes "fail") (expr_words value) (refl, refl) (expr_clean again value fit valued);
-  says = inr (actions.Fail value, room, expr_says again value fit valued, refl);
+  clean = word_more (codes "fail") (expr_words value) (refl, refl) (expr_clean again parts.version value fit valued);
+  says = inr (actions.Fail value, room, expr_says again parts.version value fit valued, refl);
 }
 action_step again whole parts names part (actions.Add cause) ports causes fit valued room = record {
   first = codes "add";
@@ -84,13 +84,13 @@ action_step again whole parts names part (actions.Await port) ports causes fit v
 abbrev begun : List ℕ → List Action → HandlerPart
 begun name done = record { name = name; handler = record { actions = done } }
 
-actions_lead : Again → (whole parts : Parts) (names : Naming) (name : List ℕ) (some : List Action) → KnowsPorts whole names → KnowsCauses whole names → Each (ActionFit (length whole.ports) (length whole.causes)) some → All IsActionValued some
+actions_lead : Again → (whole parts : Parts) (names : Naming) (name : List ℕ) (some : List Action) → KnowsPorts whole names → KnowsCauses whole names → Each (ActionFit parts.version (length whole.ports) (length whole.causes)) some → All IsActionValued some
     → length some ≤ 16 → Leads (inside parts names [] (blocks.Handler (begun name []))) (map (action_words whole) some) (inside parts names [] (blocks.Handler (begun name some)))
 actions_lead again whole parts names name some ports causes fit valued room =
     walk_lines (action_words whole) (λ done. inside parts names [] (blocks.Handler (begun name done))) some
     (λ done action rest e.
     action_step again whole parts names (begun name done) action ports causes
-    (each_at (ActionFit (length whole.ports) (length whole.causes)) done action rest some e fit)
+    (each_at (ActionFit parts.version (length whole.ports) (length whole.causes)) done action rest some e fit)
     (all_at IsActionValued done action rest some e valued)
     (room_before 16 done action rest some e room))
 
@@ -120,7 +120,7 @@ end_step parts names part = record {
   says = inl (refl, refl, refl);
 }
 
-handler_leads : Again → (whole parts : Parts) (names : Naming) (part : HandlerPart) → KnowsPorts whole names → KnowsCauses whole names → IsNew names part.name → HandlerFit (length whole.ports) (length whole.causes) part → IsHandlerValued part
+handler_leads : Again → (whole parts : Parts) (names : Naming) (part : HandlerPart) → KnowsPorts whole names → KnowsCauses whole names → IsNew names part.name → HandlerFit parts.version (length whole.ports) (length whole.causes) part → IsHandlerValued part
     → length parts.handlers < 256
     → Leads (outside parts names []) (handler_lines whole part) (outside (record parts { handlers = parts.handlers ++ part ∷ [] }) (names ++ (part.name, kinds.Handler (length parts.handlers)) ∷ []) [])
 handler_leads again whole parts names part ports causes new fit valued room =
@@ -133,7 +133,7 @@ handler_leads again whole parts names part ports causes new fit valued room =
           (closed, end_step parts (names ++ entry) part, refl),
     )
 
-pub handlers_lead : Again → (whole parts : Parts) (front : Naming) (handlers : List HandlerPart) → KnowsPorts whole front → KnowsCauses whole front → Each (HandlerFit (length whole.ports) (length whole.causes)) handlers → All IsHandlerValued handlers
+pub handlers_lead : Again → (whole parts : Parts) (front : Naming) (handlers : List HandlerPart) → KnowsPorts whole front → KnowsCauses whole front → Each (HandlerFit parts.version (length whole.ports) (length whole.causes)) handlers → All IsHandlerValued handlers
     → length handlers ≤ 256 → Good (names_of (front ++ handler_entries handlers))
     → Leads (outside (record parts { handlers = [] }) front []) (flat_map (handler_lines whole) handlers) (outside (record parts { handlers = handlers }) (front ++ handler_entries handlers) [])
 handlers_lead again whole parts front handlers ports causes fit valued room good =
@@ -146,7 +146,7 @@ handlers_lead again whole parts front handlers ports causes fit valued room good
     (ports_stay whole front (handler_entries done) ports)
     (causes_stay whole front (handler_entries done) causes)
     (next_new (λ (part : HandlerPart). part.name) kinds.Handler front done part rest handlers e good)
-    (each_at (HandlerFit (length whole.ports) (length whole.causes)) done part rest handlers e fit)
+    (each_at (HandlerFit parts.version (length whole.ports) (length whole.causes)) done part rest handlers e fit)
     (all_at IsHandlerValued done part rest handlers e valued)
     (room_before 256 done part rest handlers e room))
     (ap (λ n. outside (record parts { handlers = done ++ part ∷ [] }) n []) (next_names (λ (part : HandlerPart). part.name) kinds.Handler front done part))))

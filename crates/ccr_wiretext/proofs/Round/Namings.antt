@@ -33,7 +33,7 @@ pub names_entries : {X : Type 0} (name : X → List ℕ) (make : ℕ → Named) 
 names_entries name make start [] = refl
 names_entries name make start (x ∷ xs) = ap (λ (v : List (List ℕ)). name x ∷ v) (names_entries name make (start + 1) xs)
 
-any_parts : {X : Type 0} (f : X → Bool) (xs ys : List X) → list_any f (xs ++ ys) ≡ false → (list_any f xs ≡ false) × (list_any f ys ≡ false)
+pub any_parts : {X : Type 0} (f : X → Bool) (xs ys : List X) → list_any f (xs ++ ys) ≡ false → (list_any f xs ≡ false) × (list_any f ys ≡ false)
 any_parts f [] ys e = (refl, e)
 any_parts f (x ∷ xs) ys e =
     let parts = neither (f x) (list_any f (xs ++ ys)) e in
@@ -48,7 +48,7 @@ apart_front (x ∷ xs) ys e =
 pub good_front : (xs ys : List (List ℕ)) → Good (xs ++ ys) → Good xs
 good_front xs ys good = record { apart = apart_front xs ys good.apart; formed = (any_parts (λ name. not (is_name_of name)) xs ys good.formed).0 }
 
-fresh : (names : Naming) (name : List ℕ) (rest : List (List ℕ)) → has_repeated (names_of names ++ name ∷ rest) ≡ false → named names name ≡ None
+pub fresh : (names : Naming) (name : List ℕ) (rest : List (List ℕ)) → has_repeated (names_of names ++ name ∷ rest) ≡ false → named names name ≡ None
 fresh [] name rest e = refl
 fresh (entry ∷ names) name rest e =
     let parts = neither (has_name (names_of names ++ name ∷ rest) entry.0) (has_repeated (names_of names ++ name ∷ rest)) e in
@@ -76,7 +76,7 @@ named_more (entry ∷ names) more word what e = by (bytes_eq word entry.0) e (na
     by false h next = next h
 
 -- a new name means what it is declared for
-named_at : (names : Naming) (name : List ℕ) (what : Named) (more : Naming) → named names name ≡ None → named (names ++ (name, what) ∷ more) name ≡ Some what
+pub named_at : (names : Naming) (name : List ℕ) (what : Named) (more : Naming) → named names name ≡ None → named (names ++ (name, what) ∷ more) name ≡ Some what
 named_at [] name what more e = rw (same_name name) refl
 named_at (entry ∷ names) name what more e = by (bytes_eq name entry.0) e (named_at names name what more)
   where

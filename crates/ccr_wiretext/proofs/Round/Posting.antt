@@ -1,6 +1,6 @@
 -- The canonical lines of the posters.
 use Rattle.std.proofs.Common.{ℕ, ◌+◌, ◌<◌, ◌≤◌, List, [], ◌∷◌, ◌++◌, length, map, refl, ap, arith, append-nil}
-use Rattle.std.specs.Prelude.{codes, decimal, flat_map}
+use Rattle.std.specs.Prelude.{codes, flat_map}
 use Rattle.std.specs.List.{All}
 use Rattle.ccr_base.specs.declared.messages.Sent.{Sent}
 use Rattle.ccr_wiring.specs.declared.parts.Parts.{Parts}
@@ -14,13 +14,13 @@ use Rattle.ccr_wiretext.specs.Names.{Naming}
 use Rattle.ccr_wiretext.specs.Drafts.{Declared, script_count, with_poster, with_post, end_poster}
 use Rattle.ccr_wiretext.specs.Places.{Words}
 use Rattle.ccr_wiretext.specs.Grammar.{IsNew}
-use Rattle.ccr_wiretext.specs.Spelling.{port_name, cause_name, post_words, end_words, poster_lines}
+use Rattle.ccr_wiretext.specs.Spelling.{port_name, cause_name, value_word, post_words, end_words, poster_lines}
 use Rattle.ccr_wiretext.specs.Values.{IsValue, IsPosterValued}
 use Rattle.ccr_wiretext.proofs.Each.{Each}
 use Rattle.ccr_wiretext.proofs.Fit.{PostFit, PosterFit}
 use Rattle.ccr_wiretext.proofs.Round.Leads.{inside, outside, IsStep, Leads, leads_on, leads_to, leads_from, walk, walk_lines, room_before, room_for, each_at, all_at}
 use Rattle.ccr_wiretext.proofs.Round.Namings.{Good, entries, names_of, next_names, next_new}
-use Rattle.ccr_wiretext.proofs.Round.Terms.{Again, word_more, name_word, number_word}
+use Rattle.ccr_wiretext.proofs.Round.Terms.{Again, word_more, name_word, value_clean, value_says}
 use Rattle.ccr_wiretext.proofs.Round.Known.{KnowsPorts, KnowsCauses, ports_stay, causes_stay, port_says, port_word, causes_say, causes_clean}
 
 abbrev pub poster_entries : List PosterPart → Naming
@@ -29,31 +29,31 @@ poster_entries parts = entries (λ (part : PosterPart). part.name) (λ n. kinds.
 abbrev PostValued : Sent → Type 0
 PostValued post = IsValue post.value
 
-post_step : Again → (whole parts : Parts) (names : Naming) (spotted : List ℕ) (part : PosterPart) (post : Sent) → KnowsPorts whole names → KnowsCauses whole names → PostFit (length whole.ports) (length whole.causes) post → PostValued post
+post_step : Again → (whole parts : Parts) (names : Naming) (spotted : List ℕ) (part : PosterPart) (post : Sent) → KnowsPorts whole names → KnowsCauses whole names → PostFit parts.version (length whole.ports) (length whole.causes) post → PostValued post
     → script_count parts + length part.posts < 10000 → IsStep (inside parts names spotted (blocks.Poster part)) (post_words whole post) (with_post (outside parts names spotted) part post)
 unfolding keyword
 post_step again whole parts names spotted part post ports causes fit valued room =
     let rest : Words = map (cause_name whole) post.causes in
     record {
       first = codes "post";
-      others = port_name whole post.port ∷ decimal post.value ∷ rest;
+      others = port_name whole post.port ∷ value_word post.value ∷ rest;
       word = keywords.Post;
       spelled = refl;
       keyed = refl;
       plain = refl;
-      clean = word_more (codes "post") (port_name whole post.port ∷ decimal post.value ∷ rest) (refl, refl)
-          (word_more (port_name whole post.port) (decimal post.value ∷ rest) (port_word whole names ports post.port fit.0)
-          (word_more (decimal post.value) rest (number_word again post.value valued) (causes_clean whole names causes post.causes fit.1)));
+      clean = word_more (codes "post") (port_name whole post.port ∷ value_word post.value ∷ rest) (refl, refl)
+          (word_more (port_name whole post.port) (value_word post.value ∷ rest) (port_word whole names ports post.port fit.0)
+          (word_more (value_word post.value) rest (value_clean again post.value valued) (causes_clean whole names causes post.causes fit.1)));
       says = (
         post,
         record {
           room = room;
           to = port_name whole post.port;
-          value = decimal post.value;
+          value = value_word post.value;
           rest = rest;
           spelled = refl;
           refers = port_says whole (outside parts names spotted) ports post.port fit.0;
-          number = again post.value valued;
+          numbers = value_says again parts.version post.value fit.3 valued;
           causes = causes_say whole names causes [] post.causes fit.1 fit.2;
         },
         refl,
@@ -64,7 +64,7 @@ post_step again whole parts names spotted part post ports causes fit valued room
 abbrev begun : List ℕ → List Sent → PosterPart
 begun name done = record { name = name; posts = done }
 
-posts_lead : Again → (whole parts : Parts) (names : Naming) (spotted : List ℕ) (name : List ℕ) (some : List Sent) → KnowsPorts whole names → KnowsCauses whole names → Each (PostFit (length whole.ports) (length whole.causes)) some → All PostValued some
+posts_lead : Again → (whole parts : Parts) (names : Naming) (spotted : List ℕ) (name : List ℕ) (some : List Sent) → KnowsPorts whole names → KnowsCauses whole names → Each (PostFit parts.version (length whole.ports) (length whole.causes)) some → All PostValued some
     → script_count parts + length some ≤ 10000
     → Leads (inside parts names spotted (blocks.Poster (begun name []))) (map (post_words whole) some) (inside parts names spotted (blocks.Poster (begun name some)))
 posts_lead again whole parts names spotted name some ports causes fit valued room =
@@ -72,7 +72,7 @@ posts_lead again whole parts names spotted name some ports causes fit valued roo
     (λ done post rest e.
     let less = room_before (length some) done post rest some e (omega arith) in
     post_step again whole parts names spotted (begun name done) post ports causes
-    (each_at (PostFit (length whole.ports) (length whole.causes)) done post rest some e fit)
+    (each_at (PostFit parts.version (length whole.ports) (length whole.causes)) done post rest some e fit)
     (all_at PostValued done post rest some e valued)
     (omega arith))
 
@@ -102,7 +102,7 @@ end_step parts names spotted part = record {
   says = (refl, refl);
 }
 
-poster_leads : Again → (whole parts : Parts) (names : Naming) (spotted : List ℕ) (part : PosterPart) → KnowsPorts whole names → KnowsCauses whole names → IsNew names part.name → PosterFit (length whole.ports) (length whole.causes) part → IsPosterValued part
+poster_leads : Again → (whole parts : Parts) (names : Naming) (spotted : List ℕ) (part : PosterPart) → KnowsPorts whole names → KnowsCauses whole names → IsNew names part.name → PosterFit parts.version (length whole.ports) (length whole.causes) part → IsPosterValued part
     → length parts.posters < 16 → script_count parts + length part.posts ≤ 10000
     → Leads (outside parts names spotted) (poster_lines whole part) (outside (record parts { posters = parts.posters ++ part ∷ [] }) (names ++ (part.name, kinds.Poster) ∷ []) spotted)
 poster_leads again whole parts names spotted part ports causes new fit valued room post_room =
@@ -115,7 +115,7 @@ poster_leads again whole parts names spotted part ports causes new fit valued ro
           (closed, end_step parts (names ++ entry) spotted part, refl),
     )
 
-pub posters_lead : Again → (whole parts : Parts) (front : Naming) (spotted : List ℕ) (posters : List PosterPart) → KnowsPorts whole front → KnowsCauses whole front → Each (PosterFit (length whole.ports) (length whole.causes)) posters → All IsPosterValued posters
+pub posters_lead : Again → (whole parts : Parts) (front : Naming) (spotted : List ℕ) (posters : List PosterPart) → KnowsPorts whole front → KnowsCauses whole front → Each (PosterFit parts.version (length whole.ports) (length whole.causes)) posters → All IsPosterValued posters
     → length posters ≤ 16 → posts_in_all posters ≤ 10000 → Good (names_of (front ++ poster_entries posters))
     → Leads (outside (record parts { posters = [] }) front spotted) (flat_map (poster_lines whole) posters) (outside (record parts { posters = posters }) (front ++ poster_entries posters) spotted)
 posters_lead again whole parts front spotted posters ports causes fit valued room post_room good =
@@ -128,7 +128,7 @@ posters_lead again whole parts front spotted posters ports causes fit valued roo
     (ports_stay whole front (poster_entries done) ports)
     (causes_stay whole front (poster_entries done) causes)
     (next_new (λ (part : PosterPart). part.name) (λ n. kinds.Poster) front done part rest posters e good)
-    (each_at (PosterFit (length whole.ports) (length whole.causes)) done part rest posters e fit)
+    (each_at (PosterFit parts.version (length whole.ports) (length whole.causes)) done part rest posters e fit)
     (all_at IsPosterValued done part rest posters e valued)
     (room_before 16 done part rest posters e room)
     (room_for (λ (poster : PosterPart). length poster.posts) 10000 done part rest posters e post_room))

@@ -1,7 +1,7 @@
 -- Names, numbers, policies, expressions and predicates: their canonical words are words, and say them.
-use Rattle.std.proofs.Common.{◌≡◌, ℕ, ◌^◌, ◌<◌, ◌≤◌, Bool, true, false, cond, List, [], ◌∷◌, ◌++◌, length, Some, None, refl, arith}
+use Rattle.std.proofs.Common.{◌≡◌, ℕ, ◌^◌, ◌<◌, ◌≤◌, Bool, true, false, cond, List, [], ◌∷◌, ◌++◌, length, map, Some, None, inl, inr, refl, arith}
 use Rattle.std.specs.Prelude.{◌==◌, ◌&&◌, not, nat_lt, codes, decimal}
-use Rattle.std.specs.List.{list_all, list_any}
+use Rattle.std.specs.List.{list_all, list_any, join_with_byte}
 use Rattle.std.specs.Char.{is_ascii_digit, is_ascii_alphabetic}
 use Rattle.std.proofs.lemmas.Bool.Decides.{nat_tests}
 use Rattle.ccr_base.specs.declared.policies.Policy.{Policy}
@@ -12,13 +12,15 @@ use Rattle.ccr_base.specs.declared.patterns.Pred.{Pred}
 use Rattle.ccr_base.specs.declared.patterns.Pred.TheVariants as preds
 use Rattle.ccr_text.specs.Words.{is_mark, value_after, is_digits, number_of, may_be_in_name, is_name_of}
 use Rattle.ccr_text.specs.Spelling.{AreWords}
-use Rattle.ccr_wiretext.specs.Values.{IsExprValued, IsPredValued}
+use Rattle.ccr_wiring.specs.Versions.{is_long}
+use Rattle.ccr_wiretext.specs.Values.{IsNumeral, IsValue, IsExprValued, IsPredValued}
 use Rattle.ccr_wiretext.specs.Places.{Words}
-use Rattle.ccr_wiretext.specs.Grammar.{IsPlain, IsNumber, IsWithin, IsPolicy, IsExpr, IsPred}
-use Rattle.ccr_wiretext.specs.Spelling.{policy_words, expr_words, pred_words}
+use Rattle.ccr_wiretext.specs.Grammar.{IsPlain, IsNumber, IsWithin, IsPolicy, AreNumbers, IsOne, IsValueWord, IsExpr, IsPred}
+use Rattle.ccr_wiretext.specs.Spelling.{policy_words, value_word, expr_words, pred_words}
 use Rattle.ccr_wiretext.proofs.Steps.{not_true}
-use Rattle.ccr_wiretext.proofs.Each.{both}
-use Rattle.ccr_wiretext.proofs.Fit.{PolicyFit, ExprFit}
+use Rattle.ccr_wiretext.proofs.Each.{Each, both}
+use Rattle.ccr_wiretext.proofs.Fit.{PolicyFit, OldFit, ExprFit}
+use Rattle.ccr_wiretext.proofs.Round.Leads.{each_all}
 
 -- the digits of a number read as that number
 abbrev pub Again : Type 0
@@ -108,17 +110,71 @@ policy_clean again policies.Unbounded fit = (refl, refl, tt)
 policy_clean again (policies.Discard n) fit = keyed_words again (codes "discard") n (refl, refl) (omega (arith, fit.1))
 policy_clean again (policies.Throttle n) fit = keyed_words again (codes "throttle") n (refl, refl) (omega (arith, fit.1))
 
-pub expr_says : Again → (value : Expr) → ExprFit value → IsExprValued value → IsExpr (expr_words value) value
-expr_says again (exprs.Number n) fit valued = (decimal n, refl, again n valued)
-expr_says again (exprs.Arg k) fit valued = (decimal k, refl, within_says again 0 65535 k (omega arith) fit (omega arith))
-expr_says again exprs.Sum fit valued = refl
-expr_says again exprs.Count fit valued = refl
+-- ---- values
 
-pub expr_clean : Again → (value : Expr) → ExprFit value → IsExprValued value → AreWords (expr_words value)
-expr_clean again (exprs.Number n) fit valued = word_more (decimal n) [] (number_word again n valued) tt
-expr_clean again (exprs.Arg k) fit valued = keyed_words again (codes "arg") k (refl, refl) (omega (arith, fit))
-expr_clean again exprs.Sum fit valued = (refl, refl, tt)
-expr_clean again exprs.Count fit valued = (refl, refl, tt)
+numbers_again : Again → (value : List ℕ) → Each IsNumeral value → AreNumbers (map decimal value) value
+numbers_again again [] each = tt
+numbers_again again (n ∷ value) each = (again n each.0, numbers_again again value each.1)
+
+marks_on : (xs ys : List ℕ) → list_all is_mark xs ≡ true → list_all is_mark ys ≡ true → list_all is_mark (xs ++ ys) ≡ true
+marks_on [] ys first second = second
+marks_on (b ∷ xs) ys first second = let parts = both (is_mark b) (list_all is_mark xs) first in rw (parts.0, marks_on xs ys parts.1 second) refl
+
+-- two words with a comma between them
+with_comma : (xs ys : List ℕ) → IsWord xs → IsWord ys → IsWord (xs ++ 44 ∷ ys)
+with_comma [] ys first second = absurd (let h : true ≡ false = first.0 in cc)
+with_comma (b ∷ xs) ys first second = (grind (arith, nat_tests), marks_on (b ∷ xs) (44 ∷ ys) first.1 second.1)
+
+joined_word : Again → (value : List ℕ) → Each IsNumeral value → 1 ≤ length value → IsWord (value_word value)
+joined_word again [] each some = absurd (omega arith)
+joined_word again (n ∷ []) each some = number_word again n each.0
+joined_word again (n ∷ m ∷ value) each some = with_comma (decimal n) (value_word (m ∷ value)) (number_word again n each.0) (joined_word again (m ∷ value) each.1 (omega arith))
+
+value_parts : (value : List ℕ) → IsValue value → Each IsNumeral value × (1 ≤ length value) × (length value ≤ 8)
+unfolding IsValue
+value_parts value valued = (each_all IsNumeral value valued.0, valued.1, valued.2)
+
+pub value_clean : Again → (value : List ℕ) → IsValue value → IsWord (value_word value)
+value_clean again value valued = let parts = value_parts value valued in joined_word again value parts.0 parts.1
+
+one_number : Again → (value : List ℕ) → is_long value ≡ false → Each IsNumeral value → 1 ≤ length value → IsOne (value_word value) value
+one_number again [] short each some = absurd (omega arith)
+one_number again (n ∷ []) short each some = record { one = n; alone = refl; number = again n each.0 }
+one_number again (n ∷ m ∷ value) short each some = absurd (let h : length (n ∷ m ∷ value) ≤ 1 = grind (arith, nat_tests, short) in omega arith)
+
+pub value_says : Again → (version : ℕ) (value : List ℕ) → OldFit version (is_long value) → IsValue value → IsValueWord version (value_word value) value
+value_says again version value fit valued = by (version == 2) refl fit (value_parts value valued)
+  where
+    by : (t : Bool) → (version == 2) ≡ t → (not t && is_long value) ≡ false → Each IsNumeral value × (1 ≤ length value) × (length value ≤ 8) → IsValueWord version (value_word value) value
+    by false e old parts = inl (e, one_number again value old parts.0 parts.1)
+    by true e old parts = inr (e, record { digits = map decimal value; spelled = refl; numbers = numbers_again again value parts.0; some = parts.1; few = parts.2 })
+
+newer_is : (b : Bool) → (not b && true) ≡ false → b ≡ true
+newer_is true e = refl
+newer_is false e = absurd cc
+
+pub expr_says : Again → (version : ℕ) (value : Expr) → ExprFit version value → IsExprValued value → IsExpr version (expr_words value) value
+expr_says again version (exprs.Number value) fit valued = (value_word value, refl, value_says again version value fit valued)
+expr_says again version (exprs.Part message place) fit valued = record {
+  newer = newer_is (version == 2) fit.0;
+  first = decimal message;
+  second = decimal place;
+  spelled = refl;
+  counted = within_says again 0 65535 message (omega arith) fit.1 (omega arith);
+  within = within_says again 0 7 place (omega arith) fit.2 (omega arith);
+}
+expr_says again version (exprs.Arg k) fit valued = (decimal k, refl, within_says again 0 65535 k (omega arith) fit (omega arith))
+expr_says again version exprs.Sum fit valued = refl
+expr_says again version exprs.Count fit valued = refl
+
+pub expr_clean : Again → (version : ℕ) (value : Expr) → ExprFit version value → IsExprValued value → AreWords (expr_words value)
+expr_clean again version (exprs.Number value) fit valued = word_more (value_word value) [] (value_clean again value valued) tt
+expr_clean again version (exprs.Part message place) fit valued =
+    word_more (codes "part") (decimal message ∷ decimal place ∷ []) (refl, refl)
+    (word_more (decimal message) (decimal place ∷ []) (number_word again message (omega (arith, fit.1))) (word_more (decimal place) [] (number_word again place (omega (arith, fit.2))) tt))
+expr_clean again version (exprs.Arg k) fit valued = keyed_words again (codes "arg") k (refl, refl) (omega (arith, fit))
+expr_clean again version exprs.Sum fit valued = (refl, refl, tt)
+expr_clean again version exprs.Count fit valued = (refl, refl, tt)
 
 pub pred_says : Again → (p : Pred) → IsPredValued p → IsPred (pred_words p) p
 pred_says again preds.Any valued = refl

@@ -19,18 +19,20 @@ use Rattle.ccr_wiring.specs.declared.parts.HandlerPart.{HandlerPart}
 use Rattle.ccr_wiring.specs.declared.parts.BranchPart.{BranchPart}
 use Rattle.ccr_wiring.specs.declared.parts.ArbiterPart.{ArbiterPart}
 use Rattle.ccr_wiring.specs.declared.parts.PosterPart.{PosterPart}
+use Rattle.ccr_wiring.specs.declared.parts.DomainPart.{DomainPart}
 use Rattle.ccr_wiring.specs.declared.parts.Kind.{Kind}
 use Rattle.ccr_wiring.specs.Groups.{may_have, is_receive, is_one_named, is_misgrouped, has_strange_group, has_misgrouped, is_branchless, has_branchless}
 use Rattle.ccr_wiring.specs.Names.{has_repeated_name, has_malformed_name}
-use Rattle.ccr_wiring.specs.References.{is_beyond, has_beyond, action_is_dangling, pattern_is_dangling, branch_is_dangling, post_is_dangling, set_is_dangling, handler_is_dangling, arbiter_is_dangling, poster_is_dangling, has_dangling}
+use Rattle.ccr_wiring.specs.References.{is_beyond, has_beyond, action_is_dangling, pattern_is_dangling, branch_is_dangling, post_is_dangling, set_is_dangling, handler_is_dangling, arbiter_is_dangling, poster_is_dangling, no_interleave, domain_is_dangling, has_dangling}
 use Rattle.ccr_wiring.specs.Repeats.{are_apart, names_ports_once, branch_repeats, arbiter_repeats, set_repeats, post_repeats, poster_repeats, has_repeat}
-use Rattle.ccr_wiring.specs.Limits.{is_outside, policy_is_outside, expr_is_outside, action_is_outside, slot_is_outside, pattern_is_outside, branch_is_outside, set_is_outside, handler_is_outside, arbiter_is_outside, has_outside}
+use Rattle.ccr_wiring.specs.Limits.{is_outside, policy_is_outside, expr_is_outside, action_is_outside, slot_is_outside, pattern_is_outside, branch_is_outside, set_is_outside, handler_is_outside, arbiter_is_outside, domain_is_outside, has_outside}
+use Rattle.ccr_wiring.specs.Versions.{has_strange_version, is_long, expr_is_newer, action_is_newer, handler_is_newer, poster_is_newer, has_newer}
 use Rattle.ccr_wiring.specs.Spots.{has_crowded_port}
 use Rattle.ccr_wiring.specs.Codes.{code_of}
 use Rattle.ccr_wiring.specs.Valid.{IsValid}
 use Rattle.ccr_wiretext.proofs.Steps.{not_true, not_false}
-use Rattle.ccr_wiretext.proofs.Each.{Each, neither}
-use Rattle.ccr_wiretext.proofs.Fit.{PolicyFit, ExprFit, PortsFit, ActionFit, SlotFit, PatternFit, BranchFit, BranchesFit, ArbiterFit, Shaped, SetFit, HandlerFit, PostFit, PosterFit}
+use Rattle.ccr_wiretext.proofs.Each.{Each, neither, none_passes}
+use Rattle.ccr_wiretext.proofs.Fit.{PolicyFit, OldFit, ExprFit, PortsFit, ActionFit, SlotFit, PatternFit, BranchFit, BranchesFit, ArbiterFit, Shaped, SetFit, HandlerFit, PostFit, PosterFit, InterleaveFit, DomainFit}
 
 -- ---- tests that fail
 
@@ -64,25 +66,44 @@ policy_fits policies.Unbounded e = tt
 policy_fits (policies.Discard n) e = limits 1 1000 n e
 policy_fits (policies.Throttle n) e = limits 1 1000 n e
 
-expr_fits : (value : Expr) → expr_is_outside value ≡ false → ExprFit value
-expr_fits (exprs.Number n) e = tt
-expr_fits (exprs.Arg k) e = (limits 0 65535 k e).1
-expr_fits exprs.Sum e = tt
-expr_fits exprs.Count e = tt
+-- where the version isn't 2, and one of the items is newer
+abbrev pub newer_in : {X : Type 0} → ℕ → (X → Bool) → X → Bool
+newer_in version newer x = not (version == 2) && newer x
 
-action_fits : (parts : Parts) (action : Action) → action_is_dangling parts action ≡ false → action_is_outside action ≡ false → ActionFit (length parts.ports) (length parts.causes) action
-action_fits parts (actions.Post port value) there inside = (below (length parts.ports) port there, expr_fits value inside)
-action_fits parts (actions.Fail value) there inside = expr_fits value inside
-action_fits parts (actions.Add cause) there inside = below (length parts.causes) cause there
-action_fits parts (actions.Remove cause) there inside = below (length parts.causes) cause there
-action_fits parts (actions.Await port) there inside = below (length parts.ports) port there
+pub old_each : {X : Type 0} (version : ℕ) (newer : X → Bool) (xs : List X) → OldFit version (list_any newer xs) → list_any (newer_in version newer) xs ≡ false
+old_each {X} version newer xs old = by (not (version == 2)) old
+  where
+    by : (t : Bool) → (t && list_any newer xs) ≡ false → list_any (λ (x : X). t && newer x) xs ≡ false
+    by true e = e
+    by false e = none_passes (λ (x : X). false) (λ x. refl) xs
 
-pub handler_fits : (parts : Parts) (part : HandlerPart) → handler_is_dangling parts part ≡ false → handler_is_outside part ≡ false → HandlerFit (length parts.ports) (length parts.causes) part
-handler_fits parts part there inside =
+expr_fits : (version : ℕ) (value : Expr) → expr_is_outside value ≡ false → OldFit version (expr_is_newer value) → ExprFit version value
+expr_fits version (exprs.Number value) e old = old
+expr_fits version (exprs.Part message place) e old =
+    let parts = neither (is_outside 0 65535 message) (is_outside 0 7 place) e in
+    (old, (limits 0 65535 message parts.0).1, (limits 0 7 place parts.1).1)
+expr_fits version (exprs.Arg k) e old = (limits 0 65535 k e).1
+expr_fits version exprs.Sum e old = tt
+expr_fits version exprs.Count e old = tt
+
+action_fits : (parts : Parts) (action : Action) → action_is_dangling parts action ≡ false → action_is_outside action ≡ false → OldFit parts.version (action_is_newer action) → ActionFit parts.version (length parts.ports) (length parts.causes) action
+action_fits parts (actions.Post port value) there inside old = (below (length parts.ports) port there, expr_fits parts.version value inside old)
+action_fits parts (actions.Fail value) there inside old = expr_fits parts.version value inside old
+action_fits parts (actions.Add cause) there inside old = below (length parts.causes) cause there
+action_fits parts (actions.Remove cause) there inside old = below (length parts.causes) cause there
+action_fits parts (actions.Await port) there inside old = below (length parts.ports) port there
+
+pub handler_fits : (parts : Parts) (part : HandlerPart) → handler_is_dangling parts part ≡ false → handler_is_outside part ≡ false → OldFit parts.version (handler_is_newer part) → HandlerFit parts.version (length parts.ports) (length parts.causes) part
+handler_fits parts part there inside old =
     let limit = neither (nat_lt 16 (length part.handler.actions)) (list_any action_is_outside part.handler.actions) inside in (
-      each_if (ActionFit (length parts.ports) (length parts.causes)) (λ action. action_is_dangling parts action || action_is_outside action)
-          (λ action e. let a = neither (action_is_dangling parts action) (action_is_outside action) e in action_fits parts action a.0 a.1) part.handler.actions
-          (none_of_two (action_is_dangling parts) action_is_outside part.handler.actions there limit.1),
+      each_if (ActionFit parts.version (length parts.ports) (length parts.causes)) (λ action. action_is_dangling parts action || (action_is_outside action || newer_in parts.version action_is_newer action))
+          (λ action e.
+          let a = neither (action_is_dangling parts action) (action_is_outside action || newer_in parts.version action_is_newer action) e in
+          let b = neither (action_is_outside action) (newer_in parts.version action_is_newer action) a.1 in
+          action_fits parts action a.0 b.0 b.1)
+          part.handler.actions
+          (none_of_two (action_is_dangling parts) (λ action. action_is_outside action || newer_in parts.version action_is_newer action) part.handler.actions there
+          (none_of_two action_is_outside (newer_in parts.version action_is_newer) part.handler.actions limit.1 (old_each parts.version action_is_newer part.handler.actions old))),
       within 16 (length part.handler.actions) limit.0,
     )
 
@@ -150,22 +171,34 @@ set_fits parts part there once inside =
     let counted = limits 1 8 (length part.ports) inside in
     (numbers_fit (length parts.ports) part.ports there, not_false (are_apart part.ports) once, counted.0, counted.1)
 
-post_fits : (parts : Parts) (post : Sent) → post_is_dangling parts post ≡ false → post_repeats post ≡ false → PostFit (length parts.ports) (length parts.causes) post
-post_fits parts post there once =
+post_fits : (parts : Parts) (post : Sent) → post_is_dangling parts post ≡ false → post_repeats post ≡ false → OldFit parts.version (is_long post.value) → PostFit parts.version (length parts.ports) (length parts.causes) post
+post_fits parts post there once old =
     let a = neither (is_beyond (length parts.ports) post.port) (has_beyond (length parts.causes) post.causes) there in
-    (below (length parts.ports) post.port a.0, numbers_fit (length parts.causes) post.causes a.1, not_false (are_apart post.causes) once)
+    (below (length parts.ports) post.port a.0, numbers_fit (length parts.causes) post.causes a.1, not_false (are_apart post.causes) once, old)
 
-pub poster_fits : (parts : Parts) (part : PosterPart) → poster_is_dangling parts part ≡ false → poster_repeats part ≡ false → PosterFit (length parts.ports) (length parts.causes) part
-poster_fits parts part there once =
-    each_if (PostFit (length parts.ports) (length parts.causes)) (λ post. post_is_dangling parts post || post_repeats post)
-    (λ post e. let a = neither (post_is_dangling parts post) (post_repeats post) e in post_fits parts post a.0 a.1) part.posts
-    (none_of_two (post_is_dangling parts) post_repeats part.posts there once)
+pub poster_fits : (parts : Parts) (part : PosterPart) → poster_is_dangling parts part ≡ false → poster_repeats part ≡ false → OldFit parts.version (poster_is_newer part) → PosterFit parts.version (length parts.ports) (length parts.causes) part
+poster_fits parts part there once old =
+    each_if (PostFit parts.version (length parts.ports) (length parts.causes)) (λ post. post_is_dangling parts post || (post_repeats post || newer_in parts.version (λ (post : Sent). is_long post.value) post))
+    (λ post e.
+    let a = neither (post_is_dangling parts post) (post_repeats post || newer_in parts.version (λ (post : Sent). is_long post.value) post) e in
+    let b = neither (post_repeats post) (newer_in parts.version (λ (post : Sent). is_long post.value) post) a.1 in
+    post_fits parts post a.0 b.0 b.1)
+    part.posts
+    (none_of_two (post_is_dangling parts) (λ post. post_repeats post || newer_in parts.version (λ (post : Sent). is_long post.value) post) part.posts there
+    (none_of_two post_repeats (newer_in parts.version (λ (post : Sent). is_long post.value)) part.posts once (old_each parts.version (λ (post : Sent). is_long post.value) part.posts old)))
+
+pub domain_fits : (parts : Parts) (part : DomainPart) → domain_is_dangling parts part ≡ false → domain_is_outside part ≡ false → DomainFit parts.arbiters part
+domain_fits parts part there inside =
+    let counted = limits 2 8 (length part.members) inside in
+    (each_if (InterleaveFit parts.arbiters) (no_interleave parts) (λ n e. e) part.members there, counted.0, counted.1)
 
 -- ---- all codes
 
 -- no condition of a code stands
 pub record NoCode (parts : Parts) : Type 0 where
+  pub version : has_strange_version parts ≡ false
   pub grouped : has_misgrouped parts ≡ false
+  pub newer : has_newer parts ≡ false
   pub apart : has_repeated_name parts ≡ false
   pub there : has_dangling parts ≡ false
   pub once : has_repeat parts ≡ false
@@ -181,12 +214,14 @@ skip false n o e = (refl, e)
 pub no_code : (parts : Parts) → IsValid parts → NoCode parts
 unfolding code_of
 no_code parts valid =
-    let a = skip (has_misgrouped parts) 3 _ valid in
-    let b = skip (has_repeated_name parts) 6 _ a.1 in
+    let v = skip (has_strange_version parts) 2 _ valid in
+    let a = skip (has_misgrouped parts) 3 _ v.1 in
+    let n = skip (has_newer parts) 5 _ a.1 in
+    let b = skip (has_repeated_name parts) 6 _ n.1 in
     let c = skip (has_dangling parts) 7 _ b.1 in
     let d = skip (has_repeat parts) 8 _ c.1 in
     let e = skip (has_outside parts) 10 _ d.1 in
     let f = skip (has_branchless parts) 11 _ e.1 in
     let g = skip (has_crowded_port parts) 12 _ f.1 in
     let h = skip (has_malformed_name parts) 14 None g.1 in
-    record { grouped = a.0; apart = b.0; there = c.0; once = d.0; inside = e.0; branched = f.0; fine = g.0; formed = h.0 }
+    record { version = v.0; grouped = a.0; newer = n.0; apart = b.0; there = c.0; once = d.0; inside = e.0; branched = f.0; fine = g.0; formed = h.0 }

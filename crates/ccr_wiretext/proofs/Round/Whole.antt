@@ -1,9 +1,10 @@
 -- The canonical text of a valid wiring says that wiring.
-use Rattle.std.proofs.Common.{◌≡◌, ℕ, ◌≤◌, List, [], ◌∷◌, ◌++◌, map, Ok, inr, refl, sym, ap, subst, ◌∙◌, arith}
-use Rattle.std.specs.Prelude.{codes, decimal, flat_map}
+use Rattle.std.proofs.Common.{◌≡◌, ℕ, ◌+◌, ◌≤◌, Bool, true, false, List, [], ◌∷◌, ◌++◌, map, Some, Ok, inr, refl, sym, ap, subst, ◌∙◌, arith}
+use Rattle.std.specs.Prelude.{◌==◌, ◌&&◌, not, codes, decimal, flat_map}
+use Rattle.std.proofs.lemmas.Bool.Decides.{nat_tests}
 use Rattle.std.proofs.lemmas.List.{map-id}
 use Rattle.ccr_text.specs.Lines.{lines_of}
-use Rattle.ccr_text.specs.Spelling.{AreLines as AreClean, text_of, spelled_lines}
+use Rattle.ccr_text.specs.Spelling.{AreWords, AreLines as AreClean, text_of, spelled_lines}
 use Rattle.ccr_wiring.specs.declared.parts.Parts.{Parts}
 use Rattle.ccr_wiring.specs.declared.parts.QueuePart.{QueuePart}
 use Rattle.ccr_wiring.specs.declared.parts.SetPart.{SetPart}
@@ -23,9 +24,9 @@ use Rattle.ccr_wiretext.specs.Keywords.{keyword}
 use Rattle.ccr_wiretext.specs.Names.{Naming}
 use Rattle.ccr_wiretext.specs.Drafts.{Declared, nothing, with_budget}
 use Rattle.ccr_wiretext.specs.Places.{Words}
-use Rattle.ccr_wiretext.specs.Reading.{reading_text}
+use Rattle.ccr_wiretext.specs.Reading.{version_of, reading_text}
 use Rattle.ccr_wiretext.specs.Lines.{AreHeadedLines, IsText}
-use Rattle.ccr_wiretext.specs.Spelling.{budget_words, queue_words, port_words, set_words, cause_words, handler_lines, arbiter_lines, poster_lines, queue_lines, port_lines, acting_lines, canonical_lines, spelling}
+use Rattle.ccr_wiretext.specs.Spelling.{version_words, combine_words, budget_words, queue_words, port_words, set_words, cause_words, handler_lines, arbiter_lines, poster_lines, queue_lines, port_lines, acting_lines, canonical_lines, spelling}
 use Rattle.ccr_wiretext.specs.Values.{IsValued}
 use Rattle.ccr_wiretext.proofs.Texts.{text_read}
 use Rattle.ccr_wiretext.proofs.Sound.{Counts, Fits}
@@ -38,6 +39,7 @@ use Rattle.ccr_wiretext.proofs.Round.Handling.{handlers_lead}
 use Rattle.ccr_wiretext.proofs.Round.Shapes.{KnowsAll}
 use Rattle.ccr_wiretext.proofs.Round.Firing.{arbiter_entries}
 use Rattle.ccr_wiretext.proofs.Round.Arbiters.{firing_entries, arbiters_lead}
+use Rattle.ccr_wiretext.proofs.Round.Combining.{interleaves_known, domains_lead}
 use Rattle.ccr_wiretext.proofs.Round.Posting.{poster_entries, posters_lead}
 use Rattle.ccr_wiretext.proofs.Round.Validity.{NoCode, no_code}
 use Rattle.ccr_wiretext.proofs.Round.Fitting.{valid_counts, valid_fits, valid_names, valid_fine}
@@ -60,21 +62,21 @@ abbrev to_handlers : Parts → Naming
 to_handlers w = to_causes w ++ handler_entries w.handlers
 
 abbrev to_arbiters : Parts → Naming
-to_arbiters w = to_handlers w ++ firing_entries w.arbiters
+to_arbiters w = to_handlers w ++ firing_entries 0 w.arbiters
 
 abbrev to_posters : Parts → Naming
 to_posters w = to_arbiters w ++ poster_entries w.posters
 
-arbiter_called : (name : List ℕ) (kind : Kind) (branches : List BranchPart) → names_of (arbiter_entries (record { name = name; kind = kind; branches = branches })) ≡ arbiter_names (record { name = name; kind = kind; branches = branches })
-arbiter_called name arbiters.Receive branches = refl
-arbiter_called name arbiters.Choice branches = ap (λ (v : List (List ℕ)). name ∷ v) (names_entries (λ (branch : BranchPart). branch.name) (λ n. kinds.Branch) 0 branches)
-arbiter_called name arbiters.Interleave branches = ap (λ (v : List (List ℕ)). name ∷ v) (names_entries (λ (branch : BranchPart). branch.name) (λ n. kinds.Branch) 0 branches)
+arbiter_called : (number : ℕ) (name : List ℕ) (kind : Kind) (branches : List BranchPart) → names_of (arbiter_entries number (record { name = name; kind = kind; branches = branches })) ≡ arbiter_names (record { name = name; kind = kind; branches = branches })
+arbiter_called number name arbiters.Receive branches = refl
+arbiter_called number name arbiters.Choice branches = ap (λ (v : List (List ℕ)). name ∷ v) (names_entries (λ (branch : BranchPart). branch.name) (λ n. kinds.Branch) 0 branches)
+arbiter_called number name arbiters.Interleave branches = ap (λ (v : List (List ℕ)). name ∷ v) (names_entries (λ (branch : BranchPart). branch.name) (λ n. kinds.Branch) 0 branches)
 
-firing_called : (parts : List ArbiterPart) → names_of (firing_entries parts) ≡ flat_map arbiter_names parts
-firing_called [] = refl
-firing_called (part ∷ parts) =
-    names_append (arbiter_entries part) (firing_entries parts) ∙ ap (λ (v : List (List ℕ)). v ++ names_of (firing_entries parts)) (arbiter_called part.name part.kind part.branches)
-    ∙ ap (λ (v : List (List ℕ)). arbiter_names part ++ v) (firing_called parts)
+firing_called : (number : ℕ) (parts : List ArbiterPart) → names_of (firing_entries number parts) ≡ flat_map arbiter_names parts
+firing_called number [] = refl
+firing_called number (part ∷ parts) =
+    names_append (arbiter_entries number part) (firing_entries (number + 1) parts) ∙ ap (λ (v : List (List ℕ)). v ++ names_of (firing_entries (number + 1) parts)) (arbiter_called number part.name part.kind part.branches)
+    ∙ ap (λ (v : List (List ℕ)). arbiter_names part ++ v) (firing_called (number + 1) parts)
 
 -- a kind more
 called_more : (front more : Naming) (names some : List (List ℕ)) → names_of front ≡ names → names_of more ≡ some → names_of (front ++ more) ≡ names ++ some
@@ -87,7 +89,7 @@ all_called w =
     let sets = called_more (to_ports w) (set_entries w.sets) _ _ ports (names_entries (λ (part : SetPart). part.name) kinds.Set 0 w.sets) in
     let causes = called_more (to_sets w) (cause_entries w.causes) _ _ sets (names_entries (λ (part : CausePart). part.name) kinds.Cause 0 w.causes) in
     let handlers = called_more (to_causes w) (handler_entries w.handlers) _ _ causes (names_entries (λ (part : HandlerPart). part.name) kinds.Handler 0 w.handlers) in
-    let firings = called_more (to_handlers w) (firing_entries w.arbiters) _ _ handlers (firing_called w.arbiters) in
+    let firings = called_more (to_handlers w) (firing_entries 0 w.arbiters) _ _ handlers (firing_called 0 w.arbiters) in
     called_more (to_arbiters w) (poster_entries w.posters) _ _ firings (names_entries (λ (part : PosterPart). part.name) (λ n. kinds.Poster) 0 w.posters)
 
 -- good names up to a kind
@@ -98,7 +100,7 @@ good_to front more good = good_front (names_of front) (names_of more) (subst Goo
 
 -- what each kind leads to
 abbrev some_parts : Parts → Parts
-some_parts w = record { budget = w.budget; queues = []; ports = []; sets = []; causes = []; handlers = []; arbiters = []; posters = [] }
+some_parts w = record { version = w.version; budget = w.budget; queues = []; ports = []; sets = []; causes = []; handlers = []; arbiters = []; domains = []; posters = [] }
 
 abbrev with_queues : Parts → Parts
 with_queues w = record (some_parts w) { queues = w.queues }
@@ -118,9 +120,12 @@ with_handlers w = record (with_causes w) { handlers = w.handlers }
 abbrev with_arbiters : Parts → Parts
 with_arbiters w = record (with_handlers w) { arbiters = w.arbiters }
 
-budget_step : Again → (n : ℕ) → n ≤ 10000 → IsStep nothing (budget_words n) (with_budget nothing n)
+abbrev with_domains : Parts → Parts
+with_domains w = record (with_arbiters w) { domains = w.domains }
+
+budget_step : Again → (version n : ℕ) → n ≤ 10000 → IsStep (nothing version) (budget_words n) (with_budget (nothing version) n)
 unfolding keyword
-budget_step again n few = record {
+budget_step again version n few = record {
   first = codes "budget";
   others = decimal n ∷ [];
   word = keywords.Budget;
@@ -141,7 +146,7 @@ second_lines w = map port_words w.ports ++ map (set_words w) w.sets ++ map (caus
 
 -- what acts
 abbrev third_lines : Parts → List Words
-third_lines w = flat_map (handler_lines w) w.handlers ++ flat_map (arbiter_lines w) w.arbiters ++ flat_map (poster_lines w) w.posters
+third_lines w = flat_map (handler_lines w) w.handlers ++ flat_map (arbiter_lines w) w.arbiters ++ map (combine_words w) w.domains ++ flat_map (poster_lines w) w.posters
 
 -- the names are good, kind by kind
 record Goods (w : Parts) : Type 0 where
@@ -157,16 +162,16 @@ goods : (w : Parts) → NoCode w → Goods w
 goods w none =
     let posters : Good (names_of (to_posters w)) = subst Good (sym (all_called w)) (valid_names w none) in
     let arbiters = good_to (to_arbiters w) (poster_entries w.posters) posters in
-    let handlers = good_to (to_handlers w) (firing_entries w.arbiters) arbiters in
+    let handlers = good_to (to_handlers w) (firing_entries 0 w.arbiters) arbiters in
     let causes = good_to (to_causes w) (handler_entries w.handlers) handlers in
     let sets = good_to (to_sets w) (cause_entries w.causes) causes in
     let ports = good_to (to_ports w) (set_entries w.sets) sets in
     let queues = good_to (to_queues w) (port_entries w.ports) ports in
     record { queues = queues; ports = ports; sets = sets; causes = causes; handlers = handlers; arbiters = arbiters; posters = posters }
 
-firsts_lead : Again → (w : Parts) → Counts w → Fits w → Goods w → Leads nothing (first_lines w) (outside (with_queues w) (to_queues w) [])
+firsts_lead : Again → (w : Parts) → Counts w → Fits w → Goods w → Leads (nothing w.version) (first_lines w) (outside (with_queues w) (to_queues w) [])
 firsts_lead again w counts fits good =
-    (with_budget nothing w.budget, budget_step again w.budget counts.budget, queues_lead again (some_parts w) [] w.queues fits.queues counts.queues good.queues)
+    (with_budget (nothing w.version) w.budget, budget_step again w.version w.budget counts.budget, queues_lead again (some_parts w) [] w.queues fits.queues counts.queues good.queues)
 
 seconds_lead : (w : Parts) → Counts w → Fits w → Goods w → Leads (outside (with_queues w) (to_queues w) []) (second_lines w) (outside (with_causes w) (to_causes w) [])
 seconds_lead w counts fits good =
@@ -186,24 +191,28 @@ thirds_lead again w none valued counts fits good =
     let causes_then = causes_stay w (to_causes w) (handler_entries w.handlers) causes in
     let knows : KnowsAll w (to_handlers w) =
     record { queues = queues_stay w (to_causes w) (handler_entries w.handlers) queues; handlers = handlers_known w (to_causes w) good.handlers; ports = ports_then } in
-    leads_on (outside (with_causes w) (to_causes w) []) (outside (with_arbiters w) (to_arbiters w) (named_ports w)) (outside w (to_posters w) (named_ports w)) (flat_map (handler_lines w) w.handlers ++ flat_map (arbiter_lines w) w.arbiters) (flat_map (poster_lines w) w.posters)
-    (leads_on (outside (with_causes w) (to_causes w) []) (outside (with_handlers w) (to_handlers w) []) (outside (with_arbiters w) (to_arbiters w) (named_ports w)) (flat_map (handler_lines w) w.handlers) (flat_map (arbiter_lines w) w.arbiters)
+    let acted : Declared = outside (with_arbiters w) (to_arbiters w) (named_ports w) in
+    let joined : Declared = outside (with_domains w) (to_arbiters w) (named_ports w) in
+    leads_on (outside (with_causes w) (to_causes w) []) joined (outside w (to_posters w) (named_ports w)) (flat_map (handler_lines w) w.handlers ++ flat_map (arbiter_lines w) w.arbiters ++ map (combine_words w) w.domains) (flat_map (poster_lines w) w.posters)
+    (leads_on (outside (with_causes w) (to_causes w) []) acted joined (flat_map (handler_lines w) w.handlers ++ flat_map (arbiter_lines w) w.arbiters) (map (combine_words w) w.domains)
+    (leads_on (outside (with_causes w) (to_causes w) []) (outside (with_handlers w) (to_handlers w) []) acted (flat_map (handler_lines w) w.handlers) (flat_map (arbiter_lines w) w.arbiters)
     (handlers_lead again w (with_causes w) (to_causes w) w.handlers ports causes fits.handlers valued.0 counts.handlers good.handlers)
     (arbiters_lead again w (with_handlers w) (to_handlers w) w.arbiters knows fits.arbiters valued.1 good.arbiters (valid_fine w none) counts.arbiters counts.branches))
-    (posters_lead again w (with_arbiters w) (to_arbiters w) (named_ports w) w.posters (ports_stay w (to_handlers w) (firing_entries w.arbiters) ports_then) (causes_stay w (to_handlers w) (firing_entries w.arbiters) causes_then) fits.posters valued.2 counts.posters counts.posts good.posters)
+    (domains_lead w (with_arbiters w) (to_arbiters w) (named_ports w) w.domains (interleaves_known w (to_handlers w) good.arbiters) fits.domains fits.domains fits.combined counts.domains))
+    (posters_lead again w (with_domains w) (to_arbiters w) (named_ports w) w.posters (ports_stay w (to_handlers w) (firing_entries 0 w.arbiters) ports_then) (causes_stay w (to_handlers w) (firing_entries 0 w.arbiters) causes_then) fits.posters valued.2 counts.posters counts.posts good.posters)
 
 -- the lines behind the head
 abbrev lines_behind : Parts → List Words
 lines_behind w = first_lines w ++ second_lines w ++ third_lines w
 
-whole_leads : Again → (w : Parts) → IsValid w → IsValued w → Leads nothing (lines_behind w) (outside w (to_posters w) (named_ports w))
+whole_leads : Again → (w : Parts) → IsValid w → IsValued w → Leads (nothing w.version) (lines_behind w) (outside w (to_posters w) (named_ports w))
 whole_leads again w valid valued =
     let none = no_code w valid in
     let counts = valid_counts w none in
     let fits = valid_fits w none in
     let good = goods w none in
-    leads_on nothing (outside (with_causes w) (to_causes w) []) (outside w (to_posters w) (named_ports w)) (first_lines w ++ second_lines w) (third_lines w)
-    (leads_on nothing (outside (with_queues w) (to_queues w) []) (outside (with_causes w) (to_causes w) []) (first_lines w) (second_lines w) (firsts_lead again w counts fits good) (seconds_lead w counts fits good))
+    leads_on (nothing w.version) (outside (with_causes w) (to_causes w) []) (outside w (to_posters w) (named_ports w)) (first_lines w ++ second_lines w) (third_lines w)
+    (leads_on (nothing w.version) (outside (with_queues w) (to_queues w) []) (outside (with_causes w) (to_causes w) []) (first_lines w) (second_lines w) (firsts_lead again w counts fits good) (seconds_lead w counts fits good))
     (thirds_lead again w none valued counts fits good)
 
 -- ---- the text
@@ -212,10 +221,25 @@ whole_leads again w valid valued =
 abbrev pub FoundAgain : Type 0
 FoundAgain = (lines : List Words) → AreClean lines → lines_of (text_of lines) ≡ spelled_lines 1 lines
 
-abbrev head_words : Words
-head_words = codes "ccr" ∷ codes "1" ∷ []
+-- the line of the version is clean and gives the version
+abbrev IsHead : ℕ → Type 0
+IsHead version = (version_of (version_words version) ≡ Some version) × AreWords (version_words version)
 
-lines_are : (w : Parts) → canonical_lines w ≡ head_words ∷ lines_behind w
+one_head : IsHead 1
+one_head = (refl, (refl, refl, (refl, refl, tt)))
+
+two_head : IsHead 2
+two_head = (refl, (refl, refl, (refl, refl, tt)))
+
+head_is : (version : ℕ) → (not (version == 1) && not (version == 2)) ≡ false → IsHead version
+head_is version known = by (version == 1) (version == 2) refl refl known
+  where
+    by : (a b : Bool) → (version == 1) ≡ a → (version == 2) ≡ b → (not a && not b) ≡ false → IsHead version
+    by true b e f h = let is : version ≡ 1 = grind (arith, nat_tests, e) in subst IsHead (sym is) one_head
+    by false true e f h = let is : version ≡ 2 = grind (arith, nat_tests, f) in subst IsHead (sym is) two_head
+    by false false e f h = absurd cc
+
+lines_are : (w : Parts) → canonical_lines w ≡ version_words w.version ∷ lines_behind w
 unfolding queue_lines port_lines acting_lines
 lines_are w = refl
 
@@ -223,9 +247,10 @@ is_text : Again → FoundAgain → (w : Parts) → IsValid w → IsValued w → 
 is_text again found w valid valued =
     let final : Declared = outside w (to_posters w) (named_ports w) in
     let leads = whole_leads again w valid valued in
-    let clean : AreClean (head_words ∷ lines_behind w) = ((refl, refl, (refl, refl, tt)), leads_clean nothing (lines_behind w) final leads) in
-    let same : lines_of (spelling w) ≡ spelled_lines 1 (head_words ∷ lines_behind w) = ap (λ (lines : List Words). lines_of (text_of lines)) (lines_are w) ∙ found (head_words ∷ lines_behind w) clean in
-    subst (λ lines. AreHeadedLines lines w) (sym same) (refl, inr (refl, leads_say 2 nothing (lines_behind w) final leads refl))
+    let head = head_is w.version (no_code w valid).version in
+    let clean : AreClean (version_words w.version ∷ lines_behind w) = (head.1, leads_clean (nothing w.version) (lines_behind w) final leads) in
+    let same : lines_of (spelling w) ≡ spelled_lines 1 (version_words w.version ∷ lines_behind w) = ap (λ (lines : List Words). lines_of (text_of lines)) (lines_are w) ∙ found (version_words w.version ∷ lines_behind w) clean in
+    subst (λ lines. AreHeadedLines lines w) (sym same) (refl, inr (w.version, head.0, leads_say 2 (nothing w.version) (lines_behind w) final leads refl))
 
 pub written_read : Again → FoundAgain → (w : Parts) → IsValid w → IsValued w → reading_text (spelling w) ≡ Ok w
 written_read again found w valid valued = text_read (spelling w) w (is_text again found w valid valued)

@@ -42,3 +42,29 @@ fn budget_line_is_always_written(rt: HostRuntime) -> Result<(), Fail> {
     );
     Ok(())
 }
+
+const COMBINED: &str =
+    "ccr 1\nqueue q unbounded\nport a\nport b\nhandler h\nend\ninterleave i\nexclusive x q h take a 1 any\nend\ninterleave j\nconcurrent g q h take b 1 any\nend\nposter p\npost a 1\nend\ncombine j i\nreceive r always q h take a 1 any\n";
+
+const COMBINED_CANONICAL: &str =
+    "ccr 1\nbudget 10000\nqueue q unbounded\nport a\nport b\nhandler h\nend\ninterleave i\nexclusive x q h take a 1 any\nend\ninterleave j\nconcurrent g q h take b 1 any\nend\nreceive r always q h take a 1 any\ncombine j i\nposter p\npost a 1\nend\n";
+
+#[test]
+fn combined_interleaves_stand_before_the_posters(rt: HostRuntime) -> Result<(), Fail> {
+    assert!(rt; is_written(&rt, COMBINED, COMBINED_CANONICAL));
+    assert!(rt; is_written(&rt, COMBINED_CANONICAL, COMBINED_CANONICAL));
+    Ok(())
+}
+
+const LISTS: &str =
+    "ccr 2\nqueue q unbounded\nport a\nport b\nhandler h\npost a part 007 01\nfail 0,00,18446744073709551615\npost b sum\nend\nreceive r always q h take a 1 ge 05 b 1 any\nposter p\npost a 4,09\npost b 1,2,3,4,5,6,7,8\npost a 07\nend\n";
+
+const LISTS_CANONICAL: &str =
+    "ccr 2\nbudget 10000\nqueue q unbounded\nport a\nport b\nhandler h\npost a part 7 1\nfail 0,0,18446744073709551615\npost b sum\nend\nreceive r always q h take a 1 ge 5 b 1 any\nposter p\npost a 4,9\npost b 1,2,3,4,5,6,7,8\npost a 7\nend\n";
+
+#[test]
+fn values_are_written_with_commas(rt: HostRuntime) -> Result<(), Fail> {
+    assert!(rt; is_written(&rt, LISTS, LISTS_CANONICAL));
+    assert!(rt; is_written(&rt, LISTS_CANONICAL, LISTS_CANONICAL));
+    Ok(())
+}

@@ -1,0 +1,10 @@
+use Rattle.std.proofs.Common.{arith}
+use Rattle.std.proofs.lemmas.Grind.{common_steps}
+use Rattle.ccr_wiretext.proofs.Commas.{pieces_at, pieces_whole}
+use Rattle.ccr_wiretext.proofs.values.cut_piece.Goals as goal
+
+pub returns-then-byte-eq44-clause-cut : goal.returns-then-byte-eq44-clause-cut
+returns-then-byte-eq44-clause-cut c = grind (arith, common_steps, pieces_at c.args.word.now c.loop-place.place c.loop-place.invariant)
+
+pub returns-clause-whole : goal.returns-clause-whole
+returns-clause-whole c = pieces_whole c.args.word.now (λ k h. c.loop-place.invariant k (omega arith))

@@ -1,0 +1,6 @@
+use Rattle.std.proofs.Common.{◌≡◌, ◌++◌, map, take}
+use Rattle.ccr_wiretext.specs.Spelling.{arbiter_name}
+use Rattle.ccr_wiretext.proofs.words.LineWords.arbiters.Given as goal
+
+abbrev pub invariant-loop-arbiter : goal.invariant-loop-arbiter
+invariant-loop-arbiter l = l.self ≡ l.fn.self ++ map (arbiter_name l.parts) (take l.arbiter-index l.arbiters)
