@@ -1,6 +1,6 @@
 //! A vector that contracts see as a list, and the error for want of memory.
 
-ghost use Rattle.std.specs.Prelude.{◌≡◌, ◌<◌, [], ◌∷◌, ◌++◌, Some, IfOk, IfErr, OnOk, OnErr, length};
+ghost use Rattle.std.specs.Prelude.{◌≡◌, ◌<◌, ◌==◌, [], ◌∷◌, ◌++◌, Some, IfOk, IfErr, OnOk, OnErr, length};
 ghost use Rattle.std.specs.List.{slice_get, remove};
 
 use std::alloc::{AllocError, AllocFailed, Global};
@@ -67,6 +67,18 @@ impl<T> List<T> {
         &self.items
     }
 
+    pub fn len(&self) -> usize
+        ensures { result ≡ length self.now }
+    {
+        self.items.len()
+    }
+
+    pub fn is_empty(&self) -> bool
+        ensures { result ≡ (length self.now == 0) }
+    {
+        self.items.is_empty()
+    }
+
     /// Takes out the item at the place and closes up.
     pub fn remove(&mut self, place: usize) -> T
         requires { place < length self.old }
@@ -87,6 +99,19 @@ impl<T> List<T> {
     {
         let List { items } = self;
         items
+    }
+}
+
+impl<T: Drop> List<T> {
+    /// Adds the item at the end, or drops it.
+    pub fn add(&mut self, item: T) -> Result<(), OutOfMemory>
+        ensures ok { OnOk result (self.new ≡ self.old ++ item ∷ []) }
+        ensures err { OnErr result (self.new ≡ self.old) }
+    {
+        match self.items.push(item) {
+            Ok(()) => Ok(()),
+            Err(_) => Err(OutOfMemory),
+        }
     }
 }
 

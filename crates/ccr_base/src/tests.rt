@@ -10,7 +10,10 @@ fn pushes_and_removes(rt: HostRuntime) -> Result<(), Fail> {
     for number in 0..3u32 {
         list.push(number).ok().ok_or("memory")?;
     }
-    assert_eq!(rt; list.as_slice().len(), 3);
+    assert_eq!(rt; list.len(), 3);
+    list.add(7)?;
+    let last = list.remove(3);
+    assert_eq!(rt; last, 7);
     let second = list.remove(1);
     assert_eq!(rt; second, 1);
     assert_eq!(rt; list.as_slice(), [0, 2].as_slice());

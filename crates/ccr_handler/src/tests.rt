@@ -9,18 +9,18 @@ const EXCEPTION_PORTS: [PortNo; 3] = [10, 11, 12];
 
 /// A segment to be played, and what it must give.
 #[derive(Drop)]
-struct Row {
+struct Row<'a> {
     shows: &'static str,
-    actions: &'static [Action],
+    actions: &'a [Action],
     segment: u32,
-    values: &'static [Value],
-    causes: &'static [CauseNo],
-    posts: &'static [(PortNo, Value, &'static [CauseNo])],
+    values: &'a [Value],
+    causes: &'a [CauseNo],
+    posts: &'a [(PortNo, Value, &'a [CauseNo])],
     end: PlayEnd,
-    causes_then: &'static [CauseNo],
+    causes_then: &'a [CauseNo],
 }
 
-fn check(rt: &impl Abort, alloc: Global, row: &Row) -> Result<(), Fail> {
+fn check(rt: &impl Abort, alloc: Global, row: &Row<'_>) -> Result<(), Fail> {
     let handler = Handler {
         actions: List::from_vec(row.actions.to_vec(alloc)?),
     };
@@ -52,21 +52,21 @@ fn each_expression_has_its_value(rt: HostRuntime) -> Result<(), Fail> {
     let row = Row {
         shows: "a number, the arguments, their sum and their count",
         actions: &[
-            Action::Post(1, Expr::Number(7)),
+            Action::Post(1, Expr::Number(Value::one(7))),
             Action::Post(2, Expr::Arg(0)),
             Action::Post(3, Expr::Arg(1)),
             Action::Post(4, Expr::Sum),
             Action::Post(5, Expr::Count),
         ],
         segment: 0,
-        values: &[20, 30],
+        values: &[Value::one(20), Value::one(30)],
         causes: &[],
         posts: &[
-            (1, 7, &[]),
-            (2, 20, &[]),
-            (3, 30, &[]),
-            (4, 50, &[]),
-            (5, 2, &[]),
+            (1, Value::one(7), &[]),
+            (2, Value::one(20), &[]),
+            (3, Value::one(30), &[]),
+            (4, Value::one(50), &[]),
+            (5, Value::one(2), &[]),
         ],
         end: PlayEnd::Done,
         causes_then: &[],
@@ -83,9 +83,9 @@ fn argument_past_the_end_is_zero(rt: HostRuntime) -> Result<(), Fail> {
             Action::Post(1, Expr::Arg(4294967295)),
         ],
         segment: 0,
-        values: &[20, 30],
+        values: &[Value::one(20), Value::one(30)],
         causes: &[],
-        posts: &[(1, 0, &[]), (1, 0, &[])],
+        posts: &[(1, Value::one(0), &[]), (1, Value::one(0), &[])],
         end: PlayEnd::Done,
         causes_then: &[],
     };
@@ -99,10 +99,14 @@ fn sums_wrap_and_begin_at_zero(rt: HostRuntime) -> Result<(), Fail> {
             shows: "a sum wraps",
             actions: &[Action::Post(1, Expr::Sum), Action::Fail(Expr::Sum)],
             segment: 0,
-            values: &[18446744073709551615, 3, 18446744073709551615],
+            values: &[
+                Value::one(18446744073709551615),
+                Value::one(3),
+                Value::one(18446744073709551615),
+            ],
             causes: &[],
-            posts: &[(1, 1, &[])],
-            end: PlayEnd::Failed(1),
+            posts: &[(1, Value::one(1), &[])],
+            end: PlayEnd::Failed(Value::one(1)),
             causes_then: &[],
         },
         Row {
@@ -111,7 +115,7 @@ fn sums_wrap_and_begin_at_zero(rt: HostRuntime) -> Result<(), Fail> {
             segment: 0,
             values: &[],
             causes: &[],
-            posts: &[(1, 0, &[]), (2, 0, &[])],
+            posts: &[(1, Value::one(0), &[]), (2, Value::one(0), &[])],
             end: PlayEnd::Done,
             causes_then: &[],
         },
@@ -123,34 +127,68 @@ fn sums_wrap_and_begin_at_zero(rt: HostRuntime) -> Result<(), Fail> {
 }
 
 #[test]
+fn lists_are_summed_place_by_place(rt: HostRuntime) -> Result<(), Fail> {
+    let row = Row {
+        shows: "a sum as long as the longest value, each place by itself; a number that isn't there is 0",
+        actions: &[
+            Action::Post(1, Expr::Sum),
+            Action::Post(2, Expr::Part(0, 1)),
+            Action::Post(3, Expr::Part(1, 2)),
+            Action::Post(4, Expr::Part(2, 0)),
+            Action::Post(5, Expr::Arg(0)),
+        ],
+        segment: 0,
+        values: &[
+            Value::of(&[5, 18446744073709551615, 3]).ok_or("none")?,
+            Value::of(&[1, 1]).ok_or("none")?,
+        ],
+        causes: &[],
+        posts: &[
+            (1, Value::of(&[6, 0, 3]).ok_or("none")?, &[]),
+            (2, Value::one(18446744073709551615), &[]),
+            (3, Value::one(0), &[]),
+            (4, Value::one(0), &[]),
+            (
+                5,
+                Value::of(&[5, 18446744073709551615, 3]).ok_or("none")?,
+                &[],
+            ),
+        ],
+        end: PlayEnd::Done,
+        causes_then: &[],
+    };
+    check(&rt, rt.alloc(), &row)
+}
+
+#[test]
 fn failure_ends_the_play(rt: HostRuntime) -> Result<(), Fail> {
     let rows = [
         Row {
             shows: "a failure without causes posts nothing",
             actions: &[
-                Action::Post(1, Expr::Number(5)),
-                Action::Fail(Expr::Number(9)),
+                Action::Post(1, Expr::Number(Value::one(5))),
+                Action::Fail(Expr::Number(Value::one(9))),
             ],
             segment: 0,
             values: &[],
             causes: &[],
-            posts: &[(1, 5, &[])],
-            end: PlayEnd::Failed(9),
+            posts: &[(1, Value::one(5), &[])],
+            end: PlayEnd::Failed(Value::one(9)),
             causes_then: &[],
         },
         Row {
             shows: "a failure under one cause, and what stands behind it is not played",
             actions: &[
                 Action::Fail(Expr::Arg(0)),
-                Action::Post(1, Expr::Number(5)),
+                Action::Post(1, Expr::Number(Value::one(5))),
                 Action::Add(2),
                 Action::Await(1),
             ],
             segment: 0,
-            values: &[4],
+            values: &[Value::one(4)],
             causes: &[1],
-            posts: &[(11, 4, &[])],
-            end: PlayEnd::Failed(4),
+            posts: &[(11, Value::one(4), &[])],
+            end: PlayEnd::Failed(Value::one(4)),
             causes_then: &[1],
         },
     ];
@@ -167,10 +205,14 @@ fn failure_posts_for_each_cause_of_its_moment(rt: HostRuntime) -> Result<(), Fai
             shows: "a failure under three causes, in their order",
             actions: &[Action::Fail(Expr::Count)],
             segment: 0,
-            values: &[4, 4],
+            values: &[Value::one(4), Value::one(4)],
             causes: &[2, 0, 1],
-            posts: &[(12, 2, &[]), (10, 2, &[]), (11, 2, &[])],
-            end: PlayEnd::Failed(2),
+            posts: &[
+                (12, Value::one(2), &[]),
+                (10, Value::one(2), &[]),
+                (11, Value::one(2), &[]),
+            ],
+            end: PlayEnd::Failed(Value::one(2)),
             causes_then: &[2, 0, 1],
         },
         Row {
@@ -179,13 +221,13 @@ fn failure_posts_for_each_cause_of_its_moment(rt: HostRuntime) -> Result<(), Fai
                 Action::Add(1),
                 Action::Remove(2),
                 Action::Add(1),
-                Action::Fail(Expr::Number(6)),
+                Action::Fail(Expr::Number(Value::one(6))),
             ],
             segment: 0,
             values: &[],
             causes: &[2, 0],
-            posts: &[(10, 6, &[]), (11, 6, &[])],
-            end: PlayEnd::Failed(6),
+            posts: &[(10, Value::one(6), &[]), (11, Value::one(6), &[])],
+            end: PlayEnd::Failed(Value::one(6)),
             causes_then: &[0, 1],
         },
     ];
@@ -200,17 +242,21 @@ fn post_carries_the_causes_of_its_moment(rt: HostRuntime) -> Result<(), Fail> {
     let row = Row {
         shows: "a post carries the causes of its moment",
         actions: &[
-            Action::Post(1, Expr::Number(1)),
+            Action::Post(1, Expr::Number(Value::one(1))),
             Action::Add(2),
-            Action::Post(2, Expr::Number(2)),
+            Action::Post(2, Expr::Number(Value::one(2))),
             Action::Remove(0),
-            Action::Post(3, Expr::Number(3)),
+            Action::Post(3, Expr::Number(Value::one(3))),
             Action::Remove(1),
         ],
         segment: 0,
         values: &[],
         causes: &[0],
-        posts: &[(1, 1, &[0]), (2, 2, &[0, 2]), (3, 3, &[2])],
+        posts: &[
+            (1, Value::one(1), &[0]),
+            (2, Value::one(2), &[0, 2]),
+            (3, Value::one(3), &[2]),
+        ],
         end: PlayEnd::Done,
         causes_then: &[2],
     };
@@ -219,7 +265,7 @@ fn post_carries_the_causes_of_its_moment(rt: HostRuntime) -> Result<(), Fail> {
 
 /// Two awaits, and so three segments.
 const TWICE: [Action; 5] = [
-    Action::Post(1, Expr::Number(1)),
+    Action::Post(1, Expr::Count),
     Action::Await(8),
     Action::Post(2, Expr::Sum),
     Action::Await(9),
@@ -233,9 +279,9 @@ fn segments_lie_between_awaits(rt: HostRuntime) -> Result<(), Fail> {
             shows: "the first segment ends at the first await",
             actions: &TWICE,
             segment: 0,
-            values: &[5],
+            values: &[Value::one(5)],
             causes: &[0],
-            posts: &[(1, 1, &[0])],
+            posts: &[(1, Value::one(1), &[0])],
             end: PlayEnd::Yield(0),
             causes_then: &[0],
         },
@@ -243,9 +289,9 @@ fn segments_lie_between_awaits(rt: HostRuntime) -> Result<(), Fail> {
             shows: "the second segment",
             actions: &TWICE,
             segment: 1,
-            values: &[5, 6],
+            values: &[Value::one(5), Value::one(6)],
             causes: &[0],
-            posts: &[(2, 11, &[0])],
+            posts: &[(2, Value::one(11), &[0])],
             end: PlayEnd::Yield(1),
             causes_then: &[0],
         },
@@ -253,7 +299,7 @@ fn segments_lie_between_awaits(rt: HostRuntime) -> Result<(), Fail> {
             shows: "the last segment",
             actions: &TWICE,
             segment: 2,
-            values: &[5, 6, 7],
+            values: &[Value::one(5), Value::one(6), Value::one(7)],
             causes: &[0],
             posts: &[],
             end: PlayEnd::Done,

@@ -7,6 +7,7 @@ use sizes::{Sizes, parts};
 use std::alloc::Global;
 
 mod arbiters;
+mod domains;
 mod limits;
 mod sizes;
 mod spots;
