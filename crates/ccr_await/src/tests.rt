@@ -38,7 +38,7 @@ fn commit(
     attempt: u32,
     cause: CauseNo,
 ) -> Commit {
-    let task = task(alloc, attempt, Spot::Site(5, 1), 70, cause).expect(rt, "memory");
+    let task = task(alloc, attempt, Spot::Site(5, 1), Value::one(70), cause).expect(rt, "memory");
     assert!(rt; site.may_commit(&task));
     site.commit(task).expect(rt, "memory")
 }
@@ -74,14 +74,14 @@ fn first_suspended_resumes(rt: HostRuntime) -> Result<(), Fail> {
     let mut site = SiteObject::new(alloc, 5, 1);
     let reply = commit(&rt, alloc, &mut site, 40, 1);
     assert!(rt; matches!(reply, Commit::Dead(By::NoneWaiting)));
-    let first = task(alloc, 10, Spot::Branch(5), 7, 1).expect(&rt, "memory");
+    let first = task(alloc, 10, Spot::Branch(5), Value::one(7), 1).expect(&rt, "memory");
     assert!(rt; site.suspend(first).is_ok());
-    let second = task(alloc, 20, Spot::Branch(5), 8, 1).expect(&rt, "memory");
+    let second = task(alloc, 20, Spot::Branch(5), Value::one(8), 1).expect(&rt, "memory");
     assert!(rt; site.suspend(second).is_ok());
     let reply = commit(&rt, alloc, &mut site, 41, 2);
-    assert!(rt; resumes(&reply, 41, 10, &[7, 70], &[1, 2]));
+    assert!(rt; resumes(&reply, 41, 10, &[Value::one(7), Value::one(70)], &[1, 2]));
     let reply = commit(&rt, alloc, &mut site, 42, 1);
-    assert!(rt; resumes(&reply, 42, 20, &[8, 70], &[1]));
+    assert!(rt; resumes(&reply, 42, 20, &[Value::one(8), Value::one(70)], &[1]));
     let reply = commit(&rt, alloc, &mut site, 43, 1);
     assert!(rt; matches!(reply, Commit::Dead(By::NoneWaiting)));
     Ok(())

@@ -1,5 +1,5 @@
 -- Short runs of each place, worked out by hand and checked by computation: what its next note tells, and what it keeps.
-use Rattle.std.proofs.Common.{◌≡◌, ℕ, ◌+◌, ◌-◌, true, false, cond, ◌||◌, List, [], ◌∷◌, map, Some, None, refl}
+use Rattle.std.proofs.Common.{◌≡◌, ℕ, ◌+◌, ◌-◌, true, false, cond, ◌||◌, List, [], ◌∷◌, flat_map, Some, None, refl}
 use Rattle.std.specs.FinSet as set
 use Rattle.std.specs.Ordering.{eq_by_cmp}
 use Rattle.ccr_base.specs.declared.names.TaskId.{TaskId}
@@ -47,11 +47,11 @@ task attempt = record { actor = 1; attempt = attempt }
 
 -- a post of this value to port 0
 abbrev pub message : ℕ → Msg
-message value = record { id = Script 0 value; port = 0; value = value; causes = [] }
+message value = record { id = Script 0 value; port = 0; value = value ∷ []; causes = [] }
 
 -- the values that the port holds
 abbrev pub values : List Msg → List ℕ
-values messages = map (λ (m : Msg). m.value) messages
+values messages = flat_map (λ (m : Msg). m.value) messages
 
 abbrev pub two_small : Slot
 two_small = record { port = 0; least = 2; most = 2; pred = Lt 10 }
