@@ -1,5 +1,5 @@
 use super::*;
-use ccr_base::{Action, List, Msg, MsgId, OutOfMemory, Spot, TaskId};
+use ccr_base::{Action, List, Msg, MsgId, OutOfMemory, Spot, TaskId, Value};
 use ccr_model::{EndHow, Event, History, Totals};
 use ccr_samples::{name, one_cause, one_handler, one_receiver, only};
 use ccr_wiring::{Parts, Wiring};
@@ -44,7 +44,7 @@ fn post(alloc: Global, place: u32, port: u32) -> Event {
     Event::Post(Msg {
         id: MsgId::Script { actor: 0, place },
         port,
-        value: 9,
+        value: Value::one(9),
         causes: List::new(alloc),
     })
 }

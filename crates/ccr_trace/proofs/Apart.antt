@@ -21,7 +21,8 @@ use Rattle.ccr_wiring.specs.Limits.{has_outside}
 use Rattle.ccr_wiring.specs.Spots.{has_crowded_port}
 use Rattle.ccr_text.specs.Words.{is_name_of}
 use Rattle.ccr_wiring.specs.Valid.{IsValid}
-use Rattle.ccr_wiring.specs.Wirings.{Seat, seats_of, seats_from, seats}
+use Rattle.ccr_wiring.specs.Versions.{has_strange_version, has_newer}
+use Rattle.ccr_wiring.specs.Wirings.{Seat, seats_of, seats_from, seats, in_domain}
 use Rattle.ccr_trace.specs.Words.{branch_names, branch_names_of, cause_names}
 
 neither : (a b : Bool) → (a || b) ≡ false → (a ≡ false) × (b ≡ false)
@@ -32,13 +33,20 @@ no_code : (test : Bool) (code : ℕ) (rest : Option ℕ) → cond test (Some cod
 no_code true code rest e = absurd cc
 no_code false code rest e = (refl, e)
 
-pub misgrouped_none : (parts : Parts) → IsValid parts → has_misgrouped parts ≡ false
+-- the codes before that of a name that stands twice
+codes_before : (parts : Parts) → IsValid parts → (has_misgrouped parts ≡ false) × (has_repeated_name parts ≡ false)
 unfolding code_of
-misgrouped_none parts valid = (no_code (has_misgrouped parts) 3 _ valid).0
+codes_before parts valid =
+    let version = no_code (has_strange_version parts) 2 _ valid in
+    let grouped = no_code (has_misgrouped parts) 3 _ version.1 in
+    let older = no_code (has_newer parts) 5 _ grouped.1 in
+    (grouped.0, (no_code (has_repeated_name parts) 6 _ older.1).0)
 
-pub repeated_none : (parts : Parts) → IsValid parts → has_repeated_name parts ≡ false
-unfolding code_of
-repeated_none parts valid = (no_code (has_repeated_name parts) 6 _ (no_code (has_misgrouped parts) 3 _ valid).1).0
+misgrouped_none : (parts : Parts) → IsValid parts → has_misgrouped parts ≡ false
+misgrouped_none parts valid = (codes_before parts valid).0
+
+repeated_none : (parts : Parts) → IsValid parts → has_repeated_name parts ≡ false
+repeated_none parts valid = (codes_before parts valid).1
 
 none_left : (test : List ℕ → Bool) (xs ys : List (List ℕ)) → list_any test (xs ++ ys) ≡ false → list_any test xs ≡ false
 none_left test xs ys e = (neither (list_any test xs) (list_any test ys) (sym (list_any-append test xs ys) ∙ e)).0
@@ -178,13 +186,15 @@ counted number (arbiter ∷ arbiters) =
 
 -- a name for each branch
 pub length-branch_names : (parts : Parts) → length (branch_names parts) ≡ length (seats parts)
-length-branch_names parts = counted 0 parts.arbiters
+length-branch_names parts = counted 0 parts.arbiters ∙ sym (length-map (seats_from 0 parts.arbiters) (in_domain parts.domains))
 
 formed : (parts : Parts) → IsValid parts → list_any (λ name. not (is_name_of name)) (declared_names parts) ≡ false
 unfolding code_of
 formed parts valid =
-    let a = no_code (has_misgrouped parts) 3 _ valid in
-    let b = no_code (has_repeated_name parts) 6 _ a.1 in
+    let version = no_code (has_strange_version parts) 2 _ valid in
+    let grouped = no_code (has_misgrouped parts) 3 _ version.1 in
+    let older = no_code (has_newer parts) 5 _ grouped.1 in
+    let b = no_code (has_repeated_name parts) 6 _ older.1 in
     let c = no_code (has_dangling parts) 7 _ b.1 in
     let d = no_code (has_repeat parts) 8 _ c.1 in
     let e = no_code (has_outside parts) 10 _ d.1 in

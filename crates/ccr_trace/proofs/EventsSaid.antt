@@ -13,12 +13,14 @@ use Rattle.ccr_wiring.specs.Valid.{IsValid}
 use Rattle.ccr_wiring.specs.Wirings.{Seat, seat, seats, site_port}
 use Rattle.ccr_model.specs.declared.history.Event.{Event}
 use Rattle.ccr_model.specs.declared.history.Event.TheVariants as events
+use Rattle.ccr_model.specs.declared.history.EndHow.{EndHow}
+use Rattle.ccr_model.specs.declared.history.EndHow.TheVariants as ends
 use Rattle.ccr_trace.specs.Words.{name_at, cause_names, branch_names, spot_word}
 use Rattle.ccr_trace.specs.HistoryText.{event_words}
-use Rattle.ccr_trace.specs.Said.{SpotName, Said, Post, Fire, Admit, Put, Start, End, said_words, spot_name_word, IsSaid, IsName, IsSite}
-use Rattle.ccr_trace.specs.Places.{◌>>=◌}
-use Rattle.ccr_trace.specs.Forms.{Words, each}
-use Rattle.ccr_trace.specs.Known.{number_in, spot_at, spot_known, known, IsKnownSpot, IsKnown, HasMessages, IsShortSpot, IsShort}
+use Rattle.ccr_trace.specs.Said.{SpotName, Said, Post, Fire, Admit, Put, Start, End, said_words, spot_name_word, IsSaid, IsName, IsSite, IsEnd}
+use Rattle.ccr_trace.specs.Places.{◌>>=◌, each}
+use Rattle.ccr_trace.specs.Forms.{Words}
+use Rattle.ccr_trace.specs.Known.{number_in, spot_at, spot_known, known, IsKnownSpot, IsKnownEnd, IsKnown, HasMessages, IsShortSpot, IsShortEnd, IsShort}
 use Rattle.ccr_trace.proofs.Steps.{bind_some, some_is, chosen, only_one}
 use Rattle.ccr_trace.proofs.Apart.{ports_apart, causes_apart, branches_apart, length-branch_names, are_formed}
 use Rattle.ccr_trace.proofs.ByNumber.{name_at-number, number_in-name, name_formed}
@@ -80,17 +82,23 @@ causes_good parts valid (cause ∷ causes) there =
     (name_formed (cause_names parts) cause (are_formed parts valid).causes (omega (arith, here.0, count_causes parts)))
     (causes_good parts valid causes (λ k d below. there (suc k) d (omega arith)))
 
+end_good : (parts : Parts) (how : EndHow) → IsKnownEnd parts how → IsShortEnd how → IsEnd parts.version how
+end_good parts (ends.Failed value) there short = (short, there)
+end_good parts ends.Done there short = tt
+end_good parts ends.Yield there short = tt
+end_good parts ends.Shed there short = tt
+
 -- it may stand in a line
-pub said_good : (parts : Parts) (event : Event) → IsValid parts → IsKnown parts event → HasMessages event → IsShort event → IsSaid (said_of parts event)
+pub said_good : (parts : Parts) (event : Event) → IsValid parts → IsKnown parts event → HasMessages event → IsShort event → IsSaid parts.version (said_of parts event)
 said_good parts (events.Post message) valid there some short =
-    (short.0, name_formed parts.ports message.port (are_formed parts valid).ports there.0, short.1, causes_good parts valid message.causes there.1)
+    (short.0, name_formed parts.ports message.port (are_formed parts valid).ports there.0, (short.1, there.2), causes_good parts valid message.causes there.1)
 said_good parts (events.Fire task spot messages cuts) valid there some short =
     let spot_is = spot_good parts spot valid there short.1 in
     (short.0, spot_is.0, spot_is.1, some, short.2, short.3)
 said_good parts (events.Admit task) valid there some short = short
 said_good parts (events.Put task dropped) valid there some short = short
 said_good parts (events.Start task actor) valid there some short = short
-said_good parts (events.End task how) valid there some short = short
+said_good parts (events.End task how) valid there some short = (short.0, end_good parts how there short.1)
 
 spot_again : (parts : Parts) (spot : Spot) → IsValid parts → IsKnownSpot parts spot → spot_known parts (spot_said parts spot) ≡ Some spot
 unfolding spot_known

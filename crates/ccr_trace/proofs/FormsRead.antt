@@ -11,15 +11,15 @@ use Rattle.ccr_model.specs.declared.history.EndHow.{EndHow}
 use Rattle.ccr_model.specs.declared.history.EndHow.TheVariants as ends
 use Rattle.ccr_text.specs.Words.{is_name_of}
 use Rattle.ccr_text.specs.Spelling.{joined}
-use Rattle.ccr_trace.specs.Words.{task_word, message_word}
+use Rattle.ccr_trace.specs.Words.{task_word, message_word, value_word}
 use Rattle.ccr_trace.specs.HistoryText.{cut_words, dropped_words, end_words}
 use Rattle.ccr_trace.specs.Pieces.{pieces}
-use Rattle.ccr_trace.specs.Said.{SpotName, Said, Post, Fire, Admit, Put, Start, End, said_words, spelled, spot_name_word, IsSaid, IsTask, IsMessage, IsName, IsDropped, IsEnd}
-use Rattle.ccr_trace.specs.Places.{◌>>=◌, exact_number, short_number, task_of, message_of, spot_of}
-use Rattle.ccr_trace.specs.Forms.{Words, word, each, cuts, fired, post_said, fire_said, admit_said, dropped_said, put_said, start_said, how_said, end_said, form_said, said_on}
+use Rattle.ccr_trace.specs.Said.{SpotName, Said, Post, Fire, Admit, Put, Start, End, said_words, spelled, spot_name_word, IsSaid, IsTask, IsMessage, IsName, IsValue, IsDropped, IsEnd}
+use Rattle.ccr_trace.specs.Places.{◌>>=◌, each, exact_number, short_number, value_of, task_of, message_of, spot_of}
+use Rattle.ccr_trace.specs.Forms.{Words, word, cuts, fired, post_said, fire_said, admit_said, dropped_said, put_said, start_said, how_said, end_said, form_said, said_on}
 use Rattle.ccr_trace.proofs.Steps.{is_some_of-some}
 use Rattle.ccr_trace.proofs.Parting.{AreMarked, pieces-joined, marked_both, marked_map}
-use Rattle.ccr_trace.proofs.WordsRead.{AreNumbers, number_read, short_read, task_read, message_read, spot_read, number_marked, task_marked, message_marked, spot_marked, name_marked, each_read}
+use Rattle.ccr_trace.proofs.WordsRead.{AreNumbers, value_read, short_read, task_read, message_read, spot_read, number_marked, value_marked, task_marked, message_marked, spot_marked, name_marked, each_read}
 
 names_read : (names : List (List ℕ)) → All IsName names → list_all is_name_of names ≡ true
 names_read [] good = refl
@@ -38,10 +38,10 @@ names_marked (name ∷ names) good =
     (name_marked name parts.0, names_marked names (λ k d below. good (suc k) d (omega arith)))
 
 module _ (numbers : AreNumbers) where
-  post_again : (id : MsgId) (port : List ℕ) (value : ℕ) (causes : List (List ℕ)) → IsSaid (Post id port value causes) → post_said (message_word id ∷ port ∷ decimal value ∷ causes) ≡ Some (Post id port value causes)
+  post_again : (version : ℕ) (id : MsgId) (port : List ℕ) (value : List ℕ) (causes : List (List ℕ)) → IsSaid version (Post id port value causes) → post_said version (message_word id ∷ port ∷ value_word value ∷ causes) ≡ Some (Post id port value causes)
   unfolding post_said
-  post_again id port value causes good =
-      rw (message_read numbers id good.0, good.1, number_read numbers value good.2, names_read causes good.3) refl
+  post_again version id port value causes good =
+      rw (message_read numbers id good.0, good.1, value_read numbers version value good.2, names_read causes good.3) refl
 
   cuts_again : (tasks : List TaskId) → 0 < length tasks → All IsTask tasks → cuts (map task_word tasks) ≡ Some tasks
   unfolding cuts
@@ -60,10 +60,10 @@ module _ (numbers : AreNumbers) where
       let rest = fired_again messages tasks (λ k d below. good (suc k) d (omega arith)) cut in
       rw (no_cut message, message_read numbers message parts.0, rest) refl
 
-  fire_again : (task : TaskId) (spot : SpotName) (messages : List MsgId) (tasks : List TaskId) → IsSaid (Fire task spot messages tasks)
+  fire_again : (task : TaskId) (spot : SpotName) (messages : List MsgId) (tasks : List TaskId) (version : ℕ) → IsSaid version (Fire task spot messages tasks)
       → fire_said (task_word task ∷ spot_name_word spot ∷ (map message_word messages ++ cut_words tasks)) ≡ Some (Fire task spot messages tasks)
   unfolding fire_said
-  fire_again task spot messages tasks good =
+  fire_again task spot messages tasks version good =
       rw (task_read numbers task good.0, spot_read numbers spot good.1 good.2, fired_again messages tasks good.4 good.5, is_some_of-some messages good.3) refl
 
   admit_again : (task : TaskId) → IsTask task → admit_said (task_word task ∷ []) ≡ Some (Admit task)
@@ -75,24 +75,24 @@ module _ (numbers : AreNumbers) where
   dropped_again None good = refl
   dropped_again (Some task) good = rw (task_read numbers task good) refl
 
-  put_again : (task : TaskId) (dropped : Option TaskId) → IsSaid (Put task dropped) → put_said (task_word task ∷ dropped_words dropped) ≡ Some (Put task dropped)
+  put_again : (version : ℕ) (task : TaskId) (dropped : Option TaskId) → IsSaid version (Put task dropped) → put_said (task_word task ∷ dropped_words dropped) ≡ Some (Put task dropped)
   unfolding put_said
-  put_again task dropped good = rw (task_read numbers task good.0, dropped_again dropped good.1) refl
+  put_again version task dropped good = rw (task_read numbers task good.0, dropped_again dropped good.1) refl
 
-  start_again : (task : TaskId) (actor : ℕ) → IsSaid (Start task actor) → start_said (task_word task ∷ decimal actor ∷ []) ≡ Some (Start task actor)
+  start_again : (version : ℕ) (task : TaskId) (actor : ℕ) → IsSaid version (Start task actor) → start_said (task_word task ∷ decimal actor ∷ []) ≡ Some (Start task actor)
   unfolding start_said
-  start_again task actor good = rw (task_read numbers task good.0, short_read numbers actor good.1) refl
+  start_again version task actor good = rw (task_read numbers task good.0, short_read numbers actor good.1) refl
 
-  how_again : (how : EndHow) → IsEnd how → how_said (end_words how) ≡ Some (how, [])
+  how_again : (version : ℕ) (how : EndHow) → IsEnd version how → how_said version (end_words how) ≡ Some (how, [])
   unfolding how_said
-  how_again ends.Done good = refl
-  how_again (ends.Failed value) good = rw (number_read numbers value good) refl
-  how_again ends.Yield good = refl
-  how_again ends.Shed good = refl
+  how_again version ends.Done good = refl
+  how_again version (ends.Failed value) good = rw (value_read numbers version value good) refl
+  how_again version ends.Yield good = refl
+  how_again version ends.Shed good = refl
 
-  end_again : (task : TaskId) (how : EndHow) → IsSaid (End task how) → end_said (task_word task ∷ end_words how) ≡ Some (End task how)
+  end_again : (version : ℕ) (task : TaskId) (how : EndHow) → IsSaid version (End task how) → end_said version (task_word task ∷ end_words how) ≡ Some (End task how)
   unfolding end_said
-  end_again task how good = rw (task_read numbers task good.0, how_again how good.1) refl
+  end_again version task how good = rw (task_read numbers task good.0, how_again version how good.1) refl
 
   cut_marked : (tasks : List TaskId) → All IsTask tasks → AreMarked (cut_words tasks)
   cut_marked [] good = tt
@@ -102,33 +102,33 @@ module _ (numbers : AreNumbers) where
   dropped_marked None good = tt
   dropped_marked (Some task) good = (refl, (task_marked numbers task good, tt))
 
-  end_marked : (how : EndHow) → IsEnd how → AreMarked (end_words how)
-  end_marked ends.Done good = (refl, tt)
-  end_marked (ends.Failed value) good = (refl, (number_marked numbers value good, tt))
-  end_marked ends.Yield good = (refl, tt)
-  end_marked ends.Shed good = (refl, tt)
+  end_marked : (version : ℕ) (how : EndHow) → IsEnd version how → AreMarked (end_words how)
+  end_marked version ends.Done good = (refl, tt)
+  end_marked version (ends.Failed value) good = (refl, (value_marked numbers version value good, tt))
+  end_marked version ends.Yield good = (refl, tt)
+  end_marked version ends.Shed good = (refl, tt)
 
   -- each word of a line has bytes of words alone
-  pub said_marked : (said : Said) → IsSaid said → AreMarked (said_words said)
-  said_marked (Post id port value causes) good = (refl, (message_marked numbers id good.0, (name_marked port good.1, (number_marked numbers value good.2, names_marked causes good.3))))
-  said_marked (Fire task spot messages tasks) good =
+  pub said_marked : (version : ℕ) (said : Said) → IsSaid version said → AreMarked (said_words said)
+  said_marked version (Post id port value causes) good = (refl, (message_marked numbers id good.0, (name_marked port good.1, (value_marked numbers version value good.2, names_marked causes good.3))))
+  said_marked version (Fire task spot messages tasks) good =
       (refl, (task_marked numbers task good.0, (spot_marked numbers spot good.1 good.2, marked_both (map message_word messages) (cut_words tasks) (marked_map message_word IsMessage (message_marked numbers) messages good.4) (cut_marked tasks good.5))))
-  said_marked (Admit task) good = (refl, (task_marked numbers task good, tt))
-  said_marked (Put task dropped) good = (refl, (task_marked numbers task good.0, dropped_marked dropped good.1))
-  said_marked (Start task actor) good = (refl, (task_marked numbers task good.0, (number_marked numbers actor (omega arith), tt)))
-  said_marked (End task how) good = (refl, (task_marked numbers task good.0, end_marked how good.1))
+  said_marked version (Admit task) good = (refl, (task_marked numbers task good, tt))
+  said_marked version (Put task dropped) good = (refl, (task_marked numbers task good.0, dropped_marked dropped good.1))
+  said_marked version (Start task actor) good = (refl, (task_marked numbers task good.0, (number_marked numbers actor (omega arith), tt)))
+  said_marked version (End task how) good = (refl, (task_marked numbers task good.0, end_marked version how good.1))
 
-  line_again : (first : List ℕ) (words : Words) (said : Said) → AreMarked (first ∷ words) → form_said first words ≡ Some said → said_on (joined (first ∷ words)) ≡ Some said
-  line_again first words said marked is = rw (pieces-joined first words marked) is
+  line_again : (version : ℕ) (first : List ℕ) (words : Words) (said : Said) → AreMarked (first ∷ words) → form_said version first words ≡ Some said → said_on version (joined (first ∷ words)) ≡ Some said
+  line_again version first words said marked is = rw (pieces-joined first words marked) is
 
   -- a line that is spelled says the same again
-  pub said_again : (said : Said) → IsSaid said → said_on (spelled said) ≡ Some said
+  pub said_again : (version : ℕ) (said : Said) → IsSaid version said → said_on version (spelled said) ≡ Some said
   unfolding form_said
-  said_again (Post id port value causes) good =
-      line_again (codes "post") (message_word id ∷ port ∷ decimal value ∷ causes) (Post id port value causes) (said_marked (Post id port value causes) good) (post_again id port value causes good)
-  said_again (Fire task spot messages tasks) good =
-      line_again (codes "fire") (task_word task ∷ spot_name_word spot ∷ (map message_word messages ++ cut_words tasks)) (Fire task spot messages tasks) (said_marked (Fire task spot messages tasks) good) (fire_again task spot messages tasks good)
-  said_again (Admit task) good = line_again (codes "admit") (task_word task ∷ []) (Admit task) (said_marked (Admit task) good) (admit_again task good)
-  said_again (Put task dropped) good = line_again (codes "put") (task_word task ∷ dropped_words dropped) (Put task dropped) (said_marked (Put task dropped) good) (put_again task dropped good)
-  said_again (Start task actor) good = line_again (codes "start") (task_word task ∷ decimal actor ∷ []) (Start task actor) (said_marked (Start task actor) good) (start_again task actor good)
-  said_again (End task how) good = line_again (codes "end") (task_word task ∷ end_words how) (End task how) (said_marked (End task how) good) (end_again task how good)
+  said_again version (Post id port value causes) good =
+      line_again version (codes "post") (message_word id ∷ port ∷ value_word value ∷ causes) (Post id port value causes) (said_marked version (Post id port value causes) good) (post_again version id port value causes good)
+  said_again version (Fire task spot messages tasks) good =
+      line_again version (codes "fire") (task_word task ∷ spot_name_word spot ∷ (map message_word messages ++ cut_words tasks)) (Fire task spot messages tasks) (said_marked version (Fire task spot messages tasks) good) (fire_again task spot messages tasks version good)
+  said_again version (Admit task) good = line_again version (codes "admit") (task_word task ∷ []) (Admit task) (said_marked version (Admit task) good) (admit_again task good)
+  said_again version (Put task dropped) good = line_again version (codes "put") (task_word task ∷ dropped_words dropped) (Put task dropped) (said_marked version (Put task dropped) good) (put_again version task dropped good)
+  said_again version (Start task actor) good = line_again version (codes "start") (task_word task ∷ decimal actor ∷ []) (Start task actor) (said_marked version (Start task actor) good) (start_again version task actor good)
+  said_again version (End task how) good = line_again version (codes "end") (task_word task ∷ end_words how) (End task how) (said_marked version (End task how) good) (end_again version task how good)

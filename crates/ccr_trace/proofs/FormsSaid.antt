@@ -11,14 +11,14 @@ use Rattle.ccr_model.specs.declared.history.EndHow.{EndHow}
 use Rattle.ccr_model.specs.declared.history.EndHow.TheVariants as ends
 use Rattle.ccr_text.specs.Words.{is_name_of}
 use Rattle.ccr_text.specs.Spelling.{joined}
-use Rattle.ccr_trace.specs.Words.{task_word, message_word}
+use Rattle.ccr_trace.specs.Words.{task_word, message_word, value_word}
 use Rattle.ccr_trace.specs.HistoryText.{cut_words, dropped_words, end_words}
 use Rattle.ccr_trace.specs.Pieces.{pieces}
 use Rattle.ccr_trace.specs.Said.{SpotName, Said, Post, Fire, Admit, Put, Start, End, said_words, spelled, spot_name_word, IsSaid, IsTask, IsMessage, IsName, IsDropped, IsEnd}
-use Rattle.ccr_trace.specs.Places.{◌>>=◌, exact_number, short_number, value_of, name_of, task_of, message_of, spot_of}
-use Rattle.ccr_trace.specs.Forms.{Words, word, no_more, only, place, each, is_some_of, cuts, fired, post_said, fire_said, admit_said, dropped_said, put_said, start_said, plain_end, failed, how_said, end_said, form_said, said_on}
+use Rattle.ccr_trace.specs.Places.{◌>>=◌, each, exact_number, short_number, value_of, name_of, task_of, message_of, spot_of}
+use Rattle.ccr_trace.specs.Forms.{Words, word, no_more, only, place, is_some_of, cuts, fired, post_said, fire_said, admit_said, dropped_said, put_said, start_said, plain_end, failed, how_said, end_said, form_said, said_on}
 use Rattle.ccr_trace.proofs.Steps.{bind_some, some_is, only_one, only_some, word_some, no_more_some, place_some, chosen, same_word, some_of}
-use Rattle.ccr_trace.proofs.WordsSaid.{number_said, short_said, task_said, message_said, name_said, spot_said, each_said}
+use Rattle.ccr_trace.proofs.WordsSaid.{value_said, short_said, task_said, message_said, name_said, spot_said, each_said}
 
 both : (a b : Bool) → (a && b) ≡ true → (a ≡ true) × (b ≡ true)
 both true b e = (refl, e)
@@ -31,26 +31,26 @@ names_said (w ∷ words) e =
     All-cons IsName w words parts.0 (names_said words parts.1)
 
 -- what is said fits, and these are its words
-abbrev pub Tells : List ℕ → Words → Said → Type 0
-Tells first words said = IsSaid said × (said_words said ≡ first ∷ words)
+abbrev pub Tells : ℕ → List ℕ → Words → Said → Type 0
+Tells version first words said = IsSaid version said × (said_words said ≡ first ∷ words)
 
-pub post_told : (words : Words) (said : Said) → post_said words ≡ Some said → Tells (codes "post") words said
+pub post_told : (version : ℕ) (words : Words) (said : Said) → post_said version words ≡ Some said → Tells version (codes "post") words said
 unfolding post_said
-post_told words said e =
+post_told version words said e =
     let message = bind_some (place message_of words) _ said e in
     let message_word_is = place_some message_of words message.0 message.1 in
     let message_good = message_said message_word_is.0 message.0.0 message_word_is.2 in
     let port = bind_some (place name_of message.0.1) _ said message.2 in
     let port_word_is = place_some name_of message.0.1 port.0 port.1 in
     let port_good = name_said port_word_is.0 port.0.0 port_word_is.2 in
-    let value = bind_some (place value_of port.0.1) _ said port.2 in
-    let value_word_is = place_some value_of port.0.1 value.0 value.1 in
-    let value_good = number_said value_word_is.0 value.0.0 value_word_is.2 in
+    let value = bind_some (place (value_of version) port.0.1) _ said port.2 in
+    let value_word_is = place_some (value_of version) port.0.1 value.0 value.1 in
+    let value_good = value_said version value_word_is.0 value.0.0 value_word_is.2 in
     let named = bind_some (only (list_all is_name_of value.0.1)) _ said value.2 in
     let names = names_said value.0.1 (only_some (list_all is_name_of value.0.1) named.0 named.1) in
     let same = some_is (Post message.0.0 port.0.0 value.0.0 value.0.1) said named.2 in
-    let words_are : codes "post" ∷ message_word message.0.0 ∷ port.0.0 ∷ decimal value.0.0 ∷ value.0.1 ≡ codes "post" ∷ words = cc in
-    subst (λ (s : Said). Tells (codes "post") words s) same ((message_good.0, port_good.0, value_good.0, names), words_are)
+    let words_are : codes "post" ∷ message_word message.0.0 ∷ port.0.0 ∷ value_word value.0.0 ∷ value.0.1 ≡ codes "post" ∷ words = cc in
+    subst (λ (s : Said). Tells version (codes "post") words s) same ((message_good.0, port_good.0, value_good.0, names), words_are)
 
 pub cut_words-some : (tasks : List TaskId) → 0 < length tasks → cut_words tasks ≡ codes "cut" ∷ map task_word tasks
 cut_words-some [] some = absurd (omega arith)
@@ -98,9 +98,9 @@ fired_told (first ∷ words) rest e =
       | inr h ↦ fired_more first words rest (fired_told words) h.1
     ]
 
-pub fire_told : (words : Words) (said : Said) → fire_said words ≡ Some said → Tells (codes "fire") words said
+pub fire_told : (version : ℕ) (words : Words) (said : Said) → fire_said words ≡ Some said → Tells version (codes "fire") words said
 unfolding fire_said
-fire_told words said e =
+fire_told version words said e =
     let task = bind_some (place task_of words) _ said e in
     let task_word_is = place_some task_of words task.0 task.1 in
     let task_good = task_said task_word_is.0 task.0.0 task_word_is.2 in
@@ -113,11 +113,11 @@ fire_told words said e =
     let many = some_of rest.0.0 (only_some (is_some_of rest.0.0) some.0 some.1) in
     let same = some_is (Fire task.0.0 spot.0.0 rest.0.0 rest.0.1) said some.2 in
     let words_are : codes "fire" ∷ task_word task.0.0 ∷ spot_name_word spot.0.0 ∷ (map message_word rest.0.0 ++ cut_words rest.0.1) ≡ codes "fire" ∷ words = cc in
-    subst (λ (s : Said). Tells (codes "fire") words s) same ((task_good.0, spot_good.0, spot_good.1, many, rest_good.0, rest_good.1), words_are)
+    subst (λ (s : Said). Tells version (codes "fire") words s) same ((task_good.0, spot_good.0, spot_good.1, many, rest_good.0, rest_good.1), words_are)
 
-pub admit_told : (words : Words) (said : Said) → admit_said words ≡ Some said → Tells (codes "admit") words said
+pub admit_told : (version : ℕ) (words : Words) (said : Said) → admit_said words ≡ Some said → Tells version (codes "admit") words said
 unfolding admit_said
-admit_told words said e =
+admit_told version words said e =
     let task = bind_some (place task_of words) _ said e in
     let task_word_is = place_some task_of words task.0 task.1 in
     let task_good = task_said task_word_is.0 task.0.0 task_word_is.2 in
@@ -125,7 +125,7 @@ admit_told words said e =
     let no_more_is = no_more_some task.0.1 done.0 done.1 in
     let same = some_is (Admit task.0.0) said done.2 in
     let words_are : codes "admit" ∷ task_word task.0.0 ∷ [] ≡ codes "admit" ∷ words = cc in
-    subst (λ (s : Said). Tells (codes "admit") words s) same (task_good.0, words_are)
+    subst (λ (s : Said). Tells version (codes "admit") words s) same (task_good.0, words_are)
 
 dropped_told : (words : Words) (dropped : Option TaskId) → dropped_said words ≡ Some dropped → IsDropped dropped × (dropped_words dropped ≡ words)
 unfolding dropped_said
@@ -142,9 +142,9 @@ dropped_told (first ∷ words) dropped e =
     let words_are : codes "drop" ∷ task_word task.0.0 ∷ [] ≡ first ∷ words = cc in
     subst (λ (d : Option TaskId). IsDropped d × (dropped_words d ≡ first ∷ words)) same (task_good.0, words_are)
 
-pub put_told : (words : Words) (said : Said) → put_said words ≡ Some said → Tells (codes "put") words said
+pub put_told : (version : ℕ) (words : Words) (said : Said) → put_said words ≡ Some said → Tells version (codes "put") words said
 unfolding put_said
-put_told words said e =
+put_told version words said e =
     let task = bind_some (place task_of words) _ said e in
     let task_word_is = place_some task_of words task.0 task.1 in
     let task_good = task_said task_word_is.0 task.0.0 task_word_is.2 in
@@ -152,11 +152,11 @@ put_told words said e =
     let dropped_good = dropped_told task.0.1 dropped.0 dropped.1 in
     let same = some_is (Put task.0.0 dropped.0) said dropped.2 in
     let words_are : codes "put" ∷ task_word task.0.0 ∷ dropped_words dropped.0 ≡ codes "put" ∷ words = cc in
-    subst (λ (s : Said). Tells (codes "put") words s) same ((task_good.0, dropped_good.0), words_are)
+    subst (λ (s : Said). Tells version (codes "put") words s) same ((task_good.0, dropped_good.0), words_are)
 
-pub start_told : (words : Words) (said : Said) → start_said words ≡ Some said → Tells (codes "start") words said
+pub start_told : (version : ℕ) (words : Words) (said : Said) → start_said words ≡ Some said → Tells version (codes "start") words said
 unfolding start_said
-start_told words said e =
+start_told version words said e =
     let task = bind_some (place task_of words) _ said e in
     let task_word_is = place_some task_of words task.0 task.1 in
     let task_good = task_said task_word_is.0 task.0.0 task_word_is.2 in
@@ -167,88 +167,88 @@ start_told words said e =
     let no_more_is = no_more_some actor.0.1 done.0 done.1 in
     let same = some_is (Start task.0.0 actor.0.0) said done.2 in
     let words_are : codes "start" ∷ task_word task.0.0 ∷ decimal actor.0.0 ∷ [] ≡ codes "start" ∷ words = cc in
-    subst (λ (s : Said). Tells (codes "start") words s) same ((task_good.0, actor_good.0), words_are)
+    subst (λ (s : Said). Tells version (codes "start") words s) same ((task_good.0, actor_good.0), words_are)
 
 -- an end of one word
-end_is : (first text : List ℕ) (plain how : EndHow) → IsEnd plain → end_words plain ≡ text ∷ [] → bytes_eq first text ≡ true → Some plain ≡ Some how → IsEnd how × (end_words how ≡ first ∷ [])
-end_is first text plain how good spelled is e =
-    subst (λ (h : EndHow). IsEnd h × (end_words h ≡ first ∷ [])) (some_is plain how e) (good, spelled ∙ ap (λ (w : List ℕ). w ∷ []) (sym (same_word first text is)))
+end_is : (version : ℕ) (first text : List ℕ) (plain how : EndHow) → IsEnd version plain → end_words plain ≡ text ∷ [] → bytes_eq first text ≡ true → Some plain ≡ Some how → IsEnd version how × (end_words how ≡ first ∷ [])
+end_is version first text plain how good spelled is e =
+    subst (λ (h : EndHow). IsEnd version h × (end_words h ≡ first ∷ [])) (some_is plain how e) (good, spelled ∙ ap (λ (w : List ℕ). w ∷ []) (sym (same_word first text is)))
 
-plain_told : (first : List ℕ) (how : EndHow) → plain_end first ≡ Some how → IsEnd how × (end_words how ≡ first ∷ [])
-plain_told first how e =
+plain_told : (version : ℕ) (first : List ℕ) (how : EndHow) → plain_end first ≡ Some how → IsEnd version how × (end_words how ≡ first ∷ [])
+plain_told version first how e =
     elim (chosen (bytes_eq first (codes "done")) (Some ends.Done) _ (Some how) e) [
-      | inl h ↦ end_is first (codes "done") ends.Done how tt refl h.0 h.1
+      | inl h ↦ end_is version first (codes "done") ends.Done how tt refl h.0 h.1
       | inr h ↦ elim (chosen (bytes_eq first (codes "yield")) (Some ends.Yield) _ (Some how) h.1) [
-        | inl i ↦ end_is first (codes "yield") ends.Yield how tt refl i.0 i.1
+        | inl i ↦ end_is version first (codes "yield") ends.Yield how tt refl i.0 i.1
         | inr i ↦ elim (chosen (bytes_eq first (codes "shed")) (Some ends.Shed) None (Some how) i.1) [
-          | inl j ↦ end_is first (codes "shed") ends.Shed how tt refl j.0 j.1
+          | inl j ↦ end_is version first (codes "shed") ends.Shed how tt refl j.0 j.1
           | inr j ↦ absurd (let none : only_one how ≡ None = sym j.1 in cc)
         ]
       ]
     ]
 
 -- an end, and the words behind it
-abbrev IsHow : Words → EndHow × Words → Type 0
-IsHow words how = IsEnd how.0 × (end_words how.0 ++ how.1 ≡ words)
+abbrev IsHow : ℕ → Words → EndHow × Words → Type 0
+IsHow version words how = IsEnd version how.0 × (end_words how.0 ++ how.1 ≡ words)
 
-failed_told : (first : List ℕ) (words : Words) (how : EndHow × Words) → bytes_eq first (codes "failed") ≡ true → failed words ≡ Some how → IsHow (first ∷ words) how
-failed_told first words how is e =
-    let value = bind_some (place value_of words) _ how e in
-    let value_word_is = place_some value_of words value.0 value.1 in
-    let value_good = number_said value_word_is.0 value.0.0 value_word_is.2 in
+failed_told : (version : ℕ) (first : List ℕ) (words : Words) (how : EndHow × Words) → bytes_eq first (codes "failed") ≡ true → failed version words ≡ Some how → IsHow version (first ∷ words) how
+failed_told version first words how is e =
+    let value = bind_some (place (value_of version) words) _ how e in
+    let value_word_is = place_some (value_of version) words value.0 value.1 in
+    let value_good = value_said version value_word_is.0 value.0.0 value_word_is.2 in
     let first_is = same_word first (codes "failed") is in
-    let words_are : codes "failed" ∷ decimal value.0.0 ∷ value.0.1 ≡ first ∷ words = cc in
-    subst (λ (h : EndHow × Words). IsHow (first ∷ words) h) (some_is (ends.Failed value.0.0, value.0.1) how value.2) (value_good.0, words_are)
+    let words_are : codes "failed" ∷ value_word value.0.0 ∷ value.0.1 ≡ first ∷ words = cc in
+    subst (λ (h : EndHow × Words). IsHow version (first ∷ words) h) (some_is (ends.Failed value.0.0, value.0.1) how value.2) (value_good.0, words_are)
 
-plain_how : (first : List ℕ) (words : Words) (how : EndHow × Words) → (plain_end first >>= λ h. Some (h, words)) ≡ Some how → IsHow (first ∷ words) how
-plain_how first words how e =
+plain_how : (version : ℕ) (first : List ℕ) (words : Words) (how : EndHow × Words) → (plain_end first >>= λ h. Some (h, words)) ≡ Some how → IsHow version (first ∷ words) how
+plain_how version first words how e =
     let plain = bind_some (plain_end first) _ how e in
-    let told = plain_told first plain.0 plain.1 in
-    subst (λ (h : EndHow × Words). IsHow (first ∷ words) h) (some_is (plain.0, words) how plain.2) (told.0, ap (λ (w : List (List ℕ)). w ++ words) told.1)
+    let told = plain_told version first plain.0 plain.1 in
+    subst (λ (h : EndHow × Words). IsHow version (first ∷ words) h) (some_is (plain.0, words) how plain.2) (told.0, ap (λ (w : List (List ℕ)). w ++ words) told.1)
 
-how_told : (words : Words) (how : EndHow × Words) → how_said words ≡ Some how → IsHow words how
+how_told : (version : ℕ) (words : Words) (how : EndHow × Words) → how_said version words ≡ Some how → IsHow version words how
 unfolding how_said
-how_told [] how e = absurd cc
-how_told (first ∷ words) how e =
-    elim (chosen (bytes_eq first (codes "failed")) (failed words) _ (Some how) e) [
-      | inl h ↦ failed_told first words how h.0 h.1
-      | inr h ↦ plain_how first words how h.1
+how_told version [] how e = absurd cc
+how_told version (first ∷ words) how e =
+    elim (chosen (bytes_eq first (codes "failed")) (failed version words) _ (Some how) e) [
+      | inl h ↦ failed_told version first words how h.0 h.1
+      | inr h ↦ plain_how version first words how h.1
     ]
 
-pub end_told : (words : Words) (said : Said) → end_said words ≡ Some said → Tells (codes "end") words said
+pub end_told : (version : ℕ) (words : Words) (said : Said) → end_said version words ≡ Some said → Tells version (codes "end") words said
 unfolding end_said
-end_told words said e =
+end_told version words said e =
     let task = bind_some (place task_of words) _ said e in
     let task_word_is = place_some task_of words task.0 task.1 in
     let task_good = task_said task_word_is.0 task.0.0 task_word_is.2 in
-    let how = bind_some (how_said task.0.1) _ said task.2 in
-    let how_good = how_told task.0.1 how.0 how.1 in
+    let how = bind_some (how_said version task.0.1) _ said task.2 in
+    let how_good = how_told version task.0.1 how.0 how.1 in
     let done = bind_some (no_more how.0.1) _ said how.2 in
     let none = no_more_some how.0.1 done.0 done.1 in
     let same = some_is (End task.0.0 how.0.0) said done.2 in
     let ends_are : end_words how.0.0 ≡ task.0.1 = sym (append-nil (end_words how.0.0)) ∙ (ap (λ (w : List (List ℕ)). end_words how.0.0 ++ w) (sym none) ∙ how_good.1) in
     let words_are : codes "end" ∷ task_word task.0.0 ∷ end_words how.0.0 ≡ codes "end" ∷ words = cc in
-    subst (λ (s : Said). Tells (codes "end") words s) same ((task_good.0, how_good.0), words_are)
+    subst (λ (s : Said). Tells version (codes "end") words s) same ((task_good.0, how_good.0), words_are)
 
 -- the form whose first word it is
-form_is : (first text : List ℕ) (words : Words) (said : Said) → bytes_eq first text ≡ true → Tells text words said → Tells first words said
-form_is first text words said is told = (told.0, told.1 ∙ ap (λ (w : List ℕ). w ∷ words) (sym (same_word first text is)))
+form_is : (version : ℕ) (first text : List ℕ) (words : Words) (said : Said) → bytes_eq first text ≡ true → Tells version text words said → Tells version first words said
+form_is version first text words said is told = (told.0, told.1 ∙ ap (λ (w : List ℕ). w ∷ words) (sym (same_word first text is)))
 
-form_told : (first : List ℕ) (words : Words) (said : Said) → form_said first words ≡ Some said → Tells first words said
+form_told : (version : ℕ) (first : List ℕ) (words : Words) (said : Said) → form_said version first words ≡ Some said → Tells version first words said
 unfolding form_said
-form_told first words said e =
-    elim (chosen (bytes_eq first (codes "post")) (post_said words) _ (Some said) e) [
-      | inl h ↦ form_is first (codes "post") words said h.0 (post_told words said h.1)
+form_told version first words said e =
+    elim (chosen (bytes_eq first (codes "post")) (post_said version words) _ (Some said) e) [
+      | inl h ↦ form_is version first (codes "post") words said h.0 (post_told version words said h.1)
       | inr h ↦ elim (chosen (bytes_eq first (codes "fire")) (fire_said words) _ (Some said) h.1) [
-        | inl i ↦ form_is first (codes "fire") words said i.0 (fire_told words said i.1)
+        | inl i ↦ form_is version first (codes "fire") words said i.0 (fire_told version words said i.1)
         | inr i ↦ elim (chosen (bytes_eq first (codes "admit")) (admit_said words) _ (Some said) i.1) [
-          | inl j ↦ form_is first (codes "admit") words said j.0 (admit_told words said j.1)
+          | inl j ↦ form_is version first (codes "admit") words said j.0 (admit_told version words said j.1)
           | inr j ↦ elim (chosen (bytes_eq first (codes "put")) (put_said words) _ (Some said) j.1) [
-            | inl k ↦ form_is first (codes "put") words said k.0 (put_told words said k.1)
+            | inl k ↦ form_is version first (codes "put") words said k.0 (put_told version words said k.1)
             | inr k ↦ elim (chosen (bytes_eq first (codes "start")) (start_said words) _ (Some said) k.1) [
-              | inl l ↦ form_is first (codes "start") words said l.0 (start_told words said l.1)
-              | inr l ↦ elim (chosen (bytes_eq first (codes "end")) (end_said words) None (Some said) l.1) [
-                | inl m ↦ form_is first (codes "end") words said m.0 (end_told words said m.1)
+              | inl l ↦ form_is version first (codes "start") words said l.0 (start_told version words said l.1)
+              | inr l ↦ elim (chosen (bytes_eq first (codes "end")) (end_said version words) None (Some said) l.1) [
+                | inl m ↦ form_is version first (codes "end") words said m.0 (end_told version words said m.1)
                 | inr m ↦ absurd (let none : only_one said ≡ None = sym m.1 in cc)
               ]
             ]
@@ -263,9 +263,9 @@ joined_is (word ∷ []) = refl
 joined_is (word ∷ next ∷ words) = ap (λ (v : List ℕ). word ++ 32 ∷ v) (joined_is (next ∷ words))
 
 -- a line says only what it spells
-pub line_told : (line : List ℕ) (said : Said) → said_on line ≡ Some said → IsSaid said × (spelled said ≡ line)
-line_told line said e =
+pub line_told : (version : ℕ) (line : List ℕ) (said : Said) → said_on version line ≡ Some said → IsSaid version said × (spelled said ≡ line)
+line_told version line said e =
     let first = bind_some (word (pieces 32 line)) _ said e in
     let words = word_some (pieces 32 line) first.0 first.1 in
-    let told = form_told first.0.0 first.0.1 said first.2 in
+    let told = form_told version first.0.0 first.0.1 said first.2 in
     (told.0, ap joined (told.1 ∙ sym words) ∙ (joined_is (pieces 32 line) ∙ join_with_byte-slice_split 32 line))

@@ -14,11 +14,13 @@ use Rattle.ccr_wiring.specs.declared.parts.Parts.{Parts}
 use Rattle.ccr_wiring.specs.Wirings.{Seat, seat, seats, site_port}
 use Rattle.ccr_model.specs.declared.history.Event.{Event}
 use Rattle.ccr_model.specs.declared.history.Event.TheVariants as events
+use Rattle.ccr_model.specs.declared.history.EndHow.{EndHow}
+use Rattle.ccr_model.specs.declared.history.EndHow.TheVariants as ends
 use Rattle.ccr_trace.specs.Words.{cause_names, branch_names}
-use Rattle.ccr_trace.specs.Said.{SpotName, Said, Post, Fire, Admit, Put, Start, End, IsSaid}
-use Rattle.ccr_trace.specs.Places.{◌>>=◌}
-use Rattle.ccr_trace.specs.Forms.{Words, each, said_on}
-use Rattle.ccr_trace.specs.Known.{number_in, spot_at, spot_known, known, IsKnownSpot, IsKnown, HasMessages}
+use Rattle.ccr_trace.specs.Said.{SpotName, Said, Post, Fire, Admit, Put, Start, End, IsSaid, IsEnd}
+use Rattle.ccr_trace.specs.Places.{◌>>=◌, each}
+use Rattle.ccr_trace.specs.Forms.{Words, said_on}
+use Rattle.ccr_trace.specs.Known.{number_in, spot_at, spot_known, known, IsKnownSpot, IsKnownEnd, IsKnown, HasMessages}
 use Rattle.ccr_trace.specs.Reading.{or_code, event_of, event_on}
 use Rattle.ccr_trace.proofs.Steps.{bind_some, some_is, only_one, chosen}
 use Rattle.ccr_trace.proofs.Apart.{length-branch_names}
@@ -55,25 +57,31 @@ spot_there parts branch (Some site) spot below e =
       | inr h ↦ absurd (let none : only_one spot ≡ None = sym h.1 in cc)
     ]
 
-pub known_is : (parts : Parts) (said : Said) (event : Event) → known parts said ≡ Some event → IsKnown parts event
+end_known : (parts : Parts) (how : EndHow) → IsEnd parts.version how → IsKnownEnd parts how
+end_known parts (ends.Failed value) good = good.1
+end_known parts ends.Done good = tt
+end_known parts ends.Yield good = tt
+end_known parts ends.Shed good = tt
+
+pub known_is : (parts : Parts) (said : Said) (event : Event) → IsSaid parts.version said → known parts said ≡ Some event → IsKnown parts event
 unfolding known spot_known
-known_is parts (Post id port value causes) event e =
+known_is parts (Post id port value causes) event good e =
     let number = bind_some (number_in parts.ports port) _ event e in
     let numbers = bind_some (each (number_in (cause_names parts)) causes) _ event number.2 in
     let few : length (cause_names parts) ≡ length parts.causes = length-map parts.causes (λ (part : CausePart). part.name) in
     subst (λ (v : Event). IsKnown parts v) (some_is (events.Post (record { id = id; port = number.0; value = value; causes = numbers.0 })) event numbers.2)
-    (number_within parts.ports port number.0 number.1, each_good (number_in (cause_names parts)) (λ n. n < length parts.causes) (λ w n is. omega (arith, number_within (cause_names parts) w n is, few)) causes numbers.0 numbers.1)
-known_is parts (Fire task spot messages cuts) event e =
+    (number_within parts.ports port number.0 number.1, each_good (number_in (cause_names parts)) (λ n. n < length parts.causes) (λ w n is. omega (arith, number_within (cause_names parts) w n is, few)) causes numbers.0 numbers.1, good.2.1)
+known_is parts (Fire task spot messages cuts) event good e =
     let place = bind_some (number_in (branch_names parts) spot.name >>= λ branch. spot_at parts branch spot.site) _ event e in
     let branch = bind_some (number_in (branch_names parts) spot.name) _ place.0 place.1 in
     let below : branch.0 < length (seats parts) = omega (arith, number_within (branch_names parts) spot.name branch.0 branch.1, length-branch_names parts) in
     subst (λ (v : Event). IsKnown parts v) (some_is (events.Fire task place.0 messages cuts) event place.2) (spot_there parts branch.0 spot.site place.0 below branch.2)
-known_is parts (Admit task) event e = subst (λ (v : Event). IsKnown parts v) (some_is (events.Admit task) event e) tt
-known_is parts (Put task dropped) event e = subst (λ (v : Event). IsKnown parts v) (some_is (events.Put task dropped) event e) tt
-known_is parts (Start task actor) event e = subst (λ (v : Event). IsKnown parts v) (some_is (events.Start task actor) event e) tt
-known_is parts (End task how) event e = subst (λ (v : Event). IsKnown parts v) (some_is (events.End task how) event e) tt
+known_is parts (Admit task) event good e = subst (λ (v : Event). IsKnown parts v) (some_is (events.Admit task) event e) tt
+known_is parts (Put task dropped) event good e = subst (λ (v : Event). IsKnown parts v) (some_is (events.Put task dropped) event e) tt
+known_is parts (Start task actor) event good e = subst (λ (v : Event). IsKnown parts v) (some_is (events.Start task actor) event e) tt
+known_is parts (End task how) event good e = subst (λ (v : Event). IsKnown parts v) (some_is (events.End task how) event e) (end_known parts how good.1)
 
-has_messages : (parts : Parts) (said : Said) (event : Event) → IsSaid said → known parts said ≡ Some event → HasMessages event
+has_messages : (parts : Parts) (said : Said) (event : Event) → IsSaid parts.version said → known parts said ≡ Some event → HasMessages event
 unfolding known
 has_messages parts (Post id port value causes) event good e =
     let number = bind_some (number_in parts.ports port) _ event e in
@@ -95,17 +103,19 @@ code_none None code x e = absurd cc
 code_none (Some y) code x e = let same : done y ≡ done x = e in cc
 
 -- what the event's line says
-pub event_said : (parts : Parts) (line : List ℕ) (event : Event) → event_on parts line ≡ Ok event → (said : Said) × (said_on line ≡ Some said) × (known parts said ≡ Some event)
-event_said parts line event e = by (said_on line) refl e
+pub event_said : (parts : Parts) (line : List ℕ) (event : Event) → event_on parts line ≡ Ok event → (said : Said) × (said_on parts.version line ≡ Some said) × (known parts said ≡ Some event)
+event_said parts line event e = by (said_on parts.version line) refl e
   where
-    by : (o : Option Said) → said_on line ≡ o → event_of parts o ≡ Ok event → (said : Said) × (said_on line ≡ Some said) × (known parts said ≡ Some event)
+    by : (o : Option Said) → said_on parts.version line ≡ o → event_of parts o ≡ Ok event → (said : Said) × (said_on parts.version line ≡ Some said) × (known parts said ≡ Some event)
     by None is e' = absurd cc
     by (Some said) is e' = (said, is, code_none (known parts said) 2 event e')
 
 pub event_is_known : (parts : Parts) (line : List ℕ) (event : Event) → event_on parts line ≡ Ok event → IsKnown parts event
-event_is_known parts line event e = let said = event_said parts line event e in known_is parts said.0 event said.2
+event_is_known parts line event e =
+    let said = event_said parts line event e in
+    known_is parts said.0 event (line_told parts.version line said.0 said.1).0 said.2
 
 pub event_has_messages : (parts : Parts) (line : List ℕ) (event : Event) → event_on parts line ≡ Ok event → HasMessages event
 event_has_messages parts line event e =
     let said = event_said parts line event e in
-    has_messages parts said.0 event (line_told line said.0 said.1).0 said.2
+    has_messages parts said.0 event (line_told parts.version line said.0 said.1).0 said.2

@@ -1,5 +1,5 @@
 -- Reading one line more.
-use Rattle.std.proofs.Common.{◌≡◌, ℕ, ◌+◌, Bool, true, false, cond, List, [], ◌∷◌, length, Result, Ok, Err, refl, sym, ap, ◌∙◌, arith}
+use Rattle.std.proofs.Common.{◌≡◌, ℕ, ◌+◌, Bool, true, false, cond, List, [], ◌∷◌, ◌++◌, length, Result, Ok, Err, refl, sym, ap, ◌∙◌, arith}
 use Rattle.std.specs.Prelude.{◌==◌, codes}
 use Rattle.std.specs.Str.{bytes_eq}
 use Rattle.std.proofs.lemmas.Bool.Decides.{nat_tests}
@@ -11,7 +11,8 @@ use Rattle.ccr_trace.specs.declared.refused.HistoryRefused.{HistoryRefused}
 use Rattle.ccr_trace.specs.declared.refused.HistoryRefused.TheVariants as refusals
 use Rattle.ccr_trace.specs.declared.reading.ReadHistory.{ReadHistory}
 use Rattle.ccr_trace.specs.Answers.{HasCode, IsRefusal, IsReading, refused}
-use Rattle.ccr_trace.specs.Reading.{event_on, ended, head, with_event, reading_from, reading_lines}
+use Rattle.ccr_trace.specs.Reading.{event_on, ended, first_line, head, with_event, reading_from, reading_lines}
+use Rattle.ccr_trace.specs.HistoryText.{version_word}
 use Rattle.ccr_trace.specs.Pieces.{pieces, bytes_in}
 use Rattle.ccr_trace.proofs.Cutting.{pieces_some}
 use Rattle.std.specs.List.{onto_first}
@@ -71,17 +72,25 @@ unfolding reading_lines
 lines_last parts line [] e = refl
 lines_last parts line (next ∷ rest) e = absurd (grind (arith, nat_tests, e))
 
--- the line `history 1`
-pub lines_next : (parts : Parts) (line : List ℕ) (rest : List (List ℕ)) → (length rest == 0) ≡ false → bytes_eq line (codes "history 1") ≡ true → reading_lines parts (line ∷ rest) ≡ reading_from parts head rest
+-- the first line
+pub lines_next : (parts : Parts) (line : List ℕ) (rest : List (List ℕ)) → (length rest == 0) ≡ false → bytes_eq line (first_line parts) ≡ true → reading_lines parts (line ∷ rest) ≡ reading_from parts head rest
 unfolding reading_lines
 lines_next parts line [] e is = absurd cc
 lines_next parts line (next ∷ rest) e is = rw is refl
 
 -- another line
-pub lines_stop : (parts : Parts) (line : List ℕ) (rest : List (List ℕ)) → (length rest == 0) ≡ false → bytes_eq line (codes "history 1") ≡ false → reading_lines parts (line ∷ rest) ≡ Err (1, 1)
+pub lines_stop : (parts : Parts) (line : List ℕ) (rest : List (List ℕ)) → (length rest == 0) ≡ false → bytes_eq line (first_line parts) ≡ false → reading_lines parts (line ∷ rest) ≡ Err (1, 1)
 unfolding reading_lines
 lines_stop parts line [] e other = absurd cc
 lines_stop parts line (next ∷ rest) e other = rw other refl
+
+-- the first line has nine bytes
+pub first_bytes : (parts : Parts) → length (first_line parts) ≡ 9
+first_bytes parts = by (parts.version == 2)
+  where
+    by : (test : Bool) → length (codes "history" ++ 32 ∷ cond test (codes "2") (codes "1")) ≡ 9
+    by true = refl
+    by false = refl
 
 pub bytes_more : (line : List ℕ) (rest : List (List ℕ)) → bytes_in (line ∷ rest) ≡ (length line + 1) + bytes_in rest
 bytes_more line rest = sum_by-cons (λ (piece : List ℕ). length piece + 1) line rest

@@ -2,6 +2,9 @@
 use Rattle.std.proofs.Common.{◌≡◌, ℕ, List, [], ◌∷◌, ◌++◌, codes, refl, ap, sym, ◌∙◌, append_assoc, arith}
 use Rattle.std.proofs.lemmas.Grind.{common_steps}
 use Rattle.ccr_text.specs.Spelling.{joined, line_text}
+use Rattle.std.specs.Prelude.{map, decimal}
+use Rattle.std.specs.List.{join_with_byte}
+use Rattle.ccr_trace.specs.Words.{value_word, other_numbers}
 use Rattle.ccr_trace.specs.HistoryText.{behind}
 
 pub joined_behind : (word : List ℕ) (words : List (List ℕ)) → joined (word ∷ words) ≡ word ++ behind words
@@ -21,3 +24,8 @@ pub fire_line : (old task spot : List ℕ) (messages cuts : List (List ℕ)) →
 fire_line old task spot messages cuts =
     let apart : (((((old ++ codes "fire") ++ 32 ∷ task) ++ 32 ∷ spot) ++ behind messages) ++ behind cuts) ++ 10 ∷ [] ≡ old ++ ((codes "fire" ++ behind (task ∷ spot ∷ (messages ++ cuts))) ++ 10 ∷ []) = rw (behind-append messages cuts) (simp append_assoc) in
     apart ∙ ap (λ (text : List ℕ). old ++ (text ++ 10 ∷ [])) (sym (joined_behind (codes "fire") (task ∷ spot ∷ (messages ++ cuts))))
+
+-- a value by its first number and the others
+pub value_first : (first : ℕ) (others : List ℕ) → value_word (first ∷ others) ≡ decimal first ++ other_numbers others
+value_first first [] = grind (arith, common_steps)
+value_first first (next ∷ others) = grind (arith, common_steps, value_first next others)

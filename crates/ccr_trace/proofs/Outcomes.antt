@@ -10,10 +10,10 @@ use Rattle.ccr_trace.specs.declared.refused.HistoryRefused.{HistoryRefused}
 use Rattle.ccr_trace.specs.declared.reading.ReadHistory.{ReadHistory}
 use Rattle.ccr_trace.specs.Pieces.{pieces, bytes_in}
 use Rattle.ccr_trace.specs.Known.{IsKnown, AreKnown, HasMessages, HaveMessages}
-use Rattle.ccr_trace.specs.Reading.{event_on, head, with_event, reading_from, reading_lines, reading}
+use Rattle.ccr_trace.specs.Reading.{event_on, first_line, head, with_event, reading_from, reading_lines, reading}
 use Rattle.ccr_trace.specs.Answers.{IsReading}
 use Rattle.ccr_trace.proofs.Steps.{chosen, same_word}
-use Rattle.ccr_trace.proofs.LineSteps.{bytes_more, bytes-pieces}
+use Rattle.ccr_trace.proofs.LineSteps.{bytes_more, bytes-pieces, first_bytes}
 use Rattle.ccr_trace.proofs.KnownEvents.{event_is_known, event_has_messages}
 
 abbrev pub Read : Type 0
@@ -59,13 +59,13 @@ within_from parts (line ∷ next ∷ lines) read out e =
     ]
 
 -- the lines behind the first
-pub head_ok : (parts : Parts) (lines : List (List ℕ)) (out : ReadHistory) → reading_lines parts lines ≡ Ok out → (rest : List (List ℕ)) × (lines ≡ codes "history 1" ∷ rest) × (reading_from parts head rest ≡ Ok out)
+pub head_ok : (parts : Parts) (lines : List (List ℕ)) (out : ReadHistory) → reading_lines parts lines ≡ Ok out → (rest : List (List ℕ)) × (lines ≡ first_line parts ∷ rest) × (reading_from parts head rest ≡ Ok out)
 unfolding reading_lines
 head_ok parts [] out e = absurd cc
 head_ok parts (last ∷ []) out e = absurd cc
 head_ok parts (line ∷ next ∷ lines) out e =
-    elim (chosen (bytes_eq line (codes "history 1")) (reading_from parts head (next ∷ lines)) (Err (1, 1)) (Ok out) e) [
-      | inl h ↦ (next ∷ lines, ap (λ (w : List ℕ). w ∷ next ∷ lines) (same_word line (codes "history 1") h.0), h.1)
+    elim (chosen (bytes_eq line (first_line parts)) (reading_from parts head (next ∷ lines)) (Err (1, 1)) (Ok out) e) [
+      | inl h ↦ (next ∷ lines, ap (λ (w : List ℕ). w ∷ next ∷ lines) (same_word line (first_line parts) h.0), h.1)
       | inr h ↦ absurd (let refused : stopped (1, 1) ≡ done out = h.1 in cc)
     ]
 
@@ -79,7 +79,7 @@ rest_ok : (parts : Parts) (text : List ℕ) (out : ReadHistory) → reading part
 rest_ok parts text out e =
     let behind_head = head_ok parts (pieces 10 text) out e in
     let more = within_from parts behind_head.0 head out behind_head.2 in
-    let bytes : bytes_in (pieces 10 text) ≡ 10 + bytes_in behind_head.0 = ap bytes_in behind_head.1 ∙ bytes_more (codes "history 1") behind_head.0 in
+    let bytes : bytes_in (pieces 10 text) ≡ 10 + bytes_in behind_head.0 = ap bytes_in behind_head.1 ∙ bytes_more (first_line parts) behind_head.0 ∙ ap (λ n. (n + 1) + bytes_in behind_head.0) (first_bytes parts) in
     omega (arith, more, bytes, bytes-pieces 10 text)
 
 lines_ok : (parts : Parts) (text : List ℕ) (out : ReadHistory) → reading parts text ≡ Ok out → out.lines ≡ length out.history + 1

@@ -1,7 +1,7 @@
 -- Words that have no separator are found again between separators.
 use Rattle.std.proofs.Common.{◌≡◌, ℕ, suc, Bool, true, false, List, [], ◌∷◌, ◌++◌, map, refl, sym, ap, ◌∙◌, arith}
 use Rattle.std.specs.Prelude.{◌==◌, ◌&&◌, not}
-use Rattle.std.specs.List.{list_all, All}
+use Rattle.std.specs.List.{list_all, join_with_byte, All}
 use Rattle.std.proofs.lemmas.Bool.Decides.{nat_tests}
 use Rattle.std.proofs.lemmas.List.Elements.{recursion_from_All}
 use Rattle.ccr_text.specs.Words.{is_mark}
@@ -33,6 +33,16 @@ pieces_only separator [] e = refl
 pieces_only separator (b ∷ word) e =
     let parts = both (not (b == separator)) (lacks separator word) e in
     rw (other b separator parts.0, pieces_only separator word parts.1) refl
+
+-- no byte of the words is the separator
+abbrev pub AreLacking : ℕ → List (List ℕ) → Type 0
+AreLacking separator [] = Unit {0}
+AreLacking separator (word ∷ words) = (lacks separator word ≡ true) × AreLacking separator words
+
+-- words that are joined are found again
+pub pieces_join : (separator : ℕ) (word : List ℕ) (words : List (List ℕ)) → AreLacking separator (word ∷ words) → pieces separator (join_with_byte separator (word ∷ words)) ≡ word ∷ words
+pieces_join separator word [] are = pieces_only separator word are.0
+pieces_join separator word (next ∷ words) are = pieces_first separator word (join_with_byte separator (next ∷ words)) are.0 ∙ ap (λ (w : List (List ℕ)). word ∷ w) (pieces_join separator next words are.1)
 
 lacks-append : (separator : ℕ) (xs ys : List ℕ) → lacks separator xs ≡ true → lacks separator ys ≡ true → lacks separator (xs ++ ys) ≡ true
 lacks-append separator [] ys e f = f

@@ -1,5 +1,5 @@
 -- The text of a history and what is read of it.
-use Rattle.std.proofs.Common.{◌≡◌, ℕ, suc, ◌+◌, ◌<◌, Bool, true, false, List, [], ◌∷◌, ◌++◌, length, map, Result, Ok, Some, inl, inr, refl, sym, ap, ◌∙◌, append_assoc, append-nil, length-append, arith}
+use Rattle.std.proofs.Common.{◌≡◌, ℕ, suc, ◌+◌, ◌<◌, Bool, true, false, cond, List, [], ◌∷◌, ◌++◌, length, map, Result, Ok, Some, inl, inr, refl, sym, ap, ◌∙◌, append_assoc, append-nil, length-append, arith}
 use Rattle.std.specs.Prelude.{◌==◌, codes}
 use Rattle.std.specs.List.{All, join_with_byte}
 use Rattle.std.specs.Str.{bytes_eq}
@@ -13,21 +13,29 @@ use Rattle.ccr_model.specs.declared.history.Event.TheVariants as events
 use Rattle.ccr_text.specs.Spelling.{joined, line_text, text_of}
 use Rattle.ccr_trace.specs.declared.reading.ReadHistory.{ReadHistory}
 use Rattle.ccr_trace.specs.Pieces.{pieces}
-use Rattle.ccr_trace.specs.HistoryText.{event_words, history_text}
+use Rattle.ccr_trace.specs.HistoryText.{first_words, event_words, history_text}
 use Rattle.ccr_trace.specs.Said.{said_words, spelled}
 use Rattle.ccr_trace.specs.Forms.{said_on}
 use Rattle.ccr_trace.specs.Known.{known, IsKnown, HasMessages, IsShort, AreKnown, HaveMessages, AreShort}
-use Rattle.ccr_trace.specs.Reading.{event_of, event_on, head, with_event, reading_from, reading_lines, reading}
+use Rattle.ccr_trace.specs.Reading.{event_of, event_on, first_line, head, with_event, reading_from, reading_lines, reading}
 use Rattle.ccr_trace.proofs.Cutting.{pieces_some}
 use Rattle.ccr_trace.proofs.Steps.{chosen, same_word, same_text}
-use Rattle.ccr_trace.proofs.Parting.{AreMarked, pieces_first, joined_lacks}
+use Rattle.ccr_trace.proofs.Parting.{AreMarked, lacks, pieces_first, joined_lacks}
 use Rattle.ccr_trace.proofs.WordsRead.{AreNumbers}
 use Rattle.ccr_trace.proofs.FormsSaid.{line_told}
 use Rattle.ccr_trace.proofs.FormsRead.{said_again, said_marked}
 use Rattle.ccr_trace.proofs.EventsSaid.{said_of, words_of_said, said_good, known_again, known_words}
 use Rattle.ccr_trace.proofs.KnownEvents.{event_said}
-use Rattle.ccr_trace.proofs.LineSteps.{reading_next, reading_done, lines_next}
+use Rattle.ccr_trace.proofs.LineSteps.{reading_next, reading_done, lines_next, first_bytes}
 use Rattle.ccr_trace.proofs.Outcomes.{Read, done, behind, ok_is, step_ok, head_ok}
+
+-- the first line has no LF
+first_lacks : (parts : Parts) → lacks 10 (first_line parts) ≡ true
+first_lacks parts = by (parts.version == 2)
+  where
+    by : (test : Bool) → lacks 10 (codes "history" ++ 32 ∷ cond test (codes "2") (codes "1")) ≡ true
+    by true = refl
+    by false = refl
 
 -- the lines of these events
 abbrev pub events_text : Parts → List Event → List ℕ
@@ -59,14 +67,26 @@ count_bytes parts event history =
     ap length (flat_map-cons line_text (event_words parts event) (map (event_words parts) history))
     ∙ omega (arith, length-append (joined (event_words parts event) ++ 10 ∷ []) (events_text parts history), length-append (joined (event_words parts event)) (10 ∷ []))
 
+-- the first line, and those behind it
+more_lines : (parts : Parts) (history : List Event) (rest : List ℕ) → history_text parts history ++ rest ≡ first_line parts ++ 10 ∷ (events_text parts history ++ rest)
+more_lines parts history rest =
+    let line = first_line parts in
+    ap (λ (t : List ℕ). t ++ rest) (flat_map-cons line_text (first_words parts) (map (event_words parts) history))
+    ∙ (append_assoc (line ++ 10 ∷ []) (events_text parts history) rest ∙ append_assoc line (10 ∷ []) (events_text parts history ++ rest))
+
+count_lines : (parts : Parts) (history : List Event) → length (history_text parts history) ≡ 10 + length (events_text parts history)
+count_lines parts history =
+    ap length (flat_map-cons line_text (first_words parts) (map (event_words parts) history))
+    ∙ omega (arith, length-append (first_line parts ++ 10 ∷ []) (events_text parts history), length-append (first_line parts) (10 ∷ []), first_bytes parts)
+
 module _ (numbers : AreNumbers) (parts : Parts) (valid : IsValid parts) where
   event_marked : (event : Event) → IsKnown parts event → HasMessages event → IsShort event → AreMarked (event_words parts event)
-  event_marked event there some short = rw (← words_of_said parts event) (said_marked numbers (said_of parts event) (said_good parts event valid there some short))
+  event_marked event there some short = rw (← words_of_said parts event) (said_marked numbers parts.version (said_of parts event) (said_good parts event valid there some short))
 
   event_again : (event : Event) → IsKnown parts event → HasMessages event → IsShort event → event_on parts (joined (event_words parts event)) ≡ Ok event
   event_again event there some short =
-      let said = said_again numbers (said_of parts event) (said_good parts event valid there some short) in
-      let line : said_on (joined (event_words parts event)) ≡ Some (said_of parts event) = ap (λ (w : List (List ℕ)). said_on (joined w)) (sym (words_of_said parts event)) ∙ said in
+      let said = said_again numbers parts.version (said_of parts event) (said_good parts event valid there some short) in
+      let line : said_on parts.version (joined (event_words parts event)) ≡ Some (said_of parts event) = ap (λ (w : List (List ℕ)). said_on parts.version (joined w)) (sym (words_of_said parts event)) ∙ said in
       rw (line, known_again parts event valid there) refl
 
   again_from : (more : List ℕ) (history : List Event) (read : ReadHistory) → AreKnown parts history → HaveMessages history → AreShort history
@@ -94,11 +114,11 @@ module _ (numbers : AreNumbers) (parts : Parts) (valid : IsValid parts) where
       → reading parts (history_text parts history ++ report_before more) ≡ Ok (record { history = history; rest = length (history_text parts history); lines = length history + 1 })
   history_again history more there some short =
       let rest = events_text parts history ++ report_before more in
-      let lines : pieces 10 (history_text parts history ++ report_before more) ≡ codes "history 1" ∷ pieces 10 rest = pieces_first 10 (codes "history 1") rest refl in
+      let lines : pieces 10 (history_text parts history ++ report_before more) ≡ first_line parts ∷ pieces 10 rest = ap (pieces 10) (more_lines parts history (report_before more)) ∙ pieces_first 10 (first_line parts) rest (first_lacks parts) in
       ap (reading_lines parts) lines
-      ∙ (lines_next parts (codes "history 1") (pieces 10 rest) (pieces_some 10 rest) refl
+      ∙ (lines_next parts (first_line parts) (pieces 10 rest) (pieces_some 10 rest) (same_text (first_line parts))
       ∙ (again_from more history head there some short
-      ∙ same_read ([] ++ history) history (10 + length (events_text parts history)) (length (history_text parts history)) (1 + length history) (length history + 1) refl (omega arith) (omega arith)))
+      ∙ same_read ([] ++ history) history (10 + length (events_text parts history)) (length (history_text parts history)) (1 + length history) (length history + 1) refl (omega (arith, count_lines parts history)) (omega arith)))
 
 -- the events of the lines that were read, and what stands behind the line `report 1`
 pub record Told (parts : Parts) (lines : List (List ℕ)) (read out : ReadHistory) : Type 0 where
@@ -120,7 +140,7 @@ told_done parts line next lines read out is same = record {
 line_is : (parts : Parts) (line : List ℕ) (event : Event) → event_on parts line ≡ Ok event → joined (event_words parts event) ≡ line
 line_is parts line event on =
     let said = event_said parts line event on in
-    ap joined (known_words parts said.0 event said.2) ∙ (line_told line said.0 said.1).1
+    ap joined (known_words parts said.0 event said.2) ∙ (line_told parts.version line said.0 said.1).1
 
 told_more : (parts : Parts) (line next : List ℕ) (lines : List (List ℕ)) (read out : ReadHistory) (event : Event) → event_on parts line ≡ Ok event → Told parts (next ∷ lines) (with_event read line event) out → Told parts (line ∷ next ∷ lines) read out
 told_more parts line next lines read out event on told =
@@ -155,8 +175,8 @@ history_told parts text out e =
     let behind_head = head_ok parts (pieces 10 text) out e in
     let rest = behind_head.0 in
     let told = told_from parts rest head out behind_head.2 in
-    let whole : text ≡ codes "history 1" ++ 10 ∷ join_with_byte 10 rest = sym (join_with_byte-slice_split 10 text) ∙ (ap (join_with_byte 10) behind_head.1 ∙ join_first parts head out (codes "history 1") rest behind_head.2) in
+    let whole : text ≡ first_line parts ++ 10 ∷ join_with_byte 10 rest = sym (join_with_byte-slice_split 10 text) ∙ (ap (join_with_byte 10) behind_head.1 ∙ join_first parts head out (first_line parts) rest behind_head.2) in
     let events : told.events ≡ out.history = sym told.history in
     let behind_line : join_with_byte 10 rest ≡ events_text parts out.history ++ report_before told.more = told.text ∙ ap (λ (h : List Event). events_text parts h ++ report_before told.more) events in
     let bytes : out.rest ≡ 10 + length (events_text parts out.history) = told.rest ∙ ap (λ (h : List Event). 10 + length (events_text parts h)) events in
-    (told.more, whole ∙ ap (λ (t : List ℕ). codes "history 1" ++ 10 ∷ t) behind_line, omega (arith, bytes))
+    (told.more, whole ∙ (ap (λ (t : List ℕ). first_line parts ++ 10 ∷ t) behind_line ∙ sym (more_lines parts out.history (report_before told.more))), omega (arith, bytes, count_lines parts out.history))

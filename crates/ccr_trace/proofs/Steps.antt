@@ -1,10 +1,13 @@
 -- What a place or form that was read tells of its steps.
-use Rattle.std.proofs.Common.{◌≡◌, ℕ, ◌<◌, Bool, true, false, cond, List, [], ◌∷◌, length, Option, Some, None, ◌⊎◌, inl, inr, refl, sym, ap, ◌∙◌, ◌^◌, arith}
-use Rattle.std.specs.Prelude.{◌==◌, not, nat_lt, decimal}
+use Rattle.std.proofs.Common.{◌≡◌, ℕ, ◌<◌, ◌≤◌, Bool, true, false, cond, List, [], ◌∷◌, length, map, Option, Some, None, ◌⊎◌, inl, inr, refl, sym, ap, ◌∙◌, ◌^◌, arith}
+use Rattle.std.specs.Prelude.{◌==◌, not, nat_lt, nat_le, decimal}
 use Rattle.std.specs.Str.{bytes_eq}
 use Rattle.std.proofs.lemmas.Bool.Decides.{nat_tests}
+use Rattle.std.proofs.lemmas.List.{length-map}
 use Rattle.std.proofs.lemmas.Slice.Eq.{bytes_eq-Decides}
-use Rattle.ccr_trace.specs.Places.{◌>>=◌, where_spelled, where_short}
+use Rattle.ccr_trace.specs.Places.{◌>>=◌, where_spelled, where_short, where_few}
+use Rattle.ccr_trace.specs.Pieces.{pieces}
+use Rattle.ccr_trace.proofs.Cutting.{pieces_some}
 use Rattle.ccr_trace.specs.Forms.{Words, word, no_more, only, place, is_some_of}
 
 -- the value of a step that found something
@@ -73,3 +76,17 @@ short_is n m e = by (nat_lt n (2 ^ 32)) refl e
     by true is e' =
         let same : n ≡ m = some_is n m e' in
         (same, grind (arith, nat_tests, is, same))
+
+pub few_is : (most : ℕ) (numbers value : List ℕ) → where_few most numbers ≡ Some value → (numbers ≡ value) × (length numbers ≤ most)
+few_is most numbers value e = by (nat_le (length numbers) most) refl e
+  where
+    by : (t : Bool) → nat_le (length numbers) most ≡ t → cond t (Some numbers) None ≡ Some value → (numbers ≡ value) × (length numbers ≤ most)
+    by false is e' = absurd cc
+    by true is e' = (some_is numbers value e', grind (arith, nat_tests, is))
+
+-- what is spelled by the pieces is one at least
+pub some_pieces : {A : Type 0} (separator : ℕ) (bytes : List ℕ) (values : List A) (spell : A → List ℕ) → map spell values ≡ pieces separator bytes → 0 < length values
+some_pieces separator bytes values spell same =
+    let some = pieces_some separator bytes in
+    let many : length values ≡ length (pieces separator bytes) = sym (length-map values spell) ∙ ap length same in
+    grind (arith, nat_tests, some, many)

@@ -1,7 +1,7 @@
 -- A word that is spelled is read again.
 use Rattle.std.proofs.Common.{◌≡◌, ℕ, suc, ◌^◌, ◌<◌, Bool, true, false, cond, List, [], ◌∷◌, ◌++◌, length, map, Option, Some, None, refl, sym, ap, subst, ◌∙◌, append_assoc, append-nil, arith}
-use Rattle.std.specs.Prelude.{◌==◌, ◌&&◌, nat_lt, decimal}
-use Rattle.std.specs.List.{All, list_all}
+use Rattle.std.specs.Prelude.{◌==◌, ◌&&◌, nat_lt, nat_le, decimal}
+use Rattle.std.specs.List.{All, list_all, join_with_byte}
 use Rattle.std.specs.Char.{is_ascii_digit, is_ascii_alphabetic}
 use Rattle.std.specs.Str.{bytes_eq}
 use Rattle.std.proofs.lemmas.Bool.Decides.{nat_tests}
@@ -10,13 +10,13 @@ use Rattle.ccr_base.specs.declared.names.TaskId.{TaskId}
 use Rattle.ccr_base.specs.declared.names.MsgId.{MsgId}
 use Rattle.ccr_base.specs.declared.names.MsgId.TheVariants as ids
 use Rattle.ccr_text.specs.Words.{is_digits, is_mark, value_after, number_of, may_be_in_name, is_name_of}
-use Rattle.ccr_trace.specs.Words.{task_word, message_word}
+use Rattle.ccr_trace.specs.Words.{task_word, message_word, value_word}
 use Rattle.ccr_trace.specs.Pieces.{pieces}
-use Rattle.ccr_trace.specs.Said.{SpotName, spot_name_word, site_word, IsTask, IsMessage, IsName, IsSite}
-use Rattle.ccr_trace.specs.Places.{◌>>=◌, where_spelled, where_short, exact_number, short_number, name_of, task_in, task_of, script_in, answer_in, message_of, spot_with, spot_in, spot_of}
-use Rattle.ccr_trace.specs.Forms.{Words, each}
+use Rattle.ccr_trace.specs.Said.{SpotName, spot_name_word, site_word, most_numbers, IsTask, IsMessage, IsName, IsSite, IsValue}
+use Rattle.ccr_trace.specs.Places.{◌>>=◌, each, where_spelled, where_short, where_few, exact_number, short_number, value_of, name_of, task_in, task_of, script_in, answer_in, message_of, spot_with, spot_in, spot_of}
+use Rattle.ccr_trace.specs.Forms.{Words}
 use Rattle.ccr_trace.proofs.Steps.{same_text}
-use Rattle.ccr_trace.proofs.Parting.{lacks, pieces_first, pieces_only, lacks_tested, tested_by, marked, marked-append}
+use Rattle.ccr_trace.proofs.Parting.{lacks, AreLacking, pieces_first, pieces_only, pieces_join, lacks_tested, tested_by, marked, marked-append}
 
 -- the digits of each number are read as that number
 abbrev pub AreNumbers : Type 0
@@ -43,6 +43,14 @@ name_lacks name good = lacks_tested may_be_in_name 64 name refl (letters name go
 
 pub name_marked : (name : List ℕ) → IsName name → marked name ≡ true
 name_marked name good = tested_by may_be_in_name is_mark name (λ b may. grind (arith, nat_tests, may)) (letters name good)
+
+-- each word that is spelled is read again
+pub each_read : {A : Type 0} (read : List ℕ → Option A) (spell : A → List ℕ) (Good : A → Type 0) → ((x : A) → Good x → read (spell x) ≡ Some x) → (xs : List A) → All Good xs → each read (map spell xs) ≡ Some xs
+unfolding each
+each_read read spell Good again [] good = refl
+each_read read spell Good again (x ∷ xs) good =
+    let parts = recursion_from_All Good (x ∷ xs) good in
+    rw (again x parts.0, each_read read spell Good again xs (λ k d below. good (suc k) d (omega arith))) refl
 
 module _ (numbers : AreNumbers) where
   digits_of : (n : ℕ) → n < 2 ^ 64 → list_all is_ascii_digit (decimal n) ≡ true
@@ -118,10 +126,28 @@ module _ (numbers : AreNumbers) where
       by None fits = refl
       by (Some k) fits = short_marked k fits
 
--- each word that is spelled is read again
-pub each_read : {A : Type 0} (read : List ℕ → Option A) (spell : A → List ℕ) (Good : A → Type 0) → ((x : A) → Good x → read (spell x) ≡ Some x) → (xs : List A) → All Good xs → each read (map spell xs) ≡ Some xs
-unfolding each
-each_read read spell Good again [] good = refl
-each_read read spell Good again (x ∷ xs) good =
-    let parts = recursion_from_All Good (x ∷ xs) good in
-    rw (again x parts.0, each_read read spell Good again xs (λ k d below. good (suc k) d (omega arith))) refl
+  numbers_lack : (value : List ℕ) → All (λ n. n < 2 ^ 64) value → AreLacking 44 (map decimal value)
+  numbers_lack [] good = tt
+  numbers_lack (n ∷ value) good =
+      let parts = recursion_from_All (λ m. m < 2 ^ 64) (n ∷ value) good in
+      (number_lacks 44 n refl parts.0, numbers_lack value (λ k d below. good (suc k) d (omega arith)))
+
+  value_parts : (value : List ℕ) → 0 < length value → All (λ n. n < 2 ^ 64) value → pieces 44 (value_word value) ≡ map decimal value
+  value_parts [] some good = absurd (omega arith)
+  value_parts (n ∷ value) some good = pieces_join 44 (decimal n) (map decimal value) (numbers_lack (n ∷ value) good)
+
+  pub value_read : (version : ℕ) (value : List ℕ) → IsValue version value → value_of version (value_word value) ≡ Some value
+  unfolding value_of
+  value_read version value good =
+      let few : nat_le (length value) (most_numbers version) ≡ true = grind (arith, nat_tests, good.1) in
+      rw (value_parts value good.0.0 good.0.1, each_read exact_number decimal (λ n. n < 2 ^ 64) number_read value good.0.1, few) refl
+
+  value_bytes : (n : ℕ) (value : List ℕ) → All (λ m. m < 2 ^ 64) (n ∷ value) → marked (value_word (n ∷ value)) ≡ true
+  value_bytes n [] good = number_marked n (recursion_from_All (λ m. m < 2 ^ 64) (n ∷ []) good).0
+  value_bytes n (next ∷ value) good =
+      marked-append (decimal n) (44 ∷ value_word (next ∷ value)) (number_marked n (recursion_from_All (λ m. m < 2 ^ 64) (n ∷ next ∷ value) good).0)
+      (value_bytes next value (λ k d below. good (suc k) d (omega arith)))
+
+  pub value_marked : (version : ℕ) (value : List ℕ) → IsValue version value → marked (value_word value) ≡ true
+  value_marked version [] good = refl
+  value_marked version (n ∷ value) good = value_bytes n value good.0.1

@@ -1,6 +1,6 @@
 -- A word says only what it spells.
 use Rattle.std.proofs.Common.{◌≡◌, ℕ, ◌^◌, ◌<◌, Bool, true, false, cond, List, [], ◌∷◌, ◌++◌, length, map, Option, Some, None, ◌⊎◌, inl, inr, refl, sym, ap, subst, ◌∙◌, append_assoc, append-nil, arith}
-use Rattle.std.specs.Prelude.{◌==◌, ◌&&◌, nat_lt, decimal}
+use Rattle.std.specs.Prelude.{◌==◌, ◌&&◌, nat_lt, nat_le, decimal}
 use Rattle.std.specs.List.{join_with_byte, All}
 use Rattle.std.specs.Str.{bytes_eq}
 use Rattle.std.proofs.lemmas.Bool.Decides.{nat_tests}
@@ -10,12 +10,12 @@ use Rattle.ccr_base.specs.declared.names.TaskId.{TaskId}
 use Rattle.ccr_base.specs.declared.names.MsgId.{MsgId}
 use Rattle.ccr_base.specs.declared.names.MsgId.TheVariants as ids
 use Rattle.ccr_text.specs.Words.{is_digits, value_after, number_of, is_name_of}
-use Rattle.ccr_trace.specs.Words.{task_word, message_word}
+use Rattle.ccr_trace.specs.Words.{task_word, message_word, value_word}
 use Rattle.ccr_trace.specs.Pieces.{pieces}
-use Rattle.ccr_trace.specs.Said.{SpotName, spot_name_word, site_word, IsTask, IsMessage, IsName, IsSite}
-use Rattle.ccr_trace.specs.Places.{◌>>=◌, where_spelled, where_short, exact_number, short_number, name_of, task_in, task_of, script_in, answer_in, message_of, spot_with, spot_in, spot_of}
-use Rattle.ccr_trace.specs.Forms.{Words, each}
-use Rattle.ccr_trace.proofs.Steps.{bind_some, some_is, only_one, chosen, spelled_is, short_is}
+use Rattle.ccr_trace.specs.Said.{SpotName, spot_name_word, site_word, most_numbers, IsTask, IsMessage, IsName, IsSite, IsValue}
+use Rattle.ccr_trace.specs.Places.{◌>>=◌, each, where_spelled, where_short, where_few, exact_number, short_number, value_of, name_of, task_in, task_of, script_in, answer_in, message_of, spot_with, spot_in, spot_of}
+use Rattle.ccr_trace.specs.Forms.{Words}
+use Rattle.ccr_trace.proofs.Steps.{bind_some, some_is, only_one, chosen, spelled_is, short_is, few_is, some_pieces}
 
 number_fits : (w : List ℕ) (n : ℕ) → number_of w ≡ Some n → n < 2 ^ 64
 number_fits w n e = by (is_digits w) (nat_lt (value_after 0 w) (2 ^ 64)) refl e
@@ -166,3 +166,14 @@ each_said read spell Good said (w ∷ words) values e =
     let one = said w first.0 first.1 in
     let more = each_said read spell Good said words rest.0 rest.1 in
     subst (λ (v : List _). All Good v × (map spell v ≡ w ∷ words)) same (All-cons Good first.0 rest.0 one.0 more.0, rw (one.1, more.1) refl)
+
+-- numbers joined by commas
+pub value_said : (version : ℕ) (w : List ℕ) (value : List ℕ) → value_of version w ≡ Some value → IsValue version value × (value_word value ≡ w)
+unfolding value_of
+value_said version w value e =
+    let found = bind_some (each exact_number (pieces 44 w)) (where_few (most_numbers version)) value e in
+    let few = few_is (most_numbers version) found.0 value found.2 in
+    let said = each_said exact_number decimal (λ n. n < 2 ^ 64) number_said (pieces 44 w) found.0 found.1 in
+    let some : 0 < length found.0 = some_pieces 44 w found.0 decimal said.1 in
+    subst (λ (v : List ℕ). IsValue version v × (value_word v ≡ w)) few.0
+    (((some, said.0), few.1), joined_of 44 w (map decimal found.0) (sym said.1))

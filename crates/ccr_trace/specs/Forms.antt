@@ -9,7 +9,7 @@ use Rattle.ccr_model.specs.declared.history.EndHow.TheVariants as ends
 use Rattle.ccr_text.specs.Words.{is_name_of}
 use Rattle.ccr_trace.specs.Pieces.{pieces}
 use Rattle.ccr_trace.specs.Said.{Said, Post, Fire, Admit, Put, Start, End}
-use Rattle.ccr_trace.specs.Places.{◌>>=◌, short_number, value_of, name_of, task_of, message_of, spot_of}
+use Rattle.ccr_trace.specs.Places.{◌>>=◌, each, short_number, value_of, name_of, task_of, message_of, spot_of}
 
 -- the words that are left
 abbrev pub Words : Type 0
@@ -35,14 +35,6 @@ place read words = do
   value ← read first.0
   Some (value, first.1)
 
--- what each word says
-unfoldable pub each : {A : Type 0} → (List ℕ → Option A) → Words → Option (List A)
-each read [] = Some []
-each read (first ∷ words) = do
-  value ← read first
-  values ← each read words
-  Some (value ∷ values)
-
 abbrev pub is_some_of : {A : Type 0} → List A → Bool
 is_some_of values = not (length values == 0)
 
@@ -61,11 +53,11 @@ fired (first ∷ words) =
     else (message_of first >>= λ message. fired words >>= λ rest. Some (message ∷ rest.0, rest.1))
 
 -- post MSG PORT VALUE CAUSE ..
-unfoldable pub post_said : Words → Option Said
-post_said words = do
+unfoldable pub post_said : ℕ → Words → Option Said
+post_said version words = do
   message ← place message_of words
   port ← place name_of message.1
-  value ← place value_of port.1
+  value ← place (value_of version) port.1
   named ← only (list_all is_name_of value.1)
   Some (Post message.0 port.0 value.0 value.1)
 
@@ -118,36 +110,36 @@ plain_end first =
     else None
 
 -- failed VALUE
-abbrev pub failed : Words → Option (EndHow × Words)
-failed words = place value_of words >>= λ value. Some (ends.Failed value.0, value.1)
+abbrev pub failed : ℕ → Words → Option (EndHow × Words)
+failed version words = place (value_of version) words >>= λ value. Some (ends.Failed value.0, value.1)
 
 -- how a segment ends, and the words behind it
-unfoldable pub how_said : Words → Option (EndHow × Words)
-how_said words = do
+unfoldable pub how_said : ℕ → Words → Option (EndHow × Words)
+how_said version words = do
   first ← word words
-  if bytes_eq first.0 (codes "failed") then failed first.1 else (plain_end first.0 >>= λ how. Some (how, first.1))
+  if bytes_eq first.0 (codes "failed") then failed version first.1 else (plain_end first.0 >>= λ how. Some (how, first.1))
 
 -- end TASK done, end TASK failed VALUE, end TASK yield, end TASK shed
-unfoldable pub end_said : Words → Option Said
-end_said words = do
+unfoldable pub end_said : ℕ → Words → Option Said
+end_said version words = do
   task ← place task_of words
-  how ← how_said task.1
+  how ← how_said version task.1
   done ← no_more how.1
   Some (End task.0 how.0)
 
--- the form by its first word
-unfoldable pub form_said : List ℕ → Words → Option Said
-form_said first words =
-    if bytes_eq first (codes "post") then post_said words
+-- the form by its first word, in a wiring of this version
+unfoldable pub form_said : ℕ → List ℕ → Words → Option Said
+form_said version first words =
+    if bytes_eq first (codes "post") then post_said version words
     else if bytes_eq first (codes "fire") then fire_said words
     else if bytes_eq first (codes "admit") then admit_said words
     else if bytes_eq first (codes "put") then put_said words
     else if bytes_eq first (codes "start") then start_said words
-    else if bytes_eq first (codes "end") then end_said words
+    else if bytes_eq first (codes "end") then end_said version words
     else None
 
--- what a line, without its LF, says
-abbrev pub said_on : List ℕ → Option Said
-said_on line = do
+-- what a line, without its LF, says in a wiring of this version
+abbrev pub said_on : ℕ → List ℕ → Option Said
+said_on version line = do
   first ← word (pieces 32 line)
-  form_said first.0 first.1
+  form_said version first.0 first.1

@@ -1,5 +1,5 @@
 -- What the words for ports, causes and spots stand for in a wiring.
-use Rattle.std.specs.Prelude.{◌≡◌, ℕ, ◌^◌, ◌<◌, List, length, position, is_some, IsSome, Option, Some, None, if◌then◌else◌}
+use Rattle.std.specs.Prelude.{◌≡◌, ℕ, ◌^◌, ◌<◌, ◌≤◌, List, length, position, is_some, IsSome, Option, Some, None, if◌then◌else◌}
 use Rattle.std.specs.Option.{option_map}
 use Rattle.std.specs.List.{All}
 use Rattle.std.specs.Str.{bytes_eq}
@@ -9,10 +9,11 @@ use Rattle.ccr_wiring.specs.declared.parts.Parts.{Parts}
 use Rattle.ccr_wiring.specs.Wirings.{seat, site_port}
 use Rattle.ccr_model.specs.declared.history.Event.{Event}
 use Rattle.ccr_model.specs.declared.history.Event.TheVariants as events
+use Rattle.ccr_model.specs.declared.history.EndHow.{EndHow}
+use Rattle.ccr_model.specs.declared.history.EndHow.TheVariants as ends
 use Rattle.ccr_trace.specs.Words.{cause_names, branch_names}
-use Rattle.ccr_trace.specs.Said.{SpotName, Said, Post, Fire, Admit, Put, Start, End, IsTask, IsMessage, IsDropped, IsEnd}
-use Rattle.ccr_trace.specs.Places.{◌>>=◌}
-use Rattle.ccr_trace.specs.Forms.{each}
+use Rattle.ccr_trace.specs.Said.{SpotName, Said, Post, Fire, Admit, Put, Start, End, IsTask, IsMessage, IsDropped, HasNumbers, most_numbers}
+use Rattle.ccr_trace.specs.Places.{◌>>=◌, each}
 
 -- the number of the name: its place among the names
 abbrev pub number_in : List (List ℕ) → List ℕ → Option ℕ
@@ -43,14 +44,24 @@ abbrev pub IsKnownSpot : Parts → Spot → Type 0
 IsKnownSpot parts (Branch branch) = IsSome (seat parts branch)
 IsKnownSpot parts (Site branch site) = IsSome (site_port parts branch site)
 
--- the numbers of ports, causes and spots are the wiring's
+-- the value has no more numbers than the wiring's version lets it have
+abbrev pub IsOfVersion : Parts → List ℕ → Type 0
+IsOfVersion parts value = length value ≤ most_numbers parts.version
+
+abbrev pub IsKnownEnd : Parts → EndHow → Type 0
+IsKnownEnd parts (ends.Failed value) = IsOfVersion parts value
+IsKnownEnd parts ends.Done = Unit {0}
+IsKnownEnd parts ends.Yield = Unit {0}
+IsKnownEnd parts ends.Shed = Unit {0}
+
+-- the numbers of ports, causes and spots are the wiring's, and values are of its version
 abbrev pub IsKnown : Parts → Event → Type 0
-IsKnown parts (events.Post message) = (message.port < length parts.ports) × All (λ cause. cause < length parts.causes) message.causes
+IsKnown parts (events.Post message) = (message.port < length parts.ports) × All (λ cause. cause < length parts.causes) message.causes × IsOfVersion parts message.value
 IsKnown parts (events.Fire task spot messages cuts) = IsKnownSpot parts spot
 IsKnown parts (events.Admit task) = Unit {0}
 IsKnown parts (events.Put task dropped) = Unit {0}
 IsKnown parts (events.Start task actor) = Unit {0}
-IsKnown parts (events.End task how) = Unit {0}
+IsKnown parts (events.End task how) = IsKnownEnd parts how
 
 abbrev pub AreKnown : Parts → List Event → Type 0
 AreKnown parts history = All (IsKnown parts) history
@@ -71,14 +82,20 @@ abbrev pub IsShortSpot : Spot → Type 0
 IsShortSpot (Branch branch) = Unit {0}
 IsShortSpot (Site branch site) = site < 2 ^ 32
 
--- actors, attempts, places and sites are below 2 ^ 32, and values below 2 ^ 64, as the types of an event have it
+abbrev pub IsShortEnd : EndHow → Type 0
+IsShortEnd (ends.Failed value) = HasNumbers value
+IsShortEnd ends.Done = Unit {0}
+IsShortEnd ends.Yield = Unit {0}
+IsShortEnd ends.Shed = Unit {0}
+
+-- actors, attempts, places and sites are below 2 ^ 32, and the numbers of values below 2 ^ 64, as the types of an event have it
 abbrev pub IsShort : Event → Type 0
-IsShort (events.Post message) = IsMessage message.id × (message.value < 2 ^ 64)
+IsShort (events.Post message) = IsMessage message.id × HasNumbers message.value
 IsShort (events.Fire task spot messages cuts) = IsTask task × IsShortSpot spot × All IsMessage messages × All IsTask cuts
 IsShort (events.Admit task) = IsTask task
 IsShort (events.Put task dropped) = IsTask task × IsDropped dropped
 IsShort (events.Start task actor) = IsTask task × (actor < 2 ^ 32)
-IsShort (events.End task how) = IsTask task × IsEnd how
+IsShort (events.End task how) = IsTask task × IsShortEnd how
 
 abbrev pub AreShort : List Event → Type 0
 AreShort history = All IsShort history

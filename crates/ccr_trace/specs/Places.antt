@@ -1,5 +1,5 @@
 -- What one word of a line says. Each number, name and spot has one word.
-use Rattle.std.specs.Prelude.{ℕ, ◌^◌, List, [], ◌∷◌, ◌==◌, nat_lt, decimal, Option, Some, None, if◌then◌else◌}
+use Rattle.std.specs.Prelude.{ℕ, ◌^◌, List, [], ◌∷◌, length, ◌==◌, nat_lt, nat_le, decimal, Option, Some, None, if◌then◌else◌}
 use Rattle.std.specs.Option.{option_and_then}
 use Rattle.std.specs.Str.{bytes_eq}
 use Rattle.ccr_base.specs.declared.names.TaskId.{TaskId}
@@ -7,7 +7,7 @@ use Rattle.ccr_base.specs.declared.names.MsgId.{MsgId}
 use Rattle.ccr_base.specs.declared.names.MsgId.TheVariants as ids
 use Rattle.ccr_text.specs.Words.{number_of, is_name_of}
 use Rattle.ccr_trace.specs.Pieces.{pieces}
-use Rattle.ccr_trace.specs.Said.{SpotName}
+use Rattle.ccr_trace.specs.Said.{SpotName, most_numbers}
 
 -- one step behind another: nothing where one has nothing
 infixl 10 ◌>>=◌
@@ -29,9 +29,20 @@ where_short n = if nat_lt n (2 ^ 32) then Some n else None
 unfoldable pub short_number : List ℕ → Option ℕ
 short_number word = exact_number word >>= where_short
 
--- a message's value
-abbrev pub value_of : List ℕ → Option ℕ
-value_of word = exact_number word
+-- what each word says
+unfoldable pub each : {A : Type 0} → (List ℕ → Option A) → List (List ℕ) → Option (List A)
+each read [] = Some []
+each read (first ∷ words) = do
+  value ← read first
+  values ← each read words
+  Some (value ∷ values)
+
+abbrev pub where_few : ℕ → List ℕ → Option (List ℕ)
+where_few most numbers = if nat_le (length numbers) most then Some numbers else None
+
+-- a value in a wiring of this version: numbers joined by commas, no more than it lets them be
+unfoldable pub value_of : ℕ → List ℕ → Option (List ℕ)
+value_of version word = each exact_number (pieces 44 word) >>= where_few (most_numbers version)
 
 -- a word of the form of a name
 abbrev pub name_of : List ℕ → Option (List ℕ)

@@ -3,7 +3,9 @@ use Rattle.std.specs.Prelude.{ℕ, ◌+◌, max, List, [], ◌∷◌, ◌++◌, 
 use Rattle.std.specs.Str.{bytes_eq}
 use Rattle.ccr_wiring.specs.declared.parts.Parts.{Parts}
 use Rattle.ccr_model.specs.declared.history.Event.{Event}
+use Rattle.ccr_text.specs.Spelling.{joined}
 use Rattle.ccr_trace.specs.declared.reading.ReadHistory.{ReadHistory}
+use Rattle.ccr_trace.specs.HistoryText.{first_words}
 use Rattle.ccr_trace.specs.Pieces.{pieces}
 use Rattle.ccr_trace.specs.Said.{Said}
 use Rattle.ccr_trace.specs.Forms.{said_on}
@@ -20,7 +22,7 @@ event_of parts (Some said) = or_code (known parts said) 2
 
 -- the event of a line, without its LF
 abbrev pub event_on : Parts → List ℕ → Result Event ℕ
-event_on parts line = event_of parts (said_on line)
+event_on parts line = event_of parts (said_on parts.version line)
 
 -- where the text ends before a line `report 1`: bytes behind the last LF are a line that lacks its LF
 abbrev pub ended : ℕ → List ℕ → ℕ × ℕ
@@ -39,15 +41,19 @@ reading_from parts read (line ∷ next ∷ lines) =
     if bytes_eq line (codes "report 1") then Ok read
     else elim (event_on parts line) [ Ok event ↦ reading_from parts (with_event read line event) (next ∷ lines) | Err code ↦ Err (read.lines + 1, code) ]
 
--- what stands behind the line `history 1`
+-- the first line, without its LF
+abbrev pub first_line : Parts → List ℕ
+first_line parts = joined (first_words parts)
+
+-- what stands behind the first line
 abbrev pub head : ReadHistory
 head = record { history = []; rest = 10; lines = 1 }
 
--- the lines of a text, of which the first is `history 1`
+-- the lines of a text, of which the first is `history 1`, or `history 2` in version 2
 unfoldable pub reading_lines : Parts → List (List ℕ) → Result ReadHistory (ℕ × ℕ)
 reading_lines parts [] = Err (ended 0 [])
 reading_lines parts (last ∷ []) = Err (ended 0 last)
-reading_lines parts (line ∷ next ∷ lines) = if bytes_eq line (codes "history 1") then reading_from parts head (next ∷ lines) else Err (1, 1)
+reading_lines parts (line ∷ next ∷ lines) = if bytes_eq line (first_line parts) then reading_from parts head (next ∷ lines) else Err (1, 1)
 
 -- the history that a text says up to its line `report 1`, the place of that line and how many stand before it;
 -- or the first offending line and its code

@@ -10,7 +10,7 @@ ghost use Rattle.ccr_trace.specs.Forms.{word, no_more, only, place};
 ghost use Rattle.ccr_trace.specs.Answers.{Says, Leaves, LeavesBy};
 
 use crate::pieces::Pieces;
-use crate::places::{exact_number, message_of, short_number, spot_of, task_of};
+use crate::places::{message_of, short_number, spot_of, task_of, value_of};
 use crate::stop::Stop;
 use ccr_base::{ActorNo, MsgId, TaskId, Value};
 use ccr_text::is_name;
@@ -88,11 +88,12 @@ impl<'a> Cursor<'a> {
         Ok(word)
     }
 
-    pub fn value(&mut self) -> Result<Value, Stop>
-        ensures { Leaves self.new result (place value_of self.old) }
+    /// A value in a wiring of this version.
+    pub fn value(&mut self, version: u32) -> Result<Value, Stop>
+        ensures { Leaves self.new result (place (value_of version) self.old) }
     {
         let word = self.word()?;
-        exact_number(word).ok_or(Stop::Malformed)
+        value_of(version, word).ok_or(Stop::Malformed)
     }
 
     pub fn actor(&mut self) -> Result<ActorNo, Stop>

@@ -1,12 +1,15 @@
 //! The lines of events.
 
-ghost use Rattle.std.specs.Prelude.{◌≡◌, ◌++◌, ◌∷◌, [], OnOk, map, codes, decimal};
+ghost use Rattle.std.specs.Prelude.{◌≡◌, ◌<◌, ◌^◌, ◌++◌, ◌∷◌, [], OnOk, map, codes, decimal};
+ghost use Rattle.std.specs.List.{All};
 ghost use Rattle.ccr_text.specs.Spelling.{line_text};
-ghost use Rattle.ccr_trace.specs.Words.{task_word, message_word, spot_word, name_at, branch_names, cause_names};
+ghost use Rattle.ccr_trace.specs.Words.{task_word, message_word, value_word, spot_word, name_at, branch_names, cause_names};
+ghost use Rattle.ccr_trace.specs.Said.{IsTask, IsMessage, IsDropped, HasNumbers};
+ghost use Rattle.ccr_trace.specs.Known.{IsShortSpot, IsShortEnd, IsShort};
 ghost use Rattle.ccr_trace.specs.HistoryText.{behind, cut_words, dropped_words, end_words, event_words};
 
 use crate::names::cause_name;
-use crate::words::{put_message, put_number_word, put_spot, put_task, put_word};
+use crate::words::{put_message, put_number_word, put_spot, put_task, put_value, put_word};
 use ccr_base::{CauseNo, List, Msg, MsgId, Name, OutOfMemory, Spot, TaskId};
 use ccr_model::{EndHow, Event};
 use ccr_spots::name_at;
@@ -21,7 +24,8 @@ pub fn put_event(
     event: &Event,
 ) -> Result<(), OutOfMemory>
     requires { branches.now ≡ branch_names parts.now }
-    ensures { OnOk result (out.new ≡ out.old ++ line_text (event_words parts.now event.now)) }
+    ensures text { OnOk result (out.new ≡ out.old ++ line_text (event_words parts.now event.now)) }
+    ensures numbers { OnOk result (IsShort event.now) }
 {
     match event {
         Event::Post(message) => put_post(out, parts, message),
@@ -39,12 +43,13 @@ pub fn put_event(
 }
 
 fn put_post(out: &mut List<u8>, parts: &Parts, message: &Msg) -> Result<(), OutOfMemory>
-    ensures { OnOk result (out.new ≡ out.old ++ line_text (codes "post" ∷ message_word message.now.id ∷ name_at parts.now.ports message.now.port ∷ decimal message.now.value ∷ map (name_at (cause_names parts.now)) message.now.causes)) }
+    ensures text { OnOk result (out.new ≡ out.old ++ line_text (codes "post" ∷ message_word message.now.id ∷ name_at parts.now.ports message.now.port ∷ value_word message.now.value ∷ map (name_at (cause_names parts.now)) message.now.causes)) }
+    ensures numbers { OnOk result (IsMessage message.now.id × HasNumbers message.now.value) }
 {
     put_bytes(out, b"post")?;
     put_message(out, message.id)?;
     put_word(out, name_at(parts.ports.as_slice(), message.port))?;
-    put_number_word(out, message.value)?;
+    put_value(out, message.value)?;
     put_causes(out, parts.causes.as_slice(), message.causes.as_slice())?;
     put_bytes(out, b"\n")
 }
@@ -70,7 +75,8 @@ fn put_fire(
     messages: &List<MsgId>,
     cuts: &List<TaskId>,
 ) -> Result<(), OutOfMemory>
-    ensures { OnOk result (out.new ≡ out.old ++ line_text (codes "fire" ∷ task_word task ∷ spot_word branches.now spot ∷ (map message_word messages.now ++ cut_words cuts.now))) }
+    ensures text { OnOk result (out.new ≡ out.old ++ line_text (codes "fire" ∷ task_word task ∷ spot_word branches.now spot ∷ (map message_word messages.now ++ cut_words cuts.now))) }
+    ensures numbers { OnOk result (IsTask task × IsShortSpot spot × All IsMessage messages.now × All IsTask cuts.now) }
 {
     put_bytes(out, b"fire")?;
     put_task(out, task)?;
@@ -81,7 +87,8 @@ fn put_fire(
 }
 
 fn put_messages(out: &mut List<u8>, messages: &[MsgId]) -> Result<(), OutOfMemory>
-    ensures { OnOk result (out.new ≡ out.old ++ behind (map message_word messages.now)) }
+    ensures text { OnOk result (out.new ≡ out.old ++ behind (map message_word messages.now)) }
+    ensures numbers { OnOk result (All IsMessage messages.now) }
 {
     for message in messages {
         put_message(out, *message)?;
@@ -90,7 +97,8 @@ fn put_messages(out: &mut List<u8>, messages: &[MsgId]) -> Result<(), OutOfMemor
 }
 
 fn put_cuts(out: &mut List<u8>, cuts: &[TaskId]) -> Result<(), OutOfMemory>
-    ensures { OnOk result (out.new ≡ out.old ++ behind (cut_words cuts.now)) }
+    ensures text { OnOk result (out.new ≡ out.old ++ behind (cut_words cuts.now)) }
+    ensures numbers { OnOk result (All IsTask cuts.now) }
 {
     if cuts.is_empty() {
         return Ok(());
@@ -100,7 +108,8 @@ fn put_cuts(out: &mut List<u8>, cuts: &[TaskId]) -> Result<(), OutOfMemory>
 }
 
 fn put_tasks(out: &mut List<u8>, tasks: &[TaskId]) -> Result<(), OutOfMemory>
-    ensures { OnOk result (out.new ≡ out.old ++ behind (map task_word tasks.now)) }
+    ensures text { OnOk result (out.new ≡ out.old ++ behind (map task_word tasks.now)) }
+    ensures numbers { OnOk result (All IsTask tasks.now) }
 {
     for task in tasks {
         put_task(out, *task)?;
@@ -110,7 +119,8 @@ fn put_tasks(out: &mut List<u8>, tasks: &[TaskId]) -> Result<(), OutOfMemory>
 
 /// A line of a word and a task.
 fn put_task_line(out: &mut List<u8>, word: &[u8], task: TaskId) -> Result<(), OutOfMemory>
-    ensures { OnOk result (out.new ≡ out.old ++ line_text (word.now ∷ task_word task ∷ [])) }
+    ensures text { OnOk result (out.new ≡ out.old ++ line_text (word.now ∷ task_word task ∷ [])) }
+    ensures numbers { IsTask task }
 {
     put_bytes(out, word)?;
     put_task(out, task)?;
@@ -118,7 +128,8 @@ fn put_task_line(out: &mut List<u8>, word: &[u8], task: TaskId) -> Result<(), Ou
 }
 
 fn put_put(out: &mut List<u8>, task: TaskId, dropped: Option<TaskId>) -> Result<(), OutOfMemory>
-    ensures { OnOk result (out.new ≡ out.old ++ line_text (codes "put" ∷ task_word task ∷ dropped_words dropped)) }
+    ensures text { OnOk result (out.new ≡ out.old ++ line_text (codes "put" ∷ task_word task ∷ dropped_words dropped)) }
+    ensures numbers { OnOk result (IsTask task × IsDropped dropped) }
 {
     let Some(dropped) = dropped else {
         return put_task_line(out, b"put", task);
@@ -131,7 +142,8 @@ fn put_put(out: &mut List<u8>, task: TaskId, dropped: Option<TaskId>) -> Result<
 }
 
 fn put_start(out: &mut List<u8>, task: TaskId, actor: u32) -> Result<(), OutOfMemory>
-    ensures { OnOk result (out.new ≡ out.old ++ line_text (codes "start" ∷ task_word task ∷ decimal actor ∷ [])) }
+    ensures text { OnOk result (out.new ≡ out.old ++ line_text (codes "start" ∷ task_word task ∷ decimal actor ∷ [])) }
+    ensures numbers { OnOk result (IsTask task × (actor < 2 ^ 32)) }
 {
     put_bytes(out, b"start")?;
     put_task(out, task)?;
@@ -140,7 +152,8 @@ fn put_start(out: &mut List<u8>, task: TaskId, actor: u32) -> Result<(), OutOfMe
 }
 
 fn put_end(out: &mut List<u8>, task: TaskId, how: EndHow) -> Result<(), OutOfMemory>
-    ensures { OnOk result (out.new ≡ out.old ++ line_text (codes "end" ∷ task_word task ∷ end_words how)) }
+    ensures text { OnOk result (out.new ≡ out.old ++ line_text (codes "end" ∷ task_word task ∷ end_words how)) }
+    ensures numbers { OnOk result (IsTask task × IsShortEnd how) }
 {
     put_bytes(out, b"end")?;
     put_task(out, task)?;
@@ -148,7 +161,7 @@ fn put_end(out: &mut List<u8>, task: TaskId, how: EndHow) -> Result<(), OutOfMem
         EndHow::Done => put_word(out, b"done")?,
         EndHow::Failed(value) => {
             put_word(out, b"failed")?;
-            put_number_word(out, value)?;
+            put_value(out, value)?;
         }
         EndHow::Yield => put_word(out, b"yield")?,
         EndHow::Shed => put_word(out, b"shed")?,

@@ -2,8 +2,8 @@
 
 ghost use Rattle.std.specs.Prelude.{◌≡◌, not, ◌==◌, length};
 ghost use Rattle.std.specs.Option.{option_map};
-ghost use Rattle.ccr_trace.specs.Places.{task_of};
-ghost use Rattle.ccr_trace.specs.Forms.{cuts, each, fired, post_said, fire_said, admit_said, dropped_said, put_said, start_said, how_said, plain_end, end_said, form_said};
+ghost use Rattle.ccr_trace.specs.Places.{each, task_of};
+ghost use Rattle.ccr_trace.specs.Forms.{cuts, fired, post_said, fire_said, admit_said, dropped_said, put_said, start_said, how_said, plain_end, end_said, form_said};
 ghost use Rattle.ccr_trace.specs.Reading.{event_of, event_on};
 ghost use Rattle.ccr_trace.specs.Answers.{Says, Leaves, Gives};
 
@@ -59,11 +59,11 @@ fn fired(alloc: Global, mut words: Cursor<'_>) -> Result<(List<MsgId>, List<Task
 /// post MSG PORT VALUE CAUSE ..
 #[tactic(auto, unfolding(crate::specs::Forms::post_said, crate::specs::Known::known))]
 fn post(known: &Known<'_>, mut words: Cursor<'_>) -> Result<Event, Stop>
-    ensures { Gives result (event_of known.now (post_said words.entry)) }
+    ensures { Gives result (event_of known.now (post_said known.now.version words.entry)) }
 {
     let id = words.message()?;
     let port = words.name()?;
-    let value = words.value()?;
+    let value = words.value(known.version())?;
     words.names()?;
     Ok(Event::Post(Msg {
         id,
@@ -156,12 +156,12 @@ fn plain_end(word: &[u8]) -> Option<EndHow>
 
 /// How a segment ends.
 #[tactic(auto, unfolding(crate::specs::Forms::how_said))]
-fn how(words: &mut Cursor<'_>) -> Result<EndHow, Stop>
-    ensures { Leaves words.new result (how_said words.old) }
+fn how(version: u32, words: &mut Cursor<'_>) -> Result<EndHow, Stop>
+    ensures { Leaves words.new result (how_said version words.old) }
 {
     let word = words.word()?;
     if is_text(word, "failed") {
-        let value = words.value()?;
+        let value = words.value(version)?;
         return Ok(EndHow::Failed(value));
     }
     plain_end(word).ok_or(Stop::Malformed)
@@ -170,17 +170,17 @@ fn how(words: &mut Cursor<'_>) -> Result<EndHow, Stop>
 /// end TASK done, end TASK failed VALUE, end TASK yield, end TASK shed.
 #[tactic(auto, unfolding(crate::specs::Forms::end_said, crate::specs::Known::known))]
 fn end(known: &Known<'_>, mut words: Cursor<'_>) -> Result<Event, Stop>
-    ensures { Gives result (event_of known.now (end_said words.entry)) }
+    ensures { Gives result (event_of known.now (end_said known.now.version words.entry)) }
 {
     let task = words.task()?;
-    let how = how(&mut words)?;
+    let how = how(known.version(), &mut words)?;
     words.no_more()?;
     Ok(Event::End { task, how })
 }
 
 #[tactic(auto, unfolding(crate::specs::Forms::form_said))]
 fn form(alloc: Global, known: &Known<'_>, first: &[u8], words: Cursor<'_>) -> Result<Event, Stop>
-    ensures { Gives result (event_of known.now (form_said first.now words.entry)) }
+    ensures { Gives result (event_of known.now (form_said known.now.version first.now words.entry)) }
 {
     if is_text(first, "post") {
         post(known, words)

@@ -1,19 +1,17 @@
 //! What a wiring has: its ports, causes and spots by their names.
 
-ghost use Rattle.std.specs.Prelude.{◌≡◌, ◌++◌, IfOk, OnOk, map, is_some};
-ghost use Rattle.std.specs.List.{slice_get};
-ghost use Rattle.ccr_wiring.specs.Wirings.{actions_of, awaited, site_port};
+ghost use Rattle.std.specs.Prelude.{◌≡◌, ◌++◌, IfOk, OnOk, map};
 ghost use Rattle.ccr_trace.specs.Words.{branch_names, branch_names_of, cause_names};
 ghost use Rattle.ccr_trace.specs.Said.{SpotName};
-ghost use Rattle.ccr_trace.specs.Forms.{each};
+ghost use Rattle.ccr_trace.specs.Places.{each};
 ghost use Rattle.ccr_trace.specs.Known.{number_in, spot_known};
 ghost use Rattle.ccr_trace.specs.Answers.{Finds};
 
 use crate::cursor::Cursor;
 use crate::numbers::Numbers;
 use crate::stop::Stop;
-use ccr_base::{Action, BranchNo, CauseNo, List, Name, OutOfMemory, PortNo, Spot};
-use ccr_model::seats::seat;
+use ccr_base::{CauseNo, List, Name, OutOfMemory, PortNo, Spot};
+use ccr_model::seats::site_port;
 use ccr_wiring::{ArbiterPart, CausePart, Parts, Wiring, valid_wirings_are_sound};
 use std::alloc::Global;
 use std::marker::Model;
@@ -55,40 +53,6 @@ fn branch_names<'w>(alloc: Global, parts: &'w Parts) -> Result<Vec<&'w [u8]>, Ou
         add_branches(&mut names, arbiter)?;
     }
     Ok(names)
-}
-
-fn actions_of(wiring: &Wiring, handler: u32) -> &[Action]
-    ensures { result.now ≡ actions_of wiring.now handler }
-{
-    match wiring.parts().handlers.as_slice().get(handler as usize) {
-        Some(part) => part.handler.actions.as_slice(),
-        None => &[],
-    }
-}
-
-/// Whether there are more awaits than so many.
-fn awaits_at(actions: &[Action], site: u32) -> bool
-    ensures { result ≡ is_some (slice_get (awaited actions.now) site) }
-{
-    let mut left = site;
-    for action in actions {
-        if let Action::Await(_) = action {
-            if left == 0 {
-                return true;
-            }
-            left -= 1;
-        }
-    }
-    false
-}
-
-fn has_site(wiring: &Wiring, branch: BranchNo, site: u32) -> bool
-    ensures { result ≡ is_some (site_port wiring.now branch site) }
-{
-    match seat(wiring, branch) {
-        Some(seat) => awaits_at(actions_of(wiring, seat.branch.handler), site),
-        None => false,
-    }
 }
 
 /// A wiring with the numbers of its names. Contracts see its parts.
@@ -135,6 +99,19 @@ impl<'w> Known<'w> {
         })
     }
 
+    /// The wiring, as contracts see it.
+    pub fn parts(&self) -> &Parts
+        ensures { result.now ≡ self.now }
+    {
+        self.wiring.parts()
+    }
+
+    pub fn version(&self) -> u32
+        ensures { result ≡ self.now.version }
+    {
+        self.parts().version
+    }
+
     pub fn port(&self, name: &[u8]) -> Result<PortNo, Stop>
         ensures { Finds result (number_in self.now.ports name.now) }
     {
@@ -163,7 +140,7 @@ impl<'w> Known<'w> {
         let Some(site) = site else {
             return Ok(Spot::Branch(branch));
         };
-        if !has_site(self.wiring, branch, site) {
+        if site_port(self.wiring, branch, site).is_none() {
             return Err(Stop::Unknown);
         }
         Ok(Spot::Site(branch, site))

@@ -13,10 +13,10 @@ ghost use Rattle.ccr_trace.specs.Reading.{reading};
 
 use ccr_text::numbers_are_read_again;
 
-/// A line says something exactly where it is the one spelling of it. So a malformed line is the spelling of nothing.
+/// In a wiring of a version a line says something exactly where it is the one spelling of it. So a malformed line is the spelling of nothing.
 pub fn lines_are_read_exactly()
-    ensures said { (line : List ℕ) (said : Said) → said_on line ≡ Some said → IsSaid said × (spelled said ≡ line) }
-    ensures read { (said : Said) → IsSaid said → said_on (spelled said) ≡ Some said }
+    ensures said { (version : ℕ) (line : List ℕ) (said : Said) → said_on version line ≡ Some said → IsSaid version said × (spelled said ≡ line) }
+    ensures read { (version : ℕ) (said : Said) → IsSaid version said → said_on version (spelled said) ≡ Some said }
 {
     numbers_are_read_again();
 }

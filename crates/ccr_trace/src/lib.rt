@@ -3,6 +3,7 @@
 
 mod cursor;
 mod events;
+mod first;
 mod forms;
 mod known;
 mod laws;

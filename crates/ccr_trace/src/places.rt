@@ -1,13 +1,13 @@
 //! What one word of a line says. Each number, name and spot has one word.
 
-ghost use Rattle.std.specs.Prelude.{◌≡◌};
+ghost use Rattle.std.specs.Prelude.{◌≡◌, ◌≤◌};
 ghost use Rattle.std.specs.Str.{bytes_eq};
 ghost use Rattle.std.specs.Option.{option_map};
-ghost use Rattle.ccr_trace.specs.Said.{SpotName};
-ghost use Rattle.ccr_trace.specs.Places.{exact_number, short_number, task_in, task_of, script_in, answer_in, message_of, spot_with, spot_of};
+ghost use Rattle.ccr_trace.specs.Said.{SpotName, most_numbers};
+ghost use Rattle.ccr_trace.specs.Places.{exact_number, short_number, value_of, task_in, task_of, script_in, answer_in, message_of, spot_with, spot_of};
 
 use crate::pieces::Pieces;
-use ccr_base::{MsgId, TaskId};
+use ccr_base::{MAX_VALUE_NUMBERS, MsgId, TaskId, Value};
 use ccr_text::{is_name, read_number};
 
 /// Whether the word is that text.
@@ -40,6 +40,32 @@ pub fn short_number(word: &[u8]) -> Option<u32>
         return None;
     }
     Some(number as u32)
+}
+
+/// How many numbers a value has at most.
+fn most_numbers(version: u32) -> usize
+    ensures most { result ≡ most_numbers version }
+    ensures few { result ≤ 8 }
+{
+    if version == 2 { MAX_VALUE_NUMBERS } else { 1 }
+}
+
+/// Numbers joined by commas: 1 to 8 in version 2, else one.
+pub fn value_of(version: u32, word: &[u8]) -> Option<Value>
+    ensures { result ≡ value_of version word.now }
+{
+    let most = most_numbers(version);
+    let mut numbers = [0; MAX_VALUE_NUMBERS];
+    let mut count = 0;
+    let mut parts = Pieces::new(b',', word);
+    'parts: while let Some(part) = parts.take() {
+        if count == most {
+            return None;
+        }
+        numbers[count] = exact_number(part)?;
+        count += 1;
+    }
+    Value::of(&numbers[..count])
 }
 
 /// A.K

@@ -6,6 +6,7 @@ ghost use Rattle.ccr_trace.specs.Known.{AreKnown, HaveMessages};
 ghost use Rattle.ccr_trace.specs.Answers.{IsReading, IsRefusal, refused};
 ghost use Rattle.ccr_trace.specs.Reading.{ended, head, with_event, reading, reading_from, reading_lines};
 
+use crate::first::is_first_line;
 use crate::forms::event_on;
 use crate::known::Known;
 use crate::pieces::Pieces;
@@ -97,7 +98,7 @@ fn read_from(
     Err(ended(read.lines, &[]))
 }
 
-/// The lines of a text, of which the first is `history 1`.
+/// The lines of a text, of which the first is `history 1`, or `history 2` in version 2.
 fn read_lines(
     alloc: Global,
     known: &Known<'_>,
@@ -112,7 +113,7 @@ fn read_lines(
     if lines.is_empty() {
         return Err(ended(0, first));
     }
-    if !is_text(first, "history 1") {
+    if !is_first_line(known.parts(), first) {
         return Err(HistoryRefused::At { line: 1, code: 1 });
     }
     read_from(alloc, known, lines)

@@ -1,5 +1,7 @@
 use super::*;
-use ccr_base::{Action, List, Msg, MsgId, OutOfMemory, Spot, TaskId};
+use ccr_base::{
+    Action, ActorNo, CauseNo, List, Msg, MsgId, OutOfMemory, PortNo, Spot, TaskId, Value,
+};
 use ccr_model::{EndHow, Event, History};
 use ccr_samples::{name, one_cause, one_handler, one_receiver, only};
 use ccr_wiring::{Parts, Wiring};
@@ -9,8 +11,9 @@ use std::test::*;
 mod reading;
 
 /// One receiver with another port `b`, a cause `k` that has it, and a handler that awaits it.
-fn parts(alloc: Global) -> Result<Parts, OutOfMemory> {
+fn parts(alloc: Global, version: u32) -> Result<Parts, OutOfMemory> {
     let mut parts = one_receiver(alloc)?;
+    parts.version = version;
     let second = name(alloc, b"b")?;
     parts.ports.push(second).map_err(|(refused, _)| refused)?;
     parts.causes = one_cause(alloc, 1)?;
@@ -18,9 +21,9 @@ fn parts(alloc: Global) -> Result<Parts, OutOfMemory> {
     Ok(parts)
 }
 
-fn wiring(alloc: Global) -> Result<Wiring, Fail> {
-    let parts = parts(alloc).ok().ok_or("memory")?;
-    Ok(Wiring::check(alloc, parts).ok().ok_or("not valid")?)
+fn wiring(alloc: Global, version: u32) -> Option<Wiring> {
+    let parts = parts(alloc, version).ok()?;
+    Wiring::check(alloc, parts).ok()
 }
 
 const FIRST: TaskId = TaskId {
@@ -43,106 +46,139 @@ const ANSWER: MsgId = MsgId::Task {
     place: 3,
 };
 
-fn push(history: &mut History, event: Event) -> Result<(), Fail> {
-    Ok(history.push(event).ok().ok_or("memory")?)
+/// An event whose lists are constants.
+#[derive(Clone, Copy)]
+enum Step {
+    Post(MsgId, PortNo, &'static [u64], &'static [CauseNo]),
+    Fire(TaskId, Spot, &'static [MsgId], &'static [TaskId]),
+    Admit(TaskId),
+    Put(TaskId, Option<TaskId>),
+    Start(TaskId, ActorNo),
+    End(TaskId, EndHow),
+    Failed(TaskId, &'static [u64]),
 }
 
-/// Posts with a cause and without one.
-fn push_posts(alloc: Global, history: &mut History) -> Result<(), Fail> {
-    let caused = Msg {
-        id: POSTED,
-        port: 0,
-        value: 18446744073709551615,
-        causes: only(alloc, 0).ok().ok_or("memory")?,
-    };
-    push(history, Event::Post(caused))?;
-    let plain = Msg {
-        id: ANSWER,
-        port: 1,
-        value: 0,
-        causes: List::new(alloc),
-    };
-    push(history, Event::Post(plain))
+/// Events, and their lines.
+type Line = (Step, &'static str);
+
+const LINES: [Line; 12] = [
+    (
+        Step::Post(POSTED, 0, &[18446744073709551615], &[0]),
+        "post s0.10 a 18446744073709551615 k\n",
+    ),
+    (Step::Post(ANSWER, 1, &[0], &[]), "post t1.0.3 b 0\n"),
+    (
+        Step::Fire(FIRST, Spot::Branch(0), &[POSTED, ANSWER], &[]),
+        "fire t1.0 x s0.10 t1.0.3\n",
+    ),
+    (
+        Step::Fire(SECOND, Spot::Site(0, 0), &[POSTED], &[FIRST, SECOND]),
+        "fire t32.4294967295 x@0 s0.10 cut t1.0 t32.4294967295\n",
+    ),
+    (Step::Admit(SECOND), "admit t32.4294967295\n"),
+    (Step::Put(FIRST, None), "put t1.0\n"),
+    (
+        Step::Put(FIRST, Some(SECOND)),
+        "put t1.0 drop t32.4294967295\n",
+    ),
+    (Step::Start(FIRST, 12), "start t1.0 12\n"),
+    (Step::End(FIRST, EndHow::Done), "end t1.0 done\n"),
+    (Step::Failed(FIRST, &[7]), "end t1.0 failed 7\n"),
+    (Step::End(FIRST, EndHow::Yield), "end t1.0 yield\n"),
+    (Step::End(FIRST, EndHow::Shed), "end t1.0 shed\n"),
+];
+
+/// The same in a wiring of version 2.
+const NEWER_LINES: [Line; 3] = [
+    (
+        Step::Post(POSTED, 0, &[5, 18446744073709551615, 3], &[0]),
+        "post s0.10 a 5,18446744073709551615,3 k\n",
+    ),
+    (
+        Step::Post(POSTED, 1, &[1, 2, 3, 4, 5, 6, 7, 8], &[]),
+        "post s0.10 b 1,2,3,4,5,6,7,8\n",
+    ),
+    (Step::Failed(FIRST, &[7, 0]), "end t1.0 failed 7,0\n"),
+];
+
+fn copied<T: Copy>(alloc: Global, items: &[T]) -> Result<List<T>, OutOfMemory> {
+    Ok(List::from_vec(Vec::from_slice(alloc, items)?))
 }
 
-/// A firing of a branch, and one of a site with cuts.
-fn push_fires(alloc: Global, history: &mut History) -> Result<(), Fail> {
-    let at_branch = Event::Fire {
-        task: FIRST,
-        spot: Spot::Branch(0),
-        messages: List::from_vec([POSTED, ANSWER].to_vec(alloc)?),
-        cuts: List::new(alloc),
-    };
-    push(history, at_branch)?;
-    let at_site = Event::Fire {
-        task: SECOND,
-        spot: Spot::Site(0, 0),
-        messages: only(alloc, POSTED).ok().ok_or("memory")?,
-        cuts: List::from_vec([FIRST, SECOND].to_vec(alloc)?),
-    };
-    push(history, at_site)
+fn value(numbers: &[u64]) -> Value {
+    Value::of(numbers).unwrap_or(Value::one(0))
 }
 
-/// What becomes of tasks: admitted, put with a drop and without one, started.
-fn push_turns(history: &mut History) -> Result<(), Fail> {
-    push(history, Event::Admit(SECOND))?;
-    for dropped in [None, Some(SECOND)] {
-        push(
-            history,
-            Event::Put {
-                task: FIRST,
-                dropped,
-            },
-        )?;
-    }
-    push(
-        history,
-        Event::Start {
-            task: FIRST,
-            actor: 12,
+fn event(alloc: Global, step: Step) -> Result<Event, OutOfMemory> {
+    Ok(match step {
+        Step::Post(id, port, numbers, causes) => Event::Post(Msg {
+            id,
+            port,
+            value: value(numbers),
+            causes: copied(alloc, causes)?,
+        }),
+        Step::Fire(task, spot, messages, cuts) => Event::Fire {
+            task,
+            spot,
+            messages: copied(alloc, messages)?,
+            cuts: copied(alloc, cuts)?,
         },
-    )
+        Step::Admit(task) => Event::Admit(task),
+        Step::Put(task, dropped) => Event::Put { task, dropped },
+        Step::Start(task, actor) => Event::Start { task, actor },
+        Step::End(task, how) => Event::End { task, how },
+        Step::Failed(task, numbers) => Event::End {
+            task,
+            how: EndHow::Failed(value(numbers)),
+        },
+    })
 }
 
-/// An end of each kind.
-fn push_ends(history: &mut History) -> Result<(), Fail> {
-    for how in [EndHow::Done, EndHow::Failed(7), EndHow::Yield, EndHow::Shed] {
-        push(history, Event::End { task: FIRST, how })?;
-    }
-    Ok(())
-}
-
-/// One event of each form.
-fn history(alloc: Global) -> Result<History, Fail> {
+/// The text of the history of this one event.
+fn written(alloc: Global, wiring: &Wiring, step: Step) -> Result<List<u8>, OutOfMemory> {
     let mut history = History::new(alloc);
-    push_posts(alloc, &mut history)?;
-    push_fires(alloc, &mut history)?;
-    push_turns(&mut history)?;
-    push_ends(&mut history)?;
-    Ok(history)
+    let event = event(alloc, step)?;
+    history.push(event).map_err(|(refused, _)| refused)?;
+    write_history(alloc, wiring, &history)
+}
+
+/// Whether that text is the first line and this one.
+fn is_written(alloc: Global, wiring: &Wiring, first: &str, row: &Line) -> bool {
+    let Ok(text) = written(alloc, wiring, row.0) else {
+        return false;
+    };
+    match text.as_slice().strip_prefix(first.as_bytes()) {
+        Some(line) => line == row.1.as_bytes(),
+        None => false,
+    }
+}
+
+/// The place of the first row that is written otherwise.
+fn wrong_line(alloc: Global, wiring: &Wiring, first: &str, rows: &[Line]) -> Option<usize> {
+    for (place, row) in rows.iter().enumerate() {
+        if !is_written(alloc, wiring, first, row) {
+            return Some(place);
+        }
+    }
+    None
 }
 
 #[test]
 fn a_line_for_each_event(rt: HostRuntime) -> Result<(), Fail> {
-    let wanted: &[u8] = b"history 1
-post s0.10 a 18446744073709551615 k
-post t1.0.3 b 0
-fire t1.0 x s0.10 t1.0.3
-fire t32.4294967295 x@0 s0.10 cut t1.0 t32.4294967295
-admit t32.4294967295
-put t1.0
-put t1.0 drop t32.4294967295
-start t1.0 12
-end t1.0 done
-end t1.0 failed 7
-end t1.0 yield
-end t1.0 shed
-";
-    let wiring = wiring(rt.alloc())?;
-    let history = history(rt.alloc())?;
-    let text = write_history(rt.alloc(), &wiring, &history)
-        .ok()
-        .ok_or("memory")?;
-    assert_eq!(rt; text.as_slice(), wanted);
+    let wiring = wiring(rt.alloc(), 1).ok_or("memory")?;
+    assert_eq!(rt;
+        wrong_line(rt.alloc(), &wiring, "history 1\n", &LINES),
+        None
+    );
+    Ok(())
+}
+
+#[test]
+fn lines_of_version_2(rt: HostRuntime) -> Result<(), Fail> {
+    let wiring = wiring(rt.alloc(), 2).ok_or("memory")?;
+    assert_eq!(rt;
+        wrong_line(rt.alloc(), &wiring, "history 2\n", &NEWER_LINES),
+        None
+    );
     Ok(())
 }

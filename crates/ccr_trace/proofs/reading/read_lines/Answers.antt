@@ -1,6 +1,8 @@
 use Rattle.std.proofs.Common.{◌≡◌, ◌∷◌, [], ◌∙◌, List, ℕ, sym, ap}
 use Rattle.ccr_trace.specs.Answers.{IsReading}
-use Rattle.ccr_trace.specs.Reading.{ended, reading_lines}
+use Rattle.std.specs.Str.{bytes_eq}
+use Rattle.ccr_wiring.specs.declared.parts.Parts.{Parts}
+use Rattle.ccr_trace.specs.Reading.{ended, first_line, reading_lines}
 use Rattle.ccr_trace.proofs.LineSteps.{lines_none, lines_last, lines_next, lines_stop, end_answered}
 use Rattle.ccr_trace.proofs.reading.read_lines.Goals as goal
 
@@ -15,13 +17,13 @@ returns-then-is_empty c =
     end_answered c.ended-then-is_empty.result (ended 0 c.in-Some.first.now) (reading_lines c.args.known.now c.args.lines) c.ended-then-is_empty.ensures
     (ap (λ (lines : List (List ℕ)). reading_lines c.args.known.now lines) some ∙ lines_last c.args.known.now c.in-Some.first.now c.take.new.self (sym c.is_empty.ensures ∙ c.if-is_empty.true))
 
-pub returns-then-not-is_text : goal.returns-then-not-is_text
-returns-then-not-is_text c =
+pub returns-then-not-is_first_line : goal.returns-then-not-is_first_line
+returns-then-not-is_first_line c =
     let some : c.args.lines ≡ c.in-Some.first.now ∷ c.take.new.self = c.in-Some.ensures.some in
-    ap (λ (lines : List (List ℕ)). reading_lines c.args.known.now lines) some ∙ lines_stop c.args.known.now c.in-Some.first.now c.take.new.self (sym c.is_empty.ensures ∙ c.if-is_empty.false) (sym c.is_text.ensures ∙ c.if-not-is_text.true)
+    ap (λ (lines : List (List ℕ)). reading_lines c.args.known.now lines) some ∙ lines_stop c.args.known.now c.in-Some.first.now c.take.new.self (sym c.is_empty.ensures ∙ c.if-is_empty.false) (ap (λ (p : Parts). bytes_eq c.in-Some.first.now (first_line p)) (sym c.parts.ensures) ∙ sym c.is_first_line.ensures ∙ c.if-not-is_first_line.true)
 
 pub returns : goal.returns
 returns c =
     let some : c.args.lines ≡ c.in-Some.first.now ∷ c.take.new.self = c.in-Some.ensures.some in
-    let whole = ap (λ (lines : List (List ℕ)). reading_lines c.args.known.now lines) some ∙ lines_next c.args.known.now c.in-Some.first.now c.take.new.self (sym c.is_empty.ensures ∙ c.if-is_empty.false) (sym c.is_text.ensures ∙ c.if-not-is_text.false) in
+    let whole = ap (λ (lines : List (List ℕ)). reading_lines c.args.known.now lines) some ∙ lines_next c.args.known.now c.in-Some.first.now c.take.new.self (sym c.is_empty.ensures ∙ c.if-is_empty.false) (ap (λ (p : Parts). bytes_eq c.in-Some.first.now (first_line p)) (sym c.parts.ensures) ∙ sym c.is_first_line.ensures ∙ c.if-not-is_first_line.false) in
     rw whole c.read_from.ensures
