@@ -18,6 +18,14 @@ mod wirings;
 
 use cases::{CASES, Case};
 
+/// How a task ends, other than as failed.
+#[derive(Clone, Copy)]
+enum Ends {
+    Done,
+    Yield,
+    Shed,
+}
+
 /// An event whose lists are constants.
 #[derive(Clone, Copy)]
 enum Step {
@@ -26,7 +34,7 @@ enum Step {
     Admit(TaskId),
     Put(TaskId, Option<TaskId>),
     Start(TaskId, ActorNo),
-    End(TaskId, EndHow),
+    End(TaskId, Ends),
 }
 
 /// An event that is refused after so many events of its case, and the rule that refuses it.
@@ -39,6 +47,14 @@ struct Wrong {
 
 fn copied<T: Copy>(alloc: Global, items: &[T]) -> Result<List<T>, OutOfMemory> {
     Ok(List::from_vec(Vec::from_slice(alloc, items)?))
+}
+
+fn how(ends: Ends) -> EndHow {
+    match ends {
+        Ends::Done => EndHow::Done,
+        Ends::Yield => EndHow::Yield,
+        Ends::Shed => EndHow::Shed,
+    }
 }
 
 fn event(alloc: Global, step: Step) -> Result<Event, OutOfMemory> {
@@ -58,7 +74,10 @@ fn event(alloc: Global, step: Step) -> Result<Event, OutOfMemory> {
         Step::Admit(task) => Event::Admit(task),
         Step::Put(task, dropped) => Event::Put { task, dropped },
         Step::Start(task, actor) => Event::Start { task, actor },
-        Step::End(task, how) => Event::End { task, how },
+        Step::End(task, ends) => Event::End {
+            task,
+            how: how(ends),
+        },
     })
 }
 

@@ -111,7 +111,7 @@ const ONE_POST: Case = Case {
         Step::Fire(TASK_0, X, &[LINE_0], &[]),
         Step::Put(TASK_0, None),
         Step::Start(TASK_0, 1),
-        Step::End(TASK_0, EndHow::Done),
+        Step::End(TASK_0, Ends::Done),
     ],
     wrong: &[
         Wrong {
@@ -166,12 +166,12 @@ const ONE_POST: Case = Case {
         },
         Wrong {
             after: 4,
-            step: Step::End(TASK_0, EndHow::Shed),
+            step: Step::End(TASK_0, Ends::Shed),
             rule: 16,
         },
         Wrong {
             after: 5,
-            step: Step::End(TASK_0, EndHow::Done),
+            step: Step::End(TASK_0, Ends::Done),
             rule: 15,
         },
     ],
@@ -196,7 +196,7 @@ const CHOICE: Case = Case {
         Step::Fire(TASK_0, X, &[LINE_0], &[]),
         Step::Put(TASK_0, None),
         Step::Start(TASK_0, 1),
-        Step::End(TASK_0, EndHow::Done),
+        Step::End(TASK_0, Ends::Done),
     ],
     wrong: &[Wrong {
         after: 3,
@@ -225,7 +225,7 @@ pub const GATHER: Case = Case {
         Step::Fire(TASK_0, X, &[LINE_0, LINE_3, LINE_1], &[]),
         Step::Put(TASK_0, None),
         Step::Start(TASK_0, 1),
-        Step::End(TASK_0, EndHow::Done),
+        Step::End(TASK_0, Ends::Done),
     ],
     wrong: &[
         Wrong {
@@ -252,7 +252,7 @@ const GATHER_OTHER_SPLIT: Case = Case {
         Step::Fire(TASK_0, X, &[LINE_0, LINE_1, LINE_2], &[]),
         Step::Put(TASK_0, None),
         Step::Start(TASK_0, 1),
-        Step::End(TASK_0, EndHow::Done),
+        Step::End(TASK_0, Ends::Done),
     ],
     wrong: &[],
 };
@@ -281,9 +281,9 @@ pub const DISCARD: Case = Case {
         Step::Put(TASK_2, Some(TASK_0)),
         Step::Put(TASK_3, Some(TASK_1)),
         Step::Start(TASK_2, 1),
-        Step::End(TASK_2, EndHow::Done),
+        Step::End(TASK_2, Ends::Done),
         Step::Start(TASK_3, 1),
-        Step::End(TASK_3, EndHow::Done),
+        Step::End(TASK_3, Ends::Done),
     ],
     wrong: &[
         Wrong {
@@ -327,9 +327,9 @@ pub const THROTTLE: Case = Case {
         Step::Start(TASK_0, 1),
         Step::Fire(TASK_1, X, &[LINE_1], &[]),
         Step::Put(TASK_1, None),
-        Step::End(TASK_0, EndHow::Done),
+        Step::End(TASK_0, Ends::Done),
         Step::Start(TASK_1, 1),
-        Step::End(TASK_1, EndHow::Done),
+        Step::End(TASK_1, Ends::Done),
     ],
     wrong: &[
         Wrong {
@@ -369,15 +369,15 @@ const INTERLEAVE_GROUPS: Case = Case {
         Step::Admit(TASK_0),
         Step::Put(TASK_0, None),
         Step::Start(TASK_0, 1),
-        Step::End(TASK_0, EndHow::Done),
+        Step::End(TASK_0, Ends::Done),
         Step::Admit(TASK_1),
         Step::Put(TASK_1, None),
         Step::Start(TASK_1, 1),
-        Step::End(TASK_1, EndHow::Done),
+        Step::End(TASK_1, Ends::Done),
         Step::Admit(TASK_2),
         Step::Put(TASK_2, None),
         Step::Start(TASK_2, 1),
-        Step::End(TASK_2, EndHow::Done),
+        Step::End(TASK_2, Ends::Done),
     ],
     wrong: &[
         Wrong {
@@ -427,7 +427,7 @@ pub const TEARDOWN_CUTS: Case = Case {
         Step::Put(TASK_2, None),
         Step::Start(TASK_2, 1),
         Step::Post(POST_2, A, 9),
-        Step::End(TASK_2, EndHow::Done),
+        Step::End(TASK_2, Ends::Done),
     ],
     wrong: &[
         Wrong {
@@ -458,7 +458,7 @@ pub const AWAIT: Case = Case {
     wired: Wired {
         budget: 10000,
         policy: Policy::Unbounded,
-        handlers: &[&[], &[Does::Act(Action::Await(B)), Does::Act(Action::Post(D, Expr::Sum))]],
+        handlers: &[&[], &[Does::Await(B), Does::PostSum(D)]],
         kind: Kind::Interleave,
         branches: &[
             (Group::Exclusive, 1, Takes::One(A)),
@@ -475,21 +475,21 @@ pub const AWAIT: Case = Case {
         Step::Admit(TASK_0),
         Step::Put(TASK_0, None),
         Step::Start(TASK_0, 1),
-        Step::End(TASK_0, EndHow::Yield),
+        Step::End(TASK_0, Ends::Yield),
         Step::Fire(TASK_2, Spot::Site(0, 0), &[LINE_2], &[]),
         Step::Put(TASK_2, None),
         Step::Start(TASK_2, 1),
         Step::Post(POST_2, D, 4),
-        Step::End(TASK_2, EndHow::Done),
+        Step::End(TASK_2, Ends::Done),
         Step::Admit(TASK_1),
         Step::Put(TASK_1, None),
         Step::Start(TASK_1, 1),
-        Step::End(TASK_1, EndHow::Done),
+        Step::End(TASK_1, Ends::Done),
     ],
     wrong: &[
         Wrong {
             after: 8,
-            step: Step::End(TASK_0, EndHow::Done),
+            step: Step::End(TASK_0, Ends::Done),
             rule: 16,
         },
         Wrong {
@@ -520,7 +520,7 @@ pub const BUDGET_SHED: Case = Case {
     wired: Wired {
         budget: 3,
         policy: Policy::Unbounded,
-        handlers: &[&[Does::Act(Action::Post(A, Expr::Arg(0)))]],
+        handlers: &[&[Does::PostFirst(A)]],
         kind: Kind::Receive,
         branches: &[(Group::Always, 0, Takes::One(A))],
         posts: &[(A, 5)],
@@ -533,19 +533,19 @@ pub const BUDGET_SHED: Case = Case {
         Step::Post(POST_0, A, 5),
         Step::Fire(TASK_1, X, &[POST_0], &[]),
         Step::Put(TASK_1, None),
-        Step::End(TASK_0, EndHow::Done),
+        Step::End(TASK_0, Ends::Done),
         Step::Start(TASK_1, 1),
         Step::Post(POST_1, A, 5),
         Step::Fire(TASK_2, X, &[POST_1], &[]),
         Step::Put(TASK_2, None),
-        Step::End(TASK_1, EndHow::Done),
+        Step::End(TASK_1, Ends::Done),
         Step::Start(TASK_2, 1),
         Step::Post(POST_2, A, 5),
         Step::Fire(TASK_3, X, &[POST_2], &[]),
         Step::Put(TASK_3, None),
-        Step::End(TASK_2, EndHow::Done),
+        Step::End(TASK_2, Ends::Done),
         Step::Start(TASK_3, 1),
-        Step::End(TASK_3, EndHow::Shed),
+        Step::End(TASK_3, Ends::Shed),
     ],
     wrong: &[
         Wrong {
@@ -560,7 +560,7 @@ pub const BUDGET_SHED: Case = Case {
         },
         Wrong {
             after: 4,
-            step: Step::End(TASK_0, EndHow::Shed),
+            step: Step::End(TASK_0, Ends::Shed),
             rule: 16,
         },
         Wrong {

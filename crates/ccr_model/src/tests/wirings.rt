@@ -15,7 +15,10 @@ pub enum Takes {
 pub enum Does {
     /// Posts the value of this one number to the port.
     PostNumber(PortNo, u64),
-    Act(Action),
+    /// Posts the task's first value.
+    PostFirst(PortNo),
+    PostSum(PortNo),
+    Await(PortNo),
 }
 
 /// A wiring whose lists are constants.
@@ -59,7 +62,9 @@ fn ports(alloc: Global) -> Result<List<Name>, Fail> {
 fn action(does: Does) -> Action {
     match does {
         Does::PostNumber(port, number) => Action::Post(port, Expr::Number(Value::one(number))),
-        Does::Act(action) => action,
+        Does::PostFirst(port) => Action::Post(port, Expr::Arg(0)),
+        Does::PostSum(port) => Action::Post(port, Expr::Sum),
+        Does::Await(port) => Action::Await(port),
     }
 }
 
