@@ -1,18 +1,26 @@
 use super::*;
-use ccr_base::{Action, List, Msg, MsgId, OutOfMemory, Spot, TaskId, Value};
+use ccr_base::{Action, Expr, List, Msg, MsgId, OutOfMemory, Spot, TaskId, Value};
 use ccr_model::{EndHow, Event, History, Totals};
 use ccr_samples::{name, one_cause, one_handler, one_receiver, only};
 use ccr_wiring::{Parts, Wiring};
 use std::alloc::Global;
 use std::test::*;
 
+/// A post, and then an await of `b`.
+fn awaits(alloc: Global) -> Result<List<Action>, OutOfMemory> {
+    let mut actions = List::new(alloc);
+    actions.add(Action::Post(1, Expr::Count))?;
+    actions.add(Action::Await(1))?;
+    Ok(actions)
+}
+
 /// One receiver with another port `b`, a cause `k` that has it, and a handler that awaits it.
 fn parts(alloc: Global) -> Result<Parts, OutOfMemory> {
     let mut parts = one_receiver(alloc)?;
     let second = name(alloc, b"b")?;
-    parts.ports.push(second).map_err(|(refused, _)| refused)?;
+    parts.ports.add(second)?;
     parts.causes = one_cause(alloc, 1)?;
-    parts.handlers = one_handler(alloc, only(alloc, Action::Await(1))?)?;
+    parts.handlers = one_handler(alloc, awaits(alloc)?)?;
     Ok(parts)
 }
 

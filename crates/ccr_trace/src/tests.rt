@@ -1,23 +1,31 @@
 use super::*;
 use ccr_base::{
-    Action, ActorNo, CauseNo, List, Msg, MsgId, OutOfMemory, PortNo, Spot, TaskId, Value,
+    Action, ActorNo, CauseNo, Expr, List, Msg, MsgId, OutOfMemory, PortNo, Spot, TaskId, Value,
 };
 use ccr_model::{EndHow, Event, History};
-use ccr_samples::{name, one_cause, one_handler, one_receiver, only};
+use ccr_samples::{name, one_cause, one_handler, one_receiver};
 use ccr_wiring::{Parts, Wiring};
 use std::alloc::Global;
 use std::test::*;
 
 mod reading;
 
+/// A post, and then an await of `b`.
+fn awaits(alloc: Global) -> Result<List<Action>, OutOfMemory> {
+    let mut actions = List::new(alloc);
+    actions.add(Action::Post(1, Expr::Count))?;
+    actions.add(Action::Await(1))?;
+    Ok(actions)
+}
+
 /// One receiver with another port `b`, a cause `k` that has it, and a handler that awaits it.
 fn parts(alloc: Global, version: u32) -> Result<Parts, OutOfMemory> {
     let mut parts = one_receiver(alloc)?;
     parts.version = version;
     let second = name(alloc, b"b")?;
-    parts.ports.push(second).map_err(|(refused, _)| refused)?;
+    parts.ports.add(second)?;
     parts.causes = one_cause(alloc, 1)?;
-    parts.handlers = one_handler(alloc, only(alloc, Action::Await(1))?)?;
+    parts.handlers = one_handler(alloc, awaits(alloc)?)?;
     Ok(parts)
 }
 
@@ -54,8 +62,10 @@ enum Step {
     Admit(TaskId),
     Put(TaskId, Option<TaskId>),
     Start(TaskId, ActorNo),
-    End(TaskId, EndHow),
+    Done(TaskId),
     Failed(TaskId, &'static [u64]),
+    Yield(TaskId),
+    Shed(TaskId),
 }
 
 /// Events, and their lines.
@@ -82,10 +92,10 @@ const LINES: [Line; 12] = [
         "put t1.0 drop t32.4294967295\n",
     ),
     (Step::Start(FIRST, 12), "start t1.0 12\n"),
-    (Step::End(FIRST, EndHow::Done), "end t1.0 done\n"),
+    (Step::Done(FIRST), "end t1.0 done\n"),
     (Step::Failed(FIRST, &[7]), "end t1.0 failed 7\n"),
-    (Step::End(FIRST, EndHow::Yield), "end t1.0 yield\n"),
-    (Step::End(FIRST, EndHow::Shed), "end t1.0 shed\n"),
+    (Step::Yield(FIRST), "end t1.0 yield\n"),
+    (Step::Shed(FIRST), "end t1.0 shed\n"),
 ];
 
 /// The same in a wiring of version 2.
@@ -109,6 +119,10 @@ fn value(numbers: &[u64]) -> Value {
     Value::of(numbers).unwrap_or(Value::one(0))
 }
 
+fn end(task: TaskId, how: EndHow) -> Event {
+    Event::End { task, how }
+}
+
 fn event(alloc: Global, step: Step) -> Result<Event, OutOfMemory> {
     Ok(match step {
         Step::Post(id, port, numbers, causes) => Event::Post(Msg {
@@ -126,11 +140,10 @@ fn event(alloc: Global, step: Step) -> Result<Event, OutOfMemory> {
         Step::Admit(task) => Event::Admit(task),
         Step::Put(task, dropped) => Event::Put { task, dropped },
         Step::Start(task, actor) => Event::Start { task, actor },
-        Step::End(task, how) => Event::End { task, how },
-        Step::Failed(task, numbers) => Event::End {
-            task,
-            how: EndHow::Failed(value(numbers)),
-        },
+        Step::Done(task) => end(task, EndHow::Done),
+        Step::Failed(task, numbers) => end(task, EndHow::Failed(value(numbers))),
+        Step::Yield(task) => end(task, EndHow::Yield),
+        Step::Shed(task) => end(task, EndHow::Shed),
     })
 }
 
