@@ -1,6 +1,6 @@
 -- What a text says has no code of refusal.
 use Rattle.std.proofs.Common.{◌≡◌, ℕ, ◌<◌, ◌≤◌, Bool, true, false, cond, List, [], ◌∷◌, ◌++◌, length, Some, None, inl, inr, refl, sym, ap, subst, ◌∙◌, arith, append-nil}
-use Rattle.std.specs.Prelude.{◌==◌, ◌&&◌, ◌||◌, not, nat_lt, codes}
+use Rattle.std.specs.Prelude.{◌==◌, ◌&&◌, not, nat_lt, codes}
 use Rattle.std.specs.List.{list_any}
 use Rattle.std.specs.Str.{bytes_eq}
 use Rattle.std.proofs.lemmas.Bool.Decides.{nat_tests}
@@ -18,13 +18,12 @@ use Rattle.ccr_wiring.specs.declared.parts.Parts.{Parts}
 use Rattle.ccr_wiring.specs.declared.parts.QueuePart.{QueuePart}
 use Rattle.ccr_wiring.specs.declared.parts.BranchPart.{BranchPart}
 use Rattle.ccr_wiring.specs.declared.parts.ArbiterPart.{ArbiterPart}
-use Rattle.ccr_wiring.specs.declared.parts.DomainPart.{DomainPart}
 use Rattle.ccr_wiring.specs.Groups.{may_have, is_misgrouped, has_strange_group, has_misgrouped, is_branchless, has_branchless}
 use Rattle.ccr_wiring.specs.Names.{declared_names, has_repeated_name, has_malformed_name}
 use Rattle.ccr_wiring.specs.References.{is_beyond, action_is_dangling, pattern_is_dangling, branch_is_dangling, post_is_dangling, set_is_dangling, cause_is_dangling, handler_is_dangling, arbiter_is_dangling, poster_is_dangling, no_interleave, domain_is_dangling, has_dangling}
 use Rattle.ccr_wiring.specs.Repeats.{branch_repeats, arbiter_repeats, set_repeats, post_repeats, poster_repeats, has_repeat}
 use Rattle.ccr_wiring.specs.Limits.{policy_is_outside, expr_is_outside, action_is_outside, slot_is_outside, pattern_is_outside, branch_is_outside, queue_is_outside, set_is_outside, handler_is_outside, arbiter_is_outside, domain_is_outside, has_too_many, has_outside}
-use Rattle.ccr_wiring.specs.Versions.{has_strange_version, is_long, expr_is_newer, action_is_newer, handler_is_newer, poster_is_newer, has_newer}
+use Rattle.ccr_wiring.specs.Versions.{is_long, expr_is_newer, action_is_newer, handler_is_newer, poster_is_newer, has_newer}
 use Rattle.ccr_wiring.specs.Spots.{times, named_ports, has_crowded_port}
 use Rattle.ccr_wiring.specs.Codes.{code_of}
 use Rattle.ccr_text.specs.Words.{is_name_of}
@@ -39,7 +38,7 @@ use Rattle.ccr_wiretext.specs.Reading.{version_word, version_of}
 use Rattle.ccr_wiretext.specs.Lines.{AreLines, AreHeadedLines, IsText}
 use Rattle.ccr_wiretext.proofs.Each.{Each, each_false, none_passes}
 use Rattle.ccr_wiretext.proofs.Fit.{PolicyFit, OldFit, ExprFit, ActionFit, SlotFit, PatternFit, BranchFit, ArbiterFit, Shaped, SetFit, HandlerFit, PostFit, PosterFit, InterleaveFit, DomainFit}
-use Rattle.ccr_wiretext.proofs.Spotted.{Uncrowded}
+use Rattle.ccr_wiretext.proofs.SpotCounts.{Uncrowded}
 use Rattle.ccr_wiretext.proofs.Sound.{Counts, Fits, Sound, is_cause_fit}
 use Rattle.ccr_wiretext.proofs.SoundLines.{SoundDraft, line_sound}
 

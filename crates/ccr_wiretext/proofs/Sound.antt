@@ -22,7 +22,7 @@ use Rattle.ccr_wiretext.specs.Drafts.{branch_count, script_count}
 use Rattle.ccr_wiretext.proofs.Each.{Each, each_push, each_more}
 use Rattle.ccr_wiretext.proofs.Fit.{PolicyFit, SetFit, HandlerFit, BranchesFit, ArbiterFit, PosterFit, DomainFit, set_more, handler_more, arbiter_more, poster_more, domain_more}
 use Rattle.ccr_wiretext.proofs.NamesApart.{NamesApart}
-use Rattle.ccr_wiretext.proofs.Spotted.{Uncrowded}
+use Rattle.ccr_wiretext.proofs.SpotCounts.{Uncrowded}
 
 -- the parts with the open block as it stands
 abbrev pub whole : Parts → Block → Parts

@@ -1,6 +1,6 @@
 //! Rows of texts. A row is `LINE CODE TEXT`: the line and code with which the text is refused, 0 and 0 where it is read.
-//! `;` in a text stands for LF, and `COUNT|BEFORE|BEHIND|LAST` for so many times what stands before and behind a
-//! number, and the last line.
+//! `;` in a text stands for LF. A text is `FIRST` or `FIRST|COUNT|EACH|LAST`: `EACH` comes so many times, with a number
+//! from 0 on for each `#`, and its rest by 16 for each `%`.
 
 ghost use Rattle.std.specs.Prelude.{◌≢◌, ◌<◌, [], length};
 
@@ -51,19 +51,35 @@ fn add(text: &mut Vec<u8>, bytes: &[u8]) -> Result<(), OutOfMemory> {
     Ok(())
 }
 
-/// Adds so many times what stands before and behind a number, from 0 on.
+/// Adds the bytes, with LF for each `;`, the number's digits for each `#`, and those of its rest by 16 for each `%`.
+fn add_numbered(
+    text: &mut Vec<u8>,
+    bytes: &[u8],
+    digits: &[u8],
+    rest: &[u8],
+) -> Result<(), OutOfMemory> {
+    for byte in bytes {
+        match *byte {
+            b';' => text.push(b'\n')?,
+            b'#' => text.extend_from_slice(digits)?,
+            b'%' => text.extend_from_slice(rest)?,
+            other => text.push(other)?,
+        }
+    }
+    Ok(())
+}
+
+/// Adds the bytes for each number below the count.
 fn add_repeated(
     text: &mut Vec<u8>,
     alloc: Global,
     count: u64,
-    before: &[u8],
-    behind: &[u8],
+    each: &[u8],
 ) -> Result<(), OutOfMemory> {
     for number in 0..count {
         let digits = number.to_string(alloc)?;
-        add(text, before)?;
-        text.extend_from_slice(digits.as_bytes())?;
-        add(text, behind)?;
+        let rest = (number % 16).to_string(alloc)?;
+        add_numbered(text, each, digits.as_bytes(), rest.as_bytes())?;
     }
     Ok(())
 }
@@ -71,21 +87,12 @@ fn add_repeated(
 /// The text of a row, behind what a text begins with.
 fn text_of(alloc: Global, base: &str, lines: &[u8]) -> Result<Vec<u8>, OutOfMemory> {
     let mut text = Vec::new(alloc);
+    let (first, rest) = cut(lines, b'|');
+    let (count, rest) = cut(rest, b'|');
+    let (each, last) = cut(rest, b'|');
     add(&mut text, base.as_bytes())?;
-    let (count, rest) = cut(lines, b'|');
-    if rest.is_empty() {
-        add(&mut text, lines)?;
-        return Ok(text);
-    }
-    let (before, rest) = cut(rest, b'|');
-    let (behind, last) = cut(rest, b'|');
-    add_repeated(
-        &mut text,
-        alloc,
-        read_number(count).unwrap_or(0),
-        before,
-        behind,
-    )?;
+    add(&mut text, first)?;
+    add_repeated(&mut text, alloc, read_number(count).unwrap_or(0), each)?;
     add(&mut text, last)?;
     Ok(text)
 }

@@ -83,7 +83,7 @@ fn put_further(alloc: Global, out: &mut Vec<u8>, numbers: &[u64]) -> Result<(), 
 }
 
 /// Adds the digits of numbers, with commas between them.
-#[tactic(auto, using(crate::proofs::Commas::value_put, crate::proofs::Commas::numerals_more))]
+#[tactic(auto, using(crate::proofs::ValuesRead::value_put, crate::proofs::ValuesRead::numerals_more))]
 fn put_numbers(
     alloc: Global,
     out: &mut Vec<u8>,

@@ -20,7 +20,7 @@ use Rattle.ccr_wiretext.specs.Values.{IsPatternValued, IsArbiterValued}
 use Rattle.ccr_wiretext.proofs.Steps.{same_word}
 use Rattle.ccr_wiretext.proofs.Each.{Each, both}
 use Rattle.ccr_wiretext.proofs.Fit.{Shaped, ArbiterFit}
-use Rattle.ccr_wiretext.proofs.Spotted.{Uncrowded}
+use Rattle.ccr_wiretext.proofs.SpotCounts.{Uncrowded}
 use Rattle.ccr_wiretext.proofs.Round.Leads.{outside, Leads, leads_to, leads_from, walk, room_before, room_for, each_at, all_at, each_all}
 use Rattle.ccr_wiretext.proofs.Round.Namings.{Good, names_of, names_append, good_front, is_new}
 use Rattle.ccr_wiretext.proofs.Round.Terms.{Again}

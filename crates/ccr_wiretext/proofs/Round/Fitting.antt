@@ -5,19 +5,17 @@ use Rattle.std.specs.List.{list_any}
 use Rattle.ccr_wiring.specs.declared.parts.Parts.{Parts}
 use Rattle.ccr_wiring.specs.declared.parts.QueuePart.{QueuePart}
 use Rattle.ccr_wiring.specs.declared.parts.CausePart.{CausePart}
-use Rattle.ccr_wiring.specs.declared.parts.HandlerPart.{HandlerPart}
-use Rattle.ccr_wiring.specs.declared.parts.PosterPart.{PosterPart}
 use Rattle.ccr_wiring.specs.Groups.{is_misgrouped, is_branchless}
 use Rattle.ccr_wiring.specs.Names.{declared_names}
 use Rattle.ccr_wiring.specs.References.{set_is_dangling, cause_is_dangling, handler_is_dangling, arbiter_is_dangling, poster_is_dangling, has_dangling_set, has_dangling_cause, has_dangling_handler, has_dangling_arbiter, has_dangling_poster, domain_is_dangling, has_dangling_domain}
 use Rattle.ccr_wiring.specs.Repeats.{arbiter_repeats, set_repeats, poster_repeats, has_repeating_set, has_repeating_arbiter, has_repeating_poster, are_apart, members_in_all, has_repeating_domain}
 use Rattle.ccr_wiring.specs.Limits.{policy_is_outside, set_is_outside, handler_is_outside, arbiter_is_outside, has_branches_above, has_posts_above, has_too_many, has_outside_queue, has_outside_set, has_outside_handler, has_outside_arbiter, domain_is_outside, has_outside_domain}
-use Rattle.ccr_wiring.specs.Versions.{has_strange_version, handler_is_newer, poster_is_newer, has_newer}
+use Rattle.ccr_wiring.specs.Versions.{handler_is_newer, poster_is_newer}
 use Rattle.ccr_wiretext.proofs.Steps.{not_false}
 use Rattle.ccr_wiring.specs.Spots.{times, named_ports}
 use Rattle.ccr_wiretext.proofs.Each.{neither}
 use Rattle.ccr_wiretext.proofs.Fit.{PolicyFit, OldFit, ArbiterFit, SetFit, HandlerFit, PosterFit, DomainFit}
-use Rattle.ccr_wiretext.proofs.Spotted.{Uncrowded, times_none, among}
+use Rattle.ccr_wiretext.proofs.SpotCounts.{Uncrowded, times_none, among}
 use Rattle.ccr_wiretext.proofs.Sound.{Counts, Fits}
 use Rattle.ccr_wiretext.proofs.Round.Namings.{Good}
 use Rattle.ccr_wiretext.proofs.Round.Validity.{each_if, none_of_two, below, within, policy_fits, set_fits, handler_fits, arbiter_fits, poster_fits, domain_fits, newer_in, old_each, NoCode}

@@ -28,7 +28,7 @@ use Rattle.ccr_wiretext.specs.Reading.{version_of, reading_text}
 use Rattle.ccr_wiretext.specs.Lines.{AreHeadedLines, IsText}
 use Rattle.ccr_wiretext.specs.Spelling.{version_words, combine_words, budget_words, queue_words, port_words, set_words, cause_words, handler_lines, arbiter_lines, poster_lines, queue_lines, port_lines, acting_lines, canonical_lines, spelling}
 use Rattle.ccr_wiretext.specs.Values.{IsValued}
-use Rattle.ccr_wiretext.proofs.Texts.{text_read}
+use Rattle.ccr_wiretext.proofs.TextsRead.{text_read}
 use Rattle.ccr_wiretext.proofs.Sound.{Counts, Fits}
 use Rattle.ccr_wiretext.proofs.Round.Leads.{outside, IsStep, Leads, leads_on, leads_say, leads_clean}
 use Rattle.ccr_wiretext.proofs.Round.Namings.{Good, names_of, names_append, names_entries, good_front}

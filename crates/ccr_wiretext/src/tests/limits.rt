@@ -1,25 +1,30 @@
 //! One more than each limit.
 
-use super::{BASE, add_repeated, first_wrong, refusal};
-use ccr_base::OutOfMemory;
-use std::alloc::Global;
+use super::{BASE, first_wrong, refusal};
 use std::test::*;
 
-const ONE_MORE_OF_A_KIND: &str = "0 0 15|queue r| unbounded;|
-23 10 15|queue r| unbounded;|queue
-0 0 254|port p|;|
-262 10 254|port p|;|port 1 2
-0 0 64|portset s| a;|
-72 10 64|portset s| a;|portset s0
-0 0 31|cause c| a;|
-39 10 31|cause c| a;|cause
-0 0 255|handler k|;end;|
-518 10 255|handler k|;end;|handler k
-0 0 16|poster p|;end;|
-40 10 16|poster p|;end;|poster p
-0 0 16|receive r| once q h take a 1 any;|receive x once q h take b 1 any
-24 12 16|receive r| once q h take a 1 any;|receive x once q h take b 1 any a 1 any
-24 7 16|receive r| once q h take a 1 any;|receive x once q h take a 1 any 4";
+const ONE_MORE_OF_A_KIND: &str = "0 0 |15|queue r# unbounded;|
+23 10 |15|queue r# unbounded;|queue
+0 0 |254|port p#;|
+262 10 |254|port p#;|port 1 2
+0 0 |64|portset s# a;|
+72 10 |64|portset s# a;|portset s0
+0 0 |31|cause c# a;|
+39 10 |31|cause c# a;|cause
+0 0 |255|handler k#;end;|
+518 10 |255|handler k#;end;|handler k
+0 0 |16|poster p#;end;|
+40 10 |16|poster p#;end;|poster p
+0 0 |16|receive r# once q h take a 1 any;|receive x once q h take b 1 any
+24 12 |16|receive r# once q h take a 1 any;|receive x once q h take b 1 any a 1 any
+24 7 |16|receive r# once q h take a 1 any;|receive x once q h take a 1 any 4
+0 0 |254|port p#;receive r# once q h take p# 1 any;|receive x once q h take a 1 any;receive y once q h take a 1 any;
+518 10 |254|port p#;receive r# once q h take p# 1 any;|receive x once q h take a 1 any;receive y once q h take a 1 any;receive z z
+518 10 |254|port p#;receive r# once q h take p# 1 any;|receive x once q h take a 1 any;receive y once q h take a 1 any;choice c
+0 0 port p0;port p1;port p2;port p3;port p4;port p5;port p6;port p7;port p8;port p9;port p10;port p11;port p12;port p13;port p14;port p15;|128|interleave i#;exclusive x# q h take p% 1 any;end;interleave j#;exclusive y# q h take p% 1 any;end;combine i# j#;|
+920 10 port p0;port p1;port p2;port p3;port p4;port p5;port p6;port p7;port p8;port p9;port p10;port p11;port p12;port p13;port p14;port p15;|128|interleave i#;exclusive x# q h take p% 1 any;end;interleave j#;exclusive y# q h take p% 1 any;end;combine i# j#;|combine
+0 0 poster p;post a 1;post a 2;end;poster o;|9998|post b 1;|end;
+10011 10 poster p;post a 1;post a 2;end;poster o;|9998|post b 1;|post a 1;";
 
 #[test]
 fn one_more_of_a_kind(rt: HostRuntime) -> Result<(), Fail> {
@@ -50,99 +55,5 @@ fn one_more_in_a_line_or_block(rt: HostRuntime) -> Result<(), Fail> {
 fn only_line_feeds(rt: HostRuntime) -> Result<(), Fail> {
     let text = Vec::from_elem(rt.alloc(), 10u8, 1_048_576)?;
     assert_eq!(rt; refusal(&rt, &text), (1_048_576, 2));
-    Ok(())
-}
-
-/// The seven lines, 254 further ports, a receive for each of them and one for each of the two, then `last`.
-fn with_receives(alloc: Global, last: &str) -> Result<Vec<u8>, OutOfMemory> {
-    let mut text = Vec::new(alloc);
-    text.extend_from_slice(BASE.as_bytes())?;
-    add_repeated(&mut text, alloc, 254, b"port p", b"\n")?;
-    for number in 0..254u32 {
-        let digits = number.to_string(alloc)?;
-        text.extend_from_slice(b"receive r")?;
-        text.extend_from_slice(digits.as_bytes())?;
-        text.extend_from_slice(b" once q h take p")?;
-        text.extend_from_slice(digits.as_bytes())?;
-        text.extend_from_slice(b" 1 any\n")?;
-    }
-    text.extend_from_slice(b"receive x once q h take a 1 any\nreceive y once q h take a 1 any\n")?;
-    text.extend_from_slice(last.as_bytes())?;
-    Ok(text)
-}
-
-#[test]
-fn one_more_of_all_arbiters(rt: HostRuntime) -> Result<(), Fail> {
-    let all = with_receives(rt.alloc(), "")?;
-    assert_eq!(rt; refusal(&rt, &all), (0, 0));
-    let receive = with_receives(rt.alloc(), "receive z z")?;
-    assert_eq!(rt; refusal(&rt, &receive), (518, 10));
-    let choice = with_receives(rt.alloc(), "choice c")?;
-    assert_eq!(rt; refusal(&rt, &choice), (518, 10));
-    Ok(())
-}
-
-/// Adds the line that combines the Interleaves with these numbers.
-fn add_combine(text: &mut Vec<u8>, alloc: Global, one: u32, other: u32) -> Result<(), OutOfMemory> {
-    let first = one.to_string(alloc)?;
-    let second = other.to_string(alloc)?;
-    text.extend_from_slice(b"combine i")?;
-    text.extend_from_slice(first.as_bytes())?;
-    text.extend_from_slice(b" i")?;
-    text.extend_from_slice(second.as_bytes())?;
-    text.extend_from_slice(b"\n")?;
-    Ok(())
-}
-
-/// The seven lines, 16 further ports, 256 Interleaves of one branch each, 128 lines that combine two of them, then `last`.
-fn with_combined(alloc: Global, last: &str) -> Result<Vec<u8>, OutOfMemory> {
-    let mut text = Vec::new(alloc);
-    text.extend_from_slice(BASE.as_bytes())?;
-    add_repeated(&mut text, alloc, 16, b"port p", b"\n")?;
-    for number in 0..256u32 {
-        let digits = number.to_string(alloc)?;
-        let port = (number % 16).to_string(alloc)?;
-        text.extend_from_slice(b"interleave i")?;
-        text.extend_from_slice(digits.as_bytes())?;
-        text.extend_from_slice(b"\nexclusive x")?;
-        text.extend_from_slice(digits.as_bytes())?;
-        text.extend_from_slice(b" q h take p")?;
-        text.extend_from_slice(port.as_bytes())?;
-        text.extend_from_slice(b" 1 any\nend\n")?;
-    }
-    for number in 0..128u32 {
-        add_combine(&mut text, alloc, number, number + 128)?;
-    }
-    text.extend_from_slice(last.as_bytes())?;
-    Ok(text)
-}
-
-#[test]
-fn one_more_combine(rt: HostRuntime) -> Result<(), Fail> {
-    let all = with_combined(rt.alloc(), "")?;
-    assert_eq!(rt; refusal(&rt, &all), (0, 0));
-    let more = with_combined(rt.alloc(), "combine")?;
-    assert_eq!(rt; refusal(&rt, &more), (920, 10));
-    Ok(())
-}
-
-/// The seven lines, two posts of a poster and 9,998 of another one, then `last`.
-fn with_posts(alloc: Global, last: &str) -> Result<Vec<u8>, OutOfMemory> {
-    let mut text = Vec::new(alloc);
-    text.extend_from_slice(BASE.as_bytes())?;
-    text.extend_from_slice(b"poster p\npost a 1\npost a 2\nend\nposter o\n")?;
-    for _ in 0..9_998u32 {
-        text.extend_from_slice(b"post b 1\n")?;
-    }
-    text.extend_from_slice(last.as_bytes())?;
-    Ok(text)
-}
-
-#[test]
-fn one_more_post(rt: HostRuntime) -> Result<(), Fail> {
-    let all = with_posts(rt.alloc(), "end\n")?;
-    assert_eq!(rt; refusal(&rt, &all), (0, 0));
-    let more = with_posts(rt.alloc(), "post a 1\n")?;
-    assert_eq!(rt; refusal(&rt, &more), (10_011, 10));
     Ok(())
 }

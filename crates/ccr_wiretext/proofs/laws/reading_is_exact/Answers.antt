@@ -1,4 +1,4 @@
-use Rattle.ccr_wiretext.proofs.Texts.{text_said, text_read}
+use Rattle.ccr_wiretext.proofs.TextsRead.{text_said, text_read}
 use Rattle.ccr_wiretext.proofs.laws.reading_is_exact.Goals as goal
 
 pub returns : goal.returns

@@ -1,6 +1,6 @@
 use Rattle.std.proofs.Common.{arith}
 use Rattle.std.proofs.lemmas.Grind.{common_steps}
-use Rattle.ccr_wiretext.proofs.Commas.{pieces_at, pieces_whole}
+use Rattle.ccr_wiretext.proofs.ValuesRead.{pieces_at, pieces_whole}
 use Rattle.ccr_wiretext.proofs.values.cut_piece.Goals as goal
 
 pub returns-then-byte-eq44-clause-cut : goal.returns-then-byte-eq44-clause-cut

@@ -16,9 +16,9 @@ use Rattle.ccr_wiretext.specs.Places.{Words, ◌>>=◌, unless, or_code, no_more
 use Rattle.ccr_wiretext.specs.Patterns.{pred, new_port, slot, slots, taken, gathered, pattern, members, all_members, is_combined, new_member, further, combined, causes}
 use Rattle.ccr_wiretext.specs.Grammar.{IsPort, IsPred, IsSlot, IsSlots, IsGather, IsPattern, ArePorts, IsInterleave, AreInterleaves, AreCauses}
 use Rattle.ccr_wiretext.proofs.Steps.{bind_ok, ok_is, unless_ok, or_code_ok, no_more_ok, chosen, not_true, same_word}
-use Rattle.ccr_wiretext.proofs.Placed.{within_said, within_read, number_read, limit_as, numbered_said, keyed, interleave_said, interleave_read}
+use Rattle.ccr_wiretext.proofs.PlacesRead.{within_said, within_read, number_read, limit_as, numbered_said, keyed, interleave_said, interleave_read}
 use Rattle.ccr_wiretext.proofs.Each.{neither}
-use Rattle.ccr_wiretext.proofs.Slashed.{port_said, port_read}
+use Rattle.ccr_wiretext.proofs.PortsRead.{port_said, port_read}
 
 -- PREDICATE
 pub pred_said : (words : Words) (x : Pred × Words) → pred words ≡ Ok x → (front : Words) × (words ≡ front ++ x.1) × IsPred front x.0

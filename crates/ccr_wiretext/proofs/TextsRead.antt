@@ -1,5 +1,5 @@
 -- Whole texts: what is read is in the grammar, and what is in the grammar is read.
-use Rattle.std.proofs.Common.{◌≡◌, ℕ, Bool, true, false, cond, List, Option, [], ◌∷◌, Some, None, Result, Ok, Err, ◌⊎◌, inl, inr, refl, sym, ap, subst, ◌∙◌}
+use Rattle.std.proofs.Common.{◌≡◌, ℕ, Bool, true, false, cond, List, [], ◌∷◌, Some, None, Result, Ok, Err, ◌⊎◌, inl, inr, refl, sym, ap, subst, ◌∙◌}
 use Rattle.std.specs.Prelude.{max, codes}
 use Rattle.std.specs.Str.{bytes_eq}
 use Rattle.ccr_text.specs.declared.lines.Line.{Line}
@@ -14,7 +14,7 @@ use Rattle.ccr_wiretext.specs.Blocks.{line_in}
 use Rattle.ccr_wiretext.specs.Reading.{So, is_comment, version_word, version_of, after_words, after_all, after_line, closed, at_end, at_line, reading_after, reading_text}
 use Rattle.ccr_wiretext.specs.Lines.{Says, IsBlank, AreLines, AreHeadedLines, IsText}
 use Rattle.ccr_wiretext.proofs.Steps.{bind_ok, ok_is, or_code_ok, chosen, same_word}
-use Rattle.ccr_wiretext.proofs.Blocked.{line_said, line_read}
+use Rattle.ccr_wiretext.proofs.BlocksRead.{line_said, line_read}
 
 -- a line that is no comment, by its first word
 record IsTold (so new : So) (words : Words) : Type 0 where

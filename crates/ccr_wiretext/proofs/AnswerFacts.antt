@@ -7,7 +7,7 @@ use Rattle.ccr_wiretext.specs.declared.refused.ReadRefused.TheVariants as refusa
 use Rattle.ccr_wiretext.specs.Reading.{reading_text}
 use Rattle.ccr_wiretext.specs.Answers.{IsReading, IsNoText}
 use Rattle.ccr_wiretext.specs.Lines.{IsText}
-use Rattle.ccr_wiretext.proofs.Texts.{text_said, text_read}
+use Rattle.ccr_wiretext.proofs.TextsRead.{text_said, text_read}
 use Rattle.ccr_wiretext.proofs.NoCode.{text_has_none}
 
 pub says : (text : List ℕ) (result : Result Parts ReadRefused) → IsReading result (reading_text text) → IfOk result (λ parts. IsText text parts)

@@ -23,9 +23,9 @@ use Rattle.ccr_wiretext.specs.Forms.{crowds, budget_form, queue_form, name_form,
 use Rattle.ccr_wiretext.specs.Grammar.{IsNew, IsGroup, IsExpr, AreCauses}
 use Rattle.ccr_wiretext.specs.Lines.{IsBudget, IsQueue, IsName, IsSet, IsCause, IsCombine, IsBranchTail, IsReceive, IsBranch, IsAction, IsPost}
 use Rattle.ccr_wiretext.proofs.Steps.{bind_ok, ok_is, unless_ok, no_more_ok, not_true, limit_ok, limit_read}
-use Rattle.ccr_wiretext.proofs.Placed.{new_name_said, new_name_read, reference_said, reference_read, within_said, within_read, policy_said, policy_read, group_said, group_read, value_said, value_read, expr_said, expr_read}
-use Rattle.ccr_wiretext.proofs.Slashed.{port_said, port_read}
-use Rattle.ccr_wiretext.proofs.Patterned.{pattern_said, pattern_read, all_members_said, all_members_read, combined_said, combined_read, causes_said, causes_read}
+use Rattle.ccr_wiretext.proofs.PlacesRead.{new_name_said, new_name_read, reference_said, reference_read, within_said, within_read, policy_said, policy_read, group_said, group_read, value_said, value_read, expr_said, expr_read}
+use Rattle.ccr_wiretext.proofs.PortsRead.{port_said, port_read}
+use Rattle.ccr_wiretext.proofs.PatternsRead.{pattern_said, pattern_read, all_members_said, all_members_read, combined_said, combined_read, causes_said, causes_read}
 
 -- budget N
 pub budget_said : (draft : Declared) (words : Words) (n : ℕ) → budget_form draft words ≡ Ok n → IsBudget draft words n

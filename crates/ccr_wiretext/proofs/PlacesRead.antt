@@ -1,5 +1,5 @@
 -- The places of one word or two: what is read is in the grammar, and what is in the grammar is read.
-use Rattle.std.proofs.Common.{◌≡◌, ℕ, Bool, true, false, List, [], ◌∷◌, ◌++◌, Option, Some, None, Result, Ok, Err, inl, inr, refl, sym, ap, subst, ◌∙◌, arith}
+use Rattle.std.proofs.Common.{◌≡◌, ℕ, true, List, [], ◌∷◌, ◌++◌, Option, Result, Ok, Err, inl, inr, refl, ap, subst, ◌∙◌, arith}
 use Rattle.std.specs.Prelude.{nat_le, ◌&&◌, ◌==◌, not, is_some, codes}
 use Rattle.std.specs.Option.{option_and_then}
 use Rattle.std.specs.Str.{bytes_eq}
@@ -16,10 +16,10 @@ use Rattle.ccr_wiretext.specs.declared.named.Named.{Named}
 use Rattle.ccr_wiretext.specs.Names.{Naming, named, as_arbiter}
 use Rattle.ccr_wiretext.specs.Drafts.{Declared}
 use Rattle.ccr_wiretext.specs.Places.{Words, ◌>>=◌, unless, or_code, word, new_name, reference, number, number_within, numbers_after, several, single, value_in, value, part, policy, group, expr, interleave}
-use Rattle.ccr_wiretext.specs.Grammar.{IsNew, Refers, IsNumber, IsWithin, IsPolicy, IsGroup, IsValueWord, IsPart, IsExpr, IsInterleave}
+use Rattle.ccr_wiretext.specs.Grammar.{IsNew, Refers, IsNumber, IsWithin, IsPolicy, IsGroup, IsValueWord, IsExpr, IsInterleave}
 use Rattle.ccr_wiretext.proofs.Steps.{bind_ok, ok_is, unless_ok, or_code_ok, word_ok, none_is, not_true, chosen, same_word}
 use Rattle.ccr_wiretext.proofs.Each.{both}
-use Rattle.ccr_wiretext.proofs.Commas.{value_in_said, value_in_read, no_value}
+use Rattle.ccr_wiretext.proofs.ValuesRead.{value_in_said, value_in_read, no_value}
 
 -- NAME
 pub new_name_said : (names : Naming) (words : Words) (x : List ℕ × Words) → new_name names words ≡ Ok x → (words ≡ x.0 ∷ x.1) × IsNew names x.0

@@ -1,7 +1,7 @@
 -- The word of a value: what is read is in the grammar, and what is in the grammar is read.
-use Rattle.std.proofs.Common.{◌≡◌, ◌≢◌, ℕ, zero, suc, ◌+◌, ◌^◌, ◌<◌, ◌≤◌, Bool, true, false, cond, List, [], ◌∷◌, ◌++◌, length, map, get_or, take, drop, Some, None, Ok, Err, inl, inr, refl, sym, ap, subst, ◌∙◌, arith, append_assoc, append-nil}
+use Rattle.std.proofs.Common.{◌≡◌, ◌≢◌, ℕ, zero, suc, ◌+◌, ◌^◌, ◌<◌, ◌≤◌, Bool, true, false, cond, List, [], ◌∷◌, ◌++◌, length, get_or, take, drop, Some, None, Ok, Err, inl, inr, refl, sym, ap, subst, ◌∙◌, arith, append_assoc, append-nil}
 use Rattle.std.specs.Prelude.{◌==◌, ◌&&◌, not, nat_lt, nat_le, decimal, flat_map}
-use Rattle.std.specs.List.{All, list_all, list_any, slice_split, join_with_byte}
+use Rattle.std.specs.List.{All, list_all, list_any, join_with_byte}
 use Rattle.std.specs.Char.{is_ascii_digit}
 use Rattle.std.specs.Str.{bytes_eq}
 use Rattle.std.proofs.lemmas.Bool.Decides.{nat_tests}
@@ -13,7 +13,7 @@ use Rattle.ccr_wiretext.specs.Places.{or_code, pieces, numbers_after, several, s
 use Rattle.ccr_wiretext.specs.Grammar.{IsNumber, AreNumbers, IsList, IsOne, IsValueWord}
 use Rattle.ccr_wiretext.specs.Spelling.{value_word}
 use Rattle.ccr_wiretext.specs.Values.{IsNumeral}
-use Rattle.ccr_wiretext.proofs.Steps.{bind_ok, ok_is, or_code_ok, chosen, same_word, not_true}
+use Rattle.ccr_wiretext.proofs.Steps.{bind_ok, ok_is, or_code_ok, chosen, same_word}
 use Rattle.ccr_wiretext.proofs.Each.{both, neither}
 
 abbrev is_comma : ℕ → Bool
