@@ -1,5 +1,5 @@
 -- Short runs of each place, worked out by hand and checked by computation: what its next note tells, and what it keeps.
-use Rattle.std.proofs.Common.{◌≡◌, ℕ, ◌+◌, ◌-◌, true, false, cond, ◌||◌, List, [], ◌∷◌, flat_map, Some, None, refl}
+use Rattle.std.proofs.Common.{◌≡◌, ℕ, ◌+◌, ◌-◌, true, false, cond, ◌||◌, List, [], ◌∷◌, flat_map, Some, None, refl, sym}
 use Rattle.std.specs.FinSet as set
 use Rattle.std.specs.Ordering.{eq_by_cmp}
 use Rattle.ccr_base.specs.declared.names.TaskId.{TaskId}
@@ -87,6 +87,15 @@ one_is_short_of_two = refl
 freed_messages_keep_their_order : values (ports.after (port claimed) (notes.Free (task 0))).items ≡ 1 ∷ 50 ∷ 2 ∷ []
 freed_messages_keep_their_order = refl
 
+claim_note_is_given : ports.IsGiven (port posted) (notes.Claim (task 0) two_small (Got 2))
+claim_note_is_given = refl
+
+got_is_not_given_while_busy : ports.IsGiven (port claimed) (notes.Claim (task 1) two_of_any (Got 2)) → ⊥
+got_is_not_given_while_busy given = cc
+
+port_gives_no_draw : ports.IsGiven (port posted) (notes.Draw None) → ⊥
+port_gives_no_draw given = given
+
 -- a choice of branches 3 and 4
 abbrev pub fires : ℕ → Spot → Note
 fires attempt spot = notes.Fired (task attempt) spot [] []
@@ -99,6 +108,18 @@ fired_choice_is_dead = refl
 
 receiver_fires_again : arbiters.dead_by (arbiters.after (arbiters.receiver 3 false) (fires 0 (Branch 3))) ≡ None
 receiver_fires_again = refl
+
+firing_is_given : arbiters.IsGiven (arbiters.choice 3 2) (fires 0 (Branch 3))
+firing_is_given = (refl, refl)
+
+dead_is_given_once_fired : arbiters.IsGiven (arbiters.after (arbiters.choice 3 2) (fires 0 (Branch 4))) (notes.Dead (task 1) (Branch 3) (ByFired (task 0)))
+dead_is_given_once_fired = refl
+
+second_firing_is_not_given : arbiters.IsGiven (arbiters.after (arbiters.choice 3 2) (fires 0 (Branch 4))) (fires 1 (Branch 3)) → ⊥
+second_firing_is_not_given given = none given.0
+  where
+    none : Some (ByFired (task 0)) ≡ None → ⊥
+    none same = cc
 
 -- an Interleave of an exclusive branch 0, a concurrent branch 1 and a teardown 2
 abbrev pub interleave : List Note → interleaves.InterleaveState
@@ -131,6 +152,12 @@ teardown_cuts_all_that_wait = refl
 dead_after_the_teardown : interleaves.dead_by (interleave (fires 0 (Branch 0) ∷ fires 1 (Branch 2) ∷ [])) ≡ Some (ByFired (task 1))
 dead_after_the_teardown = refl
 
+cuts_of_a_teardown_are_given : interleaves.IsGiven (interleave (fires 0 (Branch 0) ∷ fires 1 (Branch 1) ∷ [])) (notes.Fired (task 2) (Branch 2) [] (task 0 ∷ task 1 ∷ []))
+cuts_of_a_teardown_are_given = (refl, refl)
+
+admission_of_the_oldest_is_given : interleaves.IsGiven (interleave (fires 0 (Branch 0) ∷ fires 1 (Branch 1) ∷ [])) (admit 0)
+admission_of_the_oldest_is_given = sym oldest_is_admitted
+
 -- a site where tasks 0 and 1 are suspended
 abbrev pub site : List Note → sites.SiteState
 site before = sites.kept (sites.start 0 0) before
@@ -140,6 +167,12 @@ nothing_to_resume = refl
 
 first_suspended_goes_on_first : (site (notes.Suspend (task 0) ∷ notes.Suspend (task 1) ∷ fires 2 (Site 0 0) ∷ [])).suspended ≡ task 1 ∷ []
 first_suspended_goes_on_first = refl
+
+resumption_is_given : sites.IsGiven (site (notes.Suspend (task 0) ∷ [])) (fires 2 (Site 0 0))
+resumption_is_given = (refl, refl)
+
+none_waiting_is_given : sites.IsGiven (site []) (notes.Dead (task 2) (Site 0 0) NoneWaiting)
+none_waiting_is_given = refl
 
 -- a throttle of 1: booked and queued tasks fill it, resumed ones don't
 abbrev pub throttle : List Note → queues.QueueState
@@ -163,6 +196,9 @@ resumed_task_needs_no_room = refl
 taken_task_leaves_room : queues.book_note (throttle (book 0 ∷ notes.Put (task 0) None ∷ notes.Take (Some (task 0)) ∷ [])) false ≡ None
 taken_task_leaves_room = simp set_sizes
 
+full_is_given : queues.IsGiven (throttle (book 0 ∷ [])) (notes.Book (task 1) false (Some 1))
+full_is_given = sym booked_task_fills_it
+
 -- a queue that discards above 1
 abbrev pub discard : List Note → queues.QueueState
 discard before = queues.kept (queues.start 0 (Discard 1)) before
@@ -176,6 +212,9 @@ second_put_drops_the_oldest = refl
 dropped_task_is_not_taken : queues.take_note (discard (book 0 ∷ notes.Put (task 0) None ∷ book 1 ∷ notes.Put (task 1) (Some (task 0)) ∷ [])) ≡ Some (task 1)
 dropped_task_is_not_taken = refl
 
+dropped_task_is_given : queues.IsGiven (discard (book 0 ∷ notes.Put (task 0) None ∷ book 1 ∷ [])) (notes.Put (task 1) (Some (task 0)))
+dropped_task_is_given = refl
+
 two_are_kept_where_two_may : queues.put_note (queues.kept (queues.start 0 (Discard 2)) (book 0 ∷ notes.Put (task 0) None ∷ book 1 ∷ [])) ≡ None
 two_are_kept_where_two_may = refl
 
@@ -188,3 +227,12 @@ first_draw_is_the_first = refl
 
 spent_budget_gives_nothing : meters.draw_note (meter (notes.Draw (Some 0) ∷ [])) ≡ None
 spent_budget_gives_nothing = refl
+
+first_draw_is_given : meters.IsGiven (meter []) (notes.Draw (Some 0))
+first_draw_is_given = refl
+
+draw_past_the_budget_is_not_given : meters.IsGiven (meter (notes.Draw (Some 0) ∷ [])) (notes.Draw (Some 1)) → ⊥
+draw_past_the_budget_is_not_given given = cc
+
+nobody_has_left : meters.IsGiven (meter []) (notes.Left 0)
+nobody_has_left = refl

@@ -1,7 +1,8 @@
 //! The meter: one for a whole run, shared by all its actors.
 
 ghost use Rattle.std.specs.Prelude.{◌≡◌, IsTrue};
-ghost use Rattle.ccr_places.specs.Meters.{start, may_leave as is_leave_allowed, draw_note, after_draw, after_leave};
+ghost use Rattle.ccr_places.specs.Meters.{start, may_leave as is_leave_allowed, draw_note, after_draw, after_leave, after, IsGiven};
+ghost use Rattle.ccr_places.specs.declared.notes.Note.TheVariants.{Draw, Leave, Left};
 
 use std::marker::Model;
 
@@ -41,8 +42,10 @@ impl Meter {
 
     /// Draws one post: how many were drawn before, or none where the budget is spent.
     pub fn draw(&mut self) -> Option<u32>
-        ensures drawn { result ≡ draw_note self.old }
-        ensures kept { self.new ≡ after_draw self.old result }
+        ensures note { result ≡ draw_note self.old }
+        ensures state { self.new ≡ after_draw self.old result }
+        ensures given { IsGiven self.old (Draw result) }
+        ensures step { self.new ≡ after self.old (Draw result) }
     {
         if self.drawn == self.budget {
             return None;
@@ -62,14 +65,17 @@ impl Meter {
     /// Counts one more poster that is through with its script.
     pub fn leave(&mut self)
         requires { IsTrue (is_leave_allowed self.old) }
-        ensures { self.new ≡ after_leave self.old }
+        ensures state { self.new ≡ after_leave self.old }
+        ensures given { IsGiven self.old Leave }
+        ensures step { self.new ≡ after self.old Leave }
     {
         self.left += 1;
     }
 
     /// How many posters have left.
     pub fn left(&self) -> u32
-        ensures { result ≡ self.now.left }
+        ensures reply { result ≡ self.now.left }
+        ensures given { IsGiven self.now (Left result) }
     {
         self.left
     }

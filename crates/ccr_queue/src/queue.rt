@@ -2,7 +2,8 @@
 
 ghost use Rattle.std.specs.Prelude.{◌≡◌, ◌+◌, ◌-◌, ◌∷◌, [], ◌++◌, drop, length, slice_get, IsTrue, IfOk, OnErr, Option, Some, None, if◌then◌else◌, nat_le};
 ghost use Rattle.std.specs.Option.{option_map};
-ghost use Rattle.ccr_places.specs.Queues.{start, may_book as is_bookable, is_booked, fullness as fullness_at, fresh_count, drop_count, book_note, put_note, take_note, after_book, after_unbook, with_newest, without_dropped, after_put, after_take};
+ghost use Rattle.ccr_places.specs.Queues.{start, may_book as is_bookable, is_booked, fullness as fullness_at, fresh_count, drop_count, book_note, put_note, take_note, after_book, after_unbook, with_newest, without_dropped, after_put, after_take, after, IsGiven};
+ghost use Rattle.ccr_places.specs.declared.notes.Note.TheVariants.{Book, Unbook, Put, Take};
 ghost use Rattle.ccr_queue.specs.Answers.{full_of};
 
 use crate::standing::{self, QueuedTask, Standing};
@@ -87,8 +88,10 @@ impl QueueObject {
     /// Books the task, which takes the memory for its put. A task that resumes a suspended one needs no room.
     pub fn book(&mut self, t: TaskId, resumes: bool) -> Result<Booked, OutOfMemory>
         requires { IsTrue (is_bookable self.old.state t) }
-        ensures answer { IfOk result (λ booked. full_of booked ≡ book_note self.old.state resumes) }
-        ensures kept { IfOk result (λ booked. self.new ≡ record self.old { state = after_book self.old.state t resumes (full_of booked) }) }
+        ensures note { IfOk result (λ booked. full_of booked ≡ book_note self.old.state resumes) }
+        ensures state { IfOk result (λ booked. self.new ≡ record self.old { state = after_book self.old.state t resumes (full_of booked) }) }
+        ensures given { IfOk result (λ booked. IsGiven self.old.state (Book t resumes (full_of booked))) }
+        ensures step { IfOk result (λ booked. self.new.state ≡ after self.old.state (Book t resumes (full_of booked))) }
         ensures err { OnErr result (self.new ≡ self.old) }
     {
         if !resumes {
@@ -127,7 +130,9 @@ impl QueueObject {
     /// Ends the booking. It takes no memory.
     pub fn unbook(&mut self, t: TaskId)
         requires { IsTrue (is_booked self.old.state t) }
-        ensures { self.new ≡ record self.old { state = after_unbook self.old.state t } }
+        ensures state { self.new ≡ record self.old { state = after_unbook self.old.state t } }
+        ensures given { IsGiven self.old.state (Unbook t) }
+        ensures step { self.new.state ≡ after self.old.state (Unbook t) }
     {
         let standing = self.standings.remove(&t);
         self.fresh -= standing::fresh_count(standing);
@@ -143,12 +148,14 @@ impl QueueObject {
     /// Ends the booking, queues the task last, and hands out the oldest task where the policy drops it. It takes no memory.
     pub fn put(&mut self, task: Task) -> Option<Task>
         requires { IsTrue (is_booked self.old.state task.id) }
-        ensures dropped { option_map (λ t. t.id) result ≡ put_note self.old.state }
-        ensures whole { result ≡ (if nat_le 1 (drop_count self.old.state) then slice_get self.old.tasks 0 else None) }
-        ensures kept { self.new ≡ record {
+        ensures note { option_map (λ t. t.id) result ≡ put_note self.old.state }
+        ensures reply { result ≡ (if nat_le 1 (drop_count self.old.state) then slice_get self.old.tasks 0 else None) }
+        ensures state { self.new ≡ record {
           state = after_put self.old.state task.id;
           tasks = drop (drop_count self.old.state) self.old.tasks ++ task ∷ [];
         } }
+        ensures given { IsGiven self.old.state (Put task.id (option_map (λ t. t.id) result)) }
+        ensures step { self.new.state ≡ after self.old.state (Put task.id (option_map (λ t. t.id) result)) }
     {
         let dropped = self.drop_oldest();
         self.push(task);
@@ -157,9 +164,9 @@ impl QueueObject {
 
     /// Takes out the oldest task where a discard queue is full.
     fn drop_oldest(&mut self) -> Option<Task>
-        ensures dropped { option_map (λ t. t.id) result ≡ put_note self.old.state }
-        ensures whole { result ≡ (if nat_le 1 (drop_count self.old.state) then slice_get self.old.tasks 0 else None) }
-        ensures kept { self.new ≡ record {
+        ensures note { option_map (λ t. t.id) result ≡ put_note self.old.state }
+        ensures reply { result ≡ (if nat_le 1 (drop_count self.old.state) then slice_get self.old.tasks 0 else None) }
+        ensures state { self.new ≡ record {
           state = without_dropped self.old.state;
           tasks = drop (drop_count self.old.state) self.old.tasks;
         } }
@@ -187,12 +194,14 @@ impl QueueObject {
 
     /// Takes out the oldest task. It takes no memory.
     pub fn take(&mut self) -> Option<Task>
-        ensures taken { option_map (λ t. t.id) result ≡ take_note self.old.state }
-        ensures whole { result ≡ slice_get self.old.tasks 0 }
-        ensures kept { self.new ≡ record {
+        ensures note { option_map (λ t. t.id) result ≡ take_note self.old.state }
+        ensures reply { result ≡ slice_get self.old.tasks 0 }
+        ensures state { self.new ≡ record {
           state = after_take self.old.state;
           tasks = drop 1 self.old.tasks;
         } }
+        ensures given { IsGiven self.old.state (Take (option_map (λ t. t.id) result)) }
+        ensures step { self.new.state ≡ after self.old.state (Take (option_map (λ t. t.id) result)) }
     {
         let QueuedTask { task, resumes } = self.queued.pop_front()?;
         self.standings.remove(&task.id);

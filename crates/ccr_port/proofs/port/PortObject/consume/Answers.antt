@@ -31,4 +31,3 @@ returns-in-Some-clause-step c =
     let rest = c.take_marked.ensures.rest ∙ ap (λ ks. without_entries ks c.self.inside.items) c.as_slice.ensures.value in
     let gone = marks-gone c.self.inside.items c.self.inside.lanes.items c.in-Some.mark (marked (goal.at.returns-in-Some-clause-step c).In-Some) in
     rw (← c.self.view_is, claimed, c.take.ensures.after, rest, gone) refl
-

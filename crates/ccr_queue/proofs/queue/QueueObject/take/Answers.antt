@@ -16,8 +16,14 @@ invariant_of-self-2 c =
     let len : length c.remove.new.self.entries + 1 ≡ length c.self.inside.standings.entries = rw there at c.remove.ensures.len in
     rw (c.pop_front.ensures.capacity, c.from.ensures ∙ as_cond (not c.in_ok-task.field-0.resumes)) (taken _ _ _ _ _ _ tied c.remove.ensures.unique c.remove.ensures.updates.0 len)
 
-pub returns-clause-kept : goal.returns-clause-kept
-returns-clause-kept c =
+pub returns-clause-state : goal.returns-clause-state
+returns-clause-state c =
+    let tied = subst (λ (items : List QueuedTask). Tied c.self.inside.standings.entries (map named items) c.self.inside.fresh (deque_capacity c.self.inside.queued)) c.in_ok-task.ensures.items c.self.invariant in
+    let sets = sets_taken _ _ _ _ _ _ tied c.remove.ensures.unique c.remove.ensures.updates.0 in
+    rw (← c.self.view_is, sets.0, sets.1, c.in_ok-task.ensures.items) refl
+
+pub returns-clause-step : goal.returns-clause-step
+returns-clause-step c =
     let tied = subst (λ (items : List QueuedTask). Tied c.self.inside.standings.entries (map named items) c.self.inside.fresh (deque_capacity c.self.inside.queued)) c.in_ok-task.ensures.items c.self.invariant in
     let sets = sets_taken _ _ _ _ _ _ tied c.remove.ensures.unique c.remove.ensures.updates.0 in
     rw (← c.self.view_is, sets.0, sets.1, c.in_ok-task.ensures.items) refl

@@ -12,8 +12,14 @@ invariant_of-self c =
     rw (c.fresh_count.ensures, c.remove-standing.ensures.value)
     (unbooked _ _ _ _ _ c.self.invariant c.args.t booking c.remove-standing.ensures.unique c.remove-standing.ensures.updates.0 len)
 
-pub returns : goal.returns
-returns c =
+pub returns-clause-state : goal.returns-clause-state
+returns-clause-state c =
+    let booking = booked-standing _ _ _ _ c.self.invariant c.args.t (rw (← c.self.view_is) at c.requires) in
+    let sets = sets_unbooked _ _ _ _ _ c.self.invariant c.args.t booking c.remove-standing.ensures.unique c.remove-standing.ensures.updates.0 in
+    rw (← c.self.view_is, sets.0, sets.1) refl
+
+pub returns-clause-step : goal.returns-clause-step
+returns-clause-step c =
     let booking = booked-standing _ _ _ _ c.self.invariant c.args.t (rw (← c.self.view_is) at c.requires) in
     let sets = sets_unbooked _ _ _ _ _ c.self.invariant c.args.t booking c.remove-standing.ensures.unique c.remove-standing.ensures.updates.0 in
     rw (← c.self.view_is, sets.0, sets.1) refl
