@@ -1,6 +1,6 @@
 //! The object of an Interleave.
 
-ghost use Rattle.std.specs.Prelude.{◌≡◌, [], List, map, IsTrue, IfOk, OnErr, IsSome, slice_get, Some, None, true, false};
+ghost use Rattle.std.specs.Prelude.{◌≡◌, [], List, length, map, IsTrue, IfOk, OnErr, IsSome, slice_get, Some, None, true, false};
 ghost use Rattle.std.specs.Option.{option_map};
 ghost use Rattle.indexmap.specs.IndexMap.{get, keys, Updates, IsUnique};
 ghost use Rattle.ccr_base.specs.Names.{same_task};
@@ -18,11 +18,12 @@ use std::alloc::{AllocError, Global};
 use std::collections::VecDeque;
 use std::marker::Model;
 
-/// The branches of an Interleave. Its firings wait until they are admitted, the oldest first, or until a teardown cuts them.
+/// The branches of one domain: of an Interleave, or of several that share one protection. Its firings wait until they are admitted, the oldest first, or until a teardown cuts them.
 #[derive(Drop)]
 pub struct InterleaveObject {
     alloc: Global,
-    first: BranchNo,
+    /// Rising.
+    branches: List<BranchNo>,
     groups: List<Group>,
     /// All tasks that fired here, in that order.
     fired: IndexMap<TaskId, Standing>,
@@ -49,7 +50,7 @@ impl Model for InterleaveObject {
 
     ghost view = { λ place. record {
       state = record {
-        first = place.first;
+        branches = place.branches;
         groups = place.groups;
         fired = keys_of place.fired.entries;
         waiting = map named place.waiting.items;
@@ -64,13 +65,18 @@ impl Model for InterleaveObject {
 }
 
 impl InterleaveObject {
-    /// The Interleave whose branches from the first on have these groups. None of them fired yet.
-    pub fn new(alloc: Global, first: BranchNo, groups: List<Group>) -> InterleaveObject
-        ensures { result ≡ record { state = start first groups; tasks = [] } }
+    /// The domain whose branches, in rising order, have these groups. None of them fired yet.
+    pub fn new(
+        alloc: Global,
+        branches: List<BranchNo>,
+        groups: List<Group>,
+    ) -> InterleaveObject
+        requires { length branches ≡ length groups }
+        ensures { result ≡ record { state = start branches groups; tasks = [] } }
     {
         InterleaveObject {
             alloc,
-            first,
+            branches,
             groups,
             fired: IndexMap::new(alloc),
             waiting: VecDeque::new(alloc),
@@ -84,7 +90,7 @@ impl InterleaveObject {
     pub fn may_commit(&self, task: &Task) -> bool
         ensures { result ≡ can_commit self.now.state task.now }
     {
-        group_at(self.first, self.groups.as_slice(), task.spot).is_some()
+        group_at(&self.branches, &self.groups, task.spot).is_some()
             && !self.fired.contains_key(&task.id)
     }
 
@@ -92,7 +98,7 @@ impl InterleaveObject {
     pub fn commit(&mut self, task: Task) -> Result<Commit, OutOfMemory>
         requires { IsTrue (can_commit self.old.state task) }
         ensures reply { IfOk result (λ reply. reply ≡ commit_reply self.old task) }
-        ensures kept { IfOk result (λ reply. self.new ≡ after_commit self.old task) }
+        ensures state { IfOk result (λ reply. self.new ≡ after_commit self.old task) }
         ensures given { IfOk result (λ reply. (messages : List MsgId) → IsGiven self.old.state (commit_note task messages reply)) }
         ensures step { IfOk result (λ reply. (messages : List MsgId) → self.new.state ≡ after self.old.state (commit_note task messages reply)) }
         ensures err { OnErr result (self.new ≡ self.old) }
@@ -100,7 +106,7 @@ impl InterleaveObject {
         if let Some(earlier) = self.teardown {
             return Ok(Commit::Dead(By::Fired(earlier)));
         }
-        if is_teardown(group_at(self.first, self.groups.as_slice(), task.spot)) {
+        if is_teardown(group_at(&self.branches, &self.groups, task.spot)) {
             self.tear_down(task)
         } else {
             self.wait(task)
@@ -113,7 +119,7 @@ impl InterleaveObject {
         requires group { is_teardown_group (group_of self.old.state task.spot) ≡ false }
         requires live { self.old.state.teardown ≡ None }
         ensures reply { IfOk result (λ reply. reply ≡ commit_reply self.old task) }
-        ensures kept { IfOk result (λ reply. self.new ≡ after_wait self.old task) }
+        ensures state { IfOk result (λ reply. self.new ≡ after_wait self.old task) }
         ensures err { OnErr result (self.new ≡ self.old) }
     {
         self.waiting.reserve(1)?;
@@ -131,7 +137,7 @@ impl InterleaveObject {
         requires group { is_teardown_group (group_of self.old.state task.spot) ≡ true }
         requires live { self.old.state.teardown ≡ None }
         ensures reply { IfOk result (λ reply. reply ≡ commit_reply self.old task) }
-        ensures kept { IfOk result (λ reply. self.new ≡ after_wait self.old task) }
+        ensures state { IfOk result (λ reply. self.new ≡ after_wait self.old task) }
         ensures err { OnErr result (self.new ≡ self.old) }
     {
         self.waiting.reserve(1)?;
@@ -146,9 +152,9 @@ impl InterleaveObject {
     /// Hands out the oldest waiting task, where it may be admitted: a concurrent one where each admitted root that isn't
     /// noted over is concurrent, another where none is left. It takes no memory: the commit made the room.
     pub fn admit(&mut self) -> Option<Task>
-        ensures task { result ≡ next_task self.old }
+        ensures reply { result ≡ next_task self.old }
         ensures given { IsGiven self.old.state (Admit (option_map (λ task. task.id) result)) }
-        ensures kept { self.new ≡ after_next self.old }
+        ensures state { self.new ≡ after_next self.old }
         ensures step { self.new.state ≡ after self.old.state (Admit (option_map (λ task. task.id) result)) }
     {
         let spot = self.waiting.front()?.spot;
@@ -164,7 +170,7 @@ impl InterleaveObject {
         ensures { result ≡ is_let_in self.now.state spot }
     {
         self.alone == 0
-            && (is_concurrent(group_at(self.first, self.groups.as_slice(), spot))
+            && (is_concurrent(group_at(&self.branches, &self.groups, spot))
                 || self.shared == 0)
     }
 
@@ -172,10 +178,10 @@ impl InterleaveObject {
     fn admit_oldest(&mut self) -> Option<Task>
         ensures task { result ≡ slice_get self.old.tasks 0 }
         ensures name { option_map (λ task. task.id) result ≡ option_map (λ waiting. waiting.task) (slice_get self.old.state.waiting 0) }
-        ensures kept { self.new ≡ after_oldest self.old }
+        ensures state { self.new ≡ after_oldest self.old }
     {
         let task = self.waiting.pop_front()?;
-        let concurrent = is_concurrent(group_at(self.first, self.groups.as_slice(), task.spot));
+        let concurrent = is_concurrent(group_at(&self.branches, &self.groups, task.spot));
         let standing = standing::admitted_as(concurrent);
         let fired = self.fired.len();
         prove!(self.shared <= fired);
@@ -196,7 +202,7 @@ impl InterleaveObject {
     /// Notes that the root is over. It takes no memory.
     pub fn over(&mut self, task: TaskId, root: TaskId, how: How)
         requires { IsTrue (can_be_over self.old.state root) }
-        ensures kept { self.new ≡ record self.old { state = after_over self.old.state root } }
+        ensures state { self.new ≡ record self.old { state = after_over self.old.state root } }
         ensures step { self.new.state ≡ after self.old.state (Over task root how) }
     {
         let standing = set_standing(&mut self.fired, root, Standing::Outside);

@@ -16,8 +16,8 @@ invariant_of-self c =
     rw (c.shared_count.ensures, c.alone_count.ensures, c.set_standing-standing.ensures.before)
     (over _ _ _ _ _ c.self.invariant c.args.root c.set_standing-standing.ensures.unique c.set_standing-standing.ensures.updates.0)
 
-pub returns-clause-kept : goal.returns-clause-kept
-returns-clause-kept c =
+pub returns-clause-state : goal.returns-clause-state
+returns-clause-state c =
     let sets = sets_over _ _ _ _ _ c.self.invariant c.args.root c.set_standing-standing.ensures.unique c.set_standing-standing.ensures.updates.0 in
     rw (← c.self.view_is, c.set_standing-standing.ensures.keys, sets.0, sets.1) refl
 

@@ -11,8 +11,8 @@ invariant_of-self-2 c =
     rw (c.push_back_reserved.ensures.items, map-append named c.reserve.new.self.items, c.in_ok-reserve.ensures.items)
     (fired _ _ _ _ _ c.self.invariant c.args.task.id none c.in_ok-insert.ensures.unique c.in_ok-insert.ensures.updates.0 c.args.task.spot)
 
-pub returns-clause-kept : goal.returns-clause-kept
-returns-clause-kept c =
+pub returns-clause-state : goal.returns-clause-state
+returns-clause-state c =
     let none = absent c.self.inside.fired.entries c.args.task.id _ (rw (← c.self.view_is) at c.requires.new) in
     let sets = sets_fired _ _ _ _ _ c.self.invariant c.args.task.id none c.in_ok-insert.ensures.unique c.in_ok-insert.ensures.updates.0 in
     let names = ap keys_of c.in_ok-insert.ensures.entries ∙ keys-new c.self.inside.fired.entries c.args.task.id _ none in
