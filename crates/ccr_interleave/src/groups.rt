@@ -1,23 +1,28 @@
 //! The group of a branch.
 
-ghost use Rattle.std.specs.Prelude.{◌≡◌, ◌==◌, position};
+ghost use Rattle.std.specs.Prelude.{◌≡◌, ◌==◌, position, slice_get};
 ghost use Rattle.ccr_places.specs.Interleaves.{group_among, is_concurrent as is_concurrent_group, is_teardown as is_teardown_group};
 
 use ccr_base::{BranchNo, Group, List, Spot};
 
 /// The group of the spot, where it is one of the branches, which have these groups.
-pub(crate) fn group_at(
-    branches: &List<BranchNo>,
-    groups: &List<Group>,
-    spot: Spot,
-) -> Option<Group>
+pub(crate) fn group_at(branches: &List<BranchNo>, groups: &List<Group>, spot: Spot) -> Option<Group>
     ensures { result ≡ group_among branches.now groups.now spot }
 {
     let Spot::Branch(branch) = spot else {
         return None;
     };
-    let place = place_of(branches.as_slice(), branch)?;
-    groups.as_slice().get(place).copied()
+    match place_of(branches.as_slice(), branch) {
+        Some(place) => group_of(groups.as_slice(), place),
+        None => None,
+    }
+}
+
+/// The group at the place.
+fn group_of(groups: &[Group], place: usize) -> Option<Group>
+    ensures { result ≡ slice_get groups.now place }
+{
+    groups.get(place).copied()
 }
 
 /// The place of the branch.

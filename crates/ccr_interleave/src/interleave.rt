@@ -1,4 +1,4 @@
-//! The object of an Interleave.
+//! The object of a domain of Interleaves.
 
 ghost use Rattle.std.specs.Prelude.{◌≡◌, [], List, length, map, IsTrue, IfOk, OnErr, IsSome, slice_get, Some, None, true, false};
 ghost use Rattle.std.specs.Option.{option_map};
@@ -18,7 +18,8 @@ use std::alloc::{AllocError, Global};
 use std::collections::VecDeque;
 use std::marker::Model;
 
-/// The branches of one domain: of an Interleave, or of several that share one protection. Its firings wait until they are admitted, the oldest first, or until a teardown cuts them.
+/// The branches of one domain: of an Interleave, or of several that share one protection. Its firings wait until they are
+/// admitted, the oldest first, or until a teardown cuts them.
 #[derive(Drop)]
 pub struct InterleaveObject {
     alloc: Global,
@@ -66,11 +67,7 @@ impl Model for InterleaveObject {
 
 impl InterleaveObject {
     /// The domain whose branches, in rising order, have these groups. None of them fired yet.
-    pub fn new(
-        alloc: Global,
-        branches: List<BranchNo>,
-        groups: List<Group>,
-    ) -> InterleaveObject
+    pub fn new(alloc: Global, branches: List<BranchNo>, groups: List<Group>) -> InterleaveObject
         requires { length branches ≡ length groups }
         ensures { result ≡ record { state = start branches groups; tasks = [] } }
     {
@@ -86,7 +83,7 @@ impl InterleaveObject {
         }
     }
 
-    /// Whether the task is at a branch of this Interleave, and none of its name fired here.
+    /// Whether the task is at a branch of this domain, and none of its name fired here.
     pub fn may_commit(&self, task: &Task) -> bool
         ensures { result ≡ can_commit self.now.state task.now }
     {
@@ -170,8 +167,7 @@ impl InterleaveObject {
         ensures { result ≡ is_let_in self.now.state spot }
     {
         self.alone == 0
-            && (is_concurrent(group_at(&self.branches, &self.groups, spot))
-                || self.shared == 0)
+            && (is_concurrent(group_at(&self.branches, &self.groups, spot)) || self.shared == 0)
     }
 
     /// The oldest waiting task is one of the admitted roots from now on.

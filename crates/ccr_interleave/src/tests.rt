@@ -30,11 +30,7 @@ fn place(alloc: Global) -> Result<InterleaveObject, Fail> {
     branches.push(4)?;
     branches.push(5)?;
     branches.push(6)?;
-    Ok(InterleaveObject::new(
-        alloc,
-        List::from_vec(branches),
-        List::from_vec(groups),
-    ))
+    Ok(InterleaveObject::new(alloc, List::from_vec(branches), List::from_vec(groups)))
 }
 
 /// How many tasks the firing cuts, and none where it is dead.
