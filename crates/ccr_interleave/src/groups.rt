@@ -1,18 +1,35 @@
 //! The group of a branch.
 
-ghost use Rattle.std.specs.Prelude.{◌≡◌};
+ghost use Rattle.std.specs.Prelude.{◌≡◌, ◌==◌, position, slice_get};
 ghost use Rattle.ccr_places.specs.Interleaves.{group_among, is_concurrent as is_concurrent_group, is_teardown as is_teardown_group};
 
-use ccr_base::{BranchNo, Group, Spot};
+use ccr_base::{BranchNo, Group, List, Spot};
 
-/// The group of the spot, where the branches from the first on have these groups.
-pub(crate) fn group_at(first: BranchNo, groups: &[Group], spot: Spot) -> Option<Group>
-    ensures { result ≡ group_among first groups.now spot }
+/// The group of the spot, where it is one of the branches, which have these groups.
+pub(crate) fn group_at(branches: &List<BranchNo>, groups: &List<Group>, spot: Spot) -> Option<Group>
+    ensures { result ≡ group_among branches.now groups.now spot }
 {
-    match spot {
-        Spot::Branch(branch) if first <= branch => groups.get((branch - first) as usize).copied(),
-        _ => None,
+    let Spot::Branch(branch) = spot else {
+        return None;
+    };
+    match place_of(branches.as_slice(), branch) {
+        Some(place) => group_of(groups.as_slice(), place),
+        None => None,
     }
+}
+
+/// The group at the place.
+fn group_of(groups: &[Group], place: usize) -> Option<Group>
+    ensures { result ≡ slice_get groups.now place }
+{
+    groups.get(place).copied()
+}
+
+/// The place of the branch.
+fn place_of(branches: &[BranchNo], branch: BranchNo) -> Option<usize>
+    ensures { result ≡ position (λ other. other == branch) branches.now }
+{
+    branches.iter().position(|other| *other == branch)
 }
 
 pub(crate) fn is_concurrent(group: Option<Group>) -> bool

@@ -1,6 +1,6 @@
-//! The object of an Interleave.
+//! The object of a domain of Interleaves.
 
-ghost use Rattle.std.specs.Prelude.{◌≡◌, [], List, map, IsTrue, IfOk, OnErr, IsSome, slice_get, Some, None, true, false};
+ghost use Rattle.std.specs.Prelude.{◌≡◌, [], List, length, map, IsTrue, IfOk, OnErr, IsSome, slice_get, Some, None, true, false};
 ghost use Rattle.std.specs.Option.{option_map};
 ghost use Rattle.indexmap.specs.IndexMap.{get, keys, Updates, IsUnique};
 ghost use Rattle.ccr_base.specs.Names.{same_task};
@@ -18,11 +18,13 @@ use std::alloc::{AllocError, Global};
 use std::collections::VecDeque;
 use std::marker::Model;
 
-/// The branches of an Interleave. Its firings wait until they are admitted, the oldest first, or until a teardown cuts them.
+/// The branches of one domain: of an Interleave, or of several that share one protection. Its firings wait until they are
+/// admitted, the oldest first, or until a teardown cuts them.
 #[derive(Drop)]
 pub struct InterleaveObject {
     alloc: Global,
-    first: BranchNo,
+    /// Rising.
+    branches: List<BranchNo>,
     groups: List<Group>,
     /// All tasks that fired here, in that order.
     fired: IndexMap<TaskId, Standing>,
@@ -49,7 +51,7 @@ impl Model for InterleaveObject {
 
     ghost view = { λ place. record {
       state = record {
-        first = place.first;
+        branches = place.branches;
         groups = place.groups;
         fired = keys_of place.fired.entries;
         waiting = map named place.waiting.items;
@@ -64,13 +66,14 @@ impl Model for InterleaveObject {
 }
 
 impl InterleaveObject {
-    /// The Interleave whose branches from the first on have these groups. None of them fired yet.
-    pub fn new(alloc: Global, first: BranchNo, groups: List<Group>) -> InterleaveObject
-        ensures { result ≡ record { state = start first groups; tasks = [] } }
+    /// The domain whose branches, in rising order, have these groups. None of them fired yet.
+    pub fn new(alloc: Global, branches: List<BranchNo>, groups: List<Group>) -> InterleaveObject
+        requires { length branches ≡ length groups }
+        ensures { result ≡ record { state = start branches groups; tasks = [] } }
     {
         InterleaveObject {
             alloc,
-            first,
+            branches,
             groups,
             fired: IndexMap::new(alloc),
             waiting: VecDeque::new(alloc),
@@ -80,11 +83,11 @@ impl InterleaveObject {
         }
     }
 
-    /// Whether the task is at a branch of this Interleave, and none of its name fired here.
+    /// Whether the task is at a branch of this domain, and none of its name fired here.
     pub fn may_commit(&self, task: &Task) -> bool
         ensures { result ≡ can_commit self.now.state task.now }
     {
-        group_at(self.first, self.groups.as_slice(), task.spot).is_some()
+        group_at(&self.branches, &self.groups, task.spot).is_some()
             && !self.fired.contains_key(&task.id)
     }
 
@@ -100,7 +103,7 @@ impl InterleaveObject {
         if let Some(earlier) = self.teardown {
             return Ok(Commit::Dead(By::Fired(earlier)));
         }
-        if is_teardown(group_at(self.first, self.groups.as_slice(), task.spot)) {
+        if is_teardown(group_at(&self.branches, &self.groups, task.spot)) {
             self.tear_down(task)
         } else {
             self.wait(task)
@@ -164,8 +167,7 @@ impl InterleaveObject {
         ensures { result ≡ is_let_in self.now.state spot }
     {
         self.alone == 0
-            && (is_concurrent(group_at(self.first, self.groups.as_slice(), spot))
-                || self.shared == 0)
+            && (is_concurrent(group_at(&self.branches, &self.groups, spot)) || self.shared == 0)
     }
 
     /// The oldest waiting task is one of the admitted roots from now on.
@@ -175,7 +177,7 @@ impl InterleaveObject {
         ensures state { self.new ≡ after_oldest self.old }
     {
         let task = self.waiting.pop_front()?;
-        let concurrent = is_concurrent(group_at(self.first, self.groups.as_slice(), task.spot));
+        let concurrent = is_concurrent(group_at(&self.branches, &self.groups, task.spot));
         let standing = standing::admitted_as(concurrent);
         let fired = self.fired.len();
         prove!(self.shared <= fired);

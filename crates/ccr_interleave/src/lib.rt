@@ -1,4 +1,4 @@
-//! The object of an Interleave: its firings wait, are admitted by their groups, and are cut by a teardown.
+//! The object of a domain of Interleaves: its firings wait, are admitted by their groups, and are cut by a teardown.
 #![tactic(auto)]
 
 mod groups;

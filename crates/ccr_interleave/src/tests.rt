@@ -26,7 +26,11 @@ fn place(alloc: Global) -> Result<InterleaveObject, Fail> {
     groups.push(Group::Exclusive)?;
     groups.push(Group::Concurrent)?;
     groups.push(Group::Teardown)?;
-    Ok(InterleaveObject::new(alloc, 4, List::from_vec(groups)))
+    let mut branches = Vec::new(alloc);
+    branches.push(4)?;
+    branches.push(5)?;
+    branches.push(6)?;
+    Ok(InterleaveObject::new(alloc, List::from_vec(branches), List::from_vec(groups)))
 }
 
 /// How many tasks the firing cuts, and none where it is dead.

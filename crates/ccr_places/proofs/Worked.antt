@@ -123,7 +123,7 @@ second_firing_is_not_given given = none given.0
 
 -- an Interleave of an exclusive branch 0, a concurrent branch 1 and a teardown 2
 abbrev pub interleave : List Note → interleaves.InterleaveState
-interleave before = interleaves.kept (interleaves.start 0 (Exclusive ∷ Concurrent ∷ Teardown ∷ [])) before
+interleave before = interleaves.kept (interleaves.start (0 ∷ 1 ∷ 2 ∷ []) (Exclusive ∷ Concurrent ∷ Teardown ∷ [])) before
 
 abbrev pub admit : ℕ → Note
 admit attempt = notes.Admit (Some (task attempt))

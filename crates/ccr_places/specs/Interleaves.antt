@@ -1,5 +1,6 @@
--- What an Interleave keeps, and its steps. The tasks stand here by their names; the Interleave's object keeps them whole.
-use Rattle.std.specs.Prelude.{◌≡◌, ⊤, ℕ, ◌-◌, Bool, true, false, not, ◌==◌, ◌&&◌, ◌||◌, nat_le, List, [], ◌∷◌, ◌++◌, drop, fold, map, slice_get, is_some, Option, Some, None, if◌then◌else◌, refl}
+-- What a domain of Interleaves keeps, and its steps: the branches of one Interleave, or of several that share one protection. The
+-- tasks stand here by their names; the domain's object keeps them whole.
+use Rattle.std.specs.Prelude.{◌≡◌, ⊤, ℕ, Bool, true, false, not, ◌==◌, ◌&&◌, ◌||◌, List, [], ◌∷◌, ◌++◌, drop, fold, map, position, slice_get, is_some, Option, Some, None, if◌then◌else◌, refl}
 use Rattle.std.specs.Coded.{Coded, code_by, coded×, coded_ℕ, coded_list, coded_option}
 use Rattle.std.specs.Option.{option_map, option_and_then}
 use Rattle.std.specs.FinSet as set
@@ -25,10 +26,10 @@ pub record Waiting : Type 0 where
   pub task : TaskId
   pub spot : Spot
 
--- the first branch and the groups of all; the tasks that fired there; those that wait, oldest first; the admitted roots
+-- the branches, rising, and the group of each; the tasks that fired there; those that wait, oldest first; the admitted roots
 -- that aren't noted over, those of concurrent branches apart from the others; the teardown task that fired
 pub record InterleaveState : Type 0 where
-  pub first : ℕ
+  pub branches : List ℕ
   pub groups : List Group
   pub fired : List TaskId
   pub waiting : List Waiting
@@ -36,18 +37,18 @@ pub record InterleaveState : Type 0 where
   pub alone : TaskSet
   pub teardown : Option TaskId
 
--- an Interleave of which no branch fired
-abbrev pub start : ℕ → List Group → InterleaveState
-start first groups = record { first = first; groups = groups; fired = []; waiting = []; shared = set.empty; alone = set.empty; teardown = None }
+-- a domain of which no branch fired
+abbrev pub start : List ℕ → List Group → InterleaveState
+start branches groups = record { branches = branches; groups = groups; fired = []; waiting = []; shared = set.empty; alone = set.empty; teardown = None }
 
--- the group of the spot, where it is a branch from the first on that has one
-abbrev pub group_among : ℕ → List Group → Spot → Option Group
-group_among first groups (Branch branch) = if nat_le first branch then slice_get groups (branch - first) else None
-group_among first groups (Site branch site) = None
+-- the group of the spot, where it is one of the branches
+abbrev pub group_among : List ℕ → List Group → Spot → Option Group
+group_among branches groups (Branch branch) = option_and_then (λ place. slice_get groups place) (position (λ other. other == branch) branches)
+group_among branches groups (Site branch site) = None
 
 -- the group of the spot, where it is a branch of this Interleave
 abbrev pub group_at : InterleaveState → Spot → Option Group
-group_at place spot = group_among place.first place.groups spot
+group_at place spot = group_among place.branches place.groups spot
 
 abbrev pub is_teardown : Option Group → Bool
 is_teardown None = false
@@ -166,10 +167,10 @@ waiting_code =
 
 abbrev pub interleave_code : Coded InterleaveState
 interleave_code =
-    code_by (ℕ × (List Group × (List TaskId × (List Waiting × (TaskSet × (TaskSet × Option TaskId))))))
-    (coded× coded_ℕ (coded× (coded_list group.the_row.coded) (coded× (coded_list name.the_row.coded) (coded× (coded_list waiting_code) (coded× task_set_code (coded× task_set_code (coded_option name.the_row.coded)))))))
-    (λ s. (s.first, (s.groups, (s.fired, (s.waiting, (s.shared, (s.alone, s.teardown)))))))
-    (λ p. record { first = p.0; groups = p.1.0; fired = p.1.1.0; waiting = p.1.1.1.0; shared = p.1.1.1.1.0; alone = p.1.1.1.1.1.0; teardown = p.1.1.1.1.1.1 })
+    code_by (List ℕ × (List Group × (List TaskId × (List Waiting × (TaskSet × (TaskSet × Option TaskId))))))
+    (coded× (coded_list coded_ℕ) (coded× (coded_list group.the_row.coded) (coded× (coded_list name.the_row.coded) (coded× (coded_list waiting_code) (coded× task_set_code (coded× task_set_code (coded_option name.the_row.coded)))))))
+    (λ s. (s.branches, (s.groups, (s.fired, (s.waiting, (s.shared, (s.alone, s.teardown)))))))
+    (λ p. record { branches = p.0; groups = p.1.0; fired = p.1.1.0; waiting = p.1.1.1.0; shared = p.1.1.1.1.0; alone = p.1.1.1.1.1.0; teardown = p.1.1.1.1.1.1 })
     (λ _. refl)
 
 abbrev pub interleave_tasks_code : Coded InterleaveTasks

@@ -22,5 +22,5 @@ pub returns-clause-state : goal.returns-clause-state
 returns-clause-state c =
     let tied = subst (λ (items : List Task). Tied c.self.inside.fired.entries (map named items) c.self.inside.shared c.self.inside.alone) c.in_ok-task.ensures.items c.self.invariant in
     let sets = sets_admitted _ _ _ _ _ _ tied c.set_standing.ensures.unique c.is_concurrent-concurrent.result (rw (c.admitted_as-standing.ensures) at c.set_standing.ensures.updates.0) in
-    let concurrent = c.is_concurrent-concurrent.ensures ∙ ap is_concurrent (c.group_at.ensures ∙ ap (λ groups. group_among c.self.inside.first groups c.in_ok-task.task.spot) c.as_slice.ensures) in
+    let concurrent = c.is_concurrent-concurrent.ensures ∙ ap is_concurrent c.group_at.ensures in
     rw (← c.self.view_is, c.set_standing.ensures.keys, sets.0, sets.1, concurrent, c.in_ok-task.ensures.items) refl

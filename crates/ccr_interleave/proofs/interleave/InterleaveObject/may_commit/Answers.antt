@@ -6,6 +6,6 @@ use Rattle.ccr_interleave.proofs.interleave.InterleaveObject.may_commit.Goals as
 
 pub returns-then-is_some : goal.returns-then-is_some
 returns-then-is_some c =
-    let here : is_some (group_among c.self.inside.first c.self.inside.groups c.args.task.now.spot) ≡ true =
-    sym (c.is_some.ensures ∙ ap is_some (c.group_at.ensures ∙ ap (λ groups. group_among c.self.inside.first groups c.args.task.now.spot) c.as_slice.ensures)) ∙ c.if-is_some.true in
+    let here : is_some (group_among c.self.inside.branches c.self.inside.groups c.args.task.now.spot) ≡ true =
+    sym (c.is_some.ensures ∙ ap is_some c.group_at.ensures) ∙ c.if-is_some.true in
     rw (← c.self.view_is, here) (ap not (c.contains_key.ensures ∙ is_some-lookup (same_task c.args.task.now.id) c.self.inside.fired.entries))
