@@ -94,36 +94,32 @@ fn argument_past_the_end_is_zero(rt: HostRuntime) -> Result<(), Fail> {
 
 #[test]
 fn sums_wrap_and_begin_at_zero(rt: HostRuntime) -> Result<(), Fail> {
-    let rows = [
-        Row {
-            shows: "a sum wraps",
-            actions: &[Action::Post(1, Expr::Sum), Action::Fail(Expr::Sum)],
-            segment: 0,
-            values: &[
-                Value::one(18446744073709551615),
-                Value::one(3),
-                Value::one(18446744073709551615),
-            ],
-            causes: &[],
-            posts: &[(1, Value::one(1), &[])],
-            end: PlayEnd::Failed(Value::one(1)),
-            causes_then: &[],
-        },
-        Row {
-            shows: "no value: a sum and a count of 0",
-            actions: &[Action::Post(1, Expr::Sum), Action::Post(2, Expr::Count)],
-            segment: 0,
-            values: &[],
-            causes: &[],
-            posts: &[(1, Value::one(0), &[]), (2, Value::one(0), &[])],
-            end: PlayEnd::Done,
-            causes_then: &[],
-        },
-    ];
-    for row in &rows {
-        check(&rt, rt.alloc(), row)?;
-    }
-    Ok(())
+    let row = Row {
+        shows: "a sum wraps",
+        actions: &[Action::Post(1, Expr::Sum), Action::Fail(Expr::Sum)],
+        segment: 0,
+        values: &[
+            Value::one(18446744073709551615),
+            Value::one(3),
+            Value::one(18446744073709551615),
+        ],
+        causes: &[],
+        posts: &[(1, Value::one(1), &[])],
+        end: PlayEnd::Failed(Value::one(1)),
+        causes_then: &[],
+    };
+    check(&rt, rt.alloc(), &row)?;
+    let row = Row {
+        shows: "no value: a sum and a count of 0",
+        actions: &[Action::Post(1, Expr::Sum), Action::Post(2, Expr::Count)],
+        segment: 0,
+        values: &[],
+        causes: &[],
+        posts: &[(1, Value::one(0), &[]), (2, Value::one(0), &[])],
+        end: PlayEnd::Done,
+        causes_then: &[],
+    };
+    check(&rt, rt.alloc(), &row)
 }
 
 #[test]
@@ -162,79 +158,71 @@ fn lists_are_summed_place_by_place(rt: HostRuntime) -> Result<(), Fail> {
 
 #[test]
 fn failure_ends_the_play(rt: HostRuntime) -> Result<(), Fail> {
-    let rows = [
-        Row {
-            shows: "a failure without causes posts nothing",
-            actions: &[
-                Action::Post(1, Expr::Number(Value::one(5))),
-                Action::Fail(Expr::Number(Value::one(9))),
-            ],
-            segment: 0,
-            values: &[],
-            causes: &[],
-            posts: &[(1, Value::one(5), &[])],
-            end: PlayEnd::Failed(Value::one(9)),
-            causes_then: &[],
-        },
-        Row {
-            shows: "a failure under one cause, and what stands behind it is not played",
-            actions: &[
-                Action::Fail(Expr::Arg(0)),
-                Action::Post(1, Expr::Number(Value::one(5))),
-                Action::Add(2),
-                Action::Await(1),
-            ],
-            segment: 0,
-            values: &[Value::one(4)],
-            causes: &[1],
-            posts: &[(11, Value::one(4), &[])],
-            end: PlayEnd::Failed(Value::one(4)),
-            causes_then: &[1],
-        },
-    ];
-    for row in &rows {
-        check(&rt, rt.alloc(), row)?;
-    }
-    Ok(())
+    let row = Row {
+        shows: "a failure without causes posts nothing",
+        actions: &[
+            Action::Post(1, Expr::Number(Value::one(5))),
+            Action::Fail(Expr::Number(Value::one(9))),
+        ],
+        segment: 0,
+        values: &[],
+        causes: &[],
+        posts: &[(1, Value::one(5), &[])],
+        end: PlayEnd::Failed(Value::one(9)),
+        causes_then: &[],
+    };
+    check(&rt, rt.alloc(), &row)?;
+    let row = Row {
+        shows: "a failure under one cause, and what stands behind it is not played",
+        actions: &[
+            Action::Fail(Expr::Arg(0)),
+            Action::Post(1, Expr::Number(Value::one(5))),
+            Action::Add(2),
+            Action::Await(1),
+        ],
+        segment: 0,
+        values: &[Value::one(4)],
+        causes: &[1],
+        posts: &[(11, Value::one(4), &[])],
+        end: PlayEnd::Failed(Value::one(4)),
+        causes_then: &[1],
+    };
+    check(&rt, rt.alloc(), &row)
 }
 
 #[test]
 fn failure_posts_for_each_cause_of_its_moment(rt: HostRuntime) -> Result<(), Fail> {
-    let rows = [
-        Row {
-            shows: "a failure under three causes, in their order",
-            actions: &[Action::Fail(Expr::Count)],
-            segment: 0,
-            values: &[Value::one(4), Value::one(4)],
-            causes: &[2, 0, 1],
-            posts: &[
-                (12, Value::one(2), &[]),
-                (10, Value::one(2), &[]),
-                (11, Value::one(2), &[]),
-            ],
-            end: PlayEnd::Failed(Value::one(2)),
-            causes_then: &[2, 0, 1],
-        },
-        Row {
-            shows: "causes added and removed before a failure",
-            actions: &[
-                Action::Add(1),
-                Action::Remove(2),
-                Action::Add(1),
-                Action::Fail(Expr::Number(Value::one(6))),
-            ],
-            segment: 0,
-            values: &[],
-            causes: &[2, 0],
-            posts: &[(10, Value::one(6), &[]), (11, Value::one(6), &[])],
-            end: PlayEnd::Failed(Value::one(6)),
-            causes_then: &[0, 1],
-        },
-    ];
-    for row in &rows {
-        check(&rt, rt.alloc(), row)?;
-    }
-    Ok(())
+    let row = Row {
+        shows: "a failure under three causes, in their order",
+        actions: &[Action::Fail(Expr::Count)],
+        segment: 0,
+        values: &[Value::one(4), Value::one(4)],
+        causes: &[2, 0, 1],
+        posts: &[
+            (12, Value::one(2), &[]),
+            (10, Value::one(2), &[]),
+            (11, Value::one(2), &[]),
+        ],
+        end: PlayEnd::Failed(Value::one(2)),
+        causes_then: &[2, 0, 1],
+    };
+    check(&rt, rt.alloc(), &row)?;
+    let row = Row {
+        shows: "causes added and removed before a failure",
+        actions: &[
+            Action::Add(1),
+            Action::Remove(2),
+            Action::Add(1),
+            Action::Fail(Expr::Number(Value::one(6))),
+        ],
+        segment: 0,
+        values: &[],
+        causes: &[2, 0],
+        posts: &[(10, Value::one(6), &[]), (11, Value::one(6), &[])],
+        end: PlayEnd::Failed(Value::one(6)),
+        causes_then: &[0, 1],
+    };
+    check(&rt, rt.alloc(), &row)
 }
 
 #[test]
@@ -274,40 +262,37 @@ const TWICE: [Action; 5] = [
 
 #[test]
 fn segments_lie_between_awaits(rt: HostRuntime) -> Result<(), Fail> {
-    let rows = [
-        Row {
-            shows: "the first segment ends at the first await",
-            actions: &TWICE,
-            segment: 0,
-            values: &[Value::one(5)],
-            causes: &[0],
-            posts: &[(1, Value::one(1), &[0])],
-            end: PlayEnd::Yield(0),
-            causes_then: &[0],
-        },
-        Row {
-            shows: "the second segment",
-            actions: &TWICE,
-            segment: 1,
-            values: &[Value::one(5), Value::one(6)],
-            causes: &[0],
-            posts: &[(2, Value::one(11), &[0])],
-            end: PlayEnd::Yield(1),
-            causes_then: &[0],
-        },
-        Row {
-            shows: "the last segment",
-            actions: &TWICE,
-            segment: 2,
-            values: &[Value::one(5), Value::one(6), Value::one(7)],
-            causes: &[0],
-            posts: &[],
-            end: PlayEnd::Done,
-            causes_then: &[],
-        },
-    ];
-    for row in &rows {
-        check(&rt, rt.alloc(), row)?;
-    }
-    Ok(())
+    let row = Row {
+        shows: "the first segment ends at the first await",
+        actions: &TWICE,
+        segment: 0,
+        values: &[Value::one(5)],
+        causes: &[0],
+        posts: &[(1, Value::one(1), &[0])],
+        end: PlayEnd::Yield(0),
+        causes_then: &[0],
+    };
+    check(&rt, rt.alloc(), &row)?;
+    let row = Row {
+        shows: "the second segment",
+        actions: &TWICE,
+        segment: 1,
+        values: &[Value::one(5), Value::one(6)],
+        causes: &[0],
+        posts: &[(2, Value::one(11), &[0])],
+        end: PlayEnd::Yield(1),
+        causes_then: &[0],
+    };
+    check(&rt, rt.alloc(), &row)?;
+    let row = Row {
+        shows: "the last segment",
+        actions: &TWICE,
+        segment: 2,
+        values: &[Value::one(5), Value::one(6), Value::one(7)],
+        causes: &[0],
+        posts: &[],
+        end: PlayEnd::Done,
+        causes_then: &[],
+    };
+    check(&rt, rt.alloc(), &row)
 }
