@@ -20,7 +20,7 @@ fn task(alloc: Global, attempt: u32, branch: u32) -> Task {
     }
 }
 
-/// The branches 4, 5 and 6: exclusive, concurrent and teardown.
+/// The branches 4, 5 and 8 of a domain, where 6 and 7 aren't: exclusive, concurrent and teardown.
 fn place(alloc: Global) -> Result<InterleaveObject, Fail> {
     let mut groups = Vec::new(alloc);
     groups.push(Group::Exclusive)?;
@@ -29,7 +29,7 @@ fn place(alloc: Global) -> Result<InterleaveObject, Fail> {
     let mut branches = Vec::new(alloc);
     branches.push(4)?;
     branches.push(5)?;
-    branches.push(6)?;
+    branches.push(8)?;
     Ok(InterleaveObject::new(alloc, List::from_vec(branches), List::from_vec(groups)))
 }
 
@@ -72,7 +72,7 @@ fn groups_and_teardown(rt: HostRuntime) -> Result<(), Fail> {
         );
     }
     assert!(rt; !place.may_commit(&task(rt.alloc(), 4, 5)));
-    assert!(rt; !place.may_commit(&task(rt.alloc(), 5, 7)));
+    assert!(rt; !place.may_commit(&task(rt.alloc(), 5, 6)));
     assert_eq!(rt; admit(&mut place), Some(0));
     assert_eq!(rt; admit(&mut place), None);
     end(&rt, &mut place, 0);
@@ -82,7 +82,7 @@ fn groups_and_teardown(rt: HostRuntime) -> Result<(), Fail> {
     assert_eq!(rt; admit(&mut place), Some(2));
     assert_eq!(rt; admit(&mut place), Some(3));
     assert_eq!(rt; admit(&mut place), None);
-    assert_eq!(rt; commit(&rt, &mut place, task(rt.alloc(), 5, 6))?, Some(1));
+    assert_eq!(rt; commit(&rt, &mut place, task(rt.alloc(), 5, 8))?, Some(1));
     assert_eq!(rt; commit(&rt, &mut place, task(rt.alloc(), 6, 5))?, None);
     end(&rt, &mut place, 2);
     assert_eq!(rt; admit(&mut place), None);

@@ -1,6 +1,6 @@
 use Rattle.std.proofs.Common.{◌∙◌, List, ap, refl, subst, map, arith}
 use Rattle.ccr_base.specs.declared.tasks.Task.{Task}
-use Rattle.ccr_places.specs.Interleaves.{group_among, is_concurrent}
+use Rattle.ccr_places.specs.Interleaves.{is_concurrent}
 use Rattle.ccr_interleave.specs.Replies.{named}
 use Rattle.ccr_interleave.specs.Standings.{Tied}
 use Rattle.ccr_interleave.proofs.TableSteps.{shared-fired, alone-fired, admitted, sets_admitted}
