@@ -5,8 +5,7 @@ ghost use Rattle.ccr_samples.specs.Samples.{one_queue, one_handler, one_receive,
 
 use crate::{name, only};
 use ccr_base::{
-    Action, Group, Handler, List, OutOfMemory, Pattern, Policy, PortNo, Pred, Sent, Slot,
-    Value,
+    Action, Group, Handler, List, OutOfMemory, Pattern, Policy, PortNo, Pred, Sent, Slot, Value,
 };
 use ccr_wiring::{
     ArbiterPart, BranchPart, CausePart, HandlerPart, Kind, Parts, PosterPart, QueuePart,
