@@ -51,7 +51,7 @@ pub fn handler_name(parts: &Parts, handler: HandlerNo) -> &[u8]
     }
 }
 
-fn arbiter_name(parts: &Parts, arbiter: ArbiterNo) -> &[u8]
+pub fn arbiter_name(parts: &Parts, arbiter: ArbiterNo) -> &[u8]
     ensures { result.now ≡ arbiter_name parts.now arbiter }
 {
     match parts.arbiters.as_slice().get(arbiter as usize) {
