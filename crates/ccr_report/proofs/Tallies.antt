@@ -12,7 +12,8 @@ use Rattle.ccr_base.specs.Names.{has_message}
 use Rattle.ccr_wiring.specs.declared.parts.Parts.{Parts}
 use Rattle.ccr_wiring.specs.declared.parts.ArbiterPart.{ArbiterPart}
 use Rattle.ccr_wiring.specs.declared.parts.BranchPart.{BranchPart}
-use Rattle.ccr_wiring.specs.Wirings.{Seat, seat, seats, seats_of, seats_from, branch_of}
+use Rattle.ccr_wiring.specs.declared.parts.DomainPart.{DomainPart}
+use Rattle.ccr_wiring.specs.Wirings.{Seat, seat, seats, seats_of, seats_from, in_domain, branch_of}
 use Rattle.ccr_model.specs.declared.history.Event.{Event}
 use Rattle.ccr_model.specs.Posts.{posts, posted, taken, held}
 use Rattle.ccr_model.specs.Firings.{spot_of}
@@ -66,6 +67,11 @@ branch_queues_seats number (arbiter ∷ arbiters) =
     ∙ ap (λ (queues : List ℕ). map (λ (s : Seat). s.branch.queue) (seats_of number arbiter) ++ queues) (branch_queues_seats (number + 1) arbiters)
     ∙ sym (map-both (λ (s : Seat). s.branch.queue) (seats_of number arbiter) (seats_from (number + 1) arbiters))
 
+-- a branch has its queue in its domain
+pub domain_queues : (domains : List DomainPart) (ss : List Seat) → map (λ (s : Seat). s.branch.queue) (map (in_domain domains) ss) ≡ map (λ (s : Seat). s.branch.queue) ss
+domain_queues domains [] = refl
+domain_queues domains (s ∷ ss) = ap (λ (queues : List ℕ). s.branch.queue ∷ queues) (domain_queues domains ss)
+
 pub map_or-map : {X Y : Type 0} (f : X → Y) (g : Y → Bool) (o : Option X) → option_map_or g (option_map f o) false ≡ option_map_or (λ x. g (f x)) o false
 map_or-map f g None = refl
 map_or-map f g (Some x) = refl
@@ -82,7 +88,7 @@ for_queue wiring k (Some spot) =
     sym (map_or-map (λ (s : Seat). s.branch.queue) (λ n. n == k) (seat wiring (branch_of spot)))
     ∙ ap (λ (o : Option ℕ). option_map_or (λ n. n == k) o false)
     (sym (slice_get-mapped (λ (s : Seat). s.branch.queue) (seats wiring) (branch_of spot))
-    ∙ ap (λ (queues : List ℕ). slice_get queues (branch_of spot)) (sym (branch_queues_seats 0 wiring.arbiters)))
+    ∙ ap (λ (queues : List ℕ). slice_get queues (branch_of spot)) (domain_queues wiring.domains (seats_from 0 wiring.arbiters) ∙ sym (branch_queues_seats 0 wiring.arbiters)))
 
 -- the tasks of a queue, by the spots at which they fired
 pub times-queue : (wiring : Parts) (history : List Event) (k : ℕ) (fired : TaskId → Option Spot) → ((task : TaskId) → fired task ≡ spot_of history task) → (tasks : List TaskId) → times k (flat_map (λ task. option_to_list (option_and_then (λ spot. slice_get (branch_queues wiring) (branch_of spot)) (fired task))) tasks) ≡ length (filter (is_for_queue wiring history k) tasks)
