@@ -1,5 +1,5 @@
 -- Which text is due for which words and input.
-use Rattle.std.proofs.Common.{◌≡◌, ℕ, ◌≤◌, Bool, true, false, List, length, Option, Some, None, Result, Ok, Err, sym, ap, subst}
+use Rattle.std.proofs.Common.{◌≡◌, ℕ, ◌≤◌, Bool, true, false, List, length, Option, Some, None, Result, Ok, Err, refl, sym, ap, subst}
 use Rattle.std.specs.Prelude.{IsSome}
 use Rattle.ccr_io.specs.Bytes.{HoldsAll, IsLongerThan}
 use Rattle.ccr_wiring.specs.declared.parts.Parts.{Parts}
@@ -85,7 +85,7 @@ load_exhausted size json TooLong text rest after gives = absurd gives
 
 -- what reads was asked for
 pub reads_some : (request : Option Request) → reads request ≡ true → IsSome request
-reads_some (Some request) is = tt
+reads_some (Some request) is = refl
 reads_some None is = absurd cc
 
 -- a request to read reads

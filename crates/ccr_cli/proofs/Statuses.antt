@@ -99,6 +99,10 @@ for_fault json (Some bytes) Usage text due verified = absurd due
 for_fault json (Some bytes) TooLong text due verified = absurd (omega (arith, due.0, verified.0))
 for_fault json (Some bytes) Refused text due verified = absurd (apart _ verified.1.0 (due.1.0, due.1.1) verified.1.2 due.1.2)
 
+-- what is due for a request is due for words that ask for it
+pub due_said : (request : Option Request) (words : List (List ℕ)) (rest : Option (List ℕ)) (status : Status) (text : List ℕ) → request ≡ said words → AnswersRequest request rest status text → IsDue status words rest text
+due_said request words rest status text asked due = subst (λ (o : Option Request). AnswersRequest o rest status text) asked due
+
 pub usage_status : (words : List (List ℕ)) (rest : Option (List ℕ)) (status : Status) (text : List ℕ) → IsDue status words rest text → said words ≡ None → status ≡ Usage
 usage_status words rest status text due is = for_none (said words) rest status text due is
 
