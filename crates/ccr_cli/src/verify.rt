@@ -7,8 +7,8 @@ ghost use Rattle.ccr_cli.specs.Findings.{IsFound, VerifyGives, status_of};
 ghost use Rattle.ccr_cli.specs.Answers.{AnswersText, RefusedGives};
 ghost use Rattle.ccr_words.specs.declared.requests.Command.TheVariants.{Verify};
 
-use crate::comparing::line_at;
 use crate::answers::{Answer, refused};
+use crate::comparing::line_at;
 use crate::findings::{Finding, finding_text};
 use crate::judging::find;
 use crate::status::Status;
