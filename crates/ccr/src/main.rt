@@ -4,25 +4,41 @@
 use ccr_base::{List, Name, OpenGate, OutOfMemory};
 use ccr_cli::run_ccr;
 use ccr_io::{StdSink, StdSource};
-use std::env;
-use std::io::ErrorKind;
+use std::env::FillError;
 use std::process::ExitCode;
 use std::rt::Env;
 
 /// The exit status where there is no memory for the words.
 const NO_MEMORY: u8 = 5;
 
-/// The words behind the program's name, as bytes. Words that aren't UTF-8 are no words at all.
+/// How many bytes a word is first taken to have at most.
+const SHORT: usize = 4096;
+
+/// The bytes of the argument of this number; none where there are no more. One that is longer than the room is copied again
+/// into twice as much.
+fn argument<R: Env + AllocGlobal>(rt: &R, number: usize) -> Result<Option<Name>, OutOfMemory> {
+    for doubled in 0..20u32 {
+        let mut bytes = Vec::from_elem(rt.alloc(), 0u8, SHORT << doubled)?;
+        match rt.arg(number, &mut bytes) {
+            Ok(length) => {
+                bytes.truncate(length);
+                return Ok(Some(List::from_vec(bytes)));
+            }
+            Err(FillError::NotPresent) => return Ok(None),
+            Err(FillError::TooLong) => {}
+        }
+    }
+    Err(OutOfMemory)
+}
+
+/// The words behind the program's name, each as its bytes.
 fn words_of<R: Env + AllocGlobal>(rt: &R) -> Result<List<Name>, OutOfMemory> {
     let mut words = List::new(rt.alloc());
-    let arguments = match env::args(rt) {
-        Ok(arguments) => arguments,
-        Err(error) if error.kind() == ErrorKind::InvalidData => return Ok(words),
-        Err(_) => return Err(OutOfMemory),
-    };
-    for argument in arguments.skip(1) {
-        let word = List::from_vec(Vec::from_slice(rt.alloc(), argument.as_bytes())?);
-        words.push(word).map_err(|(refused, _)| refused)?;
+    for number in 1..usize::MAX {
+        match argument(rt, number)? {
+            Some(word) => words.push(word).map_err(|(refused, _)| refused)?,
+            None => break,
+        }
     }
     Ok(words)
 }

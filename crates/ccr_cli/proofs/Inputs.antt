@@ -1,52 +1,53 @@
 -- Which text is due for which words and input.
-use Rattle.std.proofs.Common.{◌≡◌, ℕ, ◌≤◌, List, length, Option, Some, None, Result, Ok, Err, sym, subst}
+use Rattle.std.proofs.Common.{◌≡◌, ℕ, ◌≤◌, Bool, true, false, List, length, Option, Some, None, Result, Ok, Err, refl, sym, ap, subst}
+use Rattle.std.specs.Prelude.{IsSome}
 use Rattle.ccr_io.specs.Bytes.{HoldsAll, IsLongerThan}
 use Rattle.ccr_wiring.specs.declared.parts.Parts.{Parts}
 use Rattle.ccr_cli.specs.declared.status.Status.{Status}
 use Rattle.ccr_cli.specs.declared.status.Status.TheVariants.{Done, Usage, Refused, Shed, Illegal, TooLong}
-use Rattle.ccr_cli.specs.declared.words.Word.{Word}
-use Rattle.ccr_cli.specs.declared.words.Word.TheVariants.{Check, Run, Verify}
-use Rattle.ccr_cli.specs.Words.{said}
+use Rattle.ccr_words.specs.declared.requests.Command.{Command}
+use Rattle.ccr_words.specs.declared.requests.Command.TheVariants.{Check, Run, Verify}
+use Rattle.ccr_words.specs.declared.requests.Request.{Request}
+use Rattle.ccr_words.specs.declared.requests.Request.TheVariants.{Read, Load}
+use Rattle.ccr_words.specs.Said.{said}
 use Rattle.ccr_cli.specs.Inputs.{limit_of}
-use Rattle.ccr_cli.specs.Answers.{usage_text, too_long_text, Answers, AnswersText, AnswersRest, AnswersWord, IsDue, IsExhausted}
+use Rattle.ccr_cli.specs.Loads.{LoadGives}
+use Rattle.ccr_cli.specs.Answers.{usage_text, too_long_text, reads, Answers, AnswersText, AnswersRest, AnswersInput, AnswersRequest, IsExhausted, IsExhaustedFor}
 
 pub apart : (read : Result Parts (ℕ × ℕ)) (wiring : Parts) (refusal : ℕ × ℕ) → read ≡ Ok wiring → read ≡ Err refusal → ⊥
 apart read wiring refusal ok err = cc
 
 -- no input is answered as refused words or too long an input are
-no_usage : (word : Word) (wiring : Parts) (bytes text : List ℕ) → Answers word wiring bytes Usage text → ⊥
-no_usage Check wiring bytes text answers = answers
-no_usage Run wiring bytes text answers = answers
-no_usage Verify wiring bytes text answers = answers
+no_usage : (command : Command) (json : Bool) (wiring : Parts) (bytes text : List ℕ) → Answers command json wiring bytes Usage text → ⊥
+no_usage Check json wiring bytes text answers = answers
+no_usage Run json wiring bytes text answers = answers
+no_usage Verify json wiring bytes text answers = answers
 
-no_excess : (word : Word) (wiring : Parts) (bytes text : List ℕ) → Answers word wiring bytes TooLong text → ⊥
-no_excess Check wiring bytes text answers = answers
-no_excess Run wiring bytes text answers = answers
-no_excess Verify wiring bytes text answers = answers
+no_excess : (command : Command) (json : Bool) (wiring : Parts) (bytes text : List ℕ) → Answers command json wiring bytes TooLong text → ⊥
+no_excess Check json wiring bytes text answers = answers
+no_excess Run json wiring bytes text answers = answers
+no_excess Verify json wiring bytes text answers = answers
 
 -- what is due for bytes that were all that the source had is due for that source
-to_rest : (word : Word) (rest after : Option (List ℕ)) (bytes : List ℕ) (status : Status) (text : List ℕ) → HoldsAll bytes rest after → length bytes ≤ limit_of word → AnswersText word bytes status text → AnswersRest word rest status text
-to_rest word None after bytes status text holds small answers = (bytes, answers)
-to_rest word (Some before) after bytes status text holds small answers =
+to_rest : (command : Command) (json : Bool) (rest after : Option (List ℕ)) (bytes : List ℕ) (status : Status) (text : List ℕ) → HoldsAll bytes rest after → length bytes ≤ limit_of command → AnswersText command json bytes status text → AnswersRest command json rest status text
+to_rest command json None after bytes status text holds small answers = (bytes, answers)
+to_rest command json (Some before) after bytes status text holds small answers =
     let same : bytes ≡ before = sym holds.0 in
-    (subst (λ (b : List ℕ). length b ≤ limit_of word) same small, subst (λ (b : List ℕ). AnswersText word b status text) same answers)
+    (subst (λ (b : List ℕ). length b ≤ limit_of command) same small, subst (λ (b : List ℕ). AnswersText command json b status text) same answers)
 
-to_word : (word : Word) (rest after : Option (List ℕ)) (bytes : List ℕ) (status : Status) (text : List ℕ) → HoldsAll bytes rest after → length bytes ≤ limit_of word → AnswersText word bytes status text → AnswersWord (Some word) rest status text
-to_word word rest after bytes Done text holds small answers = to_rest word rest after bytes Done text holds small answers
-to_word word rest after bytes Shed text holds small answers = to_rest word rest after bytes Shed text holds small answers
-to_word word rest after bytes Illegal text holds small answers = to_rest word rest after bytes Illegal text holds small answers
-to_word word rest after bytes Refused text holds small answers = to_rest word rest after bytes Refused text holds small answers
-to_word word rest after bytes Usage text holds small answers = absurd (no_usage word answers.0 bytes text answers.2)
-to_word word rest after bytes TooLong text holds small answers = absurd (no_excess word answers.0 bytes text answers.2)
+pub text_is_due : (command : Command) (json : Bool) (rest after : Option (List ℕ)) (bytes : List ℕ) (status : Status) (text : List ℕ) → HoldsAll bytes rest after → length bytes ≤ limit_of command → AnswersText command json bytes status text → AnswersInput command json rest status text
+text_is_due command json rest after bytes Done text holds small answers = to_rest command json rest after bytes Done text holds small answers
+text_is_due command json rest after bytes Shed text holds small answers = to_rest command json rest after bytes Shed text holds small answers
+text_is_due command json rest after bytes Illegal text holds small answers = to_rest command json rest after bytes Illegal text holds small answers
+text_is_due command json rest after bytes Refused text holds small answers = to_rest command json rest after bytes Refused text holds small answers
+text_is_due command json rest after bytes Usage text holds small answers = absurd (no_usage command json answers.0 bytes text answers.2)
+text_is_due command json rest after bytes TooLong text holds small answers = absurd (no_excess command json answers.0 bytes text answers.2)
 
-pub text_is_due : (word : Word) (words : List (List ℕ)) (rest after : Option (List ℕ)) (bytes : List ℕ) (status : Status) (text : List ℕ) → said words ≡ Some word → HoldsAll bytes rest after → length bytes ≤ limit_of word → AnswersText word bytes status text → IsDue status words rest text
-text_is_due word words rest after bytes status text is holds small answers = subst (λ (o : Option Word). AnswersWord o rest status text) (sym is) (to_word word rest after bytes status text holds small answers)
+pub excess_is_due : (command : Command) (json : Bool) (rest : Option (List ℕ)) (status : Status) (text : List ℕ) → status ≡ TooLong → IsLongerThan (limit_of command) rest → text ≡ too_long_text → AnswersInput command json rest status text
+excess_is_due command json rest status text same long due = rw same (long, due)
 
-pub excess_is_due : (word : Word) (words : List (List ℕ)) (rest : Option (List ℕ)) (status : Status) (text : List ℕ) → said words ≡ Some word → status ≡ TooLong → IsLongerThan (limit_of word) rest → text ≡ too_long_text → IsDue status words rest text
-excess_is_due word words rest status text is same long due = rw same (subst (λ (o : Option Word). AnswersWord o rest TooLong text) (sym is) (long, due))
-
-pub usage_is_due : (words : List (List ℕ)) (rest : Option (List ℕ)) (status : Status) (text : List ℕ) → said words ≡ None → status ≡ Usage → text ≡ usage_text → IsDue status words rest text
-usage_is_due words rest status text is same due = rw same (subst (λ (o : Option Word). AnswersWord o rest Usage text) (sym is) due)
+pub usage_is_due : (rest : Option (List ℕ)) (status : Status) (text : List ℕ) → status ≡ Usage → text ≡ usage_text → AnswersRequest None rest status text
+usage_is_due rest status text same due = rw same due
 
 pub is_exhausted : (status : Status) (bytes : List ℕ) (rest after : Option (List ℕ)) → HoldsAll bytes rest after → IsExhausted status rest after
 is_exhausted Usage bytes rest after holds = tt
@@ -59,3 +60,55 @@ is_exhausted Illegal bytes None after holds = tt
 is_exhausted Illegal bytes (Some before) after holds = holds.1
 is_exhausted Refused bytes None after holds = tt
 is_exhausted Refused bytes (Some before) after holds = holds.1
+
+-- what is exhausted is so for a request that reads
+pub exhausted_for : (command : Command) (json : Bool) (status : Status) (rest after : Option (List ℕ)) → IsExhausted status rest after → IsExhaustedFor (Some (Read command json)) status rest after
+exhausted_for command json Usage rest after is = is
+exhausted_for command json TooLong rest after is = is
+exhausted_for command json Done rest after is = is
+exhausted_for command json Shed rest after is = is
+exhausted_for command json Illegal rest after is = is
+exhausted_for command json Refused rest after is = is
+
+-- refused words leave all to come
+pub usage_exhausted : (status : Status) (rest after : Option (List ℕ)) → status ≡ Usage → IsExhaustedFor None status rest after
+usage_exhausted status rest after is = rw is tt
+
+-- so does a load
+pub load_exhausted : (size : ℕ) (json : Bool) (status : Status) (text : List ℕ) (rest after : Option (List ℕ)) → LoadGives size json status text → IsExhaustedFor (Some (Load size json)) status rest after
+load_exhausted size json Done text rest after gives = tt
+load_exhausted size json Usage text rest after gives = absurd gives
+load_exhausted size json Refused text rest after gives = absurd gives
+load_exhausted size json Shed text rest after gives = absurd gives
+load_exhausted size json Illegal text rest after gives = absurd gives
+load_exhausted size json TooLong text rest after gives = absurd gives
+
+-- what reads was asked for
+pub reads_some : (request : Option Request) → reads request ≡ true → IsSome request
+reads_some (Some request) is = refl
+reads_some None is = absurd cc
+
+-- a request to read reads
+pub read_reads : (words : List (List ℕ)) (command : Command) (json : Bool) → said words ≡ Some (Read command json) → reads (said words) ≡ true
+read_reads words command json is = ap reads is
+
+-- a load doesn't
+pub load_reads_nothing : (words : List (List ℕ)) (size : ℕ) (json : Bool) → said words ≡ Some (Load size json) → reads (said words) ≡ false
+load_reads_nothing words size json is = ap reads is
+
+pub none_reads_nothing : (words : List (List ℕ)) → said words ≡ None → reads (said words) ≡ false
+none_reads_nothing words is = ap reads is
+
+-- what was answered so has read the source out
+pub done_reads_out : (words : List (List ℕ)) (command : Command) (json : Bool) (status : Status) (rest after : Option (List ℕ)) → IsExhaustedFor (said words) status rest after → said words ≡ Some (Read command json) → status ≡ Done → IsExhausted Done rest after
+done_reads_out words command json status rest after out is done = subst (λ (o : Option Request). IsExhaustedFor o Done rest after) is (subst (λ (s : Status). IsExhaustedFor (said words) s rest after) done out)
+
+pub shed_reads_out : (words : List (List ℕ)) (status : Status) (rest after : Option (List ℕ)) → IsExhaustedFor (said words) status rest after → status ≡ Shed → IsExhausted Shed rest after
+shed_reads_out words status rest after out shed = subst (λ (s : Status). IsExhaustedFor (said words) s rest after) shed out
+
+pub illegal_reads_out : (words : List (List ℕ)) (status : Status) (rest after : Option (List ℕ)) → IsExhaustedFor (said words) status rest after → status ≡ Illegal → IsExhausted Illegal rest after
+illegal_reads_out words status rest after out illegal = subst (λ (s : Status). IsExhaustedFor (said words) s rest after) illegal out
+
+-- a load meets no fault of the source
+pub load_has_no_fault : (words : List (List ℕ)) (size : ℕ) (json : Bool) → said words ≡ Some (Load size json) → reads (said words) ≡ true → ⊥
+load_has_no_fault words size json is reads_it = let none = load_reads_nothing words size json is in absurd cc

@@ -3,16 +3,20 @@ use Rattle.std.specs.Prelude.{◌≡◌, ℕ, Bool, true, false, List, [], ◌�
 use Rattle.ccr_io.specs.Bytes.{IsAdded, IsPrefixAdded, IsLongerThan}
 use Rattle.ccr_wiring.specs.declared.parts.Parts.{Parts}
 use Rattle.ccr_wiretext.specs.Spelling.{spelling}
+use Rattle.ccr_json.specs.Wiring.{wiring_json}
 use Rattle.ccr_wiretext.specs.declared.refused.ReadRefused.{ReadRefused}
 use Rattle.ccr_wiretext.specs.declared.refused.ReadRefused.TheVariants.{At}
 use Rattle.ccr_cli.specs.declared.status.Status.{Status}
 use Rattle.ccr_cli.specs.declared.status.Status.TheVariants.{Done, Usage, Refused, Shed, Illegal, TooLong}
-use Rattle.ccr_cli.specs.declared.words.Word.{Word}
-use Rattle.ccr_cli.specs.declared.words.Word.TheVariants.{Check, Run, Verify}
+use Rattle.ccr_words.specs.declared.requests.Command.{Command}
+use Rattle.ccr_words.specs.declared.requests.Command.TheVariants.{Check, Run, Verify}
+use Rattle.ccr_words.specs.declared.requests.Request.{Request}
+use Rattle.ccr_words.specs.declared.requests.Request.TheVariants.{Read, Load}
+use Rattle.ccr_words.specs.Said.{said}
 use Rattle.ccr_cli.specs.declared.findings.Finding.{Finding}
-use Rattle.ccr_cli.specs.Words.{said}
 use Rattle.ccr_cli.specs.Inputs.{limit_of, history_place, output_part, reading_input}
 use Rattle.ccr_cli.specs.Runs.{RunGives}
+use Rattle.ccr_cli.specs.Loads.{LoadGives}
 use Rattle.ccr_cli.specs.Findings.{IsFound, VerifyGives, is_fault}
 
 -- two lines
@@ -26,56 +30,67 @@ refused_text line code = codes "refused " ++ decimal line ++ 32 ∷ decimal code
 abbrev pub too_long_text : List ℕ
 too_long_text = codes "too long" ++ 10 ∷ codes "done 8" ++ 10 ∷ []
 
--- the canonical text and the last line
-abbrev pub check_text : Parts → List ℕ
-check_text wiring = spelling wiring ++ codes "done 0" ++ 10 ∷ []
+-- the canonical text of a wiring, or its line of JSON
+abbrev pub wiring_of : Bool → Parts → List ℕ
+wiring_of false wiring = spelling wiring
+wiring_of true wiring = wiring_json wiring
+
+-- the wiring and the last line
+abbrev pub check_text : Bool → Parts → List ℕ
+check_text json wiring = wiring_of json wiring ++ codes "done 0" ++ 10 ∷ []
 
 -- the text that is due for the word `check`
-abbrev pub CheckGives : Parts → Status → List ℕ → Type 0
-CheckGives wiring Done text = text ≡ check_text wiring
-CheckGives wiring _ text = ⊥
+abbrev pub CheckGives : Bool → Parts → Status → List ℕ → Type 0
+CheckGives json wiring Done text = text ≡ check_text json wiring
+CheckGives json wiring _ text = ⊥
 
 -- the text that is due for a wiring and the bytes of which it was read
-abbrev pub Answers : Word → Parts → List ℕ → Status → List ℕ → Type 0
-Answers Check wiring bytes status text = CheckGives wiring status text
-Answers Run wiring bytes status text = RunGives wiring status text
-Answers Verify wiring bytes status text = VerifyGives wiring (history_place bytes).1 (output_part bytes) status text
+abbrev pub Answers : Command → Bool → Parts → List ℕ → Status → List ℕ → Type 0
+Answers Check json wiring bytes status text = CheckGives json wiring status text
+Answers Run json wiring bytes status text = RunGives json wiring status text
+Answers Verify json wiring bytes status text = VerifyGives wiring (history_place bytes).1 (output_part bytes) status text
 
 -- the text that is due for the bytes of an input that isn't too long
-abbrev pub AnswersText : Word → List ℕ → Status → List ℕ → Type 0
-AnswersText word bytes Refused text = (line : ℕ) × (code : ℕ) × (reading_input word bytes ≡ Err (line, code)) × (text ≡ refused_text line code)
-AnswersText word bytes status text = (wiring : Parts) × (reading_input word bytes ≡ Ok wiring) × Answers word wiring bytes status text
+abbrev pub AnswersText : Command → Bool → List ℕ → Status → List ℕ → Type 0
+AnswersText command json bytes Refused text = (line : ℕ) × (code : ℕ) × (reading_input command bytes ≡ Err (line, code)) × (text ≡ refused_text line code)
+AnswersText command json bytes status text = (wiring : Parts) × (reading_input command bytes ≡ Ok wiring) × Answers command json wiring bytes status text
 
 -- the same for what the source has to come, where it tells that
-abbrev pub AnswersRest : Word → Option (List ℕ) → Status → List ℕ → Type 0
-AnswersRest word None status text = (bytes : List ℕ) × AnswersText word bytes status text
-AnswersRest word (Some bytes) status text = (length bytes ≤ limit_of word) × AnswersText word bytes status text
+abbrev pub AnswersRest : Command → Bool → Option (List ℕ) → Status → List ℕ → Type 0
+AnswersRest command json None status text = (bytes : List ℕ) × AnswersText command json bytes status text
+AnswersRest command json (Some bytes) status text = (length bytes ≤ limit_of command) × AnswersText command json bytes status text
 
-abbrev pub AnswersWord : Option Word → Option (List ℕ) → Status → List ℕ → Type 0
-AnswersWord None rest Usage text = text ≡ usage_text
-AnswersWord None rest _ text = ⊥
-AnswersWord (Some word) rest Usage text = ⊥
-AnswersWord (Some word) rest TooLong text = IsLongerThan (limit_of word) rest × (text ≡ too_long_text)
-AnswersWord (Some word) rest status text = AnswersRest word rest status text
+-- the same for one that may have too much to come
+abbrev pub AnswersInput : Command → Bool → Option (List ℕ) → Status → List ℕ → Type 0
+AnswersInput command json rest Usage text = ⊥
+AnswersInput command json rest TooLong text = IsLongerThan (limit_of command) rest × (text ≡ too_long_text)
+AnswersInput command json rest status text = AnswersRest command json rest status text
+
+-- the text that is due for what was asked for
+abbrev pub AnswersRequest : Option Request → Option (List ℕ) → Status → List ℕ → Type 0
+AnswersRequest None rest Usage text = text ≡ usage_text
+AnswersRequest None rest _ text = ⊥
+AnswersRequest (Some (Read command json)) rest status text = AnswersInput command json rest status text
+AnswersRequest (Some (Load size json)) rest status text = LoadGives size json status text
 
 -- the text that is due for the words and for what the source has to come
 abbrev pub IsDue : Status → List (List ℕ) → Option (List ℕ) → List ℕ → Type 0
-IsDue status words rest text = AnswersWord (said words) rest status text
+IsDue status words rest text = AnswersRequest (said words) rest status text
 
 -- the source tells its bytes, and they say some wiring
-abbrev pub IsAccepted : Word → Option (List ℕ) → Type 0
-IsAccepted word None = ⊥
-IsAccepted word (Some bytes) = (length bytes ≤ limit_of word) × ((wiring : Parts) × (reading_input word bytes ≡ Ok wiring))
+abbrev pub IsAccepted : Command → Option (List ℕ) → Type 0
+IsAccepted command None = ⊥
+IsAccepted command (Some bytes) = (length bytes ≤ limit_of command) × ((wiring : Parts) × (reading_input command bytes ≡ Ok wiring))
 
 -- the source tells its bytes, and they are refused at some line with some code
-abbrev pub IsDeclined : Word → Option (List ℕ) → Type 0
-IsDeclined word None = ⊥
-IsDeclined word (Some bytes) = (length bytes ≤ limit_of word) × ((line : ℕ) × (code : ℕ) × (reading_input word bytes ≡ Err (line, code)))
+abbrev pub IsDeclined : Command → Option (List ℕ) → Type 0
+IsDeclined command None = ⊥
+IsDeclined command (Some bytes) = (length bytes ≤ limit_of command) × ((line : ℕ) × (code : ℕ) × (reading_input command bytes ≡ Err (line, code)))
 
 -- the source tells its bytes, and they are too many
-abbrev pub IsExcessive : Word → Option (List ℕ) → Type 0
-IsExcessive word None = ⊥
-IsExcessive word (Some bytes) = limit_of word < length bytes
+abbrev pub IsExcessive : Command → Option (List ℕ) → Type 0
+IsExcessive command None = ⊥
+IsExcessive command (Some bytes) = limit_of command < length bytes
 
 -- the source tells its bytes, and they say a wiring and an output in which there is a fault, or none
 abbrev pub IsVerified : Bool → Option (List ℕ) → Type 0
@@ -89,23 +104,37 @@ IsExhausted TooLong before after = Unit {0}
 IsExhausted status None after = Unit {0}
 IsExhausted status (Some bytes) after = after ≡ Some []
 
+-- whether the request reads the source
+abbrev pub reads : Option Request → Bool
+reads (Some (Read command json)) = true
+reads _ = false
+
+-- the same for a request that was answered as done: a load reads nothing
+abbrev pub IsReadOut : Option Request → Option (List ℕ) → Option (List ℕ) → Type 0
+IsReadOut (Some (Load size json)) before after = Unit {0}
+IsReadOut _ before after = IsExhausted Done before after
+
+abbrev pub IsExhaustedFor : Option Request → Status → Option (List ℕ) → Option (List ℕ) → Type 0
+IsExhaustedFor request Done before after = IsReadOut request before after
+IsExhaustedFor request status before after = IsExhausted status before after
+
 -- the text that is due for a refused wiring
 abbrev pub RefusedGives : ReadRefused → Status → List ℕ → Type 0
 RefusedGives (At line code) Refused text = text ≡ refused_text line code
 RefusedGives _ _ text = ⊥
 
 -- what may come beside 0
-abbrev pub further_statuses : Word → List ℕ
+abbrev pub further_statuses : Command → List ℕ
 further_statuses Check = []
 further_statuses Run = 6 ∷ []
 further_statuses Verify = 7 ∷ []
 
 -- the exit statuses where a wiring is read and no fault comes; 5 is want of memory
-abbrev pub statuses_of : Word → List ℕ
-statuses_of word = 0 ∷ 5 ∷ further_statuses word
+abbrev pub statuses_of : Command → List ℕ
+statuses_of command = 0 ∷ 5 ∷ further_statuses command
 
 -- whether the status may come of a wiring that was read
-abbrev pub may_end : Word → Status → Bool
+abbrev pub may_end : Command → Status → Bool
 may_end Check Done = true
 may_end Run Done = true
 may_end Run Shed = true

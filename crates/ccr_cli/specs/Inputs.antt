@@ -3,11 +3,11 @@ use Rattle.std.specs.Prelude.{ℕ, ◌+◌, ◌==◌, nat_lt, List, [], ◌∷�
 use Rattle.ccr_text.specs.Lines.{line_of}
 use Rattle.ccr_wiring.specs.declared.parts.Parts.{Parts}
 use Rattle.ccr_wiretext.specs.Reading.{reading_text}
-use Rattle.ccr_cli.specs.declared.words.Word.{Word}
-use Rattle.ccr_cli.specs.declared.words.Word.TheVariants.{Check, Run, Verify}
+use Rattle.ccr_words.specs.declared.requests.Command.{Command}
+use Rattle.ccr_words.specs.declared.requests.Command.TheVariants.{Check, Run, Verify}
 
 -- the most bytes that an input may have
-abbrev pub limit_of : Word → ℕ
+abbrev pub limit_of : Command → ℕ
 limit_of Check = 1048576
 limit_of Run = 1048576
 limit_of Verify = 33554432
@@ -33,7 +33,7 @@ abbrev pub reading_part : List ℕ → Result Parts (ℕ × ℕ)
 reading_part part = if nat_lt 1048576 (length part) then Err (line_at 1048576 part, 10) else reading_text part
 
 -- the wiring of an input, or the first offending line and its code
-abbrev pub reading_input : Word → List ℕ → Result Parts (ℕ × ℕ)
+abbrev pub reading_input : Command → List ℕ → Result Parts (ℕ × ℕ)
 reading_input Check bytes = reading_text bytes
 reading_input Run bytes = reading_text bytes
 reading_input Verify bytes = reading_part (wiring_part bytes)

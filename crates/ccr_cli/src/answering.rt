@@ -1,87 +1,135 @@
 //! The text that is due for words and an input, whole before a byte of it is written.
 
-ghost use Rattle.std.specs.Prelude.{◌≡◌, ◌≤◌, None, Some, true, false, IfOk, IsErrOf, IsSome, length};
+ghost use Rattle.std.specs.Prelude.{◌≡◌, ◌≤◌, Bool, ℕ, None, Some, true, false, IfOk, IfSome, IsErrOf, length};
 ghost use Rattle.ccr_io.specs.Faults.{Rose};
 ghost use Rattle.ccr_wiretext.specs.Answers.{IsReading};
-ghost use Rattle.ccr_cli.specs.Words.{said};
+ghost use Rattle.ccr_words.specs.Said.{said};
+ghost use Rattle.ccr_words.specs.Table.{IsSized};
+ghost use Rattle.ccr_words.specs.declared.requests.Command.{Command as Commands};
+ghost use Rattle.ccr_words.specs.declared.requests.Command.TheVariants.{Check, Run, Verify};
+ghost use Rattle.ccr_words.specs.declared.requests.Request.TheVariants.{Read, Load};
 ghost use Rattle.ccr_cli.specs.Inputs.{limit_of};
-ghost use Rattle.ccr_cli.specs.Runs.{RunGives};
-ghost use Rattle.ccr_cli.specs.Answers.{AnswersText, CheckGives, RefusedGives, IsDue, IsExhausted, IsAccepted, IsDeclined, IsExcessive, IsVerified, may_end};
-ghost use Rattle.ccr_cli.specs.declared.words.Word.{Word as Words};
-ghost use Rattle.ccr_cli.specs.declared.words.Word.TheVariants.{Check, Run, Verify};
+ghost use Rattle.ccr_cli.specs.Answers.{AnswersText, AnswersInput, AnswersRequest, RefusedGives, IsDue, IsExhausted, IsExhaustedFor, IsAccepted, IsDeclined, IsExcessive, IsVerified, may_end, reads};
 
-use crate::due::{Due, check, refused, too_long, usage};
+use crate::answers::{Answer, check, refused, too_long, usage};
+use crate::load::load;
 use crate::run::run;
-use crate::status::{Silence, Status};
+use crate::status::{Failure, Status};
 use crate::verify::verify;
-use crate::words::{Word, said};
 use ccr_base::{Name, OutOfMemory};
 use ccr_io::{ReadEnd, Source, read_all};
 use ccr_wiretext::read_wiring;
+use ccr_words::{Command, Request, read_words};
 use std::alloc::Global;
 
 /// The most bytes that an input may have.
-fn limit_of(word: Word) -> usize
-    ensures limit { result ≡ limit_of word }
+fn limit_of(command: Command) -> usize
+    ensures limit { result ≡ limit_of command }
     ensures most { result ≤ 33554432 }
 {
-    match word {
-        Word::Check | Word::Run => 1_048_576,
-        Word::Verify => 33_554_432,
+    match command {
+        Command::Check | Command::Run => 1_048_576,
+        Command::Verify => 33_554_432,
     }
 }
 
-fn answer_check(alloc: Global, text: &[u8]) -> Result<Due, OutOfMemory>
+fn answer_check(alloc: Global, text: &[u8], json: bool) -> Result<Answer, OutOfMemory>
     requires { length text.now ≤ 1048576 }
-    ensures { IfOk result (λ due. AnswersText Check text.now due.status due.text) }
+    ensures { IfOk result (λ due. AnswersText Check json text.now due.status due.text) }
 {
     match read_wiring(alloc, text) {
-        Ok(wiring) => check(alloc, &wiring),
+        Ok(wiring) => check(alloc, &wiring, json),
         Err(why) => refused(alloc, why),
     }
 }
 
-fn answer_run(alloc: Global, text: &[u8]) -> Result<Due, OutOfMemory>
+fn answer_run(alloc: Global, text: &[u8], json: bool) -> Result<Answer, OutOfMemory>
     requires { length text.now ≤ 1048576 }
-    ensures { IfOk result (λ due. AnswersText Run text.now due.status due.text) }
+    ensures { IfOk result (λ due. AnswersText Run json text.now due.status due.text) }
 {
     match read_wiring(alloc, text) {
-        Ok(wiring) => run(alloc, &wiring),
+        Ok(wiring) => run(alloc, &wiring, json),
         Err(why) => refused(alloc, why),
     }
 }
 
-fn answer_text(alloc: Global, word: Word, text: &[u8]) -> Result<Due, OutOfMemory>
-    requires { length text.now ≤ limit_of word }
-    ensures { IfOk result (λ due. AnswersText word text.now due.status due.text) }
+fn answer_text(
+    alloc: Global,
+    command: Command,
+    text: &[u8],
+    json: bool,
+) -> Result<Answer, OutOfMemory>
+    requires { length text.now ≤ limit_of command }
+    ensures { IfOk result (λ due. AnswersText command json text.now due.status due.text) }
 {
-    match word {
-        Word::Check => answer_check(alloc, text),
-        Word::Run => answer_run(alloc, text),
-        Word::Verify => verify(alloc, text),
+    match command {
+        Command::Check => answer_check(alloc, text, json),
+        Command::Run => answer_run(alloc, text, json),
+        Command::Verify => verify(alloc, text),
     }
 }
 
-/// What is to be written. Refused words leave the source as it was.
-pub fn answer<S: Source>(alloc: Global, words: &[Name], source: &mut S) -> Result<Due, Silence>
+/// What is to be written for an input.
+fn answer_input<S: Source>(
+    alloc: Global,
+    command: Command,
+    source: &mut S,
+    json: bool,
+) -> Result<Answer, Failure>
+    ensures due { IfOk result (λ due. AnswersInput command json (S.rest source.old) due.status due.text) }
+    ensures exhausted { IfOk result (λ due. IsExhausted due.status (S.rest source.old) (S.rest source.new)) }
+    ensures fault { IsErrOf result Failure.ReadFault → Rose (S.faults source.old) (S.faults source.new) }
+{
+    match read_all(alloc, source, limit_of(command)) {
+        Ok(bytes) => Ok(answer_text(alloc, command, bytes.as_slice(), json)?),
+        Err(ReadEnd::TooLong) => Ok(too_long(alloc)?),
+        Err(ReadEnd::Fault) => Err(Failure::ReadFault),
+        Err(ReadEnd::Memory) => Err(Failure::Memory),
+    }
+}
+
+/// What is to be written for what was asked for. Only what reads an input moves the source.
+fn answer_request<S: Source>(
+    alloc: Global,
+    request: Option<Request>,
+    source: &mut S,
+) -> Result<Answer, Failure>
+    requires { IfSome request IsSized }
+    ensures due { IfOk result (λ due. AnswersRequest request (S.rest source.old) due.status due.text) }
+    ensures exhausted { IfOk result (λ due. IsExhaustedFor request due.status (S.rest source.old) (S.rest source.new)) }
+    ensures fault { IsErrOf result Failure.ReadFault → Rose (S.faults source.old) (S.faults source.new) }
+    ensures reads { IsErrOf result Failure.ReadFault → reads request ≡ true }
+    ensures source { reads request ≡ false → source.new ≡ source.old }
+{
+    match request {
+        Some(Request::Read { command, json }) => {
+            let answer = answer_input(alloc, command, source, json)?;
+            Ok(answer)
+        }
+        Some(Request::Load { size, json }) => Ok(load(alloc, size, json)?),
+        None => Ok(usage(alloc)?),
+    }
+}
+
+/// What is to be written for the words.
+pub fn answer_words<S: Source>(
+    alloc: Global,
+    words: &[Name],
+    source: &mut S,
+) -> Result<Answer, Failure>
     ensures due { IfOk result (λ due. IsDue due.status words.now (S.rest source.old) due.text) }
     ensures usage { said words.now ≡ None → IfOk result (λ due. due.status ≡ Status.Usage) }
-    ensures refused { (word : Words) → said words.now ≡ Some word → IsDeclined word (S.rest source.old) → IfOk result (λ due. due.status ≡ Status.Refused) }
-    ensures excessive { (word : Words) → said words.now ≡ Some word → IsExcessive word (S.rest source.old) → IfOk result (λ due. due.status ≡ Status.TooLong) }
-    ensures accepted { (word : Words) → said words.now ≡ Some word → IsAccepted word (S.rest source.old) → IfOk result (λ due. may_end word due.status ≡ true) }
-    ensures faulty { said words.now ≡ Some Verify → IsVerified true (S.rest source.old) → IfOk result (λ due. due.status ≡ Status.Illegal) }
-    ensures exhausted { IfOk result (λ due. IsExhausted due.status (S.rest source.old) (S.rest source.new)) }
-    ensures fault { IsErrOf result Silence.ReadFault → Rose (S.faults source.old) (S.faults source.new) }
-    ensures reads { IsErrOf result Silence.ReadFault → IsSome (said words.now) }
-    ensures source { said words.now ≡ None → source.new ≡ source.old }
+    ensures refused { (command : Commands) → (json : Bool) → said words.now ≡ Some (Read command json) → IsDeclined command (S.rest source.old) → IfOk result (λ due. due.status ≡ Status.Refused) }
+    ensures excessive { (command : Commands) → (json : Bool) → said words.now ≡ Some (Read command json) → IsExcessive command (S.rest source.old) → IfOk result (λ due. due.status ≡ Status.TooLong) }
+    ensures accepted { (command : Commands) → (json : Bool) → said words.now ≡ Some (Read command json) → IsAccepted command (S.rest source.old) → IfOk result (λ due. may_end command due.status ≡ true) }
+    ensures faulty { (json : Bool) → said words.now ≡ Some (Read Verify json) → IsVerified true (S.rest source.old) → IfOk result (λ due. due.status ≡ Status.Illegal) }
+    ensures loaded { (size : ℕ) → (json : Bool) → said words.now ≡ Some (Load size json) → IfOk result (λ due. due.status ≡ Status.Done) }
+    ensures exhausted { IfOk result (λ due. IsExhaustedFor (said words.now) due.status (S.rest source.old) (S.rest source.new)) }
+    ensures fault { IsErrOf result Failure.ReadFault → Rose (S.faults source.old) (S.faults source.new) }
+    ensures reads { IsErrOf result Failure.ReadFault → reads (said words.now) ≡ true }
+    ensures source { reads (said words.now) ≡ false → source.new ≡ source.old }
 {
-    let Some(word) = said(words) else {
-        return Ok(usage(alloc)?);
-    };
-    match read_all(alloc, source, limit_of(word)) {
-        Ok(bytes) => Ok(answer_text(alloc, word, bytes.as_slice())?),
-        Err(ReadEnd::TooLong) => Ok(too_long(alloc)?),
-        Err(ReadEnd::Fault) => Err(Silence::ReadFault),
-        Err(ReadEnd::Memory) => Err(Silence::Memory),
-    }
+    let request = read_words(alloc, words)?;
+    let answer = answer_request(alloc, request, source)?;
+    Ok(answer)
 }

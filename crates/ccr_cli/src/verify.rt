@@ -1,14 +1,14 @@
 //! An input that is a wiring with an output behind it.
 
-ghost use Rattle.std.specs.Prelude.{◌≡◌, ◌≤◌, ◌<◌, IfOk, length};
+ghost use Rattle.std.specs.Prelude.{◌≡◌, ◌≤◌, ◌<◌, Bool, IfOk, length};
 ghost use Rattle.ccr_wiretext.specs.Answers.{IsReading};
 ghost use Rattle.ccr_cli.specs.Inputs.{line_at, reading_part};
 ghost use Rattle.ccr_cli.specs.Findings.{IsFound, VerifyGives, status_of};
 ghost use Rattle.ccr_cli.specs.Answers.{AnswersText, RefusedGives};
-ghost use Rattle.ccr_cli.specs.declared.words.Word.TheVariants.{Verify};
+ghost use Rattle.ccr_words.specs.declared.requests.Command.TheVariants.{Verify};
 
+use crate::answers::{Answer, refused};
 use crate::comparing::line_at;
-use crate::due::{Due, refused};
 use crate::findings::{Finding, finding_text};
 use crate::judging::find;
 use crate::status::Status;
@@ -47,26 +47,31 @@ fn status_of(finding: Finding) -> Status
 }
 
 /// What is found of an output behind so many lines.
-fn judgement(alloc: Global, wiring: &Wiring, before: u32, output: &[u8]) -> Result<Due, OutOfMemory>
+fn judge_output(
+    alloc: Global,
+    wiring: &Wiring,
+    before: u32,
+    output: &[u8],
+) -> Result<Answer, OutOfMemory>
     requires before { before ≤ 33554432 }
     requires length { length output.now ≤ 33554432 }
     ensures { IfOk result (λ due. VerifyGives wiring.now before output.now due.status due.text) }
 {
     let finding = find(alloc, wiring, before, output)?;
-    Ok(Due {
+    Ok(Answer {
         status: status_of(finding),
         text: finding_text(alloc, finding)?,
     })
 }
 
 /// What `verify` writes. The wiring is what stands before the first line whose first word is `history`.
-pub fn verify(alloc: Global, text: &[u8]) -> Result<Due, OutOfMemory>
+pub fn verify(alloc: Global, text: &[u8]) -> Result<Answer, OutOfMemory>
     requires { length text.now ≤ 33554432 }
-    ensures { IfOk result (λ due. AnswersText Verify text.now due.status due.text) }
+    ensures { (json : Bool) → IfOk result (λ due. AnswersText Verify json text.now due.status due.text) }
 {
     let (place, before) = line_of(text, b"history");
     match read_part(alloc, &text[..place]) {
-        Ok(wiring) => judgement(alloc, &wiring, before, &text[place..]),
+        Ok(wiring) => judge_output(alloc, &wiring, before, &text[place..]),
         Err(why) => refused(alloc, why),
     }
 }

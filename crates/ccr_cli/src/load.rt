@@ -1,0 +1,71 @@
+//! A run of a generated wiring, of which the totals are written.
+
+ghost use Rattle.std.specs.Prelude.{◌≡◌, ◌<◌, ◌≤◌, ◌++◌, ◌∷◌, [], IfOk, codes, decimal};
+ghost use Rattle.ccr_cli.specs.Loads.{totals_of, IsLoad, LoadGives};
+
+use crate::answers::Answer;
+use crate::run::run_history;
+use crate::status::Status;
+use ccr_base::{List, OutOfMemory};
+use ccr_gen::{generate, generated_wirings_never_shed};
+use ccr_json::totals_json;
+use ccr_model::History;
+use ccr_report::{put_total, totals};
+use ccr_text::{put_bytes, put_number};
+use ccr_wiring::Wiring;
+use std::alloc::Global;
+
+/// The totals as a line of words, or as one line of JSON.
+fn totals_of(
+    alloc: Global,
+    wiring: &Wiring,
+    history: &History,
+    json: bool,
+) -> Result<List<u8>, OutOfMemory>
+    ensures { IfOk result (λ text. text ≡ totals_of json history.now) }
+{
+    let totals = totals(alloc, wiring, history)?;
+    if json {
+        return totals_json(alloc, &totals);
+    }
+    let mut line = List::new(alloc);
+    put_total(alloc, &mut line, &totals)?;
+    Ok(line)
+}
+
+/// The size, the totals and the last line.
+fn sized_text(alloc: Global, size: u32, totals: &[u8]) -> Result<List<u8>, OutOfMemory>
+    ensures { IfOk result (λ text. text ≡ codes "load " ++ decimal size ++ 10 ∷ [] ++ totals.now ++ codes "done 0" ++ 10 ∷ []) }
+{
+    let mut text = List::from_vec(Vec::from_slice(alloc, b"load ")?);
+    put_number(&mut text, u64::from(size))?;
+    put_bytes(&mut text, b"\n")?;
+    put_bytes(&mut text, totals)?;
+    put_bytes(&mut text, b"done 0\n")?;
+    Ok(text)
+}
+
+/// The totals of the run of the generated wiring. No task is shed in it.
+fn load_text(alloc: Global, size: u32, json: bool) -> Result<List<u8>, OutOfMemory>
+    requires some { 0 < size }
+    requires many { size ≤ 10000 }
+    ensures { IfOk result (IsLoad size json) }
+{
+    generated_wirings_never_shed();
+    let wiring = generate(alloc, size)?;
+    let history = run_history(alloc, &wiring)?;
+    let totals = totals_of(alloc, &wiring, &history, json)?;
+    sized_text(alloc, size, totals.as_slice())
+}
+
+/// What a load of so many posts writes.
+pub fn load(alloc: Global, size: u32, json: bool) -> Result<Answer, OutOfMemory>
+    requires some { 0 < size }
+    requires many { size ≤ 10000 }
+    ensures { IfOk result (λ due. LoadGives size json due.status due.text) }
+{
+    Ok(Answer {
+        status: Status::Done,
+        text: load_text(alloc, size, json)?,
+    })
+}

@@ -1,0 +1,6 @@
+pub mod Lines
+pub mod Valid
+pub mod Loads
+pub mod Plays
+pub mod Steps
+pub mod Whole

@@ -1,0 +1,167 @@
+-- What a firing takes off.
+use Rattle.std.proofs.Common.{◌≡◌, ℕ, zero, suc, ◌+◌, ◌≤◌, Bool, true, false, not, List, [], ◌∷◌, ◌++◌, length, take, filter, Some, None, refl, sym, ap, ◌∙◌, subst, arith, length-take}
+use Rattle.std.specs.Prelude.{◌==◌, if◌then◌else◌, nat_le}
+use Rattle.std.specs.List.{list_all}
+use Rattle.std.proofs.lemmas.Bool.{and_from}
+use Rattle.std.proofs.lemmas.Bool.Decides.{nat_tests}
+use Rattle.ccr_base.specs.declared.names.MsgId.{MsgId}
+use Rattle.ccr_base.specs.declared.names.Spot.{Spot}
+use Rattle.ccr_base.specs.declared.names.Spot.TheVariants.{Branch, Site}
+use Rattle.ccr_base.specs.declared.messages.Msg.{Msg}
+use Rattle.ccr_base.specs.declared.patterns.Pred.TheVariants.{Any}
+use Rattle.ccr_base.specs.Names.{same_message, has_message, same_lists}
+use Rattle.ccr_base.specs.Choice.{fitting, is_choosable, choice}
+use Rattle.ccr_model.specs.declared.history.Event.{Event}
+use Rattle.ccr_model.specs.Posts.{posts, taken, held}
+use Rattle.ccr_model.specs.Choice.{names_of, choice_of_slots, is_choice}
+use Rattle.ccr_model.proofs.Booleans.{both}
+use Rattle.ccr_model.proofs.Filters.{filter_swap}
+use Rattle.ccr_model.proofs.FirstNames.{names_of-append}
+use Rattle.ccr_model.proofs.Options.{some_of}
+use Rattle.ccr_model.proofs.SameNames.{same_message-is, same_message-self}
+use Rattle.ccr_model.proofs.TakenOnce.{joined_some}
+use Rattle.ccr_gen.specs.Generated.{any_of, generated}
+use Rattle.ccr_gen.specs.Weights.{weight, value, load, is_open}
+
+-- a stronger test keeps no more
+load_stronger : (wide strict : Msg → Bool) → ((x : Msg) → strict x ≡ true → wide x ≡ true) → (ms : List Msg) → load (filter strict ms) ≤ load (filter wide ms)
+load_stronger wide strict stronger [] = omega arith
+load_stronger wide strict stronger (x ∷ ms) = grind (arith, stronger x, load_stronger wide strict stronger ms)
+
+-- what was kept and is no more, of some that also pass another test, is off
+fall : (n : ℕ) (wide strict other : Msg → Bool) → ((x : Msg) → strict x ≡ true → wide x ≡ true) → (ms : List Msg) → list_all (λ x. not (strict x)) (take n (filter other (filter wide ms))) ≡ true
+    → load (filter strict ms) + load (take n (filter other (filter wide ms))) ≤ load (filter wide ms)
+fall zero wide strict other stronger ms gone = grind (arith, load_stronger wide strict stronger ms)
+fall (suc n) wide strict other stronger [] gone = omega arith
+fall (suc n) wide strict other stronger (x ∷ ms) gone = by (wide x) (other x) (strict x) refl refl refl gone (stronger x) (fall n wide strict other stronger ms) (fall (suc n) wide strict other stronger ms)
+  where
+    by : (a b c : Bool) → wide x ≡ a → other x ≡ b → strict x ≡ c → list_all (λ x. not (strict x)) (take (suc n) (filter other (filter wide (x ∷ ms)))) ≡ true → (strict x ≡ true → wide x ≡ true)
+        → (list_all (λ x. not (strict x)) (take n (filter other (filter wide ms))) ≡ true → load (filter strict ms) + load (take n (filter other (filter wide ms))) ≤ load (filter wide ms))
+        → (list_all (λ x. not (strict x)) (take (suc n) (filter other (filter wide ms))) ≡ true → load (filter strict ms) + load (take (suc n) (filter other (filter wide ms))) ≤ load (filter wide ms))
+        → load (filter strict (x ∷ ms)) + load (take (suc n) (filter other (filter wide (x ∷ ms)))) ≤ load (filter wide (x ∷ ms))
+    by false b c ea eb ec gone weak less same = grind (arith, ea, ec, gone, weak, same)
+    by true false c ea eb ec gone weak less same = grind (arith, ea, eb, ec, gone, same)
+    by true true true ea eb ec gone weak less same = grind (arith, ea, eb, ec, gone)
+    by true true false ea eb ec gone weak less same = grind (arith, ea, eb, ec, gone, less)
+
+-- each name of a list is among its names and others
+has_more : (front : List MsgId) (names : List MsgId) (name : MsgId) → has_message names name ≡ true → has_message (front ++ names) name ≡ true
+has_more [] names name is = is
+has_more (n ∷ front) names name is = grind (arith, has_more front names name is)
+
+has_front : (names back : List MsgId) (name : MsgId) → has_message names name ≡ true → has_message (names ++ back) name ≡ true
+has_front [] back name is = absurd cc
+has_front (n ∷ names) back name is = grind (arith, has_front names back name)
+
+all_weaker : (p q : Msg → Bool) → ((x : Msg) → p x ≡ true → q x ≡ true) → (ms : List Msg) → list_all p ms ≡ true → list_all q ms ≡ true
+all_weaker p q weak [] all = refl
+all_weaker p q weak (x ∷ ms) all = grind (arith, all, weak x, all_weaker p q weak ms)
+
+all_named : (ms : List Msg) → list_all (λ (x : Msg). has_message (names_of ms) x.id) ms ≡ true
+all_named [] = refl
+all_named (m ∷ ms) =
+    let others = all_weaker (λ (x : Msg). has_message (names_of ms) x.id) (λ (x : Msg). has_message (names_of (m ∷ ms)) x.id) (λ x is. has_more (m.id ∷ []) (names_of ms) x.id is) ms (all_named ms) in
+    rw (same_message-self m.id, others) refl
+
+not_wide : (b : Bool) → b ≡ true → not (not b) ≡ true
+not_wide true is = refl
+not_wide false is = absurd cc
+
+-- what a firing names is open no more
+all_gone : (gone back : List MsgId) (ms : List Msg) → list_all (λ (x : Msg). not (is_open (gone ++ (names_of ms ++ back)) x)) ms ≡ true
+all_gone gone back ms = all_weaker (λ (x : Msg). has_message (names_of ms) x.id) (λ (x : Msg). not (is_open (gone ++ (names_of ms ++ back)) x)) (λ x is. not_wide _ (has_more gone (names_of ms ++ back) x.id (has_front (names_of ms) back x.id is))) ms (all_named ms)
+
+still_open : (gone names : List MsgId) (x : Msg) → is_open (gone ++ names) x ≡ true → is_open gone x ≡ true
+still_open gone names x is = by (has_message gone x.id) refl is
+  where
+    by : (b : Bool) → has_message gone x.id ≡ b → not (has_message (gone ++ names) x.id) ≡ true → not (has_message gone x.id) ≡ true
+    by true e is = let more = has_front gone names x.id e in absurd (cc)
+    by false e is = rw e refl
+
+abbrev at_port : ℕ → Msg → Bool
+at_port port m = m.port == port
+
+-- messages of one port
+abbrev each : ℕ → ℕ → ℕ
+each w zero = 0
+each w (suc n) = w + each w n
+
+load_each : (port : ℕ) (ms : List Msg) → list_all (at_port port) ms ≡ true → load ms ≡ each (weight port) (length ms)
+load_each port [] all = refl
+load_each port (m ∷ ms) all =
+    let parts = both (at_port port m) (list_all (at_port port) ms) all in
+    let here : m.port ≡ port = grind (arith, nat_tests, parts.0) in
+    rw (here, load_each port ms parts.1) refl
+
+all_at : (port n : ℕ) (ms : List Msg) → list_all (at_port port) (take n (filter (at_port port) ms)) ≡ true
+all_at port zero ms = refl
+all_at port (suc n) [] = refl
+all_at port (suc n) (m ∷ ms) = by (at_port port m) refl (all_at port n ms) (all_at port (suc n) ms)
+  where
+    by : (b : Bool) → at_port port m ≡ b → list_all (at_port port) (take n (filter (at_port port) ms)) ≡ true → list_all (at_port port) (take (suc n) (filter (at_port port) ms)) ≡ true → list_all (at_port port) (take (suc n) (filter (at_port port) (m ∷ ms))) ≡ true
+    by true is less same = rw is (and_from _ _ is less)
+    by false is less same = rw (is, same) refl
+
+fitting_any : (ms : List Msg) → fitting Any ms ≡ ms
+fitting_any [] = refl
+fitting_any (m ∷ ms) = ap (λ (xs : List Msg). m ∷ xs) (fitting_any ms)
+
+-- the choice of a slot of any messages
+slot_takes : (port count : ℕ) (ms xs : List Msg) → choice (any_of port count) ms ≡ Some xs → (xs ≡ take count ms) × (length xs ≡ count)
+slot_takes port count ms xs is = by (is_choosable (any_of port count) ms) refl is
+  where
+    by : (b : Bool) → is_choosable (any_of port count) ms ≡ b → (if b then Some (take count (fitting Any ms)) else None) ≡ Some xs → (xs ≡ take count ms) × (length xs ≡ count)
+    by false e is = absurd cc
+    by true e is =
+        let same : take count (fitting Any ms) ≡ xs = cc in
+        let taken : xs ≡ take count ms = sym same ∙ ap (take count) (fitting_any ms) in
+        let enough : nat_le count (length ms) ≡ true = ap (λ (l : List Msg). nat_le count (length l)) (sym (fitting_any ms)) ∙ e in
+        let many : count ≤ length ms = grind (arith, nat_tests, enough) in
+        (taken, ap length taken ∙ omega (arith, length-take count ms))
+
+-- names that pass the test are those of the messages
+same_names : (ms : List Msg) (names : List MsgId) → same_lists same_message (names_of ms) names ≡ true → names ≡ names_of ms
+same_names [] [] is = refl
+same_names [] (n ∷ names) is = absurd (cc)
+same_names (m ∷ ms) [] is = absurd (cc)
+same_names (m ∷ ms) (n ∷ names) is =
+    let parts = both (same_message m.id n) (same_lists same_message (names_of ms) names) is in
+    let one : n ≡ m.id = sym (same_message-is m.id n parts.0) in
+    let others : names ≡ names_of ms = same_names ms names parts.1 in
+    cc
+
+-- a firing whose first slot takes so many of the port takes at least their load off
+first_slot : (port count : ℕ) (h : List Event) (front : List Msg) (back : List MsgId) → choice (any_of port count) (held h port) ≡ Some front
+    → load (filter (is_open (taken h ++ (names_of front ++ back))) (posts h)) + each (weight port) count ≤ load (filter (is_open (taken h)) (posts h))
+first_slot port count h front back is =
+    let gone = taken h in
+    let got = slot_takes port count (held h port) front is in
+    let kept = filter (at_port port) (filter (is_open gone) (posts h)) in
+    let swap : held h port ≡ kept = filter_swap (is_open gone) (at_port port) (posts h) in
+    let front_is : front ≡ take count kept = got.0 ∙ ap (take count) swap in
+    let all : list_all (λ (x : Msg). not (is_open (gone ++ (names_of front ++ back)) x)) (take count kept) ≡ true = subst (λ (ms : List Msg). list_all (λ (x : Msg). not (is_open (gone ++ (names_of front ++ back)) x)) ms ≡ true) front_is (all_gone gone back front) in
+    let less = fall count (is_open gone) (is_open (gone ++ (names_of front ++ back))) (at_port port) (still_open gone (names_of front ++ back)) (posts h) all in
+    let much : load (take count kept) ≡ each (weight port) count = load_each port (take count kept) (all_at port count (filter (is_open gone) (posts h))) ∙ ap (each (weight port)) (ap length (sym front_is) ∙ got.1) in
+    omega (arith, less, much)
+
+-- an allowed choice takes off what the firing leads to
+pub fire_falls : (size : ℕ) (h : List Event) (s : Spot) (names : List MsgId) → is_choice (generated size) h s names ≡ true
+    → load (filter (is_open (taken h ++ names)) (posts h)) + value s ≤ load (filter (is_open (taken h)) (posts h))
+fire_falls size h (Site branch site) names is = omega (arith, load_stronger (is_open (taken h)) (is_open (taken h ++ names)) (still_open (taken h) names) (posts h))
+fire_falls size h (Branch (suc (suc (suc branch)))) names is = omega (arith, load_stronger (is_open (taken h)) (is_open (taken h ++ names)) (still_open (taken h) names) (posts h))
+fire_falls size h (Branch zero) names is =
+    let slots = any_of 0 1 ∷ any_of 1 1 ∷ [] in
+    let got = some_of (λ (ms : List Msg). same_lists same_message (names_of ms) names) (choice_of_slots (held h) slots) is in
+    let parts = joined_some (choice (any_of 0 1) (held h 0)) (choice_of_slots (held h) (any_of 1 1 ∷ [])) got.0 got.1 in
+    let named : names ≡ names_of parts.0 ++ names_of parts.1 = same_names got.0 names got.2 ∙ (ap names_of (sym parts.4) ∙ names_of-append parts.0 parts.1) in
+    rw named (first_slot 0 1 h parts.0 (names_of parts.1) parts.2)
+fire_falls size h (Branch (suc zero)) names is =
+    let got = some_of (λ (ms : List Msg). same_lists same_message (names_of ms) names) (choice_of_slots (held h) (any_of 2 4 ∷ [])) is in
+    let parts = joined_some (choice (any_of 2 4) (held h 2)) (Some []) got.0 got.1 in
+    let named : names ≡ names_of parts.0 ++ names_of parts.1 = same_names got.0 names got.2 ∙ (ap names_of (sym parts.4) ∙ names_of-append parts.0 parts.1) in
+    rw named (first_slot 2 4 h parts.0 (names_of parts.1) parts.2)
+fire_falls size h (Branch (suc (suc zero))) names is =
+    let got = some_of (λ (ms : List Msg). same_lists same_message (names_of ms) names) (choice_of_slots (held h) (any_of 3 1 ∷ [])) is in
+    let parts = joined_some (choice (any_of 3 1) (held h 3)) (Some []) got.0 got.1 in
+    let named : names ≡ names_of parts.0 ++ names_of parts.1 = same_names got.0 names got.2 ∙ (ap names_of (sym parts.4) ∙ names_of-append parts.0 parts.1) in
+    rw named (first_slot 3 1 h parts.0 (names_of parts.1) parts.2)

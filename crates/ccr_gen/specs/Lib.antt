@@ -1,0 +1,3 @@
+pub mod Posters
+pub mod Generated
+pub mod Weights

@@ -1,0 +1,13 @@
+//! A wiring of any size, made from a number, and what holds of its histories.
+#![tactic(auto)]
+
+mod laws;
+mod making;
+mod scripts;
+mod standing;
+
+pub use laws::generated_wirings_never_shed;
+pub use making::generate;
+
+#[cfg(test)]
+mod tests;
