@@ -75,11 +75,14 @@ pub record HasSizes (wiring : Parts) (books : Books) : Type 0 where
   pub alone : length books.alone ≡ length wiring.arbiters
   pub coming : length books.coming ≡ length wiring.queues
 
--- messages: what each port holds, and how many posts were made
-pub record KeepsPosts (wiring : Parts) (history : List Event) (books : Books) : Type 0 where
-  pub ports : (port : ℕ) → port < length wiring.ports → row books.ports port ≡ held history port
+-- how many posts of its script each poster has made, and how many tasks have made
+pub record KeepsSaid (wiring : Parts) (history : List Event) (books : Books) : Type 0 where
   pub said : (poster : ℕ) → poster < length wiring.posters → number books.said poster ≡ posts_of_poster history poster
   pub task_posts : books.task_posts ≡ posts_of_tasks history
+
+-- what each port holds
+pub record KeepsPorts (wiring : Parts) (history : List Event) (books : Books) : Type 0 where
+  pub ports : (port : ℕ) → port < length wiring.ports → row books.ports port ≡ held history port
 
 -- tasks by their names
 pub record KeepsTasks (wiring : Parts) (history : List Event) (books : Books) : Type 0 where
@@ -109,7 +112,8 @@ pub record KeepsCounts (wiring : Parts) (history : List Event) (books : Books) :
 -- each table says what the model says
 pub record Keeps (wiring : Parts) (history : List Event) (books : Books) : Type 0 where
   pub sizes : HasSizes wiring books
-  pub posts : KeepsPosts wiring history books
+  pub said : KeepsSaid wiring history books
+  pub ports : KeepsPorts wiring history books
   pub tasks : KeepsTasks wiring history books
   pub places : KeepsPlaces wiring history books
   pub flags : KeepsFlags wiring history books
