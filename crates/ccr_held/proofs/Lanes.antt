@@ -75,7 +75,7 @@ lane-posted items m lane is = of_test (holds lane.pred m.value) refl
 lane-gone : (items : List (Option Msg)) (lane : Places) → IsLane items lane → IsLane (items ++ None ∷ []) lane
 lane-gone items lane is = rw (← append-nil lane.places) (lane-more items None lane [] is refl refl)
 
-lane-entered : (items : List (Option Msg)) (value : ℕ) (lane : Places) → IsLane items lane → IsLane (items ++ None ∷ []) (entered (length items) value lane)
+lane-entered : (items : List (Option Msg)) (value : List ℕ) (lane : Places) → IsLane items lane → IsLane (items ++ None ∷ []) (entered (length items) value lane)
 lane-entered items value lane is = of_test (holds lane.pred value)
   where
     of_test : (b : Bool) → IsLane (items ++ None ∷ []) (if b then record { pred = lane.pred; places = lane.places ++ length items ∷ [] } else lane)
@@ -102,7 +102,7 @@ pub gone : (items : List (Option Msg)) (lanes : List Places) → AreLanes items 
 gone items [] are = tt
 gone items (lane ∷ lanes) are = (lane-gone items lane are.0, gone items lanes are.1)
 
-pub entered_some : (items : List (Option Msg)) (value count : ℕ) (lanes : List Places) → AreLanes items lanes → AreLanes (items ++ None ∷ []) (entered_up_to count (length items) value lanes)
+pub entered_some : (items : List (Option Msg)) (value : List ℕ) (count : ℕ) (lanes : List Places) → AreLanes items lanes → AreLanes (items ++ None ∷ []) (entered_up_to count (length items) value lanes)
 entered_some items value zero [] are = tt
 entered_some items value (suc count) [] are = tt
 entered_some items value zero (lane ∷ lanes) are = gone items (lane ∷ lanes) are
@@ -129,7 +129,7 @@ lane-none items pred (j ∷ ks) is at = absurd (cc)
 -- ---- a post, whole
 
 module _ (items now : List (Option Msg)) (lanes then' : List Places) (n : ℕ) (last : n ≡ length items) (grown : now ≡ items ++ None ∷ []) (are : AreLanes items lanes) where
-  pub after_failed : (value count : ℕ) → then' ≡ entered_up_to count n value lanes → AreLanes now then'
+  pub after_failed : (value : List ℕ) (count : ℕ) → then' ≡ entered_up_to count n value lanes → AreLanes now then'
   after_failed value count is = rw (grown, is, last) (entered_some items value count lanes are)
 
   pub after_post : (m : Msg) → then' ≡ map (entered n m.value) lanes → AreLanes (set now n (Some m)) then'

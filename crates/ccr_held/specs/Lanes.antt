@@ -30,7 +30,7 @@ fitting_places place pred [] = []
 fitting_places place pred (item ∷ items) = if fits pred item then place ∷ fitting_places (place + 1) pred items else fitting_places (place + 1) pred items
 
 -- the lane with the place last, where the value satisfies its predicate
-abbrev pub entered : ℕ → ℕ → Places → Places
+abbrev pub entered : ℕ → List ℕ → Places → Places
 entered place value lane = if holds lane.pred value then record lane { places = lane.places ++ place ∷ [] } else lane
 
 -- the lane with the place last, where a message is there and satisfies its predicate
@@ -49,7 +49,7 @@ AreLanes items [] = Unit {0}
 AreLanes items (lane ∷ lanes) = IsLane items lane × AreLanes items lanes
 
 -- the lanes, of which the first so many have the place entered
-abbrev pub entered_up_to : ℕ → ℕ → ℕ → List Places → List Places
+abbrev pub entered_up_to : ℕ → ℕ → List ℕ → List Places → List Places
 entered_up_to count place value lanes = map (entered place value) (take count lanes) ++ drop count lanes
 
 -- a lane of the predicate stands at the number
