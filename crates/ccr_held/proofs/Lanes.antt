@@ -1,5 +1,5 @@
 -- How lanes stay lanes while messages come and go.
-use Rattle.std.proofs.Common.{◌≡◌, ℕ, zero, suc, ◌+◌, ◌<◌, ◌≤◌, Bool, true, false, not, ◌&&◌, List, [], ◌∷◌, ◌++◌, length, filter, map, take, drop, Option, Some, None, refl, sym, ap, ◌∙◌, arith, add-one, length-append, append-nil, append_assoc}
+use Rattle.std.proofs.Common.{◌≡◌, ℕ, zero, suc, ◌+◌, ◌<◌, ◌≤◌, Bool, true, false, not, ◌&&◌, List, [], ◌∷◌, ◌++◌, length, filter, map, take, drop, Option, Some, None, refl, sym, ap, ◌∙◌, arith, length-append, append-nil, append_assoc}
 use Rattle.std.specs.Prelude.{◌==◌, nat_lt, is_some, option_map, option_to_list, if◌then◌else◌}
 use Rattle.std.specs.List.{slice_get, list_all}
 use Rattle.std.proofs.lemmas.List.Elements.{filter-append}
@@ -13,7 +13,7 @@ use Rattle.ccr_base.specs.declared.messages.Msg.{Msg}
 use Rattle.ccr_base.specs.declared.patterns.Pred.{Pred}
 use Rattle.ccr_base.specs.Choice.{holds, fitting}
 use Rattle.ccr_held.specs.Lanes.{Places, present, is_here, fits, fitting_places, name_at, names_at, entered, entered_item, entered_up_to, IsLane, AreLanes, HasLane}
-use Rattle.ccr_held.specs.Taken.{without_first, without_some}
+use Rattle.ccr_held.specs.Taken.{without_first}
 
 -- ---- one place more
 

@@ -28,6 +28,10 @@ fitting-first pred (m ∷ ms) = of_test (holds pred m.value) refl (fitting-first
     of_test true is rest = refl
     of_test false is rest = rw is rest
 
+drop-none : (n : ℕ) → drop {A = Msg} n [] ≡ []
+drop-none zero = refl
+drop-none (suc n) = refl
+
 drop-drop : (n : ℕ) (xs : List Msg) → drop n (drop 1 xs) ≡ drop (suc n) xs
 drop-drop zero [] = refl
 drop-drop (suc n) [] = refl
@@ -87,8 +91,8 @@ few-present [] = omega arith
 few-present (None ∷ items) = omega (arith, few-present items)
 few-present (Some m ∷ items) = omega (arith, few-present items)
 
--- all satisfy no predicate
-all-fit : (ms : List Msg) → fitting Any ms ≡ ms
+-- every message satisfies `any`
+pub all-fit : (ms : List Msg) → fitting Any ms ≡ ms
 all-fit [] = refl
 all-fit (m ∷ ms) = ap (λ (os : List Msg). m ∷ os) (all-fit ms)
 
@@ -99,3 +103,9 @@ shared-front (m ∷ ms) (n ∷ names) = ap (λ (k : ℕ). if same_message m.id n
 
 pub shared-told : (ms : List Msg) (names oldest : List MsgId) → oldest ≡ map (λ (m : Msg). m.id) (take (length names) (fitting Any ms)) → same_front oldest names ≡ shared ms names
 shared-told ms names oldest is = ap (λ ns. same_front ns names) (is ∙ ap (λ os. map (λ (m : Msg). m.id) (take (length names) os)) (all-fit ms)) ∙ shared-front ms names
+
+-- without so many of all
+pub without-any : (n : ℕ) (ms : List Msg) → without_some n Any ms ≡ drop n ms
+without-any zero ms = refl
+without-any (suc n) [] = without-any n [] ∙ drop-none n
+without-any (suc n) (m ∷ ms) = without-any n ms

@@ -1,5 +1,5 @@
 -- Places of messages, and the lanes that find the oldest that satisfy a predicate.
-use Rattle.std.specs.Prelude.{◌≡◌, ℕ, zero, suc, ◌+◌, Bool, true, false, nat_lt, List, [], ◌∷◌, ◌++◌, length, filter, flat_map, map, take, drop, Option, Some, None, is_some, option_to_list, option_map, option_and_then, if◌then◌else◌}
+use Rattle.std.specs.Prelude.{◌≡◌, ℕ, ◌+◌, Bool, true, false, nat_lt, List, [], ◌∷◌, ◌++◌, length, filter, flat_map, map, take, drop, Option, Some, None, is_some, option_to_list, option_map, option_and_then, if◌then◌else◌}
 use Rattle.std.specs.List.{slice_get, list_all}
 use Rattle.std.specs.Option.{option_map_or}
 use Rattle.ccr_base.specs.declared.names.MsgId.{MsgId}

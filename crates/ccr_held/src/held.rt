@@ -1,6 +1,6 @@
 //! The messages of a port.
 
-ghost use Rattle.std.specs.Prelude.{ℕ, ◌≡◌, ◌<◌, ◌≤◌, [], ◌∷◌, ◌++◌, IfOk, OnOk, OnErr, length, map, filter, take, nat_le};
+ghost use Rattle.std.specs.Prelude.{ℕ, ◌≡◌, ◌<◌, ◌≤◌, [], ◌∷◌, ◌++◌, IfOk, OnOk, OnErr, length, map, filter, take, drop, nat_le};
 ghost use Rattle.std.specs.List.{slice_get};
 ghost use Rattle.ccr_base.specs.declared.messages.Msg.{Msg};
 ghost use Rattle.ccr_base.specs.Choice.{fitting};
@@ -288,6 +288,15 @@ impl Held {
             }
         }
         Ok(())
+    }
+
+    /// Takes out so many of the oldest messages, or all of them where they are fewer, and puts them behind those that were
+    /// taken before.
+    pub fn take_oldest(&mut self, count: usize, taken: &mut Vec<Msg>) -> Result<(), OutOfMemory>
+        ensures rest { OnOk result (self.new ≡ drop count self.old) }
+        ensures taken { OnOk result (taken.new.items ≡ taken.old.items ++ take count self.old) }
+    {
+        self.take_some(Pred::Any, count, taken)
     }
 
     /// How many of the names, from the first on, are those of the oldest messages.

@@ -1,6 +1,6 @@
 -- What the tables answer: each is a word of the model, asked of the tables.
-use Rattle.std.specs.Prelude.{ℕ, zero, suc, ◌+◌, ◌-◌, Bool, true, false, not, ◌==◌, ◌&&◌, ◌||◌, nat_lt, nat_le, List, [], ◌∷◌, length, filter, Option, Some, None, option_and_then, if◌then◌else◌}
-use Rattle.std.specs.List.{slice_get, list_any}
+use Rattle.std.specs.Prelude.{ℕ, Bool, true, false, not, ◌==◌, nat_lt, List, [], length, filter, Option, option_and_then, if◌then◌else◌}
+use Rattle.std.specs.List.{list_any}
 use Rattle.std.specs.Option.{option_map_or}
 use Rattle.ccr_base.specs.declared.names.TaskId.{TaskId}
 use Rattle.ccr_base.specs.declared.names.MsgId.{MsgId}
@@ -11,7 +11,7 @@ use Rattle.ccr_base.specs.declared.policies.Group.{Group}
 use Rattle.ccr_base.specs.declared.policies.Group.TheVariants.{Once, Always, Choice}
 use Rattle.ccr_base.specs.declared.policies.Policy.{Policy}
 use Rattle.ccr_base.specs.declared.policies.Policy.TheVariants.{Throttle}
-use Rattle.ccr_base.specs.Names.{has_task}
+use Rattle.ccr_base.specs.Names.{same_task}
 use Rattle.ccr_handler.specs.declared.segments.Play.{Play}
 use Rattle.ccr_wiring.specs.declared.parts.Parts.{Parts}
 use Rattle.ccr_wiring.specs.Wirings.{Seat, seat, site_port, policy_of}
@@ -26,7 +26,7 @@ use Rattle.ccr_ledger.specs.declared.cards.Card.{Card}
 use Rattle.ccr_ledger.specs.declared.cards.Runner.{Runner}
 use Rattle.ccr_ledger.specs.declared.cards.Stage.{Stage}
 use Rattle.ccr_ledger.specs.declared.cards.Stage.TheVariants as stages
-use Rattle.ccr_ledger.specs.Books.{Books, number, flag, card_at, suspended_at, runners}
+use Rattle.ccr_ledger.specs.Books.{Books, number, flag, card_at, suspended_at}
 
 -- rule 4: whether the task fired
 abbrev pub has_fired : Books → TaskId → Bool
@@ -107,7 +107,7 @@ is_busy books actor = list_any (λ (r : Runner). r.actor == actor) books.running
 
 -- rule 15: whether the task runs
 abbrev pub runs : Books → TaskId → Bool
-runs books task = has_task (runners books.running) task
+runs books task = list_any (λ (r : Runner). same_task r.task task) books.running
 
 -- the play of the task, and how many posts of it were made
 abbrev pub play_in : Books → TaskId → Play
@@ -122,7 +122,7 @@ has_more books task = option_map_or (λ (card : Card). nat_lt card.made (length 
 
 -- rule 16: how many running tasks have a post left
 abbrev pub unfinished : Books → ℕ
-unfinished books = length (filter (has_more books) (runners books.running))
+unfinished books = length (filter (λ (r : Runner). has_more books r.task) books.running)
 
 -- rule 3: whether tasks may post
 abbrev pub budget_lasts : Parts → Books → Bool

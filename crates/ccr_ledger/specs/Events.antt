@@ -1,10 +1,11 @@
 -- What each event makes of the tables.
-use Rattle.std.specs.Prelude.{ℕ, ◌+◌, Bool, true, false, not, List, [], ◌∷◌, ◌++◌, filter, drop, Option, Some, None, replicate, length, ◌*◌, if◌then◌else◌}
+use Rattle.std.specs.Prelude.{ℕ, Bool, true, false, not, List, [], ◌∷◌, ◌++◌, filter, drop, Option, Some, None, replicate, length, ◌*◌, if◌then◌else◌}
 use Rattle.std.specs.Option.{option_map_or}
 use Rattle.ccr_base.specs.declared.names.TaskId.{TaskId}
 use Rattle.ccr_base.specs.Names.{same_task}
 use Rattle.ccr_wiring.specs.declared.parts.Parts.{Parts}
-use Rattle.ccr_wiring.specs.Wirings.{seats, branch_of, segment_of}
+use Rattle.ccr_base.specs.declared.names.Spot.{Spot}
+use Rattle.ccr_wiring.specs.Wirings.{seats, branch_of, is_branch, segment_of}
 use Rattle.ccr_model.specs.declared.history.Event.{Event}
 use Rattle.ccr_model.specs.declared.history.Event.TheVariants.{Post, Fire, Admit, Put, Start, End}
 use Rattle.ccr_model.specs.declared.history.EndHow.{EndHow}
@@ -66,13 +67,17 @@ after_over root card books =
 abbrev pub after_last : TaskId → Books → Books
 after_last root books = option_map_or (λ card. after_over root card books) (card_at books.tasks root) books
 
+-- the task, which is the oldest of this queue, leaves it
+abbrev pub after_discard : TaskId → Spot → ℕ → Books → Books
+after_discard task spot queue books = record books {
+  tasks = moved stages.Dropped task books.tasks;
+  queued = with_row books.queued queue (drop 1 (row books.queued queue));
+  coming = if is_branch spot then less queue books.coming else books.coming;
+}
+
 -- the task of the card, which is the oldest of its queue, is dropped
 abbrev pub after_drop : TaskId → Card → Books → Books
-after_drop task card books = after_last card.root (record books {
-  tasks = moved stages.Dropped task books.tasks;
-  queued = with_row books.queued card.queue (drop 1 (row books.queued card.queue));
-  coming = without_coming card books.coming;
-})
+after_drop task card books = after_last card.root (after_discard task card.spot card.queue books)
 
 -- the dropped one, if any, goes
 abbrev pub after_dropped : Option TaskId → Books → Books
@@ -99,14 +104,24 @@ after_start task actor card books = record books {
 abbrev pub stopped : TaskId → List Runner → List Runner
 stopped task running = filter (λ (r : Runner). not (same_task r.task task)) running
 
--- the task of the card has ended: it is suspended, or its root is over
-abbrev pub after_end : TaskId → EndHow → Card → Books → Books
-after_end task Yield card books = record books {
-  tasks = moved stages.Ended task books.tasks;
-  running = stopped task books.running;
+-- whether the end is a yield
+abbrev pub is_yield : EndHow → Bool
+is_yield Yield = true
+is_yield _ = false
+
+-- the task of the card runs no more
+abbrev pub after_stop : TaskId → Books → Books
+after_stop task books = record books { tasks = moved stages.Ended task books.tasks; running = stopped task books.running }
+
+-- the task of the card is suspended
+abbrev pub after_yield : TaskId → Card → Books → Books
+after_yield task card books = record (after_stop task books) {
   suspended = with_suspended books.suspended (branch_of card.spot) (segment_of card.spot) (suspended_at books.suspended (branch_of card.spot) (segment_of card.spot) ++ task ∷ []);
 }
-after_end task how card books = after_last card.root (record books { tasks = moved stages.Ended task books.tasks; running = stopped task books.running })
+
+-- the task of the card has ended: it is suspended, or its root is over
+abbrev pub after_end : TaskId → EndHow → Card → Books → Books
+after_end task how card books = if is_yield how then after_yield task card books else after_last card.root (after_stop task books)
 
 -- after the event
 abbrev pub after_event : Parts → Event → Books → Books

@@ -1,5 +1,5 @@
 -- What a firing makes of the tables.
-use Rattle.std.specs.Prelude.{ℕ, zero, suc, ◌+◌, ◌-◌, Bool, true, false, not, List, [], ◌∷◌, ◌++◌, length, map, drop, Option, Some, None, option_and_then, if◌then◌else◌}
+use Rattle.std.specs.Prelude.{ℕ, suc, false, List, [], ◌∷◌, ◌++◌, length, drop, Option, option_and_then, if◌then◌else◌}
 use Rattle.std.specs.List.{slice_get}
 use Rattle.std.specs.Option.{option_map_or}
 use Rattle.indexmap.specs.IndexMap.{insert_entry}
@@ -7,10 +7,9 @@ use Rattle.ccr_base.specs.declared.names.TaskId.{TaskId}
 use Rattle.ccr_base.specs.declared.names.MsgId.{MsgId}
 use Rattle.ccr_base.specs.declared.names.Spot.{Spot}
 use Rattle.ccr_base.specs.declared.names.Spot.TheVariants.{Branch, Site}
-use Rattle.ccr_base.specs.declared.messages.Msg.{Msg}
 use Rattle.ccr_base.specs.Names.{same_task}
 use Rattle.ccr_wiring.specs.declared.parts.Parts.{Parts}
-use Rattle.ccr_wiring.specs.Wirings.{Seat, seat, site_port, branch_of, is_branch, segment_of}
+use Rattle.ccr_wiring.specs.Wirings.{Seat, seat, site_port, is_branch}
 use Rattle.ccr_model.specs.TaskData.{Load, no_load, play_at, with_messages}
 use Rattle.ccr_model.specs.Tasks.{is_interleave, is_teardown, is_concurrent}
 use Rattle.ccr_rows.specs.Rows.{row, with_row}
@@ -28,24 +27,26 @@ with_card task card cards = insert_entry same_task cards task card
 abbrev pub without_coming : Card → List ℕ → List ℕ
 without_coming card coming = if is_branch card.spot then less card.queue coming else coming
 
--- the task is cut: it comes to no queue
+-- the task of the card is cut: it comes to no queue
+abbrev pub cut_card : TaskId → Card → Books → Books
+cut_card task card books = record books { tasks = moved Cut task books.tasks; coming = without_coming card books.coming }
+
+-- the task is cut
 abbrev pub after_cut : TaskId → Books → Books
-after_cut task books = record books {
-  tasks = moved Cut task books.tasks;
-  coming = option_map_or (λ (card : Card). without_coming card books.coming) (card_at books.tasks task) books.coming;
-}
+after_cut task books = option_map_or (λ card. cut_card task card books) (card_at books.tasks task) books
 
 -- one after the other
 abbrev pub after_cuts : List TaskId → Books → Books
 after_cuts [] books = books
 after_cuts (task ∷ tasks) books = after_cuts tasks (after_cut task books)
 
+-- the rows without those that a firing of the branch cuts
+abbrev pub after_clear : Seat → List (List TaskId) → List (List TaskId)
+after_clear s waiting = if is_teardown s.branch.group then with_row waiting s.arbiter [] else waiting
+
 -- a task that a branch of the Interleave fired waits; one of a teardown branch alone, as those before it are cut
 abbrev pub after_wait : Seat → TaskId → List (List TaskId) → List (List TaskId)
-after_wait s task waiting =
-    if is_interleave s.kind
-    then (if is_teardown s.branch.group then with_row waiting s.arbiter (task ∷ []) else with_row waiting s.arbiter (row waiting s.arbiter ++ task ∷ []))
-    else waiting
+after_wait s task waiting = if is_interleave s.kind then with_row (after_clear s waiting) s.arbiter (row (after_clear s waiting) s.arbiter ++ task ∷ []) else waiting
 
 -- where the task of a firing at the branch stands first
 abbrev pub first_stage : Seat → Stage
@@ -75,14 +76,22 @@ after_choice branch s books = record books {
   torn = if is_teardown s.branch.group then raised s.arbiter books.torn else books.torn;
 }
 
--- the branch fires the task, which takes these messages and leaves these ports
-abbrev pub after_branch : Parts → TaskId → ℕ → Seat → Takes → Books → Books
-after_branch wiring task branch s takes books = record (after_choice branch s books) {
-  ports = takes.ports;
-  tasks = with_card task (branch_card wiring task branch s (length books.tasks) (with_messages no_load takes.messages)) books.tasks;
+-- the task of the card, which the branch fired, stands in the tables
+abbrev pub after_new : TaskId → Card → Seat → Books → Books
+after_new task card s books = record books {
+  tasks = with_card task card books.tasks;
   waiting = after_wait s task books.waiting;
   coming = more s.branch.queue books.coming;
 }
+
+-- the branch fires the task, which takes these messages and leaves these ports
+abbrev pub after_branch : Parts → TaskId → ℕ → Seat → Takes → Books → Books
+after_branch wiring task branch s takes books =
+    after_choice branch s (after_new task (branch_card wiring task branch s (length books.tasks) (with_messages no_load takes.messages)) s (record books { ports = takes.ports }))
+
+-- the branch fires the task, which takes the messages of these names, after the cuts
+abbrev pub after_taking : Parts → TaskId → ℕ → List MsgId → Books → Seat → Books
+after_taking wiring task branch messages books s = after_branch wiring task branch s (take_pattern s.branch.pattern messages books.ports) books
 
 -- the card of a task that the site fires, which goes on for the task of the card
 abbrev pub site_card : Parts → ℕ → ℕ → Card → ℕ → Load → Card
@@ -115,6 +124,6 @@ resumed_card books branch site = option_and_then (card_at books.tasks) (slice_ge
 -- after a firing at the spot
 abbrev pub after_fire : Parts → TaskId → Spot → List MsgId → List TaskId → Books → Books
 after_fire wiring task (Branch branch) messages cuts books =
-    option_map_or (λ (s : Seat). after_branch wiring task branch s (take_pattern s.branch.pattern messages books.ports) (after_cuts cuts books)) (seat wiring branch) books
+    option_map_or (after_taking wiring task branch messages (after_cuts cuts books)) (seat wiring branch) books
 after_fire wiring task (Site branch site) messages cuts books =
     option_map_or (λ card. after_site wiring task branch site card (take_site (site_port wiring branch site) books.ports) books) (resumed_card books branch site) books

@@ -3,9 +3,10 @@
 ghost use Rattle.std.specs.Prelude.{◌≡◌, OnOk, IfOk};
 ghost use Rattle.std.specs.Option.{option_map_or};
 ghost use Rattle.ccr_wiring.specs.Wirings.{site_port};
+ghost use Rattle.ccr_model.specs.TaskData.{no_load, with_messages};
 ghost use Rattle.ccr_model.specs.Views.{load_seen, seat_seen};
 ghost use Rattle.ccr_ledger.specs.Taking.{take_pattern, take_site};
-ghost use Rattle.ccr_ledger.specs.Firing.{after_branch, after_choice, after_cut, after_cuts, after_fire, after_site, after_wait, branch_card, first_stage, resumed_card, site_card};
+ghost use Rattle.ccr_ledger.specs.Firing.{after_choice, after_clear, after_cut, after_cuts, after_fire, after_new, after_site, after_taking, after_wait, branch_card, first_stage, load_left, resumed_card, site_card};
 
 use crate::counts::{add_one, raise};
 use crate::ledger::arrive;
@@ -14,6 +15,7 @@ use crate::ports::{take_pattern, take_site};
 use crate::tasks::{first_suspended, move_to, resume};
 use crate::{Card, Ledger, Stage};
 use ccr_base::{BranchNo, MsgId, OutOfMemory, Spot, TaskId};
+use ccr_held::Held;
 use ccr_model::data::{TaskLoad, play_at_spot};
 use ccr_model::seats::{SeatOf, is_concurrent, is_interleave, is_teardown, seat, site_port};
 use ccr_rows::Rows;
@@ -31,6 +33,15 @@ fn first_stage(seat: SeatOf<'_>) -> Stage
     }
 }
 
+/// Those that a firing of the branch cuts wait no more.
+fn clear(waiting: &mut Rows<TaskId>, seat: SeatOf<'_>)
+    ensures { waiting.new ≡ after_clear (seat_seen seat.entry) waiting.old }
+{
+    if is_teardown(seat.branch.group) {
+        waiting.clear(seat.arbiter);
+    }
+}
+
 /// A task that a branch of the Interleave fired waits; one of a teardown branch alone, as those before it are cut.
 fn wait(waiting: &mut Rows<TaskId>, seat: SeatOf<'_>, task: TaskId) -> Result<(), OutOfMemory>
     ensures { OnOk result (waiting.new ≡ after_wait (seat_seen seat.entry) task waiting.old) }
@@ -38,9 +49,7 @@ fn wait(waiting: &mut Rows<TaskId>, seat: SeatOf<'_>, task: TaskId) -> Result<()
     if !is_interleave(seat.kind) {
         return Ok(());
     }
-    if is_teardown(seat.branch.group) {
-        waiting.clear(seat.arbiter);
-    }
+    clear(waiting, seat);
     waiting.enter(seat.arbiter, task)
 }
 
@@ -104,6 +113,43 @@ fn site_card(
     })
 }
 
+/// Takes what the branch takes, and makes the card of the task that it fires.
+fn first_card(
+    alloc: Global,
+    wiring: &Wiring,
+    ports: &mut Vec<Held>,
+    task: TaskId,
+    branch: BranchNo,
+    seat: SeatOf<'_>,
+    messages: &[MsgId],
+    number: usize,
+) -> Result<Card, OutOfMemory>
+    ensures ports { OnOk result (ports.new.items ≡ (take_pattern (seat_seen seat.entry).branch.pattern messages.now ports.old.items).ports) }
+    ensures card { IfOk result (λ card. card ≡ branch_card wiring.now task branch (seat_seen seat.entry) number (with_messages no_load (take_pattern (seat_seen seat.entry).branch.pattern messages.now ports.old.items).messages)) }
+{
+    let taken = take_pattern(alloc, ports, &seat.branch.pattern, messages)?;
+    let load = with_messages(alloc, no_load(alloc), &taken)?;
+    branch_card(alloc, wiring, task, branch, seat, number, load)
+}
+
+/// Takes what the site takes, and makes the card of the task that it fires, which goes on for the task of the card before.
+fn next_card(
+    alloc: Global,
+    wiring: &Wiring,
+    ports: &mut Vec<Held>,
+    before: &Card,
+    branch: BranchNo,
+    site: u32,
+    number: usize,
+) -> Result<Card, OutOfMemory>
+    ensures ports { OnOk result (ports.new.items ≡ (take_site (site_port wiring.now branch site) ports.old.items).ports) }
+    ensures card { IfOk result (λ card. card ≡ site_card wiring.now branch site before.now number (with_messages (load_left before.now) (take_site (site_port wiring.now branch site) ports.old.items).messages)) }
+{
+    let taken = take_site(alloc, ports, site_port(wiring, branch, site))?;
+    let load = with_messages(alloc, load_left(alloc, before)?, &taken)?;
+    site_card(alloc, wiring, branch, site, before, number, load)
+}
+
 impl Ledger {
     /// The task is cut: it comes to no queue.
     fn cut(&mut self, task: TaskId)
@@ -138,6 +184,16 @@ impl Ledger {
         }
     }
 
+    /// The task of the card, which the branch fired, stands in the tables.
+    fn enter(&mut self, task: TaskId, card: Card, seat: SeatOf<'_>) -> Result<(), OutOfMemory>
+        ensures { OnOk result (self.new ≡ after_new task card (seat_seen seat.entry) self.old) }
+    {
+        self.tasks.insert(task, card)?;
+        wait(&mut self.waiting, seat, task)?;
+        add_one(&mut self.coming, seat.branch.queue as usize)?;
+        Ok(())
+    }
+
     /// The branch fires the task, whose cuts are made.
     fn fire_branch(
         &mut self,
@@ -147,15 +203,14 @@ impl Ledger {
         seat: SeatOf<'_>,
         messages: &[MsgId],
     ) -> Result<(), OutOfMemory>
-        ensures { OnOk result (self.new ≡ after_branch wiring.now task branch (seat_seen seat.entry) (take_pattern (seat_seen seat.entry).branch.pattern messages.now self.old.ports) self.old) }
+        ensures { OnOk result (self.new ≡ after_taking wiring.now task branch messages.now self.old (seat_seen seat.entry)) }
     {
-        let taken = take_pattern(self.alloc, &mut self.ports, &seat.branch.pattern, messages)?;
-        let load = with_messages(self.alloc, no_load(self.alloc), &taken)?;
         let number = self.tasks.len();
-        let card = branch_card(self.alloc, wiring, task, branch, seat, number, load)?;
-        self.tasks.insert(task, card)?;
-        wait(&mut self.waiting, seat, task)?;
-        add_one(&mut self.coming, seat.branch.queue as usize)?;
+        let ports = &mut self.ports;
+        let card = first_card(
+            self.alloc, wiring, ports, task, branch, seat, messages, number,
+        )?;
+        self.enter(task, card, seat)?;
         self.choose(branch, seat);
         Ok(())
     }
@@ -176,11 +231,16 @@ impl Ledger {
         let Some(card) = self.tasks.get(&before) else {
             return Ok(());
         };
-        let port = site_port(wiring, branch, site);
-        let taken = take_site(self.alloc, &mut self.ports, port)?;
-        let load = with_messages(self.alloc, load_left(self.alloc, card)?, &taken)?;
         let number = self.tasks.len();
-        let card = site_card(self.alloc, wiring, branch, site, card, number, load)?;
+        let card = next_card(
+            self.alloc,
+            wiring,
+            &mut self.ports,
+            card,
+            branch,
+            site,
+            number,
+        )?;
         self.tasks.insert(task, card)?;
         resume(&mut self.suspended, branch, site);
         Ok(())

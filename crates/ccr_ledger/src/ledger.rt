@@ -5,7 +5,7 @@ ghost use Rattle.ccr_wiring.specs.Wirings.{branch_of, is_branch, seats_from, seg
 ghost use Rattle.std.specs.Option.{option_map_or};
 ghost use Rattle.ccr_ledger.specs.Books.{card_at, less, suspended_at, with_suspended};
 ghost use Rattle.ccr_ledger.specs.Posting.{after_post, counted};
-ghost use Rattle.ccr_ledger.specs.Events.{after_admit, after_drop, after_dropped, after_end, after_enter, after_event, after_last, after_start, empty_books};
+ghost use Rattle.ccr_ledger.specs.Events.{after_admit, after_discard, after_drop, after_dropped, after_end, after_enter, after_event, after_last, after_start, empty_books, is_yield};
 
 use crate::counts::{add_one, take_one};
 use crate::ports::{empty_ports, post_to};
@@ -82,6 +82,15 @@ fn suspend_behind(suspended: &mut Rows<TaskId>, spot: Spot, task: TaskId) -> Res
             Some(next) => suspend(suspended, branch, next, task),
             None => Ok(()),
         },
+    }
+}
+
+fn is_yield(how: EndHow) -> bool
+    ensures { result ≡ is_yield how }
+{
+    match how {
+        EndHow::Yield => true,
+        _ => false,
     }
 }
 
@@ -192,6 +201,15 @@ impl Ledger {
         }
     }
 
+    /// The task, which is the oldest of this queue, leaves it.
+    fn discard(&mut self, task: TaskId, spot: Spot, queue: QueueNo)
+        ensures { self.new ≡ after_discard task spot queue self.old }
+    {
+        move_to(&mut self.tasks, task, Stage::Dropped);
+        self.queued.leave(queue as usize);
+        arrive(&mut self.coming, spot, queue);
+    }
+
     /// The task, which is the oldest of its queue, is dropped.
     fn drop_oldest(&mut self, task: TaskId)
         ensures { self.new ≡ option_map_or (λ card. after_drop task card self.old) (card_at self.old.tasks task) self.old }
@@ -202,9 +220,7 @@ impl Ledger {
         let spot = card.spot;
         let queue = card.queue;
         let root = card.root;
-        move_to(&mut self.tasks, task, Stage::Dropped);
-        self.queued.leave(queue as usize);
-        arrive(&mut self.coming, spot, queue);
+        self.discard(task, spot, queue);
         self.last(root);
     }
 
@@ -250,12 +266,11 @@ impl Ledger {
         let root = card.root;
         move_to(&mut self.tasks, task, Stage::Ended);
         stop(&mut self.running, task);
-        match how {
-            EndHow::Yield => suspend_behind(&mut self.suspended, spot, task),
-            _ => {
-                self.last(root);
-                Ok(())
-            }
+        if is_yield(how) {
+            suspend_behind(&mut self.suspended, spot, task)
+        } else {
+            self.last(root);
+            Ok(())
         }
     }
 

@@ -6,7 +6,7 @@ ghost use Rattle.ccr_ledger.specs.Posting.{posted_to};
 ghost use Rattle.ccr_held.specs.Taken.{shared};
 ghost use Rattle.ccr_ledger.specs.Taking.{take_gather, take_oldest, take_pattern, take_site, take_slot, take_slots};
 
-use ccr_base::{Msg, MsgId, OutOfMemory, Pattern, PortNo, Pred, Slot};
+use ccr_base::{Msg, MsgId, OutOfMemory, Pattern, PortNo, Slot};
 use ccr_held::Held;
 use std::alloc::Global;
 
@@ -71,7 +71,7 @@ fn take_oldest(
     let number = port as usize;
     if number < ports.len() {
         let port = &mut ports[number];
-        port.take_some(Pred::Any, count, taken)?;
+        port.take_oldest(count, taken)?;
     }
     Ok(())
 }

@@ -1,4 +1,4 @@
-use Rattle.std.proofs.Common.{◌≡◌, ◌∙◌, ◌++◌, sym, ap, append-nil, option_to_list}
+use Rattle.std.proofs.Common.{◌∙◌, ◌++◌, sym, ap, append-nil, option_to_list}
 use Rattle.ccr_held.specs.Taken.{without_first}
 use Rattle.ccr_held.proofs.Taking.{some_more, taken-step}
 use Rattle.ccr_held.proofs.held.Held.take_some.Goals as goal
