@@ -7,13 +7,14 @@ ghost use Rattle.ccr_base.specs.declared.names.TaskId.{TaskId};
 ghost use Rattle.ccr_rows.specs.Rows.{row};
 ghost use Rattle.ccr_ledger.specs.declared.cards.Card.{Card};
 ghost use Rattle.ccr_ledger.specs.Books.{card_at, number};
-ghost use Rattle.ccr_ledger.specs.Asked.{admits, budget_lasts, cuts, drops, enters, group_lives, has_fired, has_more, is_busy, is_ready, is_ready_stage, lives, queue_has_room, queued_first, room, runs, unfinished, waits_first};
+ghost use Rattle.ccr_ledger.specs.Asked.{admits, budget_lasts, can_choose, cuts, drops, enters, group_lives, has_fired, has_more, is_busy, is_ready, is_ready_stage, lives, queue_has_room, queued_first, room, runs, unfinished, waits_first};
 
+use crate::choices::{count, has_enough};
 use crate::counts::{flag, number};
 use crate::tasks::first_suspended;
 use crate::{Card, Ledger, Runner, Stage};
 use ccr_base::{ActorNo, BranchNo, Group, OutOfMemory, Policy, QueueNo, Spot, TaskId};
-use ccr_model::seats::{is_teardown, policy_of, seat};
+use ccr_model::seats::{is_teardown, policy_of, seat, site_port};
 use ccr_rows::Rows;
 use ccr_wiring::Wiring;
 use std::alloc::Global;
@@ -119,6 +120,23 @@ impl Ledger {
                 self.queue_has_room(queue, policy_of(wiring, queue))
             }
             None => true,
+        }
+    }
+
+    /// Whether the ports hold enough for the spot.
+    pub fn can_choose(&mut self, wiring: &Wiring, spot: Spot) -> Result<bool, OutOfMemory>
+        ensures can { IfOk result (λ can. can ≡ can_choose wiring.now self.old spot) }
+        ensures kept { OnOk result (self.new ≡ self.old) }
+    {
+        match spot {
+            Spot::Branch(branch) => match seat(wiring, branch) {
+                Some(seat) => has_enough(&mut self.ports, &seat.branch.pattern),
+                None => Ok(false),
+            },
+            Spot::Site(branch, site) => match site_port(wiring, branch, site) {
+                Some(port) => Ok(count(&self.ports, port) != 0),
+                None => Ok(false),
+            },
         }
     }
 

@@ -3,6 +3,7 @@
 
 mod asked;
 mod cards;
+mod choices;
 mod counts;
 mod fires;
 mod ledger;
