@@ -299,6 +299,14 @@ impl Held {
         self.take_some(Pred::Any, count, taken)
     }
 
+    /// The names of the oldest messages, at most so many.
+    pub fn oldest_names(&mut self, most: usize) -> Result<Vec<MsgId>, OutOfMemory>
+        ensures names { IfOk result (λ names. names.items ≡ map (λ (m : Msg). m.id) (take most self.old)) }
+        ensures kept { self.new ≡ self.old }
+    {
+        self.names(Pred::Any, most)
+    }
+
     /// How many of the names, from the first on, are those of the oldest messages.
     pub fn shared(&mut self, names: &[MsgId]) -> Result<usize, OutOfMemory>
         ensures shared { IfOk result (λ count. count ≡ shared self.old names.now) }

@@ -5,15 +5,16 @@ ghost use Rattle.std.specs.List.{slice_get};
 ghost use Rattle.std.specs.Option.{option_map};
 ghost use Rattle.ccr_base.specs.declared.names.TaskId.{TaskId};
 ghost use Rattle.ccr_rows.specs.Rows.{row};
+ghost use Rattle.ccr_model.specs.Choice.{names_of};
 ghost use Rattle.ccr_ledger.specs.declared.cards.Card.{Card};
 ghost use Rattle.ccr_ledger.specs.Books.{card_at, number};
-ghost use Rattle.ccr_ledger.specs.Asked.{admits, budget_lasts, can_choose, cuts, drops, enters, group_lives, has_fired, has_more, is_busy, is_ready, is_ready_stage, lives, queue_has_room, queued_first, room, runs, unfinished, waits_first};
+ghost use Rattle.ccr_ledger.specs.Asked.{admits, budget_lasts, can_choose, choice_at, cuts, drops, enters, group_lives, has_fired, has_more, is_busy, is_ready, is_ready_stage, lives, queue_has_room, queued_first, room, runs, unfinished, waits_first};
 
-use crate::choices::{count, has_enough};
+use crate::choices::{count, has_enough, names_of_choice, names_of_site};
 use crate::counts::{flag, number};
 use crate::tasks::first_suspended;
 use crate::{Card, Ledger, Runner, Stage};
-use ccr_base::{ActorNo, BranchNo, Group, OutOfMemory, Policy, QueueNo, Spot, TaskId};
+use ccr_base::{ActorNo, BranchNo, Group, MsgId, OutOfMemory, Policy, QueueNo, Spot, TaskId};
 use ccr_model::seats::{is_teardown, policy_of, seat, site_port};
 use ccr_rows::Rows;
 use ccr_wiring::Wiring;
@@ -136,6 +137,23 @@ impl Ledger {
             Spot::Site(branch, site) => match site_port(wiring, branch, site) {
                 Some(port) => Ok(count(&self.ports, port) != 0),
                 None => Ok(false),
+            },
+        }
+    }
+
+    /// The names of the choice that one thread makes at the spot, if there is one.
+    pub fn choice(&mut self, wiring: &Wiring, spot: Spot) -> Result<Option<Vec<MsgId>>, OutOfMemory>
+        ensures names { IfOk result (λ names. option_map (λ found. found.items) names ≡ option_map names_of (choice_at wiring.now self.old spot)) }
+        ensures kept { OnOk result (self.new ≡ self.old) }
+    {
+        match spot {
+            Spot::Branch(branch) => match seat(wiring, branch) {
+                Some(seat) => names_of_choice(self.alloc, &mut self.ports, &seat.branch.pattern),
+                None => Ok(None),
+            },
+            Spot::Site(branch, site) => match site_port(wiring, branch, site) {
+                Some(port) => names_of_site(self.alloc, &mut self.ports, port),
+                None => Ok(None),
             },
         }
     }

@@ -6,10 +6,12 @@ mod cards;
 mod choices;
 mod counts;
 mod fires;
+mod laws;
 mod ledger;
 mod loads;
 mod ports;
 mod tasks;
 
 pub use cards::{Card, Runner, Stage};
+pub use laws::{flags_are_kept, sizes_are_kept};
 pub use ledger::Ledger;
