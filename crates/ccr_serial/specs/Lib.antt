@@ -1,3 +1,6 @@
 pub mod Potential
 pub mod Engine
 pub mod Steps
+pub mod Touched
+pub mod Cursor
+pub mod Ready

@@ -2,13 +2,24 @@
 #![tactic(auto)]
 
 mod choice;
+mod cursor_laws;
 mod laws;
+mod numbers;
 mod order;
+mod ready_laws;
 mod serial;
 
+pub use cursor_laws::{
+    done_posters_stay_done, posts_go_on, spots_stay_still, the_place_is_kept, the_search_goes_on,
+};
 pub use laws::{
     finished_is_legal, histories_are_short, one_history_is_finished, quiet_is_complete,
     the_end_comes_nearer, the_order_ends, valid_histories_are_short,
+};
+pub use ready_laws::{
+    admissions_keep_numbers, admitted_tasks_are_ready, firings_keep_numbers,
+    firings_leave_others_ready, new_tasks_are_ready, none_is_put, puts_keep_numbers, puts_take_out,
+    the_least_is_put_first,
 };
 pub use serial::{Serial, Stepped};
 
