@@ -17,3 +17,8 @@ pub mod Posters
 pub mod MayPut
 pub mod NumberSets
 pub mod ReadyNumbers
+pub mod Told
+pub mod DeskSteps
+pub mod Telling
+pub mod Firsts
+pub mod PartSteps

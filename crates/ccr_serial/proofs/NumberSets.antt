@@ -1,13 +1,16 @@
 -- A set of numbers as a list.
-use Rattle.std.proofs.Common.{◌≡◌, ◌∙◌, ℕ, ◌<◌, Bool, true, false, not, ◌&&◌, ◌||◌, List, [], ◌∷◌, BTreeSet, if◌then◌else◌, refl, sym, arith}
+use Rattle.std.proofs.Common.{◌≡◌, ◌∙◌, ℕ, ◌<◌, Bool, true, false, not, ◌&&◌, ◌||◌, List, [], ◌∷◌, BTreeSet, if◌then◌else◌, refl, sym, subst, arith}
 use Rattle.std.specs.Prelude.{◌==◌}
 use Rattle.std.specs.List.{list_any}
-use Rattle.std.specs.Ordering.{nat_cmp, is_gt}
+use Rattle.std.specs.Ordering.{nat_cmp}
+use Rattle.std.specs.declared.cmp.Ordering.TheVariants.{Less}
+use Rattle.std.specs.List.{AllByRecursion, slice_get}
+use Rattle.std.specs.List.Sorted.{IsStrictlySortedBy}
 use Rattle.std.specs.BTreeMap.{is_at}
 use Rattle.std.specs.BTreeSet as sorted
 use Rattle.std.proofs.lemmas.Bool.Decides.{nat_tests}
-use Rattle.ccr_model.proofs.Booleans.{refuted, no_both}
-use Rattle.ccr_serial.specs.Ready.{has_number, IsLeast}
+use Rattle.ccr_model.proofs.Booleans.{or_left, eq-self}
+use Rattle.ccr_serial.specs.Ready.{has_number, IsLeast, IsLeastFirst}
 
 same_number : (q m : ℕ) → is_at (nat_cmp q) m ≡ (m == q)
 same_number q m = grind (arith, nat_tests)
@@ -34,11 +37,25 @@ left s n k updates q =
     let now : has_number n.keys q ≡ (if is_at (nat_cmp k) q then false else list_any (is_at (nat_cmp q)) s.keys) = sym (has_any q n.keys) ∙ updates.0 q in
     now ∙ rw (same_number k q, has_any q s.keys) (taken_out (q == k) (has_number s.keys q))
 
-above : (k q : ℕ) → q < k → is_gt (nat_cmp k q) ≡ true
-above k q low = grind (arith, nat_tests, low)
+less_than : (x y : ℕ) → nat_cmp x y ≡ Less → x < y
+less_than x y is = grind (arith, nat_tests, is)
 
-pub least : (s : BTreeSet ℕ) (k : ℕ) → sorted.contains nat_cmp s k ≡ true → sorted.IsLowerBound nat_cmp s k → IsLeast s.keys k
-least s k there bound = record {
-  among = sym (has_any k s.keys) ∙ there;
-  low = λ q less. refuted (has_number s.keys q) (λ is. no_both (above k q less) (bound q (has_any q s.keys ∙ is)));
-}
+apart : (x q : ℕ) → q < x → (x == q) ≡ false
+apart x q low = grind (arith, nat_tests, low)
+
+none_below : (x q : ℕ) (ks : List ℕ) → AllByRecursion (λ y. nat_cmp x y ≡ Less) ks → q < x → has_number ks q ≡ false
+none_below x q [] above low = refl
+none_below x q (y ∷ ks) above low =
+    let here : (y == q) ≡ false = apart y q (omega (arith, low, less_than x y above.0)) in
+    rw here (none_below x q ks above.1 low)
+
+-- where the numbers ascend the first is the least
+pub least_first : (ks : List ℕ) → IsStrictlySortedBy nat_cmp ks → IsLeastFirst ks
+unfolding IsStrictlySortedBy
+least_first [] ascends n at = absurd (cc)
+least_first (x ∷ ks) ascends n at =
+    let one : x ≡ n = cc in
+    subst (IsLeast (x ∷ ks)) one (record {
+      among = or_left (x == x) (has_number ks x) (eq-self x);
+      low = λ q less. rw (apart x q less) (none_below x q ks ascends.0 less);
+    })

@@ -4,3 +4,5 @@ pub mod Steps
 pub mod Touched
 pub mod Cursor
 pub mod Ready
+pub mod Parts
+pub mod Desk

@@ -1,5 +1,5 @@
 -- The tasks that may be put, by the numbers of their firings.
-use Rattle.std.specs.Prelude.{◌≡◌, ℕ, ◌==◌, ◌<◌, Bool, true, false, List}
+use Rattle.std.specs.Prelude.{◌≡◌, ℕ, ◌==◌, ◌<◌, Bool, true, false, List, Some}
 use Rattle.std.specs.List.{slice_get, list_any}
 use Rattle.std.specs.Option.{option_map_or}
 use Rattle.ccr_wiring.specs.declared.parts.Parts.{Parts}
@@ -23,3 +23,7 @@ AreReady wiring history numbers = (number : ℕ) → has_number numbers number �
 pub record IsLeast (numbers : List ℕ) (number : ℕ) : Type 0 where
   pub among : has_number numbers number ≡ true
   pub low : (other : ℕ) → other < number → has_number numbers other ≡ false
+
+-- the first of them is the least
+abbrev pub IsLeastFirst : List ℕ → Type 0
+IsLeastFirst numbers = (number : ℕ) → slice_get numbers 0 ≡ Some number → IsLeast numbers number

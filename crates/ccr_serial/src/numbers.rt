@@ -1,7 +1,8 @@
 //! A set of numbers, of which the least is found at once.
 
-ghost use Rattle.std.specs.Prelude.{◌≡◌, [], ℕ, ◌==◌, ◌&&◌, ◌||◌, not, OnOk, IfSome, IfNone};
-ghost use Rattle.ccr_serial.specs.Ready.{has_number, IsLeast};
+ghost use Rattle.std.specs.Prelude.{◌≡◌, [], ℕ, ◌==◌, ◌&&◌, ◌||◌, not, OnOk};
+ghost use Rattle.std.specs.List.{slice_get};
+ghost use Rattle.ccr_serial.specs.Ready.{has_number, IsLeastFirst};
 
 use ccr_base::OutOfMemory;
 use std::alloc::Global;
@@ -34,8 +35,7 @@ impl Numbers {
 
     /// The least of them, if any.
     pub(crate) fn first(&self) -> Option<usize>
-        ensures least { IfSome result (IsLeast self.now) }
-        ensures none { IfNone result (self.now ≡ []) }
+        ensures { result ≡ slice_get self.now 0 }
     {
         let number = self.numbers.first()?;
         Some(*number)
@@ -43,7 +43,8 @@ impl Numbers {
 
     /// The number is one of them.
     pub(crate) fn enter(&mut self, number: usize) -> Result<(), OutOfMemory>
-        ensures { OnOk result ((other : ℕ) → has_number self.new other ≡ (other == number) || has_number self.old other) }
+        ensures members { OnOk result ((other : ℕ) → has_number self.new other ≡ (other == number) || has_number self.old other) }
+        ensures least { OnOk result (IsLeastFirst self.new) }
     {
         self.numbers.insert(number)?;
         Ok(())
@@ -51,7 +52,8 @@ impl Numbers {
 
     /// The number is none of them.
     pub(crate) fn leave(&mut self, number: usize)
-        ensures { (other : ℕ) → has_number self.new other ≡ not (other == number) && has_number self.old other }
+        ensures members { (other : ℕ) → has_number self.new other ≡ not (other == number) && has_number self.old other }
+        ensures least { IsLeastFirst self.new }
     {
         self.numbers.remove(&number);
     }
