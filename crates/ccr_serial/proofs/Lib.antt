@@ -22,3 +22,4 @@ pub mod DeskSteps
 pub mod Telling
 pub mod Firsts
 pub mod PartSteps
+pub mod Along

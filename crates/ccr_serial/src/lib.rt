@@ -11,6 +11,7 @@ mod order;
 mod parts;
 mod ready_laws;
 mod serial;
+mod standing;
 mod touched;
 
 pub use cursor_laws::{
