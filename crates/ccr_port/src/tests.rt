@@ -58,10 +58,12 @@ fn has_value(port: &PortObject, place: u32, value: u64) -> bool {
 }
 
 fn holds_values(port: &PortObject, values: &[u64]) -> bool {
-    for (place, value) in values.iter().enumerate() {
-        if !has_value(port, place as u32, *value) {
+    let mut place: u32 = 0;
+    for value in values {
+        if !has_value(port, place, *value) {
             return false;
         }
+        place = place.wrapping_add(1);
     }
     port.len() as usize == values.len() && port.item(port.len()).is_none()
 }
