@@ -59,21 +59,32 @@ fn ports(alloc: Global) -> Result<List<Name>, Fail> {
     Ok(List::from_vec(names))
 }
 
-fn action(does: Does) -> Action {
+/// The port that it posts to and what it posts; none of an await.
+fn posted(does: Does) -> Option<(PortNo, Expr)> {
     match does {
-        Does::PostNumber(port, number) => Action::Post(port, Expr::Number(Value::one(number))),
-        Does::PostFirst(port) => Action::Post(port, Expr::Arg(0)),
-        Does::PostSum(port) => Action::Post(port, Expr::Sum),
-        Does::Await(port) => Action::Await(port),
+        Does::PostNumber(port, number) => Some((port, Expr::Number(Value::one(number)))),
+        Does::PostFirst(port) => Some((port, Expr::Arg(0))),
+        Does::PostSum(port) => Some((port, Expr::Sum)),
+        Does::Await(_) => None,
     }
 }
 
-fn actions(alloc: Global, rows: &[Does]) -> Result<List<Action>, Fail> {
-    let mut actions = Vec::new(alloc);
-    for does in rows {
-        actions.push(action(*does))?;
+fn add_action(actions: &mut List<Action>, does: Does) -> Result<(), OutOfMemory> {
+    if let Some((port, expr)) = posted(does) {
+        return actions.add(Action::Post(port, expr));
     }
-    Ok(List::from_vec(actions))
+    if let Does::Await(port) = does {
+        return actions.add(Action::Await(port));
+    }
+    Ok(())
+}
+
+fn actions(alloc: Global, rows: &[Does]) -> Result<List<Action>, Fail> {
+    let mut actions = List::new(alloc);
+    for does in rows {
+        add_action(&mut actions, *does)?;
+    }
+    Ok(actions)
 }
 
 fn handlers(alloc: Global, rows: &[&[Does]]) -> Result<List<HandlerPart>, Fail> {

@@ -85,16 +85,20 @@ fn domain_is_the_least_member(rt: HostRuntime) -> Result<(), Fail> {
     Ok(())
 }
 
-/// Small parts of this version, with one more action.
-fn with_action(alloc: Global, version: u32, action: Action) -> Result<u8, OutOfMemory> {
+fn failing(alloc: Global, expr: Expr) -> Result<List<Action>, OutOfMemory> {
+    let mut actions = List::new(alloc);
+    actions.add(Action::Fail(expr))?;
+    Ok(actions)
+}
+
+/// Small parts of this version, with one more handler, which fails with the expression.
+fn with_failure(alloc: Global, version: u32, expr: Expr) -> Result<u8, OutOfMemory> {
     let mut parts = parts(alloc, &SMALL)?;
     parts.version = version;
-    let mut actions = List::new(alloc);
-    add(&mut actions, action)?;
-    let handler = ccr_base::Handler { actions };
+    let actions = failing(alloc, expr)?;
     let part = HandlerPart {
         name: name(alloc, b"x", 0)?,
-        handler,
+        handler: ccr_base::Handler { actions },
     };
     add(&mut parts.handlers, part)?;
     code(alloc, parts)
@@ -135,7 +139,7 @@ fn lists_are_of_version_two(rt: HostRuntime) -> Result<(), Fail> {
         (2, Expr::Part(0, 8), 10),
     ];
     for (version, expr, wanted) in table {
-        let found = with_action(rt.alloc(), version, Action::Fail(expr))
+        let found = with_failure(rt.alloc(), version, expr)
             .ok()
             .ok_or("memory")?;
         assert_eq!(rt; found, wanted);
