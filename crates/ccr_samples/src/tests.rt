@@ -1,7 +1,7 @@
 //! What no clause says: that the parts come where there is memory, and that they are those of a wiring.
 
 use super::*;
-use ccr_base::{Action, Policy, Spot};
+use ccr_base::{Action, Expr, List, OutOfMemory, Policy, Spot};
 use ccr_wiring::{Parts, Unfit, Wiring};
 use std::alloc::Global;
 use std::test::*;
@@ -27,10 +27,18 @@ fn one_post_reaches_the_receiver(rt: HostRuntime) -> Result<(), Fail> {
     Ok(())
 }
 
+/// A post of this at port 0, and an await there.
+fn awaiting(alloc: Global, expr: Expr) -> Result<List<Action>, OutOfMemory> {
+    let mut actions = List::new(alloc);
+    actions.add(Action::Post(0, expr))?;
+    actions.add(Action::Await(0))?;
+    Ok(actions)
+}
+
 /// The receiver with a cause and a handler that awaits, both at port 0, and a queue that drops.
 fn changed(alloc: Global) -> Result<Parts, Fail> {
     let mut parts = one_receiver(alloc).ok().ok_or("memory")?;
-    let actions = only(alloc, Action::Await(0)).ok().ok_or("memory")?;
+    let actions = awaiting(alloc, Expr::Count).ok().ok_or("memory")?;
     parts.causes = one_cause(alloc, 0).ok().ok_or("memory")?;
     parts.handlers = one_handler(alloc, actions).ok().ok_or("memory")?;
     parts.queues = one_queue(alloc, Policy::Discard(1)).ok().ok_or("memory")?;
