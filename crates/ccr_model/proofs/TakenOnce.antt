@@ -36,7 +36,7 @@ named name names = length (filter (same_message name) names)
 abbrev times_at : MsgId → List ℕ → List Msg → ℕ
 times_at name ports ms = length (filter (λ (m : Msg). same_message m.id name && has_port ports m.port) ms)
 
-times-filter : (name : MsgId) (t : Msg → Bool) (ms : List Msg) → times name (filter t ms) ≤ times name ms
+pub times-filter : (name : MsgId) (t : Msg → Bool) (ms : List Msg) → times name (filter t ms) ≤ times name ms
 times-filter name t [] = grind arith
 times-filter name t (m ∷ ms) = grind (arith, times-filter name t ms)
 
@@ -136,7 +136,7 @@ named-choice_of name t ms (Gather total first second) names apart is =
 abbrev pub untaken : List Event → List Msg
 untaken h = filter (λ (m : Msg). not (has_message (taken h) m.id)) (posts h)
 
-named-choice : (w : Parts) (h : List Event) (s : Spot) (name : MsgId) (names : List MsgId) → HasPortsApart w → is_choice w h s names ≡ true → named name names ≤ times name (untaken h)
+pub named-choice : (w : Parts) (h : List Event) (s : Spot) (name : MsgId) (names : List MsgId) → HasPortsApart w → is_choice w h s names ≡ true → named name names ≤ times name (untaken h)
 named-choice w h (Branch b) name names apart is = some_seat (seat w b) refl is
   where
     some_seat : (o : Option Seat) → seat w b ≡ o → option_map_or (λ (s : Seat). is_choice_of (held h) s.branch.pattern names) o false ≡ true → named name names ≤ times name (untaken h)
@@ -151,7 +151,7 @@ named-choice w h (Site b k) name names apart is = some_port (site_port w b k) is
         omega (arith, named-first name (held h port) names parts.1, times-one name (λ m. not (has_message (taken h) m.id)) port (posts h))
 
 -- what is untaken isn't taken
-taken_none : (name : MsgId) (gone : List MsgId) (ms : List Msg) → 0 < times name (filter (λ (m : Msg). not (has_message gone m.id)) ms) → has_message gone name ≡ false
+pub taken_none : (name : MsgId) (gone : List MsgId) (ms : List Msg) → 0 < times name (filter (λ (m : Msg). not (has_message gone m.id)) ms) → has_message gone name ≡ false
 taken_none name gone [] some = absurd (omega arith)
 taken_none name gone (m ∷ ms) some = one_more (has_message gone m.id) (same_message m.id name) refl refl (taken_none name gone ms)
   where
@@ -160,11 +160,11 @@ taken_none name gone (m ∷ ms) some = one_more (has_message gone m.id) (same_me
     one_more false true is same rest = let e : m.id ≡ name = same_message-is m.id name same in rw (← e) is
     one_more false false is same rest = rest (grind (arith, is, same, some))
 
-named_none : (name : MsgId) (gone : List MsgId) → has_message gone name ≡ false → named name gone ≡ 0
+pub named_none : (name : MsgId) (gone : List MsgId) → has_message gone name ≡ false → named name gone ≡ 0
 named_none name [] is = grind arith
 named_none name (n ∷ gone) is = grind (arith, named_none name gone)
 
-named-append : (name : MsgId) (xs ys : List MsgId) → named name (xs ++ ys) ≡ named name xs + named name ys
+pub named-append : (name : MsgId) (xs ys : List MsgId) → named name (xs ++ ys) ≡ named name xs + named name ys
 named-append name [] ys = grind arith
 named-append name (x ∷ xs) ys = grind (arith, named-append name xs ys)
 
@@ -183,7 +183,7 @@ FireFacts-allowed w h t s ms cs allowed =
     let d = refused_not (has_room w h s) 7 _ c.1 in
     record { new_name = a.0; live = b.0; choice_made = c.0; room = d.0 }
 
-taken-push : (h : List Event) (e : Event) → taken (h ++ e ∷ []) ≡ taken h ++ taken_by e
+pub taken-push : (h : List Event) (e : Event) → taken (h ++ e ∷ []) ≡ taken h ++ taken_by e
 taken-push h e = grind (arith, common_steps)
 
 -- each name is taken once at most

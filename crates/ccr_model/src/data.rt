@@ -21,7 +21,7 @@ use std::alloc::Global;
 
 /// What a segment starts with.
 #[derive(Drop)]
-pub(crate) struct TaskLoad {
+pub struct TaskLoad {
     pub values: List<Value>,
     pub causes: List<CauseNo>,
 }
@@ -185,6 +185,22 @@ fn segment_of(spot: Spot) -> Option<u32>
     }
 }
 
+/// The play of a task that fires at the spot and starts with this load.
+pub fn play_at_spot(
+    alloc: Global,
+    wiring: &Wiring,
+    spot: Spot,
+    load: &TaskLoad,
+) -> Result<Play, OutOfMemory>
+    ensures { IfOk result (λ found. found ≡ play_at wiring.now (branch_of spot) (segment_of spot) (load_seen load.now)) }
+{
+    let _valid = wiring.parts();
+    match segment_of(spot) {
+        Some(segment) => play_at(alloc, wiring, branch_of(spot), segment, load),
+        None => idle(alloc, &load.causes),
+    }
+}
+
 /// What the task posts, how it ends, and its causes at the end.
 pub fn play_of(
     alloc: Global,
@@ -197,10 +213,6 @@ pub fn play_of(
     let Some(spot) = spot_of(events, task) else {
         return idle(alloc, &List::new(alloc));
     };
-    let _valid = wiring.parts();
     let load = load_at(alloc, wiring, events, spot, task)?;
-    match segment_of(spot) {
-        Some(segment) => play_at(alloc, wiring, branch_of(spot), segment, &load),
-        None => idle(alloc, &load.causes),
-    }
+    play_at_spot(alloc, wiring, spot, &load)
 }

@@ -39,7 +39,7 @@ pub fn seat(wiring: &Wiring, branch: BranchNo) -> Option<SeatOf<'_>>
 }
 
 /// The queue's policy.
-pub(crate) fn policy_of(wiring: &Wiring, queue: QueueNo) -> Policy
+pub fn policy_of(wiring: &Wiring, queue: QueueNo) -> Policy
     ensures { result ≡ policy_of wiring.now queue }
 {
     match wiring.parts().queues.as_slice().get(queue as usize) {
@@ -82,7 +82,8 @@ pub fn site_port(wiring: &Wiring, branch: BranchNo, site: u32) -> Option<PortNo>
     awaited_at(actions_of(wiring, seat.branch.handler), site)
 }
 
-pub(crate) fn is_interleave(kind: Kind) -> bool
+/// Whether an arbiter of the kind is an Interleave.
+pub fn is_interleave(kind: Kind) -> bool
     ensures { result ≡ is_interleave kind }
 {
     match kind {
@@ -91,7 +92,8 @@ pub(crate) fn is_interleave(kind: Kind) -> bool
     }
 }
 
-pub(crate) fn is_teardown(group: Group) -> bool
+/// Whether a branch of the group is a teardown branch.
+pub fn is_teardown(group: Group) -> bool
     ensures { result ≡ is_teardown group }
 {
     match group {
@@ -100,7 +102,8 @@ pub(crate) fn is_teardown(group: Group) -> bool
     }
 }
 
-pub(crate) fn is_concurrent(group: Group) -> bool
+/// Whether a branch of the group is a concurrent one.
+pub fn is_concurrent(group: Group) -> bool
     ensures { result ≡ is_concurrent group }
 {
     match group {

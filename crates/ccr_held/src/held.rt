@@ -1,0 +1,325 @@
+//! The messages of a port.
+
+ghost use Rattle.std.specs.Prelude.{ℕ, ◌≡◌, ◌<◌, ◌≤◌, [], ◌∷◌, ◌++◌, IfOk, OnOk, OnErr, length, map, filter, take, drop, nat_le};
+ghost use Rattle.std.specs.List.{slice_get};
+ghost use Rattle.ccr_base.specs.declared.messages.Msg.{Msg};
+ghost use Rattle.ccr_base.specs.Choice.{fitting};
+ghost use Rattle.ccr_held.specs.Lanes.{AreLanes, HasLane, IsLane, entered, entered_item, entered_up_to, fitting_places, is_here, name_at, names_at};
+ghost use Rattle.ccr_held.specs.Taken.{same_front, shared, without_first, without_some};
+
+use crate::lane::Lane;
+use ccr_base::{Msg, MsgId, OutOfMemory, Pred, Value};
+use std::alloc::Global;
+use std::collections::VecDeque;
+use std::marker::Model;
+
+/// What a port holds, oldest first. Each place is of one message that was posted; it is empty once that was taken.
+#[derive(Drop)]
+pub struct Held {
+    alloc: Global,
+    items: Vec<Option<Msg>>,
+    lanes: Vec<Lane>,
+    /// How many messages are there.
+    left: usize,
+}
+
+impl Model for Held {
+    ghost use Rattle.std.specs.Prelude.{List as Listed};
+    ghost use Rattle.ccr_base.specs.declared.messages.Msg.{Msg};
+    ghost use Rattle.std.specs.Prelude.{◌≡◌, length};
+    ghost use Rattle.ccr_held.specs.Lanes.{present, AreLanes};
+
+    ghost Value = { Listed Msg };
+
+    ghost view = { λ port. present port.items.items };
+
+    ghost invariant = { λ port. AreLanes port.items.items port.lanes.items × (port.left ≡ length (present port.items.items)) };
+}
+
+/// Enters the place into each lane whose predicate the value satisfies.
+fn enter_all(lanes: &mut Vec<Lane>, place: usize, value: Value) -> Result<(), OutOfMemory>
+    ensures ok { OnOk result (lanes.new.items ≡ map (entered place value) lanes.old.items) }
+    ensures err { OnErr result ((count : ℕ) × (lanes.new.items ≡ entered_up_to count place value lanes.old.items)) }
+{
+    for number in 0..lanes.len() {
+        let lane = &mut lanes[number];
+        lane.enter(place, value)?;
+    }
+    Ok(())
+}
+
+/// Whether the message of the place is still there.
+fn is_here(items: &[Option<Msg>], place: usize) -> bool
+    ensures { result ≡ is_here items.now place }
+{
+    match items.get(place) {
+        Some(item) => item.is_some(),
+        None => false,
+    }
+}
+
+/// The place of the oldest message that satisfies the lane's predicate. Places of messages that are gone leave the lane.
+fn first_place(items: &[Option<Msg>], lane: &mut Lane) -> Option<usize>
+    requires { IsLane items.now lane.old }
+    ensures place { result ≡ slice_get (fitting_places 0 lane.old.pred items.now) 0 }
+    ensures lane { IsLane items.now lane.new }
+    ensures pred { lane.new.pred ≡ lane.old.pred }
+{
+    while let Some(place) = lane.first() {
+        if is_here(items, place) {
+            return Some(place);
+        }
+        lane.leave();
+    }
+    None
+}
+
+/// Enters the place, where a message is there that satisfies the lane's predicate.
+fn enter_item(lane: &mut Lane, place: usize, item: &Option<Msg>) -> Result<(), OutOfMemory>
+    ensures { OnOk result (lane.new ≡ entered_item place item.now lane.old) }
+{
+    match item {
+        Some(message) => lane.enter(place, message.value),
+        None => Ok(()),
+    }
+}
+
+/// A lane of the predicate with the places of all messages that satisfy it.
+fn lane_of(alloc: Global, items: &[Option<Msg>], pred: Pred) -> Result<Lane, OutOfMemory>
+    ensures lane { IfOk result (IsLane items.now) }
+    ensures pred { IfOk result (λ lane. lane.pred ≡ pred) }
+{
+    let mut lane = Lane::new(alloc, pred);
+    for place in 0..items.len() {
+        enter_item(&mut lane, place, &items[place])?;
+    }
+    Ok(lane)
+}
+
+/// The number of the lane of the predicate, which is made where there is none.
+fn lane_for(
+    alloc: Global,
+    items: &[Option<Msg>],
+    lanes: &mut Vec<Lane>,
+    pred: Pred,
+) -> Result<usize, OutOfMemory>
+    requires { AreLanes items.now lanes.old.items }
+    ensures lanes { AreLanes items.now lanes.new.items }
+    ensures found { IfOk result (λ number. HasLane lanes.new.items number pred) }
+{
+    for number in 0..lanes.len() {
+        if lanes[number].is_of(pred) {
+            return Ok(number);
+        }
+    }
+    let number = lanes.len();
+    lanes.push(lane_of(alloc, items, pred)?)?;
+    Ok(number)
+}
+
+/// The number of the lane of the predicate. Its first place, if any, is of a message that is still there.
+fn fit_lane(
+    alloc: Global,
+    items: &[Option<Msg>],
+    lanes: &mut Vec<Lane>,
+    pred: Pred,
+) -> Result<usize, OutOfMemory>
+    requires { AreLanes items.now lanes.old.items }
+    ensures lanes { AreLanes items.now lanes.new.items }
+    ensures found { IfOk result (λ number. HasLane lanes.new.items number pred) }
+{
+    let number = lane_for(alloc, items, lanes, pred)?;
+    first_place(items, &mut lanes[number]);
+    Ok(number)
+}
+
+/// Whether at least so many of the places are of messages that are still there.
+fn are_here(items: &[Option<Msg>], places: &VecDeque<usize>, least: usize) -> bool
+    ensures { result ≡ nat_le least (length (filter (is_here items.now) places.now.items)) }
+{
+    let mut found = 0;
+    for at in 0..places.len() {
+        if least <= found {
+            return true;
+        }
+        if is_here(items, places[at]) {
+            found += 1;
+        }
+    }
+    least <= found
+}
+
+/// The names of the first messages of the places that are still there, at most so many.
+fn first_names(
+    alloc: Global,
+    items: &[Option<Msg>],
+    places: &VecDeque<usize>,
+    most: usize,
+) -> Result<Vec<MsgId>, OutOfMemory>
+    ensures { IfOk result (λ names. names.items ≡ names_at items.now (take most (filter (is_here items.now) places.now.items))) }
+{
+    let mut names = Vec::new(alloc);
+    for at in 0..places.len() {
+        if most <= names.len() {
+            return Ok(names);
+        }
+        if let Some(name) = name_at(items, places[at]) {
+            names.push(name)?;
+        }
+    }
+    Ok(names)
+}
+
+/// The name of the message of the place, while it is there.
+fn name_at(items: &[Option<Msg>], place: usize) -> Option<MsgId>
+    ensures { result ≡ name_at items.now place }
+{
+    let message = items.get(place)?.as_ref()?;
+    Some(message.id)
+}
+
+/// How many of the names, from the first on, are the same.
+fn count_shared(oldest: &[MsgId], names: &[MsgId]) -> usize
+    ensures count { result ≡ same_front oldest.now names.now }
+    ensures few { result ≤ length names.now }
+{
+    let [name, later @ ..] = names else {
+        return 0;
+    };
+    let [first, others @ ..] = oldest else {
+        return 0;
+    };
+    if first == name {
+        count_shared(others, later) + 1
+    } else {
+        0
+    }
+}
+
+/// The place of the oldest message that satisfies the predicate.
+fn first_fitting(
+    alloc: Global,
+    items: &[Option<Msg>],
+    lanes: &mut Vec<Lane>,
+    pred: Pred,
+) -> Result<Option<usize>, OutOfMemory>
+    requires { AreLanes items.now lanes.old.items }
+    ensures lanes { AreLanes items.now lanes.new.items }
+    ensures place { IfOk result (λ place. place ≡ slice_get (fitting_places 0 pred items.now) 0) }
+{
+    let number = lane_for(alloc, items, lanes, pred)?;
+    let lane = &mut lanes[number];
+    Ok(first_place(items, lane))
+}
+
+impl Held {
+    /// An empty port.
+    pub fn new(alloc: Global) -> Held
+        ensures { result ≡ [] }
+    {
+        Held {
+            alloc,
+            items: Vec::new(alloc),
+            lanes: Vec::new(alloc),
+            left: 0,
+        }
+    }
+
+    /// The message becomes the youngest.
+    pub fn post(&mut self, message: Msg) -> Result<(), OutOfMemory>
+        ensures ok { OnOk result (self.new ≡ self.old ++ message ∷ []) }
+        ensures err { OnErr result (self.new ≡ self.old) }
+    {
+        let place = self.items.len();
+        self.items.push(None)?;
+        enter_all(&mut self.lanes, place, message.value)?;
+        self.items[place] = Some(message);
+        self.left += 1;
+        Ok(())
+    }
+
+    /// Whether so many messages satisfy the predicate.
+    pub fn has(&mut self, pred: Pred, least: usize) -> Result<bool, OutOfMemory>
+        ensures enough { IfOk result (λ enough. enough ≡ nat_le least (length (fitting pred self.old))) }
+        ensures kept { self.new ≡ self.old }
+    {
+        let number = fit_lane(self.alloc, &self.items, &mut self.lanes, pred)?;
+        let lane = &self.lanes[number];
+        Ok(are_here(&self.items, lane.places(), least))
+    }
+
+    /// The names of the oldest messages that satisfy the predicate, at most so many.
+    pub fn names(&mut self, pred: Pred, most: usize) -> Result<Vec<MsgId>, OutOfMemory>
+        ensures names { IfOk result (λ names. names.items ≡ map (λ (m : Msg). m.id) (take most (fitting pred self.old))) }
+        ensures kept { self.new ≡ self.old }
+    {
+        let number = fit_lane(self.alloc, &self.items, &mut self.lanes, pred)?;
+        let lane = &self.lanes[number];
+        first_names(self.alloc, &self.items, lane.places(), most)
+    }
+
+    /// Takes out the oldest message that satisfies the predicate.
+    pub fn take(&mut self, pred: Pred) -> Result<Option<Msg>, OutOfMemory>
+        ensures message { IfOk result (λ message. message ≡ slice_get (fitting pred self.old) 0) }
+        ensures rest { OnOk result (self.new ≡ without_first pred self.old) }
+        ensures err { OnErr result (self.new ≡ self.old) }
+    {
+        let Some(place) = first_fitting(self.alloc, &self.items, &mut self.lanes, pred)? else {
+            return Ok(None);
+        };
+        self.left = self.left.saturating_sub(1);
+        Ok(self.items[place].take())
+    }
+
+    /// Takes out so many of the oldest messages that satisfy the predicate, or all of them where they are fewer. They are put
+    /// behind those that were taken before.
+    pub fn take_some(
+        &mut self,
+        pred: Pred,
+        most: usize,
+        taken: &mut Vec<Msg>,
+    ) -> Result<(), OutOfMemory>
+        ensures rest { OnOk result (self.new ≡ without_some most pred self.old) }
+        ensures taken { OnOk result (taken.new.items ≡ taken.old.items ++ take most (fitting pred self.old)) }
+    {
+        for _ in 0..most {
+            if let Some(message) = self.take(pred)? {
+                taken.push(message)?;
+            }
+        }
+        Ok(())
+    }
+
+    /// Takes out so many of the oldest messages, or all of them where they are fewer, and puts them behind those that were
+    /// taken before.
+    pub fn take_oldest(&mut self, count: usize, taken: &mut Vec<Msg>) -> Result<(), OutOfMemory>
+        ensures rest { OnOk result (self.new ≡ drop count self.old) }
+        ensures taken { OnOk result (taken.new.items ≡ taken.old.items ++ take count self.old) }
+    {
+        self.take_some(Pred::Any, count, taken)
+    }
+
+    /// The names of the oldest messages, at most so many.
+    pub fn oldest_names(&mut self, most: usize) -> Result<Vec<MsgId>, OutOfMemory>
+        ensures names { IfOk result (λ names. names.items ≡ map (λ (m : Msg). m.id) (take most self.old)) }
+        ensures kept { self.new ≡ self.old }
+    {
+        self.names(Pred::Any, most)
+    }
+
+    /// How many of the names, from the first on, are those of the oldest messages.
+    pub fn shared(&mut self, names: &[MsgId]) -> Result<usize, OutOfMemory>
+        ensures shared { IfOk result (λ count. count ≡ shared self.old names.now) }
+        ensures kept { self.new ≡ self.old }
+    {
+        let oldest = self.names(Pred::Any, names.len())?;
+        Ok(count_shared(&oldest, names))
+    }
+
+    /// How many messages there are.
+    pub fn len(&self) -> usize
+        ensures { result ≡ length self.now }
+    {
+        self.left
+    }
+}

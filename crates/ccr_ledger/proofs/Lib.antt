@@ -1,0 +1,6 @@
+pub mod Tables
+pub mod Rest
+pub mod Sizes
+pub mod Flags
+pub mod Running
+pub mod Said

@@ -1,0 +1,112 @@
+-- Each event keeps how many posts were made.
+use Rattle.std.proofs.Common.{◌≡◌, ℕ, zero, suc, ◌+◌, ◌<◌, Bool, true, false, List, [], ◌∷◌, ◌++◌, length, filter, Option, Some, None, refl, sym, ap, ◌∙◌, arith, append-nil}
+use Rattle.std.specs.Prelude.{◌==◌, if◌then◌else◌}
+use Rattle.std.specs.Option.{option_map_or}
+use Rattle.ccr_base.specs.declared.names.TaskId.{TaskId}
+use Rattle.ccr_base.specs.declared.names.MsgId.{MsgId}
+use Rattle.ccr_base.specs.declared.names.MsgId.TheVariants.{Script, Task}
+use Rattle.ccr_base.specs.declared.names.Spot.{Spot}
+use Rattle.ccr_base.specs.declared.names.Spot.TheVariants.{Branch, Site}
+use Rattle.ccr_base.specs.declared.messages.Msg.{Msg}
+use Rattle.ccr_wiring.specs.declared.parts.Parts.{Parts}
+use Rattle.ccr_wiring.specs.Wirings.{Seat, seat}
+use Rattle.ccr_model.specs.declared.history.Event.{Event}
+use Rattle.ccr_model.specs.declared.history.Event.TheVariants.{Post, Fire, Admit, Put, Start, End}
+use Rattle.ccr_model.specs.declared.history.EndHow.{EndHow}
+use Rattle.ccr_model.specs.Posts.{posts, post_of, is_script_of, is_task_message, posts_of_poster, posts_of_tasks}
+use Rattle.ccr_model.proofs.Booleans.{same_number}
+use Rattle.ccr_model.proofs.Pushes.{posts-push}
+use Rattle.ccr_ledger.specs.declared.cards.Card.{Card}
+use Rattle.ccr_ledger.specs.Books.{Books, card_at, number, more}
+use Rattle.ccr_ledger.specs.Posting.{counted, after_post}
+use Rattle.ccr_ledger.specs.Firing.{after_cut, after_cuts, after_taking, after_fire, resumed_card}
+use Rattle.ccr_ledger.specs.Events.{after_last, after_discard, after_dropped, after_stop, after_yield, after_end, after_event, is_yield}
+use Rattle.ccr_ledger.specs.Kept.{HasSizes, KeepsSaid}
+use Rattle.ccr_ledger.proofs.Tables.{number-set}
+
+-- the counts of posts alone
+record Said : Type 0 where
+  said : List ℕ
+  task_posts : ℕ
+
+abbrev said_of : Books → Said
+said_of b = record { said = b.said; task_posts = b.task_posts }
+
+by_card : (b : Books) (o : Option Card) (f : Card → Books) → ((c : Card) → said_of (f c) ≡ said_of b) → said_of (option_map_or f o b) ≡ said_of b
+by_card b None f same = refl
+by_card b (Some c) f same = same c
+
+same-cuts : (ts : List TaskId) (b : Books) → said_of (after_cuts ts b) ≡ said_of b
+same-cuts [] b = refl
+same-cuts (t ∷ ts) b = same-cuts ts (after_cut t b) ∙ by_card b (card_at b.tasks t) _ (λ c. refl)
+
+same-last : (r : TaskId) (b : Books) → said_of (after_last r b) ≡ said_of b
+same-last r b = by_card b (card_at b.tasks r) _ (λ c. of_test b (record b { tasks = _; admitted = _; alone = _ }) c.admitted refl)
+  where
+    of_test : (b d : Books) (is : Bool) → said_of d ≡ said_of b → said_of (if is then d else b) ≡ said_of b
+    of_test b d true same = same
+    of_test b d false same = refl
+
+same-dropped : (d : Option TaskId) (b : Books) → said_of (after_dropped d b) ≡ said_of b
+same-dropped None b = refl
+same-dropped (Some t) b = by_card b (card_at b.tasks t) _ (λ c. same-last c.root (after_discard t c.spot c.queue b))
+
+same-fire : (w : Parts) (t : TaskId) (s : Spot) (ms : List MsgId) (cs : List TaskId) (b : Books) → said_of (after_fire w t s ms cs b) ≡ said_of b
+same-fire w t (Branch n) ms cs b = of_seat (seat w n)
+  where
+    of_seat : (o : Option Seat) → said_of (option_map_or (after_taking w t n ms (after_cuts cs b)) o b) ≡ said_of b
+    of_seat None = refl
+    of_seat (Some s) = same-cuts cs b
+same-fire w t (Site n k) ms cs b = by_card b (resumed_card b n k) _ (λ c. refl)
+
+same-end : (t : TaskId) (how : EndHow) (c : Card) (b : Books) → said_of (after_end t how c b) ≡ said_of b
+same-end t how c b = of_test (is_yield how)
+  where
+    of_test : (is : Bool) → said_of (if is then after_yield t c b else after_last c.root (after_stop t b)) ≡ said_of b
+    of_test true = refl
+    of_test false = same-last c.root (after_stop t b)
+
+-- one more message, of those that pass
+count-more : (test : Msg → Bool) (ms : List Msg) (m : Msg) → length (filter test (ms ++ m ∷ [])) ≡ (if test m then length (filter test ms) + 1 else length (filter test ms))
+count-more test [] m = of_test (test m)
+  where
+    of_test : (b : Bool) → length (if b then m ∷ [] else []) ≡ (if b then 0 + 1 else 0)
+    of_test true = refl
+    of_test false = refl
+count-more test (x ∷ ms) m = grind (arith, count-more test ms m)
+
+-- no post, and the counts as they were
+said-other : (w : Parts) (h : List Event) (e : Event) (b c : Books) → post_of e ≡ [] → said_of c ≡ said_of b → KeepsSaid w h b → KeepsSaid w (h ++ e ∷ []) c
+said-other w h e b c other same keeps = record {
+  said = λ p low. ap (λ (s : Said). number s.said p) same ∙ (keeps.said p low ∙ ap (λ ms. length (filter (λ (m : Msg). is_script_of p m.id) ms)) (sym posts_same));
+  task_posts = ap (λ (s : Said). s.task_posts) same ∙ (keeps.task_posts ∙ ap (λ ms. length (filter (λ (m : Msg). is_task_message m.id) ms)) (sym posts_same));
+}
+  where
+    posts_same : posts (h ++ e ∷ []) ≡ posts h
+    posts_same = rw (posts-push, other) (append-nil (posts h))
+
+counted-post : (h : List Event) (m : Msg) (id : MsgId) (test : MsgId → Bool) → m.id ≡ id → length (filter (λ (o : Msg). test o.id) (posts (h ++ Post m ∷ []))) ≡ (if test id then length (filter (λ (o : Msg). test o.id) (posts h)) + 1 else length (filter (λ (o : Msg). test o.id) (posts h)))
+counted-post h m id test is =
+    ap (λ ms. length (filter (λ (o : Msg). test o.id) ms)) (posts-push h (Post m)) ∙ (count-more (λ (o : Msg). test o.id) (posts h) m ∙ ap (λ n. if test n then length (filter (λ (o : Msg). test o.id) (posts h)) + 1 else length (filter (λ (o : Msg). test o.id) (posts h))) is)
+
+said-post : (w : Parts) (h : List Event) (m : Msg) (id : MsgId) (b : Books) → m.id ≡ id → HasSizes w b → KeepsSaid w h b → KeepsSaid w (h ++ Post m ∷ []) (counted id b)
+said-post w h m (Script actor place) b is sizes keeps = record {
+  said = λ p low. number-set b.said actor p (number b.said actor + 1) (omega (arith, low, sizes.said)) ∙ (of_test p (actor == p) refl (keeps.said p low) ∙ sym (counted-post h m _ (is_script_of p) is));
+  task_posts = keeps.task_posts ∙ sym (counted-post h m _ is_task_message is);
+}
+  where
+    of_test : (p : ℕ) (same : Bool) → (actor == p) ≡ same → number b.said p ≡ posts_of_poster h p → (if same then number b.said actor + 1 else number b.said p) ≡ (if same then posts_of_poster h p + 1 else posts_of_poster h p)
+    of_test p true same known = let one : actor ≡ p = same_number actor p same in ap (λ n. n + 1) (ap (number b.said) one ∙ known)
+    of_test p false same known = known
+said-post w h m (Task task place) b is sizes keeps = record {
+  said = λ p low. keeps.said p low ∙ sym (counted-post h m _ (is_script_of p) is);
+  task_posts = ap (λ n. n + 1) keeps.task_posts ∙ sym (counted-post h m _ is_task_message is);
+}
+
+pub said-event : (w : Parts) (h : List Event) (e : Event) (b : Books) → HasSizes w b → KeepsSaid w h b → KeepsSaid w (h ++ e ∷ []) (after_event w e b)
+said-event w h (Post m) b sizes keeps = let done = said-post w h m m.id b refl sizes keeps in record { said = done.said; task_posts = done.task_posts }
+said-event w h (Fire t s ms cs) b sizes keeps = said-other w h (Fire t s ms cs) b (after_fire w t s ms cs b) refl (same-fire w t s ms cs b) keeps
+said-event w h (Admit t) b sizes keeps = said-other w h (Admit t) b (after_event w (Admit t) b) refl (by_card b (card_at b.tasks t) _ (λ c. refl)) keeps
+said-event w h (Put t d) b sizes keeps = said-other w h (Put t d) b (after_event w (Put t d) b) refl (by_card b (card_at b.tasks t) _ (λ c. same-dropped d b)) keeps
+said-event w h (Start t a) b sizes keeps = said-other w h (Start t a) b (after_event w (Start t a) b) refl (by_card b (card_at b.tasks t) _ (λ c. refl)) keeps
+said-event w h (End t how) b sizes keeps = said-other w h (End t how) b (after_event w (End t how) b) refl (by_card b (card_at b.tasks t) _ (λ c. same-end t how c b)) keeps

@@ -1,0 +1,325 @@
+//! What the tables answer.
+
+ghost use Rattle.std.specs.Prelude.{◌≡◌, IfOk, OnOk, length, map};
+ghost use Rattle.std.specs.List.{slice_get};
+ghost use Rattle.std.specs.Option.{option_map};
+ghost use Rattle.ccr_base.specs.declared.names.TaskId.{TaskId};
+ghost use Rattle.ccr_rows.specs.Rows.{row};
+ghost use Rattle.ccr_model.specs.Choice.{names_of};
+ghost use Rattle.ccr_ledger.specs.declared.cards.Card.{Card};
+ghost use Rattle.ccr_ledger.specs.Books.{card_at, number};
+ghost use Rattle.ccr_ledger.specs.Asked.{admits, budget_lasts, can_choose, choice_at, cuts, drops, enters, group_lives, has_fired, has_more, is_busy, is_ready, is_ready_stage, lives, queue_has_room, queued_first, room, runs, unfinished, waits_first};
+
+use crate::choices::{count, has_enough, names_of_choice, names_of_site};
+use crate::counts::{flag, number};
+use crate::tasks::first_suspended;
+use crate::{Card, Ledger, Runner, Stage};
+use ccr_base::{ActorNo, BranchNo, Group, MsgId, OutOfMemory, Policy, QueueNo, Spot, TaskId};
+use ccr_model::seats::{is_teardown, policy_of, seat, site_port};
+use ccr_rows::Rows;
+use ccr_wiring::Wiring;
+use std::alloc::Global;
+
+/// Whether a task in the stage may be put.
+fn is_ready_stage(stage: Stage) -> bool
+    ensures { result ≡ is_ready_stage stage }
+{
+    match stage {
+        Stage::Ready => true,
+        _ => false,
+    }
+}
+
+/// The tasks of the row.
+fn row_of(alloc: Global, rows: &Rows<TaskId>, number: usize) -> Result<Vec<TaskId>, OutOfMemory>
+    ensures { IfOk result (λ tasks. tasks.items ≡ row rows.now number) }
+{
+    let mut tasks = Vec::new(alloc);
+    for place in 0..rows.len(number) {
+        if let Some(task) = rows.at(number, place) {
+            tasks.push(*task)?;
+        }
+    }
+    Ok(tasks)
+}
+
+impl Ledger {
+    /// What is kept of the task; nothing where it never fired.
+    pub fn card(&self, task: TaskId) -> Option<&Card>
+        ensures { option_map (λ card. card.now) result ≡ card_at self.now.tasks task }
+    {
+        self.tasks.get(&task)
+    }
+
+    /// The task that fired after so many others.
+    pub fn fired(&self, number: usize) -> Option<TaskId>
+        ensures { result ≡ option_map (λ (entry : TaskId × Card). entry.0) (slice_get self.now.tasks number) }
+    {
+        let (task, _) = self.tasks.get_index(number)?;
+        Some(*task)
+    }
+
+    /// How many tasks fired.
+    pub fn count_fired(&self) -> usize
+        ensures { result ≡ length self.now.tasks }
+    {
+        self.tasks.len()
+    }
+
+    /// Whether the task fired.
+    pub fn has_fired(&self, task: TaskId) -> bool
+        ensures { result ≡ has_fired self.now task }
+    {
+        self.card(task).is_some()
+    }
+
+    /// Whether a branch of the group may fire once more.
+    fn group_lives(&self, branch: BranchNo, domain: usize, group: Group) -> bool
+        ensures { result ≡ group_lives self.now branch domain group }
+    {
+        match group {
+            Group::Always => true,
+            Group::Once => !flag(&self.spent, branch as usize),
+            Group::Choice => !flag(&self.chosen, domain),
+            _ => !flag(&self.torn, domain),
+        }
+    }
+
+    /// Whether the spot may fire once more.
+    pub fn lives(&self, wiring: &Wiring, spot: Spot) -> bool
+        ensures { result ≡ lives wiring.now self.now spot }
+    {
+        match spot {
+            Spot::Branch(branch) => match seat(wiring, branch) {
+                Some(seat) => self.group_lives(branch, seat.arbiter, seat.branch.group),
+                None => false,
+            },
+            Spot::Site(branch, site) => first_suspended(&self.suspended, branch, site).is_some(),
+        }
+    }
+
+    /// Whether a queue of the policy lets a branch fire.
+    fn queue_has_room(&self, queue: QueueNo, policy: Policy) -> bool
+        ensures { result ≡ queue_has_room self.now queue policy }
+    {
+        match policy {
+            Policy::Throttle(most) => number(&self.coming, queue as usize) < most,
+            _ => true,
+        }
+    }
+
+    /// Whether the queue lets the spot fire.
+    pub fn room(&self, wiring: &Wiring, spot: Spot) -> bool
+        ensures { result ≡ room wiring.now self.now spot }
+    {
+        let Spot::Branch(branch) = spot else {
+            return true;
+        };
+        match seat(wiring, branch) {
+            Some(seat) => {
+                let queue = seat.branch.queue;
+                self.queue_has_room(queue, policy_of(wiring, queue))
+            }
+            None => true,
+        }
+    }
+
+    /// Whether the ports hold enough for the spot.
+    pub fn can_choose(&mut self, wiring: &Wiring, spot: Spot) -> Result<bool, OutOfMemory>
+        ensures can { IfOk result (λ can. can ≡ can_choose wiring.now self.old spot) }
+        ensures kept { OnOk result (self.new ≡ self.old) }
+    {
+        match spot {
+            Spot::Branch(branch) => match seat(wiring, branch) {
+                Some(seat) => has_enough(&mut self.ports, &seat.branch.pattern),
+                None => Ok(false),
+            },
+            Spot::Site(branch, site) => match site_port(wiring, branch, site) {
+                Some(port) => Ok(count(&self.ports, port) != 0),
+                None => Ok(false),
+            },
+        }
+    }
+
+    /// The names of the choice that one thread makes at the spot, if there is one.
+    pub fn choice(&mut self, wiring: &Wiring, spot: Spot) -> Result<Option<Vec<MsgId>>, OutOfMemory>
+        ensures names { IfOk result (λ names. option_map (λ found. found.items) names ≡ option_map names_of (choice_at wiring.now self.old spot)) }
+        ensures kept { OnOk result (self.new ≡ self.old) }
+    {
+        match spot {
+            Spot::Branch(branch) => match seat(wiring, branch) {
+                Some(seat) => names_of_choice(self.alloc, &mut self.ports, &seat.branch.pattern),
+                None => Ok(None),
+            },
+            Spot::Site(branch, site) => match site_port(wiring, branch, site) {
+                Some(port) => names_of_site(self.alloc, &mut self.ports, port),
+                None => Ok(None),
+            },
+        }
+    }
+
+    /// The tasks that a firing at the spot cuts, oldest first.
+    pub fn cuts(&self, wiring: &Wiring, spot: Spot) -> Result<Vec<TaskId>, OutOfMemory>
+        ensures { IfOk result (λ tasks. tasks.items ≡ cuts wiring.now self.now spot) }
+    {
+        let Spot::Branch(branch) = spot else {
+            return Ok(Vec::new(self.alloc));
+        };
+        let Some(seat) = seat(wiring, branch) else {
+            return Ok(Vec::new(self.alloc));
+        };
+        if is_teardown(seat.branch.group) {
+            row_of(self.alloc, &self.waiting, seat.arbiter)
+        } else {
+            Ok(Vec::new(self.alloc))
+        }
+    }
+
+    /// The oldest task that waits in the domain, if any.
+    pub fn oldest_waiting(&self, domain: usize) -> Option<TaskId>
+        ensures { result ≡ slice_get (row self.now.waiting domain) 0 }
+    {
+        self.waiting.first(domain).copied()
+    }
+
+    /// Whether the task is the oldest that waits in its domain.
+    pub fn waits_first(&self, task: TaskId) -> bool
+        ensures { result ≡ waits_first self.now task }
+    {
+        match self.tasks.get(&task) {
+            Some(card) => self.waiting.first(card.domain) == Some(&task),
+            None => false,
+        }
+    }
+
+    /// Whether the task of the card may be admitted beside those that were.
+    fn admits(&self, card: &Card) -> bool
+        ensures { result ≡ admits self.now card.now }
+    {
+        if card.concurrent {
+            number(&self.alone, card.domain) == 0
+        } else {
+            number(&self.admitted, card.domain) == 0
+        }
+    }
+
+    /// Whether the task may be admitted beside those that were.
+    pub fn enters(&self, task: TaskId) -> bool
+        ensures { result ≡ enters self.now task }
+    {
+        match self.card(task) {
+            Some(card) => self.admits(card),
+            None => false,
+        }
+    }
+
+    /// Whether the task may be put.
+    pub fn is_ready(&self, task: TaskId) -> bool
+        ensures { result ≡ is_ready self.now task }
+    {
+        match self.card(task) {
+            Some(card) => is_ready_stage(card.stage),
+            None => false,
+        }
+    }
+
+    /// The task that a put of this one drops: the oldest of its queue, where that is full and discards.
+    pub fn drops(&self, wiring: &Wiring, task: TaskId) -> Option<TaskId>
+        ensures { result ≡ drops wiring.now self.now task }
+    {
+        let card = self.card(task)?;
+        let queue = card.queue as usize;
+        match policy_of(wiring, card.queue) {
+            Policy::Discard(most) => {
+                if most as usize <= self.queued.len(queue) {
+                    self.queued.first(queue).copied()
+                } else {
+                    None
+                }
+            }
+            _ => None,
+        }
+    }
+
+    /// The oldest task of the queue, if any.
+    pub fn oldest_queued(&self, queue: QueueNo) -> Option<TaskId>
+        ensures { result ≡ slice_get (row self.now.queued queue) 0 }
+    {
+        self.queued.first(queue as usize).copied()
+    }
+
+    /// Whether the task is the oldest of its queue.
+    pub fn queued_first(&self, task: TaskId) -> bool
+        ensures { result ≡ queued_first self.now task }
+    {
+        match self.tasks.get(&task) {
+            Some(card) => self.queued.first(card.queue as usize) == Some(&task),
+            None => false,
+        }
+    }
+
+    /// Those that run, by their starts.
+    pub fn running(&self) -> &[Runner]
+        ensures { result.now ≡ self.now.running }
+    {
+        &self.running
+    }
+
+    /// Whether the actor runs a task that it started.
+    pub fn is_busy(&self, actor: ActorNo) -> bool
+        ensures { result ≡ is_busy self.now actor }
+    {
+        self.running.iter().any(|runner| runner.actor == actor)
+    }
+
+    /// Whether the task runs.
+    pub fn runs(&self, task: TaskId) -> bool
+        ensures { result ≡ runs self.now task }
+    {
+        self.running.iter().any(|runner| runner.task == task)
+    }
+
+    /// Whether a post of the task's play is left.
+    pub fn has_more(&self, task: TaskId) -> bool
+        ensures { result ≡ has_more self.now task }
+    {
+        match self.card(task) {
+            Some(card) => (card.made as usize) < card.play.posts.as_slice().len(),
+            None => false,
+        }
+    }
+
+    /// How many running tasks have a post left.
+    pub fn unfinished(&self) -> usize
+        ensures { result ≡ unfinished self.now }
+    {
+        let mut count = 0;
+        for runner in &self.running {
+            if self.has_more(runner.task) {
+                count += 1;
+            }
+        }
+        count
+    }
+
+    /// How many posts of its script the poster has made.
+    pub fn said(&self, poster: ActorNo) -> u32
+        ensures { result ≡ number self.now.said poster }
+    {
+        number(&self.said, poster as usize)
+    }
+
+    /// How many posts tasks have made.
+    pub fn task_posts(&self) -> u32
+        ensures { result ≡ self.now.task_posts }
+    {
+        self.task_posts
+    }
+
+    /// Whether tasks have made fewer posts than the budget.
+    pub fn budget_lasts(&self, wiring: &Wiring) -> bool
+        ensures { result ≡ budget_lasts wiring.now self.now }
+    {
+        self.task_posts < wiring.parts().budget
+    }
+}

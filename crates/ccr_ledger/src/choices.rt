@@ -1,0 +1,200 @@
+//! What the ports hold for a pattern.
+
+ghost use Rattle.std.specs.Prelude.{◌≡◌, IfOk, OnOk, length, take};
+ghost use Rattle.std.specs.List.{list_all};
+ghost use Rattle.std.specs.Option.{option_map};
+ghost use Rattle.ccr_base.specs.Choice.{choice, fitting, is_choosable};
+ghost use Rattle.ccr_rows.specs.Rows.{row};
+ghost use Rattle.ccr_model.specs.Choice.{choice_of_slots, engine_choice_of, engine_gather, names_of, oldest};
+ghost use Rattle.ccr_model.specs.Enough.{has_enough};
+
+use ccr_base::{MsgId, OutOfMemory, Pattern, PortNo, Slot};
+use ccr_held::Held;
+use std::alloc::Global;
+
+/// How many messages the port holds.
+pub(crate) fn count(ports: &[Held], port: PortNo) -> usize
+    ensures { result ≡ length (row ports.now port) }
+{
+    match ports.get(port as usize) {
+        Some(port) => port.len(),
+        None => 0,
+    }
+}
+
+/// Whether the slot's port holds enough for it.
+fn slot_has_enough(ports: &mut Vec<Held>, slot: &Slot) -> Result<bool, OutOfMemory>
+    ensures enough { IfOk result (λ enough. enough ≡ is_choosable slot.now (row ports.old.items slot.now.port)) }
+    ensures kept { OnOk result (ports.new.items ≡ ports.old.items) }
+{
+    let number = slot.port as usize;
+    if number < ports.len() {
+        let port = &mut ports[number];
+        port.has(slot.pred, slot.least as usize)
+    } else {
+        Ok(slot.least == 0)
+    }
+}
+
+/// Whether each slot's port holds enough for it.
+fn slots_have_enough(ports: &mut Vec<Held>, slots: &[Slot]) -> Result<bool, OutOfMemory>
+    ensures enough { IfOk result (λ all. all ≡ list_all (λ slot. is_choosable slot (row ports.old.items slot.port)) slots.now) }
+    ensures kept { OnOk result (ports.new.items ≡ ports.old.items) }
+{
+    for slot in slots {
+        if !slot_has_enough(ports, slot)? {
+            return Ok(false);
+        }
+    }
+    Ok(true)
+}
+
+/// Whether the ports hold enough for the pattern.
+pub(crate) fn has_enough(ports: &mut Vec<Held>, pattern: &Pattern) -> Result<bool, OutOfMemory>
+    ensures enough { IfOk result (λ enough. enough ≡ has_enough (row ports.old.items) pattern.now) }
+    ensures kept { OnOk result (ports.new.items ≡ ports.old.items) }
+{
+    match pattern {
+        Pattern::Slots(slots) => slots_have_enough(ports, slots.as_slice()),
+        Pattern::Gather {
+            total,
+            first,
+            second,
+        } => {
+            let of_first = count(ports, *first);
+            let of_second = count(ports, *second);
+            Ok((*total as usize).saturating_sub(of_first) <= of_second)
+        }
+    }
+}
+
+/// The names of the oldest messages of the slot's port that satisfy its predicate, at most as many as it takes.
+fn slot_names(alloc: Global, ports: &mut Vec<Held>, slot: &Slot) -> Result<Vec<MsgId>, OutOfMemory>
+    ensures names { IfOk result (λ names. names.items ≡ names_of (take slot.now.most (fitting slot.now.pred (row ports.old.items slot.now.port)))) }
+    ensures kept { OnOk result (ports.new.items ≡ ports.old.items) }
+{
+    let number = slot.port as usize;
+    if number < ports.len() {
+        let port = &mut ports[number];
+        port.names(slot.pred, slot.most as usize)
+    } else {
+        Ok(Vec::new(alloc))
+    }
+}
+
+/// The names of the slot's choice, if its port holds enough.
+fn choice_names(
+    alloc: Global,
+    ports: &mut Vec<Held>,
+    slot: &Slot,
+) -> Result<Option<Vec<MsgId>>, OutOfMemory>
+    ensures names { IfOk result (λ names. option_map (λ found. found.items) names ≡ option_map names_of (choice slot.now (row ports.old.items slot.now.port))) }
+    ensures kept { OnOk result (ports.new.items ≡ ports.old.items) }
+{
+    if slot_has_enough(ports, slot)? {
+        Ok(Some(slot_names(alloc, ports, slot)?))
+    } else {
+        Ok(None)
+    }
+}
+
+/// The names of the slots' choice, slot by slot, if each port holds enough.
+fn names_of_slots(
+    alloc: Global,
+    ports: &mut Vec<Held>,
+    slots: &[Slot],
+) -> Result<Option<Vec<MsgId>>, OutOfMemory>
+    ensures names { IfOk result (λ names. option_map (λ found. found.items) names ≡ option_map names_of (choice_of_slots (row ports.old.items) slots.now)) }
+    ensures kept { OnOk result (ports.new.items ≡ ports.old.items) }
+{
+    let mut names = Vec::new(alloc);
+    for slot in slots {
+        let Some(found) = choice_names(alloc, ports, slot)? else {
+            return Ok(None);
+        };
+        names.extend_from_slice(&found)?;
+    }
+    Ok(Some(names))
+}
+
+/// The names of so many of the oldest messages of the port.
+pub(crate) fn oldest_names(
+    alloc: Global,
+    ports: &mut Vec<Held>,
+    port: PortNo,
+    most: usize,
+) -> Result<Vec<MsgId>, OutOfMemory>
+    ensures names { IfOk result (λ names. names.items ≡ names_of (take most (row ports.old.items port))) }
+    ensures kept { OnOk result (ports.new.items ≡ ports.old.items) }
+{
+    let number = port as usize;
+    if number < ports.len() {
+        let port = &mut ports[number];
+        port.oldest_names(most)
+    } else {
+        Ok(Vec::new(alloc))
+    }
+}
+
+/// The names of what a gather takes: as many as can be had from the port of the lower number.
+fn names_of_gather(
+    alloc: Global,
+    ports: &mut Vec<Held>,
+    total: usize,
+    first: PortNo,
+    second: PortNo,
+) -> Result<Option<Vec<MsgId>>, OutOfMemory>
+    ensures names { IfOk result (λ names. option_map (λ found. found.items) names ≡ option_map names_of (engine_gather total first second (row ports.old.items first) (row ports.old.items second))) }
+    ensures kept { OnOk result (ports.new.items ≡ ports.old.items) }
+{
+    let of_first = count(ports, first);
+    let of_second = count(ports, second);
+    if of_second < total.saturating_sub(of_first) {
+        return Ok(None);
+    }
+    let (most_first, most_second) = if first < second {
+        (total, total.saturating_sub(of_first))
+    } else {
+        (total.saturating_sub(of_second), total)
+    };
+    let mut names = oldest_names(alloc, ports, first, most_first)?;
+    let more = oldest_names(alloc, ports, second, most_second)?;
+    names.extend_from_slice(&more)?;
+    Ok(Some(names))
+}
+
+/// The names of the choice that one thread makes of the pattern.
+pub(crate) fn names_of_choice(
+    alloc: Global,
+    ports: &mut Vec<Held>,
+    pattern: &Pattern,
+) -> Result<Option<Vec<MsgId>>, OutOfMemory>
+    ensures names { IfOk result (λ names. option_map (λ found. found.items) names ≡ option_map names_of (engine_choice_of (row ports.old.items) pattern.now)) }
+    ensures kept { OnOk result (ports.new.items ≡ ports.old.items) }
+{
+    match pattern {
+        Pattern::Slots(slots) => names_of_slots(alloc, ports, slots.as_slice()),
+        Pattern::Gather {
+            total,
+            first,
+            second,
+        } => names_of_gather(alloc, ports, *total as usize, *first, *second),
+    }
+}
+
+/// The name of the oldest message of the port, alone, if there is one.
+pub(crate) fn names_of_site(
+    alloc: Global,
+    ports: &mut Vec<Held>,
+    port: PortNo,
+) -> Result<Option<Vec<MsgId>>, OutOfMemory>
+    ensures names { IfOk result (λ names. option_map (λ found. found.items) names ≡ option_map names_of (oldest (row ports.old.items port))) }
+    ensures kept { OnOk result (ports.new.items ≡ ports.old.items) }
+{
+    let names = oldest_names(alloc, ports, port, 1)?;
+    if names.is_empty() {
+        Ok(None)
+    } else {
+        Ok(Some(names))
+    }
+}

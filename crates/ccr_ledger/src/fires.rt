@@ -1,0 +1,271 @@
+//! What a firing makes of the tables.
+
+ghost use Rattle.std.specs.Prelude.{◌≡◌, OnOk, IfOk};
+ghost use Rattle.std.specs.Option.{option_map_or};
+ghost use Rattle.ccr_wiring.specs.Wirings.{site_port};
+ghost use Rattle.ccr_model.specs.TaskData.{no_load, with_messages};
+ghost use Rattle.ccr_model.specs.Views.{load_seen, seat_seen};
+ghost use Rattle.ccr_ledger.specs.Taking.{take_pattern, take_site};
+ghost use Rattle.ccr_ledger.specs.Firing.{after_choice, after_clear, after_cut, after_cuts, after_fire, after_new, after_site, after_taking, after_wait, branch_card, first_stage, load_left, resumed_card, site_card};
+
+use crate::counts::{add_one, raise};
+use crate::ledger::arrive;
+use crate::loads::{load_left, no_load, with_messages};
+use crate::ports::{take_pattern, take_site};
+use crate::tasks::{first_suspended, move_to, resume};
+use crate::{Card, Ledger, Stage};
+use ccr_base::{BranchNo, MsgId, OutOfMemory, Spot, TaskId};
+use ccr_held::Held;
+use ccr_model::data::{TaskLoad, play_at_spot};
+use ccr_model::seats::{SeatOf, is_concurrent, is_interleave, is_teardown, seat, site_port};
+use ccr_rows::Rows;
+use ccr_wiring::Wiring;
+use std::alloc::Global;
+
+/// Where the task of a firing at the branch stands first.
+fn first_stage(seat: SeatOf<'_>) -> Stage
+    ensures { result ≡ first_stage (seat_seen seat.entry) }
+{
+    if is_interleave(seat.kind) {
+        Stage::Waiting
+    } else {
+        Stage::Ready
+    }
+}
+
+/// Those that a firing of the branch cuts wait no more.
+fn clear(waiting: &mut Rows<TaskId>, seat: SeatOf<'_>)
+    ensures { waiting.new ≡ after_clear (seat_seen seat.entry) waiting.old }
+{
+    if is_teardown(seat.branch.group) {
+        waiting.clear(seat.arbiter);
+    }
+}
+
+/// A task that a branch of the Interleave fired waits; one of a teardown branch alone, as those before it are cut.
+fn wait(waiting: &mut Rows<TaskId>, seat: SeatOf<'_>, task: TaskId) -> Result<(), OutOfMemory>
+    ensures { OnOk result (waiting.new ≡ after_wait (seat_seen seat.entry) task waiting.old) }
+{
+    if !is_interleave(seat.kind) {
+        return Ok(());
+    }
+    clear(waiting, seat);
+    waiting.enter(seat.arbiter, task)
+}
+
+/// The card of a task that the branch fires, which so many fired before.
+fn branch_card(
+    alloc: Global,
+    wiring: &Wiring,
+    task: TaskId,
+    branch: BranchNo,
+    seat: SeatOf<'_>,
+    number: usize,
+    load: TaskLoad,
+) -> Result<Card, OutOfMemory>
+    ensures { IfOk result (λ card. card ≡ branch_card wiring.now task branch (seat_seen seat.entry) number (load_seen load)) }
+{
+    let spot = Spot::Branch(branch);
+    let play = play_at_spot(alloc, wiring, spot, &load)?;
+    let TaskLoad { values, causes: _ } = load;
+    Ok(Card {
+        spot,
+        queue: seat.branch.queue,
+        domain: seat.arbiter,
+        concurrent: is_concurrent(seat.branch.group),
+        root: task,
+        number,
+        values,
+        play,
+        stage: first_stage(seat),
+        admitted: false,
+        made: 0,
+    })
+}
+
+/// The card of a task that the site fires, which goes on for the task of the card.
+fn site_card(
+    alloc: Global,
+    wiring: &Wiring,
+    branch: BranchNo,
+    site: u32,
+    before: &Card,
+    number: usize,
+    load: TaskLoad,
+) -> Result<Card, OutOfMemory>
+    ensures { IfOk result (λ card. card ≡ site_card wiring.now branch site before.now number (load_seen load)) }
+{
+    let spot = Spot::Site(branch, site);
+    let play = play_at_spot(alloc, wiring, spot, &load)?;
+    let TaskLoad { values, causes: _ } = load;
+    Ok(Card {
+        spot,
+        queue: before.queue,
+        domain: before.domain,
+        concurrent: before.concurrent,
+        root: before.root,
+        number,
+        values,
+        play,
+        stage: Stage::Ready,
+        admitted: false,
+        made: 0,
+    })
+}
+
+/// Takes what the branch takes, and makes the card of the task that it fires.
+fn first_card(
+    alloc: Global,
+    wiring: &Wiring,
+    ports: &mut Vec<Held>,
+    task: TaskId,
+    branch: BranchNo,
+    seat: SeatOf<'_>,
+    messages: &[MsgId],
+    number: usize,
+) -> Result<Card, OutOfMemory>
+    ensures ports { OnOk result (ports.new.items ≡ (take_pattern (seat_seen seat.entry).branch.pattern messages.now ports.old.items).ports) }
+    ensures card { IfOk result (λ card. card ≡ branch_card wiring.now task branch (seat_seen seat.entry) number (with_messages no_load (take_pattern (seat_seen seat.entry).branch.pattern messages.now ports.old.items).messages)) }
+{
+    let taken = take_pattern(alloc, ports, &seat.branch.pattern, messages)?;
+    let load = with_messages(alloc, no_load(alloc), &taken)?;
+    branch_card(alloc, wiring, task, branch, seat, number, load)
+}
+
+/// Takes what the site takes, and makes the card of the task that it fires, which goes on for the task of the card before.
+fn next_card(
+    alloc: Global,
+    wiring: &Wiring,
+    ports: &mut Vec<Held>,
+    before: &Card,
+    branch: BranchNo,
+    site: u32,
+    number: usize,
+) -> Result<Card, OutOfMemory>
+    ensures ports { OnOk result (ports.new.items ≡ (take_site (site_port wiring.now branch site) ports.old.items).ports) }
+    ensures card { IfOk result (λ card. card ≡ site_card wiring.now branch site before.now number (with_messages (load_left before.now) (take_site (site_port wiring.now branch site) ports.old.items).messages)) }
+{
+    let taken = take_site(alloc, ports, site_port(wiring, branch, site))?;
+    let load = with_messages(alloc, load_left(alloc, before)?, &taken)?;
+    site_card(alloc, wiring, branch, site, before, number, load)
+}
+
+impl Ledger {
+    /// The task is cut: it comes to no queue.
+    fn cut(&mut self, task: TaskId)
+        ensures { self.new ≡ after_cut task self.old }
+    {
+        let Some(card) = self.tasks.get(&task) else {
+            return;
+        };
+        let spot = card.spot;
+        let queue = card.queue;
+        move_to(&mut self.tasks, task, Stage::Cut);
+        arrive(&mut self.coming, spot, queue);
+    }
+
+    /// The tasks are cut.
+    fn cut_all(&mut self, tasks: &[TaskId])
+        ensures { self.new ≡ after_cuts tasks.now self.old }
+    {
+        for task in tasks {
+            self.cut(*task);
+        }
+    }
+
+    /// The branch and its domain have fired.
+    fn choose(&mut self, branch: BranchNo, seat: SeatOf<'_>)
+        ensures { self.new ≡ after_choice branch (seat_seen seat.entry) self.old }
+    {
+        raise(&mut self.spent, branch as usize);
+        raise(&mut self.chosen, seat.arbiter);
+        if is_teardown(seat.branch.group) {
+            raise(&mut self.torn, seat.arbiter);
+        }
+    }
+
+    /// The task of the card, which the branch fired, stands in the tables.
+    fn enter(&mut self, task: TaskId, card: Card, seat: SeatOf<'_>) -> Result<(), OutOfMemory>
+        ensures { OnOk result (self.new ≡ after_new task card (seat_seen seat.entry) self.old) }
+    {
+        self.tasks.insert(task, card)?;
+        wait(&mut self.waiting, seat, task)?;
+        add_one(&mut self.coming, seat.branch.queue as usize)?;
+        Ok(())
+    }
+
+    /// The branch fires the task, whose cuts are made.
+    fn fire_branch(
+        &mut self,
+        wiring: &Wiring,
+        task: TaskId,
+        branch: BranchNo,
+        seat: SeatOf<'_>,
+        messages: &[MsgId],
+    ) -> Result<(), OutOfMemory>
+        ensures { OnOk result (self.new ≡ after_taking wiring.now task branch messages.now self.old (seat_seen seat.entry)) }
+    {
+        let number = self.tasks.len();
+        let ports = &mut self.ports;
+        let card = first_card(
+            self.alloc, wiring, ports, task, branch, seat, messages, number,
+        )?;
+        self.enter(task, card, seat)?;
+        self.choose(branch, seat);
+        Ok(())
+    }
+
+    /// The site fires the task.
+    fn fire_site(
+        &mut self,
+        wiring: &Wiring,
+        task: TaskId,
+        branch: BranchNo,
+        site: u32,
+    ) -> Result<(), OutOfMemory>
+        ensures { OnOk result (self.new ≡ option_map_or (λ card. after_site wiring.now task branch site card (take_site (site_port wiring.now branch site) self.old.ports) self.old) (resumed_card self.old branch site) self.old) }
+    {
+        let Some(before) = first_suspended(&self.suspended, branch, site) else {
+            return Ok(());
+        };
+        let Some(card) = self.tasks.get(&before) else {
+            return Ok(());
+        };
+        let number = self.tasks.len();
+        let card = next_card(
+            self.alloc,
+            wiring,
+            &mut self.ports,
+            card,
+            branch,
+            site,
+            number,
+        )?;
+        self.tasks.insert(task, card)?;
+        resume(&mut self.suspended, branch, site);
+        Ok(())
+    }
+
+    /// The task fires at the spot.
+    pub(crate) fn fire(
+        &mut self,
+        wiring: &Wiring,
+        task: TaskId,
+        spot: Spot,
+        messages: &[MsgId],
+        cuts: &[TaskId],
+    ) -> Result<(), OutOfMemory>
+        ensures { OnOk result (self.new ≡ after_fire wiring.now task spot messages.now cuts.now self.old) }
+    {
+        match spot {
+            Spot::Branch(branch) => {
+                let Some(seat) = seat(wiring, branch) else {
+                    return Ok(());
+                };
+                self.cut_all(cuts);
+                self.fire_branch(wiring, task, branch, seat, messages)
+            }
+            Spot::Site(branch, site) => self.fire_site(wiring, task, branch, site),
+        }
+    }
+}

@@ -1,0 +1,295 @@
+//! The tables.
+
+ghost use Rattle.std.specs.Prelude.{◌≡◌, [], ◌∷◌, ◌++◌, OnOk, IfOk, length, if◌then◌else◌};
+ghost use Rattle.ccr_wiring.specs.Wirings.{branch_of, is_branch, seats_from, segment_of};
+ghost use Rattle.std.specs.Option.{option_map_or};
+ghost use Rattle.ccr_ledger.specs.Books.{card_at, less, suspended_at, with_suspended};
+ghost use Rattle.ccr_ledger.specs.Posting.{after_post, counted};
+ghost use Rattle.ccr_ledger.specs.Events.{after_admit, after_discard, after_drop, after_dropped, after_end, after_enter, after_event, after_last, after_start, empty_books, is_yield};
+
+use crate::counts::{add_one, take_one};
+use crate::ports::{empty_ports, post_to};
+use crate::tasks::{count_post, end_root, let_in, move_to, stop, suspend};
+use crate::{Card, Runner, Stage};
+use ccr_base::{ActorNo, Msg, MsgId, OutOfMemory, QueueNo, Spot, TaskId};
+use ccr_held::Held;
+use ccr_model::{EndHow, Event};
+use ccr_rows::Rows;
+use ccr_wiring::{ArbiterPart, Wiring};
+use indexmap::IndexMap;
+use std::alloc::Global;
+use std::marker::Model;
+
+/// What stands where after a history. The numbers of ports, queues and domains are those of the wiring for which it was made;
+/// a row past the last is empty.
+#[derive(Drop)]
+pub struct Ledger {
+    pub(crate) alloc: Global,
+    /// What each port holds.
+    pub(crate) ports: Vec<Held>,
+    /// By the names of the tasks that fired, in the order of their firings.
+    pub(crate) tasks: IndexMap<TaskId, Card>,
+    /// The queued tasks of each queue.
+    pub(crate) queued: Rows<TaskId>,
+    /// The tasks of each domain that wait for their admission.
+    pub(crate) waiting: Rows<TaskId>,
+    /// The suspended tasks of each site, 16 rows for each branch.
+    pub(crate) suspended: Rows<TaskId>,
+    /// By their starts.
+    pub(crate) running: Vec<Runner>,
+    /// The posts that each poster has made.
+    pub(crate) said: Vec<u32>,
+    /// The posts that tasks have made.
+    pub(crate) task_posts: u32,
+    /// Whether each branch has fired.
+    pub(crate) spent: Vec<bool>,
+    /// Whether a branch of each domain has fired.
+    pub(crate) chosen: Vec<bool>,
+    /// Whether a teardown branch of each domain has fired.
+    pub(crate) torn: Vec<bool>,
+    /// The admitted roots of each domain that aren't over.
+    pub(crate) admitted: Vec<u32>,
+    /// Those of them that no concurrent branch fired.
+    pub(crate) alone: Vec<u32>,
+    /// The tasks of branches that are on their way to each queue or queued.
+    pub(crate) coming: Vec<u32>,
+}
+
+impl Model for Ledger {
+    ghost use Rattle.ccr_ledger.specs.Books.{Books};
+
+    ghost Value = { Books };
+
+    ghost view = { λ l. record { ports = l.ports.items; tasks = l.tasks.entries; queued = l.queued; waiting = l.waiting; suspended = l.suspended; running = l.running.items; said = l.said.items; task_posts = l.task_posts; spent = l.spent.items; chosen = l.chosen.items; torn = l.torn.items; admitted = l.admitted.items; alone = l.alone.items; coming = l.coming.items } };
+}
+
+/// One less on the way to the queue, where a branch fired the task.
+pub(crate) fn arrive(coming: &mut Vec<u32>, spot: Spot, queue: QueueNo)
+    ensures { coming.new.items ≡ (if is_branch spot then less queue coming.old.items else coming.old.items) }
+{
+    if let Spot::Branch(_) = spot {
+        take_one(coming, queue as usize);
+    }
+}
+
+/// The task is suspended at the site behind the spot at which it fired.
+fn suspend_behind(suspended: &mut Rows<TaskId>, spot: Spot, task: TaskId) -> Result<(), OutOfMemory>
+    ensures { OnOk result (suspended.new ≡ with_suspended suspended.old (branch_of spot) (segment_of spot) (suspended_at suspended.old (branch_of spot) (segment_of spot) ++ task ∷ [])) }
+{
+    match spot {
+        Spot::Branch(branch) => suspend(suspended, branch, 0, task),
+        Spot::Site(branch, site) => match site.checked_add(1) {
+            Some(next) => suspend(suspended, branch, next, task),
+            None => Ok(()),
+        },
+    }
+}
+
+fn is_yield(how: EndHow) -> bool
+    ensures { result ≡ is_yield how }
+{
+    match how {
+        EndHow::Yield => true,
+        _ => false,
+    }
+}
+
+/// How many branches the arbiters have.
+fn count_branches(arbiters: &[ArbiterPart]) -> Result<usize, OutOfMemory>
+    ensures { IfOk result (λ count. count ≡ length (seats_from 0 arbiters.now)) }
+{
+    let mut count: usize = 0;
+    for arbiter in arbiters {
+        let Some(more) = count.checked_add(arbiter.branches.as_slice().len()) else {
+            return Err(OutOfMemory);
+        };
+        count = more;
+    }
+    Ok(count)
+}
+
+impl Ledger {
+    /// The tables of the empty history of the wiring.
+    pub fn new(alloc: Global, wiring: &Wiring) -> Result<Self, OutOfMemory>
+        ensures { IfOk result (λ ledger. ledger ≡ empty_books wiring.now) }
+    {
+        let parts = wiring.parts();
+        let queues = parts.queues.as_slice().len();
+        let domains = parts.arbiters.as_slice().len();
+        let branches = count_branches(parts.arbiters.as_slice())?;
+        let Some(sites) = branches.checked_mul(16) else {
+            return Err(OutOfMemory);
+        };
+        Ok(Ledger {
+            alloc,
+            ports: empty_ports(alloc, parts.ports.as_slice().len())?,
+            tasks: IndexMap::new(alloc),
+            queued: Rows::new(alloc, queues)?,
+            waiting: Rows::new(alloc, domains)?,
+            suspended: Rows::new(alloc, sites)?,
+            running: Vec::new(alloc),
+            said: vec![in alloc; 0; parts.posters.as_slice().len()]?,
+            task_posts: 0,
+            spent: vec![in alloc; false; branches]?,
+            chosen: vec![in alloc; false; domains]?,
+            torn: vec![in alloc; false; domains]?,
+            admitted: vec![in alloc; 0; domains]?,
+            alone: vec![in alloc; 0; domains]?,
+            coming: vec![in alloc; 0; queues]?,
+        })
+    }
+
+    /// One more post of the poster, or of the task.
+    fn count(&mut self, name: MsgId) -> Result<(), OutOfMemory>
+        ensures { OnOk result (self.new ≡ counted name self.old) }
+    {
+        match name {
+            MsgId::Script { actor, .. } => add_one(&mut self.said, actor as usize),
+            MsgId::Task { task, .. } => {
+                count_post(&mut self.tasks, task)?;
+                let Some(posts) = self.task_posts.checked_add(1) else {
+                    return Err(OutOfMemory);
+                };
+                self.task_posts = posts;
+                Ok(())
+            }
+        }
+    }
+
+    /// The message comes to its port.
+    fn post(&mut self, message: Msg) -> Result<(), OutOfMemory>
+        ensures { OnOk result (self.new ≡ after_post message self.old) }
+    {
+        self.count(message.id)?;
+        post_to(&mut self.ports, message)
+    }
+
+    /// The task, which is the oldest that waits in its domain, is admitted.
+    fn admit(&mut self, task: TaskId) -> Result<(), OutOfMemory>
+        ensures { OnOk result (self.new ≡ option_map_or (λ card. after_admit task card self.old) (card_at self.old.tasks task) self.old) }
+    {
+        let Some(card) = self.tasks.get(&task) else {
+            return Ok(());
+        };
+        let domain = card.domain;
+        let concurrent = card.concurrent;
+        let_in(&mut self.tasks, task);
+        self.waiting.leave(domain);
+        add_one(&mut self.admitted, domain)?;
+        if !concurrent {
+            add_one(&mut self.alone, domain)?;
+        }
+        Ok(())
+    }
+
+    /// A last segment of the root has ended or was dropped.
+    fn last(&mut self, root: TaskId)
+        ensures { self.new ≡ after_last root self.old }
+    {
+        let Some(card) = self.tasks.get(&root) else {
+            return;
+        };
+        if !card.admitted {
+            return;
+        }
+        let domain = card.domain;
+        let concurrent = card.concurrent;
+        end_root(&mut self.tasks, root);
+        take_one(&mut self.admitted, domain);
+        if !concurrent {
+            take_one(&mut self.alone, domain);
+        }
+    }
+
+    /// The task, which is the oldest of this queue, leaves it.
+    fn discard(&mut self, task: TaskId, spot: Spot, queue: QueueNo)
+        ensures { self.new ≡ after_discard task spot queue self.old }
+    {
+        move_to(&mut self.tasks, task, Stage::Dropped);
+        self.queued.leave(queue as usize);
+        arrive(&mut self.coming, spot, queue);
+    }
+
+    /// The task, which is the oldest of its queue, is dropped.
+    fn drop_oldest(&mut self, task: TaskId)
+        ensures { self.new ≡ option_map_or (λ card. after_drop task card self.old) (card_at self.old.tasks task) self.old }
+    {
+        let Some(card) = self.tasks.get(&task) else {
+            return;
+        };
+        let spot = card.spot;
+        let queue = card.queue;
+        let root = card.root;
+        self.discard(task, spot, queue);
+        self.last(root);
+    }
+
+    /// The task is put into its queue, which may drop its oldest.
+    fn put(&mut self, task: TaskId, dropped: Option<TaskId>) -> Result<(), OutOfMemory>
+        ensures { OnOk result (self.new ≡ option_map_or (λ card. after_enter task card (after_dropped dropped self.old)) (card_at self.old.tasks task) self.old) }
+    {
+        let Some(card) = self.tasks.get(&task) else {
+            return Ok(());
+        };
+        let queue = card.queue;
+        if let Some(oldest) = dropped {
+            self.drop_oldest(oldest);
+        }
+        move_to(&mut self.tasks, task, Stage::Queued);
+        self.queued.enter(queue as usize, task)
+    }
+
+    /// The task, which is the oldest of its queue, is started by the actor.
+    fn start(&mut self, task: TaskId, actor: ActorNo) -> Result<(), OutOfMemory>
+        ensures { OnOk result (self.new ≡ option_map_or (λ card. after_start task actor card self.old) (card_at self.old.tasks task) self.old) }
+    {
+        let Some(card) = self.tasks.get(&task) else {
+            return Ok(());
+        };
+        let spot = card.spot;
+        let queue = card.queue;
+        move_to(&mut self.tasks, task, Stage::Running);
+        self.queued.leave(queue as usize);
+        arrive(&mut self.coming, spot, queue);
+        self.running.push(Runner { task, actor })?;
+        Ok(())
+    }
+
+    /// The task ends. It is suspended, or its root is over.
+    fn end(&mut self, task: TaskId, how: EndHow) -> Result<(), OutOfMemory>
+        ensures { OnOk result (self.new ≡ option_map_or (λ card. after_end task how card self.old) (card_at self.old.tasks task) self.old) }
+    {
+        let Some(card) = self.tasks.get(&task) else {
+            return Ok(());
+        };
+        let spot = card.spot;
+        let root = card.root;
+        move_to(&mut self.tasks, task, Stage::Ended);
+        stop(&mut self.running, task);
+        if is_yield(how) {
+            suspend_behind(&mut self.suspended, spot, task)
+        } else {
+            self.last(root);
+            Ok(())
+        }
+    }
+
+    /// Enters the event, which is allowed after those before it.
+    pub fn push(&mut self, wiring: &Wiring, event: &Event) -> Result<(), OutOfMemory>
+        ensures { OnOk result (self.new ≡ after_event wiring.now event.now self.old) }
+    {
+        match event {
+            Event::Post(message) => self.post(message.copy(self.alloc)?),
+            Event::Fire {
+                task,
+                spot,
+                messages,
+                cuts,
+            } => self.fire(wiring, *task, *spot, messages.as_slice(), cuts.as_slice()),
+            Event::Admit(task) => self.admit(*task),
+            Event::Put { task, dropped } => self.put(*task, *dropped),
+            Event::Start { task, actor } => self.start(*task, *actor),
+            Event::End { task, how } => self.end(*task, *how),
+        }
+    }
+}

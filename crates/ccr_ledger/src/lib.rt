@@ -1,0 +1,17 @@
+//! Tables of a history, kept up event by event: what the engine and the judge ask for, without a look at the history.
+#![tactic(auto)]
+
+mod asked;
+mod cards;
+mod choices;
+mod counts;
+mod fires;
+mod laws;
+mod ledger;
+mod loads;
+mod ports;
+mod tasks;
+
+pub use cards::{Card, Runner, Stage};
+pub use laws::{flags_are_kept, posts_are_counted, running_tasks_are_kept, sizes_are_kept};
+pub use ledger::Ledger;

@@ -1,0 +1,51 @@
+//! What a task starts with, and its play.
+
+ghost use Rattle.std.specs.Prelude.{◌≡◌, IfOk};
+ghost use Rattle.ccr_model.specs.Views.{load_seen};
+ghost use Rattle.ccr_model.specs.TaskData.{no_load, with_messages};
+ghost use Rattle.ccr_ledger.specs.Firing.{load_left};
+
+use crate::Card;
+use ccr_base::{List, Msg, OutOfMemory};
+use ccr_cause::union;
+use ccr_model::data::TaskLoad;
+use std::alloc::Global;
+
+/// The load with the messages' values and causes behind it.
+pub(crate) fn with_messages(
+    alloc: Global,
+    load: TaskLoad,
+    messages: &[Msg],
+) -> Result<TaskLoad, OutOfMemory>
+    ensures { IfOk result (λ more. load_seen more ≡ with_messages (load_seen load) messages.now) }
+{
+    let TaskLoad { values, mut causes } = load;
+    let mut values = values.into_vec();
+    for message in messages {
+        values.push(message.value)?;
+        causes = union(alloc, &causes, &message.causes)?;
+    }
+    Ok(TaskLoad {
+        values: List::from_vec(values),
+        causes,
+    })
+}
+
+pub(crate) fn no_load(alloc: Global) -> TaskLoad
+    ensures { load_seen result ≡ no_load }
+{
+    TaskLoad {
+        values: List::new(alloc),
+        causes: List::new(alloc),
+    }
+}
+
+/// What the task of the card leaves to the next.
+pub(crate) fn load_left(alloc: Global, card: &Card) -> Result<TaskLoad, OutOfMemory>
+    ensures { IfOk result (λ load. load_seen load ≡ load_left card.now) }
+{
+    Ok(TaskLoad {
+        values: card.values.copy(alloc)?,
+        causes: card.play.causes.copy(alloc)?,
+    })
+}
