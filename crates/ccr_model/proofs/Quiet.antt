@@ -1,6 +1,6 @@
 -- Where no event comes first, none is allowed.
 use Rattle.std.proofs.Common.{◌≡◌, ℕ, zero, suc, ◌+◌, ◌-◌, ◌<◌, ◌≤◌, inl, inr, Bool, true, false, not, ◌&&◌, ◌||◌, List, [], ◌∷◌, ◌++◌, length, map, take, Option, Some, None, refl, sym, arith, ap, subst}
-use Rattle.std.specs.Prelude.{◌==◌, if◌then◌else◌, find, nat_lt, option_map, option_and_then, IsSomeAnd}
+use Rattle.std.specs.Prelude.{◌==◌, if◌then◌else◌, find, nat_lt, option_map, option_and_then}
 use Rattle.std.specs.List.{slice_get}
 use Rattle.std.specs.Option.{option_map_or}
 use Rattle.std.proofs.lemmas.Bool.Decides.{nat_tests}
@@ -29,8 +29,9 @@ use Rattle.ccr_model.specs.Choice.{is_choice, is_choice_of, engine_choice, engin
 use Rattle.ccr_model.specs.Rules.{refusal_of_post, is_post, is_script_line, is_new, is_first, is_oldest_waiting, may_enter, may_put, drop_at, is_oldest_queued, is_play_post}
 use Rattle.ccr_model.specs.Legal.{IsAllowed, IsQuiet}
 use Rattle.ccr_model.specs.Order.{first, post_from, script_post, fire_at, fire_from, admit_first, admit_from, put_first, run_task, start_from}
-use Rattle.ccr_wiring.specs.Valid.{HasQueues, HasDomains}
+use Rattle.ccr_wiring.specs.Valid.{HasQueues}
 use Rattle.ccr_model.proofs.PostNames.{refused_not}
+use Rattle.ccr_model.proofs.SeatPlaces.{seat-within}
 use Rattle.ccr_model.proofs.Options.{some_of, some_then, some_map, none_or, none_map, no_head}
 use Rattle.ccr_model.proofs.Members.{Among, Among-left, Among-right}
 use Rattle.ccr_model.proofs.SameNames.{same_task-is}
@@ -156,12 +157,6 @@ admit_none w h n (suc k) (a ∷ as') none lt =
     let e : n + 1 + k ≡ n + suc k = omega arith in
     subst (λ i. admit_first w h (waiting w h i) ≡ None) e (admit_none w h (n + 1) k as' parts.1 (omega arith))
 
--- a place that has an item is one of the list's
-below : {X : Type 0} (p : X → Type 0) (xs : List X) (k : ℕ) → IsSomeAnd (slice_get xs k) p → k < length xs
-below p [] k is = absurd is
-below p (x ∷ xs) zero is = omega arith
-below p (x ∷ xs) (suc k) is = let rest = below p xs k is in omega (arith, rest)
-
 pub first_is : (ts : List TaskId) (t : TaskId) → is_first ts t ≡ true → slice_get ts 0 ≡ Some t
 first_is ts t is = let found = some_of (same_task t) (slice_get ts 0) is in rw found.1 (ap (λ u. Some u) (sym (same_task-is t found.0 found.2)))
 
@@ -173,13 +168,13 @@ admit_head w h (u ∷ ts) t is none = of_test (may_enter w h u) refl none
     of_test true e gone = absurd (cc)
     of_test false e gone = let same : u ≡ t = cc in rw (← same) e
 
-no_admit : (w : Parts) (h : List Event) (t : TaskId) → HasDomains w → admit_from w h 0 w.arbiters ≡ None → IsAllowed w h (Admit t) → ⊥
-no_admit w h t domains none allowed =
+no_admit : (w : Parts) (h : List Event) (t : TaskId) → admit_from w h 0 w.arbiters ≡ None → IsAllowed w h (Admit t) → ⊥
+no_admit w h t none allowed =
     let a = refused_not (is_oldest_waiting w h t) 9 _ allowed in
     let b = refused_not (may_enter w h t) 10 None a.1 in
     let found = some_of (λ (s : Seat). is_first (waiting w h s.arbiter) t) (seat_of w h t) a.0 in
     let placed = some_then (λ spot. seat w (branch_of spot)) (spot_of h t) found.0 found.1 in
-    let inside : found.0.arbiter < length w.arbiters = below (λ (a : ArbiterPart). a.kind ≡ found.0.kind) w.arbiters found.0.arbiter (domains (branch_of placed.0) found.0 placed.2) in
+    let inside : found.0.arbiter < length w.arbiters = seat-within w (branch_of placed.0) found.0 placed.2 in
     let e : 0 + found.0.arbiter ≡ found.0.arbiter = omega arith in
     let nothing = subst (λ i. admit_first w h (waiting w h i) ≡ None) e (admit_none w h 0 found.0.arbiter w.arbiters none inside) in
     let no = admit_head w h (waiting w h found.0.arbiter) t (first_is (waiting w h found.0.arbiter) t found.2) nothing in
@@ -259,15 +254,15 @@ no_post w h m (Task t k) none run allowed =
     let runs = both (has_task (running h) t) _ parts.0 in
     grind (arith, run, runs.0)
 
-quiet_parts : (w : Parts) (c : ℕ) (h : List Event) → HasQueues w → HasDomains w → NoneFirst w c h → IsQuiet w h
-quiet_parts w c h queues domains none (Post m) allowed = no_post w h m m.id none.post none.run allowed
-quiet_parts w c h queues domains none (Fire t s ms cs) allowed = no_fire w c h t s ms cs none.fire allowed
-quiet_parts w c h queues domains none (Admit t) allowed = no_admit w h t domains none.admit allowed
-quiet_parts w c h queues domains none (Put t d) allowed = no_put w h t d none.put_next allowed
-quiet_parts w c h queues domains none (Start t a) allowed = no_start w c h t a queues none.start allowed
-quiet_parts w c h queues domains none (End t how) allowed =
+quiet_parts : (w : Parts) (c : ℕ) (h : List Event) → HasQueues w → NoneFirst w c h → IsQuiet w h
+quiet_parts w c h queues none (Post m) allowed = no_post w h m m.id none.post none.run allowed
+quiet_parts w c h queues none (Fire t s ms cs) allowed = no_fire w c h t s ms cs none.fire allowed
+quiet_parts w c h queues none (Admit t) allowed = no_admit w h t none.admit allowed
+quiet_parts w c h queues none (Put t d) allowed = no_put w h t d none.put_next allowed
+quiet_parts w c h queues none (Start t a) allowed = no_start w c h t a queues none.start allowed
+quiet_parts w c h queues none (End t how) allowed =
     let r = refused_not (has_task (running h) t) 15 _ allowed in
     grind (arith, none.run, r.0)
 
-pub IsQuiet-first : (w : Parts) (c : ℕ) (h : List Event) → HasQueues w → HasDomains w → first w c h ≡ None → IsQuiet w h
-IsQuiet-first w c h queues domains is = quiet_parts w c h queues domains (NoneFirst-first w c h is)
+pub IsQuiet-first : (w : Parts) (c : ℕ) (h : List Event) → HasQueues w → first w c h ≡ None → IsQuiet w h
+IsQuiet-first w c h queues is = quiet_parts w c h queues (NoneFirst-first w c h is)

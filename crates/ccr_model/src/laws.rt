@@ -10,7 +10,7 @@ ghost use Rattle.ccr_model.specs.Order.{first};
 ghost use Rattle.ccr_model.specs.Posts.{posts_of_tasks};
 ghost use Rattle.ccr_model.specs.Tasks.{count_unfinished};
 ghost use Rattle.ccr_model.specs.Consequences.{is_alone};
-ghost use Rattle.ccr_wiring.specs.Valid.{HasPortsApart, HasQueues, HasDomains};
+ghost use Rattle.ccr_wiring.specs.Valid.{HasPortsApart, HasQueues};
 ghost use Rattle.ccr_model.specs.Laws.{times_posted, times_taken};
 
 /// No two posts have one name.
@@ -30,7 +30,7 @@ pub fn first_is_allowed()
 
 /// Where it puts nothing first, nothing is allowed.
 pub fn none_first_is_quiet()
-    ensures { (wiring : Parts) (closer : ℕ) (history : List Event) → HasQueues wiring → HasDomains wiring → first wiring closer history ≡ None → IsQuiet wiring history }
+    ensures { (wiring : Parts) (closer : ℕ) (history : List Event) → HasQueues wiring → first wiring closer history ≡ None → IsQuiet wiring history }
 {}
 
 /// Where a task was shed, posts and running tasks with a post left use the budget up.

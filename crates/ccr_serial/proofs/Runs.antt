@@ -13,7 +13,7 @@ use Rattle.ccr_model.proofs.LegalParts.{legal_push}
 use Rattle.ccr_serial.specs.Potential.{TakesSome, potential}
 use Rattle.ccr_serial.specs.Engine.{Engine, next_event, next_engine, IsSound}
 use Rattle.ccr_serial.proofs.Ending.{few_events}
-use Rattle.ccr_serial.proofs.Valid.{TakesSome-valid, HasQueues-valid, HasDomains-valid, most_events-valid}
+use Rattle.ccr_serial.proofs.Valid.{TakesSome-valid, HasQueues-valid, most_events-valid}
 use Rattle.ccr_serial.proofs.Complete.{is_complete-first}
 use Rattle.ccr_serial.proofs.Attempts.{next_attempt-first}
 
@@ -70,7 +70,7 @@ IsAllowed-next s sound e is = some_if (IsAllowed s.wiring s.history) (first s.wi
 
 pub IsQuiet-next : (s : Engine) → IsSound s → next_event s ≡ None → IsQuiet s.wiring s.history
 unfolding next_event
-IsQuiet-next s sound is = IsQuiet-first s.wiring s.closer s.history (HasQueues-valid s.wiring sound.valid) (HasDomains-valid s.wiring sound.valid) is
+IsQuiet-next s sound is = IsQuiet-first s.wiring s.closer s.history (HasQueues-valid s.wiring sound.valid) is
 
 -- a run in the order has come from the one engine to the other
 pub record GoesFrom (start now : Engine) : Type 0 where

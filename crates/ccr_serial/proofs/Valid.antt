@@ -6,7 +6,7 @@ use Rattle.ccr_base.specs.declared.patterns.Pattern.{Pattern}
 use Rattle.ccr_base.specs.declared.patterns.Pattern.TheVariants.{Slots, Gather}
 use Rattle.ccr_wiring.specs.declared.parts.Parts.{Parts}
 use Rattle.ccr_wiring.specs.Limits.{posts_in_all}
-use Rattle.ccr_wiring.specs.Valid.{IsValid, HasPortsApart, HasQueues, HasDomains, HasPatternsFilled, IsPatternFilled}
+use Rattle.ccr_wiring.specs.Valid.{IsValid, HasPortsApart, HasQueues, HasPatternsFilled, IsPatternFilled}
 use Rattle.ccr_wiring.proofs.Soundness.{sound}
 use Rattle.ccr_serial.specs.Potential.{takes_some, TakesSome, most_events}
 
@@ -30,9 +30,6 @@ HasPortsApart-valid w valid = (sound w valid).apart
 
 pub HasQueues-valid : (w : Parts) → IsValid w → HasQueues w
 HasQueues-valid w valid = (sound w valid).queues
-
-pub HasDomains-valid : (w : Parts) → IsValid w → HasDomains w
-HasDomains-valid w valid = (sound w valid).domains
 
 -- how many parts of each kind a valid wiring has
 pub record HasFewParts (w : Parts) : Type 0 where

@@ -8,7 +8,7 @@ use Rattle.ccr_check.proofs.laws.still_is_quiet.Goals as goal
 
 pub returns-clause-still : goal.returns-clause-still
 returns-clause-still c = λ w h valid still.
-    c.none_first_is_quiet.ensures w (length w.posters) h (c.valid_wirings_are_sound.ensures w valid).queues (c.valid_wirings_are_sound.ensures w valid).domains (none_where_not (first w (length w.posters) h) (is_still w h) (is_still-first w (length w.posters) h) still)
+    c.none_first_is_quiet.ensures w (length w.posters) h (c.valid_wirings_are_sound.ensures w valid).queues (none_where_not (first w (length w.posters) h) (is_still w h) (is_still-first w (length w.posters) h) still)
 
 pub returns-clause-left : goal.returns-clause-left
 returns-clause-left c = λ w h valid legal left.
