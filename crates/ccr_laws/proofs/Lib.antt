@@ -10,3 +10,5 @@ mod WorkedInterleave
 pub mod StartOrder
 pub mod Exclusion
 pub mod AfterTeardown
+pub mod ScriptLines
+pub mod TasksOnce

@@ -4,3 +4,4 @@ pub mod Times
 pub mod OneFate
 pub mod Drops
 pub mod Queues
+pub mod Scripts

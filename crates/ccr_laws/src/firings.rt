@@ -15,6 +15,8 @@ ghost use Rattle.ccr_wiring.specs.Wirings.{Seat, seat};
 ghost use Rattle.ccr_model.specs.declared.history.Event.{Event};
 ghost use Rattle.ccr_model.specs.declared.history.Event.TheVariants.{Post, Fire};
 ghost use Rattle.ccr_base.specs.Names.{has_message};
+ghost use Rattle.ccr_model.specs.Firings.{fired};
+ghost use Rattle.ccr_model.specs.Consequences.{are_distinct_tasks};
 ghost use Rattle.ccr_model.specs.Legal.{IsLegal};
 ghost use Rattle.ccr_model.specs.Laws.{times_taken};
 ghost use Rattle.ccr_laws.specs.Standing.{Stands};
@@ -41,4 +43,9 @@ pub fn messages_have_one_fate()
     ensures fate { (wiring : Parts) → IsValid wiring → (history : List Event) → IsLegal wiring history → (past : List Event) (message : Msg) → Stands history past (Post message) → HasOneFate wiring history message.id }
     ensures once { (wiring : Parts) → IsValid wiring → (history : List Event) → IsLegal wiring history → (name : MsgId) → times_taken history name ≤ 1 }
     ensures held_before { (wiring : Parts) → IsValid wiring → (history : List Event) → IsLegal wiring history → (past : List Event) (task : TaskId) (spot : Spot) (messages : List MsgId) (cuts : List TaskId) → Stands history past (Fire task spot messages cuts) → (name : MsgId) → has_message messages name ≡ true → IsHeld past name }
+{}
+
+/// No two firings have one task name.
+pub fn tasks_fire_once()
+    ensures { (wiring : Parts) (history : List Event) → IsLegal wiring history → are_distinct_tasks (fired history) ≡ true }
 {}

@@ -1,0 +1,153 @@
+-- What each poster posted are the first lines of its script.
+use Rattle.std.proofs.Common.{◌≡◌, ◌∙◌, ℕ, zero, suc, ◌+◌, ◌≤◌, ◌<◌, ◌⊎◌, inl, inr, Bool, true, false, ◌&&◌, List, [], ◌∷◌, ◌++◌, length, map, filter, take, Option, Some, None, refl, ap, sym, subst, arith, append-nil}
+use Rattle.std.specs.Prelude.{◌==◌, if◌then◌else◌, option_and_then}
+use Rattle.std.specs.List.{slice_get}
+use Rattle.std.specs.Option.{option_map_or}
+use Rattle.std.specs.Cmp.Lexicographic.{bytes_decides}
+use Rattle.std.proofs.lemmas.List.{map-append, length-append, take_all}
+use Rattle.std.proofs.lemmas.List.Elements.{filter-append}
+use Rattle.std.proofs.lemmas.Grind.{common_steps}
+use Rattle.std.proofs.lemmas.Bool.Decides.{nat_tests}
+use Rattle.ccr_base.specs.declared.names.MsgId.{MsgId}
+use Rattle.ccr_base.specs.declared.names.MsgId.TheVariants.{Script, Task}
+use Rattle.ccr_base.specs.declared.messages.Msg.{Msg}
+use Rattle.ccr_base.specs.declared.messages.Sent.{Sent}
+use Rattle.ccr_base.specs.Names.{same_lists}
+use Rattle.ccr_base.specs.Values.{same_value}
+use Rattle.ccr_wiring.specs.declared.parts.Parts.{Parts}
+use Rattle.ccr_wiring.specs.declared.parts.PosterPart.{PosterPart}
+use Rattle.ccr_model.specs.declared.history.Event.{Event}
+use Rattle.ccr_model.specs.declared.history.Event.TheVariants.{Post, Fire, Admit, Put, Start, End}
+use Rattle.ccr_model.specs.Posts.{posts, post_of, posts_of_poster, is_script_of}
+use Rattle.ccr_model.specs.Rules.{is_post, is_script_line, refusal_of_post}
+use Rattle.ccr_model.specs.Legal.{IsAllowed, IsLegal, is_complete, are_whole_from, has_shed}
+use Rattle.ccr_model.proofs.Booleans.{both, same_number}
+use Rattle.ccr_model.proofs.Options.{some_of, some_then}
+use Rattle.ccr_model.proofs.PostNames.{along, refused_not}
+use Rattle.ccr_model.proofs.Pushes.{posts-push}
+use Rattle.ccr_laws.specs.Scripts.{posts_by, sent_of, FollowsScript}
+
+same_causes : (xs ys : List ℕ) → same_lists (λ c d. c == d) xs ys ≡ true → xs ≡ ys
+same_causes [] [] is = refl
+same_causes [] (y ∷ ys) is = absurd (cc)
+same_causes (x ∷ xs) [] is = absurd (cc)
+same_causes (x ∷ xs) (y ∷ ys) is =
+    let parts = both (x == y) (same_lists (λ c d. c == d) xs ys) is in
+    let here : x ≡ y = same_number x y parts.0 in
+    let rest : xs ≡ ys = same_causes xs ys parts.1 in
+    cc
+
+-- a message that is the post has its port, its value and its causes
+sent-post : (m : Msg) (s : Sent) → is_post m s ≡ true → sent_of m ≡ s
+sent-post m s is =
+    let parts = both ((m.port == s.port) && same_value m.value s.value) (same_lists (λ c d. c == d) m.causes s.causes) is in
+    let front = both (m.port == s.port) (same_value m.value s.value) parts.0 in
+    let port : m.port ≡ s.port = same_number m.port s.port front.0 in
+    let value : m.value ≡ s.value = (bytes_decides m.value s.value).0 front.1 in
+    let causes : m.causes ≡ s.causes = same_causes m.causes s.causes parts.1 in
+    rw (port, value, causes) refl
+
+take-next : {X : Type 0} (xs : List X) (n : ℕ) (x : X) → slice_get xs n ≡ Some x → take (n + 1) xs ≡ take n xs ++ x ∷ []
+take-next [] n x at = absurd (cc)
+take-next (y ∷ xs) zero x at = let one : y ≡ x = cc in rw one (none xs)
+  where
+    none : (ys : List _) → x ∷ take 0 ys ≡ x ∷ []
+    none [] = refl
+    none (z ∷ ys) = refl
+take-next (y ∷ xs) (suc n) x at = let e : suc n + 1 ≡ suc (n + 1) = omega arith in rw e (ap (λ zs. y ∷ zs) (take-next xs n x at))
+
+-- an item of a list with one more is one of the list's, or the last
+get-last : {X : Type 0} (xs : List X) (x y : X) (k : ℕ) → slice_get (xs ++ x ∷ []) k ≡ Some y → (slice_get xs k ≡ Some y) ⊎ ((k ≡ length xs) × (x ≡ y))
+get-last [] x y zero at = inr (refl, cc)
+get-last [] x y (suc k) at = absurd (cc)
+get-last (z ∷ xs) x y zero at = inl at
+get-last (z ∷ xs) x y (suc k) at = of_either (get-last xs x y k at)
+  where
+    of_either : (slice_get xs k ≡ Some y) ⊎ ((k ≡ length xs) × (x ≡ y)) → (slice_get xs k ≡ Some y) ⊎ ((suc k ≡ suc (length xs)) × (x ≡ y))
+    of_either (inl there) = inl there
+    of_either (inr last) = inr (ap suc last.0, last.1)
+
+-- so do all posters
+abbrev AllFollow : Parts → List Event → Type 0
+AllFollow w h = (n : ℕ) (p : PosterPart) → slice_get w.posters n ≡ Some p → FollowsScript h n p.posts
+
+posts_by-other : (h : List Event) (e : Event) (n : ℕ) → filter (λ (m : Msg). is_script_of n m.id) (post_of e) ≡ [] → posts_by (h ++ e ∷ []) n ≡ posts_by h n
+posts_by-other h e n none = rw (posts-push, filter-append, none) (append-nil (posts_by h n))
+
+posts_by-own : (h : List Event) (m : Msg) (n : ℕ) → is_script_of n m.id ≡ true → posts_by (h ++ Post m ∷ []) n ≡ posts_by h n ++ m ∷ []
+posts_by-own h m n own = rw (posts-push, filter-append, own) refl
+
+follows-same : (h g : List Event) (n : ℕ) (script : List Sent) → posts_by g n ≡ posts_by h n → FollowsScript h n script → FollowsScript g n script
+follows-same h g n script same follows = record {
+  lines = subst (λ ms. map sent_of ms ≡ take (length ms) script) (sym same) follows.lines;
+  names = λ place m at. follows.names place m (subst (λ ms. slice_get ms place ≡ Some m) same at);
+}
+
+-- one more line
+follows-line : (h : List Event) (m : Msg) (n : ℕ) (p : PosterPart) (s : Sent) → m.id ≡ Script n (posts_of_poster h n) → slice_get p.posts (posts_of_poster h n) ≡ Some s → is_post m s ≡ true → FollowsScript h n p.posts → FollowsScript (h ++ Post m ∷ []) n p.posts
+follows-line h m n p s named at is follows = record {
+  lines = subst (λ ms. map sent_of ms ≡ take (length ms) p.posts) (sym more) (rw (map-append, length-append, sent-post m s is, follows.lines) (sym (take-next p.posts (length (posts_by h n)) s at)));
+  names = λ place y there. of_either place y (get-last (posts_by h n) m y place (subst (λ ms. slice_get ms place ≡ Some y) more there));
+}
+  where
+    own : is_script_of n m.id ≡ true
+    own = rw named (grind (arith, nat_tests))
+
+    more : posts_by (h ++ Post m ∷ []) n ≡ posts_by h n ++ m ∷ []
+    more = posts_by-own h m n own
+
+    of_either : (place : ℕ) (y : Msg) → (slice_get (posts_by h n) place ≡ Some y) ⊎ ((place ≡ length (posts_by h n)) × (m ≡ y)) → y.id ≡ Script n place
+    of_either place y (inl before) = follows.names place y before
+    of_either place y (inr last) = subst (λ z. z.id ≡ Script n place) last.1 (named ∙ ap (λ k. Script n k) (sym last.0))
+
+follows-post : (w : Parts) (h : List Event) (m : Msg) (name : MsgId) → m.id ≡ name → refusal_of_post w h m name ≡ None → AllFollow w h → AllFollow w (h ++ Post m ∷ [])
+follows-post w h m (Task t k) named allowed follow n p at = follows-same h (h ++ Post m ∷ []) n p.posts (posts_by-other h (Post m) n (rw named refl)) (follow n p at)
+follows-post w h m (Script a k) named allowed follow n p at = of_test (a == n) refl
+  where
+    line : is_script_line w h a k m ≡ true
+    line = (refused_not (is_script_line w h a k m) 1 None allowed).0
+
+    of_test : (b : Bool) → (a == n) ≡ b → FollowsScript (h ++ Post m ∷ []) n p.posts
+    of_test false is = follows-same h (h ++ Post m ∷ []) n p.posts (posts_by-other h (Post m) n (rw (named, is) refl)) (follow n p at)
+    of_test true is =
+        let one : a ≡ n = same_number a n is in
+        let parts = both (k == posts_of_poster h a) (option_map_or (is_post m) (option_and_then (λ (q : PosterPart). slice_get q.posts k) (slice_get w.posters a)) false) line in
+        let place : k ≡ posts_of_poster h n = same_number k (posts_of_poster h a) parts.0 ∙ ap (posts_of_poster h) one in
+        let sent = some_of (is_post m) (option_and_then (λ (q : PosterPart). slice_get q.posts k) (slice_get w.posters a)) parts.1 in
+        let there : slice_get p.posts k ≡ Some sent.0 = sym (ap (option_and_then (λ (q : PosterPart). slice_get q.posts k)) (ap (slice_get w.posters) one ∙ at)) ∙ sent.1 in
+        follows-line h m n p sent.0 (named ∙ rw (one, place) refl) (subst (λ i. slice_get p.posts i ≡ Some sent.0) place there) sent.2 (follow n p at)
+
+follows-event : (w : Parts) (h : List Event) (e : Event) → AllFollow w h → IsAllowed w h e → AllFollow w (h ++ e ∷ [])
+follows-event w h (Post m) follow allowed n p at = follows-post w h m m.id refl allowed follow n p at
+follows-event w h (Fire t s ms cs) follow allowed n p at = follows-same h _ n p.posts (posts_by-other h (Fire t s ms cs) n refl) (follow n p at)
+follows-event w h (Admit t) follow allowed n p at = follows-same h _ n p.posts (posts_by-other h (Admit t) n refl) (follow n p at)
+follows-event w h (Put t d) follow allowed n p at = follows-same h _ n p.posts (posts_by-other h (Put t d) n refl) (follow n p at)
+follows-event w h (Start t a) follow allowed n p at = follows-same h _ n p.posts (posts_by-other h (Start t a) n refl) (follow n p at)
+follows-event w h (End t how) follow allowed n p at = follows-same h _ n p.posts (posts_by-other h (End t how) n refl) (follow n p at)
+
+pub follow : (w : Parts) (h : List Event) → IsLegal w h → (n : ℕ) (p : PosterPart) → slice_get w.posters n ≡ Some p → FollowsScript h n p.posts
+follow w h legal = along w (AllFollow w) (follows-event w) (λ n p at. none n p.posts) h legal
+  where
+    none : (n : ℕ) (script : List Sent) → FollowsScript [] n script
+    none n [] = record { lines = refl; names = λ place m at. absurd (cc) }
+    none n (s ∷ script) = record { lines = refl; names = λ place m at. absurd (cc) }
+
+-- who has made as many posts as its script has
+made-all : (h : List Event) (first n : ℕ) (ps : List PosterPart) (p : PosterPart) → are_whole_from h first ps ≡ true → slice_get ps n ≡ Some p → posts_of_poster h (first + n) ≡ length p.posts
+made-all h first n [] p whole at = absurd (cc)
+made-all h first zero (q ∷ ps) p whole at =
+    let here = both (posts_of_poster h first == length q.posts) (are_whole_from h (first + 1) ps) whole in
+    let one : q ≡ p = cc in
+    let e : first + 0 ≡ first = omega arith in
+    rw e (same_number (posts_of_poster h first) (length q.posts) here.0 ∙ ap (λ (r : PosterPart). length r.posts) one)
+made-all h first (suc n) (q ∷ ps) p whole at =
+    let here = both (posts_of_poster h first == length q.posts) (are_whole_from h (first + 1) ps) whole in
+    let e : first + 1 + n ≡ first + suc n = omega arith in
+    subst (λ i. posts_of_poster h i ≡ length p.posts) e (made-all h (first + 1) n ps p here.1 at)
+
+pub whole : (w : Parts) (h : List Event) → IsLegal w h → is_complete w h ≡ true → (n : ℕ) (p : PosterPart) → slice_get w.posters n ≡ Some p → map sent_of (posts_by h n) ≡ p.posts
+whole w h legal complete n p at =
+    let e : 0 + n ≡ n = omega arith in
+    let made : length (posts_by h n) ≡ length p.posts = subst (λ i. posts_of_poster h i ≡ length p.posts) e (made-all h 0 n w.posters p (both (are_whole_from h 0 w.posters) _ complete).0 at) in
+    let all : length p.posts ≤ length (posts_by h n) = omega (arith, made) in
+    (follow w h legal n p at).lines ∙ take_all (length (posts_by h n)) p.posts all
