@@ -8,6 +8,7 @@ use Rattle.ccr_model.specs.Order.{IsFinished}
 use Rattle.ccr_report.specs.Report.{total_words}
 use Rattle.ccr_json.specs.Totals.{totals_json}
 use Rattle.ccr_gen.specs.Generated.{generated}
+use Rattle.ccr_cli.specs.Accounts.{AccountsForAll}
 use Rattle.ccr_cli.specs.declared.status.Status.{Status}
 use Rattle.ccr_cli.specs.declared.status.Status.TheVariants.{Done}
 
@@ -21,13 +22,15 @@ abbrev pub load_text : ℕ → Bool → List Event → List ℕ
 load_text size json history = codes "load " ++ decimal size ++ 10 ∷ [] ++ totals_of json history ++ codes "done 0" ++ 10 ∷ []
 
 -- the text is that of the history of the generated wiring in which the serial order, from the empty history on and with the
--- closer numbered behind the posters, puts nothing more first: it is legal, complete and quiet, and no task was shed in it
+-- closer numbered behind the posters, puts nothing more first: it is legal, complete and quiet, accounts for each post and each
+-- message, and no task was shed in it
 pub record IsLoad (size : ℕ) (json : Bool) (text : List ℕ) : Type 0 where
   pub history : List Event
   pub finished : IsFinished (generated size) (length (generated size).posters) [] history
   pub legal : IsLegal (generated size) history
   pub complete : is_complete (generated size) history ≡ true
   pub quiet : IsQuiet (generated size) history
+  pub accounts : AccountsForAll (generated size) history
   pub unshed : has_shed history ≡ false
   pub written : text ≡ load_text size json history
 
