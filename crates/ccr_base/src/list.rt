@@ -124,4 +124,13 @@ impl<T: Copy> List<T> {
             items: Vec::from_slice(alloc, &self.items)?,
         })
     }
+
+    /// Adds copies of the items at the end, in their order. Without memory the list stays as it was.
+    pub fn extend(&mut self, items: &[T]) -> Result<(), OutOfMemory>
+        ensures ok { OnOk result (self.new ≡ self.old ++ items.now) }
+        ensures err { OnErr result (self.new ≡ self.old) }
+    {
+        self.items.extend_from_slice(items)?;
+        Ok(())
+    }
 }

@@ -17,6 +17,8 @@ fn pushes_and_removes(rt: HostRuntime) -> Result<(), Fail> {
     let second = list.remove(1);
     assert_eq!(rt; second, 1);
     assert_eq!(rt; list.as_slice(), [0, 2].as_slice());
+    list.extend(&[5, 6])?;
+    assert_eq!(rt; list.as_slice(), [0, 2, 5, 6].as_slice());
     Ok(())
 }
 

@@ -16,29 +16,12 @@ fn shorten(out: &mut List<u8>, len: usize)
     }
 }
 
-fn put_some(out: &mut List<u8>, bytes: &[u8]) -> Result<(), OutOfMemory>
-    ensures ok { OnOk result (out.new ≡ out.old ++ bytes.now) }
-    ensures err { OnErr result (Grew out.old out.new) }
-{
-    for byte in bytes {
-        out.push(*byte).map_err(|(refused, _)| refused)?;
-    }
-    Ok(())
-}
-
 /// Adds the bytes. Without memory the text stays as it was.
 pub fn put_bytes(out: &mut List<u8>, bytes: &[u8]) -> Result<(), OutOfMemory>
     ensures ok { OnOk result (out.new ≡ out.old ++ bytes.now) }
     ensures err { OnErr result (out.new ≡ out.old) }
 {
-    let len = out.as_slice().len();
-    match put_some(out, bytes) {
-        Ok(()) => Ok(()),
-        Err(refused) => {
-            shorten(out, len);
-            Err(refused)
-        }
-    }
+    out.extend(bytes)
 }
 
 /// What follows the first word of a line.
@@ -47,10 +30,10 @@ fn put_spaced(out: &mut List<u8>, words: &[&[u8]]) -> Result<(), OutOfMemory>
     ensures err { OnErr result (Grew out.old out.new) }
 {
     for word in words {
-        put_some(out, b" ")?;
-        put_some(out, word)?;
+        put_bytes(out, b" ")?;
+        put_bytes(out, word)?;
     }
-    put_some(out, b"\n")
+    put_bytes(out, b"\n")
 }
 
 fn put_words(out: &mut List<u8>, words: &[&[u8]]) -> Result<(), OutOfMemory>
@@ -58,9 +41,9 @@ fn put_words(out: &mut List<u8>, words: &[&[u8]]) -> Result<(), OutOfMemory>
     ensures err { OnErr result (Grew out.old out.new) }
 {
     match words.split_first() {
-        None => put_some(out, b"\n"),
+        None => put_bytes(out, b"\n"),
         Some((first, others)) => {
-            put_some(out, first)?;
+            put_bytes(out, first)?;
             put_spaced(out, others)
         }
     }
