@@ -4,3 +4,10 @@ pub mod Sizes
 pub mod Flags
 pub mod Running
 pub mod Said
+pub mod Counting
+pub mod Fired
+pub mod Gone
+pub mod Coming
+pub mod Over
+pub mod Admitted
+pub mod Counted
