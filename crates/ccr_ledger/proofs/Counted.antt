@@ -1,6 +1,6 @@
 -- Each event keeps how many are on their way to each queue, and admitted to each domain.
-use Rattle.std.proofs.Common.{◌≡◌, ℕ, zero, suc, Bool, true, false, not, ◌&&◌, List, [], ◌∷◌, ◌++◌, length, filter, refl, sym, ap, ◌∙◌}
-use Rattle.std.specs.Prelude.{if◌then◌else◌, replicate}
+use Rattle.std.proofs.Common.{◌≡◌, ℕ, Bool, true, false, not, ◌&&◌, List, [], ◌∷◌, ◌++◌, length, filter, refl, sym, ap, ◌∙◌}
+use Rattle.std.specs.Prelude.{if◌then◌else◌}
 use Rattle.ccr_base.specs.declared.names.TaskId.{TaskId}
 use Rattle.ccr_wiring.specs.declared.parts.Parts.{Parts}
 use Rattle.ccr_model.specs.declared.history.Event.{Event}
@@ -9,9 +9,10 @@ use Rattle.ccr_model.specs.Tasks.{is_in_arbiter, is_over, admitted}
 use Rattle.ccr_model.specs.Rules.{is_concurrent_task}
 use Rattle.ccr_model.specs.Legal.{IsAllowed, IsLegal}
 use Rattle.ccr_model.proofs.TasksLeft.{filter_on}
-use Rattle.ccr_ledger.specs.Books.{Books, number}
+use Rattle.ccr_ledger.specs.Books.{Books}
 use Rattle.ccr_ledger.specs.Events.{after_event, empty_books}
 use Rattle.ccr_ledger.specs.Kept.{Keeps, KeepsCounts}
+use Rattle.ccr_ledger.proofs.Empty.{number-none}
 use Rattle.ccr_ledger.proofs.Counting.{and_true}
 use Rattle.ccr_ledger.proofs.Coming.{coming-event}
 use Rattle.ccr_ledger.proofs.Admitted.{AreCounted, counts_as, counted-event}
@@ -46,11 +47,6 @@ counts-event w h e b legal allowed keeps =
     }
 
 -- nobody is counted at first
-number-none : (n k : ℕ) → number (replicate n 0) k ≡ 0
-number-none zero k = refl
-number-none (suc n) zero = refl
-number-none (suc n) (suc k) = number-none n k
-
 pub counts-none : (w : Parts) → KeepsCounts w [] (empty_books w)
 counts-none w = record {
   coming = λ q low. number-none (length w.queues) q;

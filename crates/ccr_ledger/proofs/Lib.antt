@@ -4,6 +4,7 @@ pub mod Sizes
 pub mod Flags
 pub mod Running
 pub mod Said
+pub mod Empty
 pub mod Counting
 pub mod Fired
 pub mod Gone
