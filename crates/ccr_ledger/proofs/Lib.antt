@@ -4,3 +4,7 @@ pub mod Sizes
 pub mod Flags
 pub mod Running
 pub mod Said
+pub mod Fresh
+pub mod Fitting
+pub mod PortsLeft
+pub mod PortsKept
