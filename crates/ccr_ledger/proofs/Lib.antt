@@ -8,3 +8,4 @@ pub mod Fresh
 pub mod Fitting
 pub mod PortsLeft
 pub mod PortsKept
+pub mod Fronts
