@@ -12,3 +12,8 @@ pub mod Coming
 pub mod Over
 pub mod Admitted
 pub mod Counted
+pub mod Fresh
+pub mod Fitting
+pub mod PortsLeft
+pub mod PortsKept
+pub mod Fronts
