@@ -4,3 +4,16 @@ pub mod Sizes
 pub mod Flags
 pub mod Running
 pub mod Said
+pub mod Empty
+pub mod Counting
+pub mod Fired
+pub mod Gone
+pub mod Coming
+pub mod Over
+pub mod Admitted
+pub mod Counted
+pub mod Fresh
+pub mod Fitting
+pub mod PortsLeft
+pub mod PortsKept
+pub mod Fronts

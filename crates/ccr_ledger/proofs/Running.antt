@@ -1,6 +1,6 @@
 -- Each event keeps who runs, and which actor started whom.
-use Rattle.std.proofs.Common.{◌≡◌, ℕ, zero, suc, Bool, true, false, not, ◌||◌, List, [], ◌∷◌, ◌++◌, length, map, filter, Option, Some, None, refl, sym, ap, ◌∙◌, arith, append-nil, subst}
-use Rattle.std.specs.Prelude.{◌==◌, if◌then◌else◌, option_map}
+use Rattle.std.proofs.Common.{◌≡◌, ℕ, Bool, true, false, not, ◌||◌, List, [], ◌∷◌, ◌++◌, Option, Some, None, refl, sym, ap, ◌∙◌}
+use Rattle.std.specs.Prelude.{if◌then◌else◌, option_map}
 use Rattle.std.specs.Option.{option_map_or}
 use Rattle.std.proofs.lemmas.List.{map-append}
 use Rattle.ccr_base.specs.declared.names.TaskId.{TaskId}
@@ -14,12 +14,12 @@ use Rattle.ccr_wiring.specs.Wirings.{Seat, seat}
 use Rattle.ccr_model.specs.declared.history.Event.{Event}
 use Rattle.ccr_model.specs.declared.history.Event.TheVariants.{Post, Fire, Admit, Put, Start, End}
 use Rattle.ccr_model.specs.declared.history.EndHow.{EndHow}
-use Rattle.ccr_model.specs.Firings.{firing_named, ended, started}
+use Rattle.ccr_model.specs.Firings.{ended}
 use Rattle.ccr_model.specs.Tasks.{running}
 use Rattle.ccr_model.specs.Legal.{IsAllowed, IsLegal}
 use Rattle.ccr_model.proofs.TaskSteps.{running-start, running-end, running-post, running-fire, running-put, running-admit}
-use Rattle.ccr_model.proofs.TaskPlaces.{StartFacts, StartFacts-allowed, StartFacts-queued, QueuedFacts, ArePlaced-legal}
-use Rattle.ccr_model.proofs.Ending.{RunningFacts, RunningFacts-allowed, AreEnded-legal}
+use Rattle.ccr_model.proofs.TaskPlaces.{StartFacts-allowed, StartFacts-queued, ArePlaced-legal}
+use Rattle.ccr_model.proofs.Ending.{RunningFacts-allowed, AreEnded-legal}
 use Rattle.ccr_model.proofs.FiredTasks.{IsFired, seat_fired}
 use Rattle.ccr_model.proofs.Booleans.{refuted, no_both}
 use Rattle.ccr_ledger.specs.declared.cards.Card.{Card}
