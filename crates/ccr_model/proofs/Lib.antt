@@ -18,10 +18,10 @@ pub mod TaskSteps
 pub mod Stable
 pub mod FiredTasks
 pub mod Quiet
+pub mod SeatDomains
 pub mod Allowing
 pub mod Covered
 pub mod Alone
-pub mod SeatPlaces
 pub mod Segments
 pub mod ValidHandlers
 pub mod PlayPast
