@@ -4,3 +4,7 @@ pub mod Sizes
 pub mod Flags
 pub mod Running
 pub mod Said
+pub mod CardTables
+pub mod Stages
+pub mod Admissions
+pub mod CardSteps

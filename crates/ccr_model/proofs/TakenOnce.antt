@@ -63,7 +63,7 @@ joined_some (Some front) (Some back) xs is = (front, back, refl, refl, grind (ar
 joined_some None b xs is = absurd (cc)
 joined_some (Some front) None xs is = absurd (cc)
 
-choice_some : (slot : Slot) (ms xs : List Msg) → choice slot ms ≡ Some xs → xs ≡ take slot.most (filter (λ m. holds slot.pred m.value) ms)
+pub choice_some : (slot : Slot) (ms xs : List Msg) → choice slot ms ≡ Some xs → xs ≡ take slot.most (filter (λ m. holds slot.pred m.value) ms)
 choice_some slot ms xs is = grind arith
 
 times-choice : (name : MsgId) (slot : Slot) (ms xs : List Msg) → choice slot ms ≡ Some xs → times name xs ≤ times name ms
