@@ -17,3 +17,7 @@ pub mod Fitting
 pub mod PortsLeft
 pub mod PortsKept
 pub mod Fronts
+pub mod CardTables
+pub mod Stages
+pub mod Admissions
+pub mod CardSteps

@@ -83,7 +83,7 @@ has_card : (w : Parts) (h : List Event) (t : TaskId) (b : Books) → KeepsTasks 
 has_card w h t b keeps fired = (card_of w h t fired.0, keeps.cards t ∙ ap (option_map (card_of w h t)) fired.1)
 
 -- who is to start has not ended
-unended : (w : Parts) (h : List Event) (t : TaskId) (a : ℕ) → IsLegal w h → IsAllowed w h (Start t a) → has_task (ended h) t ≡ false
+pub unended : (w : Parts) (h : List Event) (t : TaskId) (a : ℕ) → IsLegal w h → IsAllowed w h (Start t a) → has_task (ended h) t ≡ false
 unended w h t a legal allowed =
     let queued = StartFacts-queued w h t (StartFacts-allowed w h t a allowed) in
     refuted (has_task (ended h) t) (λ is. no_both ((AreEnded-legal w h legal).started_ended t is) queued.not_started)
