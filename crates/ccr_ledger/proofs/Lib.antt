@@ -4,3 +4,7 @@ pub mod Sizes
 pub mod Flags
 pub mod Running
 pub mod Said
+pub mod RowMoves
+pub mod TaskRows
+pub mod TaskCards
+pub mod Queued
