@@ -8,3 +8,4 @@ pub mod RowMoves
 pub mod TaskRows
 pub mod TaskCards
 pub mod Queued
+pub mod RunningBy
