@@ -9,3 +9,5 @@ pub mod TaskRows
 pub mod TaskCards
 pub mod Queued
 pub mod RunningBy
+pub mod FiredOnce
+pub mod Waiting
