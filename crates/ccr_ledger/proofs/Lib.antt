@@ -21,3 +21,10 @@ pub mod CardTables
 pub mod Stages
 pub mod Admissions
 pub mod CardSteps
+pub mod RowMoves
+pub mod TaskRows
+pub mod TaskCards
+pub mod Queued
+pub mod RunningBy
+pub mod FiredOnce
+pub mod Waiting
