@@ -51,10 +51,17 @@ module _ (w : Parts) (h : List Event) (legal : IsLegal w h) where
       ∙ (list_any-append (λ x. same_task (root_of (h ++ e ∷ []) x) u) (last_segments h) (last_by e)
       ∙ ap (λ b. b || list_any (λ x. same_task (root_of (h ++ e ∷ []) x) u) (last_by e)) (any_on _ (λ x. same_task (root_of h x) u) (last_segments h) (λ x is. ap (λ r. same_task r u) (root_stays h (e ∷ []) x (lasts_fired w h legal x is)))))
 
-  over-other : (e : Event) (u : TaskId) → last_by e ≡ [] → is_over (h ++ e ∷ []) u ≡ is_over h u
+  pub over-other : (e : Event) (u : TaskId) → last_by e ≡ [] → is_over (h ++ e ∷ []) u ≡ is_over h u
   over-other e u no_last = over-push e u ∙ (ap (λ ts. is_over h u || list_any (λ x. same_task (root_of (h ++ e ∷ []) x) u) ts) no_last ∙ or-false (is_over h u))
 
-  let_in-other : (e : Event) → admitted_by e ≡ [] → let_in (h ++ e ∷ []) ≡ let_in h
+  -- the root of one more last segment is over
+  pub over-last : (e : Event) (x u : TaskId) → last_by e ≡ x ∷ [] → IsFired h x → is_over (h ++ e ∷ []) u ≡ is_over h u || same_task (root_of h x) u
+  over-last e x u last fired =
+      over-push e u
+      ∙ (ap (λ ts. is_over h u || list_any (λ y. same_task (root_of (h ++ e ∷ []) y) u) ts) last
+      ∙ (ap (λ r. is_over h u || (same_task r u || false)) (root_stays h (e ∷ []) x fired) ∙ ap (λ b. is_over h u || b) (or-false (same_task (root_of h x) u))))
+
+  pub let_in-other : (e : Event) → admitted_by e ≡ [] → let_in (h ++ e ∷ []) ≡ let_in h
   let_in-other e no_admit = rw (let_in-push h e, no_admit) (append-nil (let_in h))
 
   pub admitted-other : (e : Event) (u : TaskId) → last_by e ≡ [] → admitted_by e ≡ [] → is_admitted (h ++ e ∷ []) u ≡ is_admitted h u
@@ -63,11 +70,9 @@ module _ (w : Parts) (h : List Event) (legal : IsLegal w h) where
   -- the root of one more last segment is admitted no more
   pub admitted-last : (e : Event) (x u : TaskId) → last_by e ≡ x ∷ [] → admitted_by e ≡ [] → IsFired h x → is_admitted (h ++ e ∷ []) u ≡ (if same_task (root_of h x) u then false else is_admitted h u)
   admitted-last e x u last no_admit fired =
-      let over : is_over (h ++ e ∷ []) u ≡ is_over h u || (same_task (root_of h x) u || false) =
-      over-push e u ∙ (ap (λ ts. is_over h u || list_any (λ y. same_task (root_of (h ++ e ∷ []) y) u) ts) last ∙ ap (λ r. is_over h u || (same_task r u || false)) (root_stays h (e ∷ []) x fired)) in
-      rw (let_in-other e no_admit, over) (of_tests (has_task (let_in h) u) (is_over h u) (same_task (root_of h x) u))
+      rw (let_in-other e no_admit, over-last e x u last fired) (of_tests (has_task (let_in h) u) (is_over h u) (same_task (root_of h x) u))
     where
-      of_tests : (a b c : Bool) → a && not (b || (c || false)) ≡ (if c then false else a && not b)
+      of_tests : (a b c : Bool) → a && not (b || c) ≡ (if c then false else a && not b)
       of_tests true true true = refl
       of_tests true true false = refl
       of_tests true false true = refl
@@ -76,7 +81,7 @@ module _ (w : Parts) (h : List Event) (legal : IsLegal w h) where
       of_tests false b false = refl
 
   -- an admitted task's root, which is itself, isn't over
-  new_lasts : (t : TaskId) → IsAllowed w h (Admit t) → is_over h t ≡ false
+  pub new_lasts : (t : TaskId) → IsAllowed w h (Admit t) → is_over h t ≡ false
   new_lasts t allowed = refuted (is_over h t) over
     where
       over : is_over h t ≡ true → ⊥

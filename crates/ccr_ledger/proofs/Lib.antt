@@ -5,13 +5,6 @@ pub mod Flags
 pub mod Running
 pub mod Said
 pub mod Empty
-pub mod Counting
-pub mod Fired
-pub mod Gone
-pub mod Coming
-pub mod Over
-pub mod Admitted
-pub mod Counted
 pub mod Fresh
 pub mod Fitting
 pub mod PortsLeft
@@ -28,3 +21,10 @@ pub mod Queued
 pub mod RunningBy
 pub mod FiredOnce
 pub mod Waiting
+pub mod Counting
+pub mod FiredBy
+pub mod Gone
+pub mod Coming
+pub mod NewRoots
+pub mod Admitted
+pub mod Counted

@@ -9,15 +9,18 @@ use Rattle.ccr_wiring.specs.Wirings.{Seat, seat, branch_of}
 use Rattle.ccr_model.specs.declared.history.Event.{Event}
 use Rattle.ccr_model.specs.Firings.{Firing, firings, firing_named}
 use Rattle.ccr_model.specs.TaskData.{seat_of}
-use Rattle.ccr_model.specs.Tasks.{is_for_queue}
+use Rattle.ccr_model.specs.Sites.{root_of}
+use Rattle.ccr_model.specs.Tasks.{is_for_queue, is_concurrent}
 use Rattle.ccr_model.specs.Legal.{IsLegal}
 use Rattle.ccr_model.proofs.Members.{Among}
 use Rattle.ccr_model.proofs.Seated.{firing_seated}
 use Rattle.ccr_model.proofs.FiredTasks.{IsFired}
 use Rattle.ccr_model.proofs.TaskPlaces.{seat_by}
 use Rattle.ccr_ledger.specs.declared.cards.Card.{Card}
-use Rattle.ccr_ledger.specs.Books.{Books, card_at}
-use Rattle.ccr_ledger.specs.Kept.{KeepsTasks, card_of}
+use Rattle.ccr_ledger.specs.declared.cards.Stage.{Stage}
+use Rattle.ccr_ledger.specs.Books.{Books, card_at, in_stage, moved}
+use Rattle.ccr_ledger.specs.Kept.{KeepsTasks, card_of, is_admitted}
+use Rattle.ccr_ledger.proofs.Tables.{card-changed}
 
 -- who is found is among them
 pub found_among : (p : Firing → Bool) (fs : List Firing) (f : Firing) → find p fs ≡ Some f → Among f fs
@@ -40,6 +43,9 @@ pub record CardFacts (w : Parts) (h : List Event) (t : TaskId) (b : Books) : Typ
   pub spot : card.spot ≡ firing.spot
   pub queue : card.queue ≡ place.branch.queue
   pub domain : card.domain ≡ place.arbiter
+  pub concurrent : card.concurrent ≡ is_concurrent place.branch.group
+  pub root : card.root ≡ root_of h t
+  pub admitted : card.admitted ≡ is_admitted h t
 
 pub CardFacts-fired : (w : Parts) (h : List Event) (t : TaskId) (b : Books) → IsLegal w h → KeepsTasks w h b → IsFired h t → CardFacts w h t b
 CardFacts-fired w h t b legal tasks fired =
@@ -56,6 +62,48 @@ CardFacts-fired w h t b legal tasks fired =
       spot = refl;
       queue = ap (λ o. option_map_or (λ (s : Seat). s.branch.queue) o 0) seated.1;
       domain = ap (λ o. option_map_or (λ (s : Seat). s.arbiter) o 0) seated.1;
+      concurrent = ap (λ o. option_map_or (λ (s : Seat). is_concurrent s.branch.group) o false) seated.1;
+      root = refl;
+      admitted = refl;
+    }
+
+-- another stage of a card changes nothing of this
+pub card_moved : (w : Parts) (h : List Event) (stage : Stage) (x : TaskId) (b d : Books) (t : TaskId) → d.tasks ≡ moved stage x b.tasks → CardFacts w h t b → CardFacts w h t d
+card_moved w h stage x b d t same facts = of_test (same_task x t) refl
+  where
+    at : card_at d.tasks t ≡ (if same_task x t then option_map (in_stage stage) (card_at b.tasks t) else card_at b.tasks t)
+    at = ap (λ cards. card_at cards t) same ∙ card-changed (in_stage stage) b.tasks x t
+
+    of_test : (is : Bool) → same_task x t ≡ is → CardFacts w h t d
+    of_test false other = record {
+      card = facts.card;
+      is_card = at ∙ rw other facts.is_card;
+      firing = facts.firing;
+      is_firing = facts.is_firing;
+      place = facts.place;
+      is_place = facts.is_place;
+      is_seat = facts.is_seat;
+      spot = facts.spot;
+      queue = facts.queue;
+      domain = facts.domain;
+      concurrent = facts.concurrent;
+      root = facts.root;
+      admitted = facts.admitted;
+    }
+    of_test true here = record {
+      card = in_stage stage facts.card;
+      is_card = at ∙ rw (here, facts.is_card) refl;
+      firing = facts.firing;
+      is_firing = facts.is_firing;
+      place = facts.place;
+      is_place = facts.is_place;
+      is_seat = facts.is_seat;
+      spot = facts.spot;
+      queue = facts.queue;
+      domain = facts.domain;
+      concurrent = facts.concurrent;
+      root = facts.root;
+      admitted = facts.admitted;
     }
 
 -- one task has one seat
