@@ -1,4 +1,4 @@
--- Nobody fires twice, and who was cut or fires anew.
+-- Nobody fires twice, and who is cut fired.
 use Rattle.std.proofs.Common.{◌≡◌, Bool, true, false, List, [], ◌∷◌, ◌++◌, map, filter, refl, ap, ◌∙◌, append-nil, subst}
 use Rattle.std.specs.Prelude.{if◌then◌else◌}
 use Rattle.ccr_base.specs.declared.names.TaskId.{TaskId}
@@ -48,7 +48,7 @@ passed-push test (x ∷ fs) f = of_test (test x) (passed-push test fs f)
     of_test true rest = ap (λ (ts : List TaskId). x.task ∷ ts) rest
     of_test false rest = rest
 
-pub fired_where-fire : (test : Firing → Bool) (h : List Event) (t : TaskId) (s : Spot) (ms : List MsgId) (cs : List TaskId) → fired_where test (h ++ Fire t s ms cs ∷ []) ≡ fired_where test h ++ (if test (record { task = t; spot = s; messages = ms; cuts = cs }) then t ∷ [] else [])
+fired_where-fire : (test : Firing → Bool) (h : List Event) (t : TaskId) (s : Spot) (ms : List MsgId) (cs : List TaskId) → fired_where test (h ++ Fire t s ms cs ∷ []) ≡ fired_where test h ++ (if test (record { task = t; spot = s; messages = ms; cuts = cs }) then t ∷ [] else [])
 fired_where-fire test h t s ms cs = ap (λ fs. map (λ (g : Firing). g.task) (filter test fs)) (firings-push h (Fire t s ms cs)) ∙ passed-push test (firings h) (record { task = t; spot = s; messages = ms; cuts = cs })
 
 -- nobody stands twice among those that pass

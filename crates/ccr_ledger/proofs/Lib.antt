@@ -11,3 +11,5 @@ pub mod Queued
 pub mod RunningBy
 pub mod FiredOnce
 pub mod Waiting
+pub mod Suspended
+pub mod Places

@@ -90,10 +90,10 @@ module _ (w : Parts) (h : List Event) (t : TaskId) (b : Books) (legal : IsLegal 
       let lists = (ArePlaced-legal w h legal).lists in
       let new = (PutFacts-allowed w h t d allowed).new_put in
       not_more (started h) (dropped h ++ option_to_list d) t
-        (refuted (has_task (started h) t) (λ is. no_both (lists.put_started t is) new))
-        (not_more (dropped h) (option_to_list d) t
-          (refuted (has_task (dropped h) t) (λ is. no_both (lists.put_dropped t is) new))
-          (refuted (has_task (option_to_list d) t) (λ is. no_both (new_drop w h (Put t d) t allowed is).1.put_so new)))
+      (refuted (has_task (started h) t) (λ is. no_both (lists.put_started t is) new))
+      (not_more (dropped h) (option_to_list d) t
+      (refuted (has_task (dropped h) t) (λ is. no_both (lists.put_dropped t is) new))
+      (refuted (has_task (option_to_list d) t) (λ is. no_both (new_drop w h (Put t d) t allowed is).1.put_so new)))
 
   queued-event-put : (d : Option TaskId) → IsAllowed w h (Put t d) → SaysQueued w (h ++ Put t d ∷ []) (after_event w (Put t d) b).queued
   queued-event-put d allowed q low =

@@ -126,8 +126,8 @@ module _ (w : Parts) (h : List Event) (t : TaskId) (n : ℕ) (ms : List MsgId) (
 
   stays : has_task (let_in h ++ (cut h ++ cs)) t ≡ false
   stays = not_more (let_in h) (cut h ++ cs) t
-    (refuted (has_task (let_in h) t) (λ is. unfired (let_in_fired w h legal t is)))
-    (not_more (cut h) cs t (refuted (has_task (cut h) t) (λ is. unfired (cut_fired w h legal t is))) (ap (λ ts. has_task ts t) cuts_so ∙ not_cut (is_teardown s.branch.group) refl))
+      (refuted (has_task (let_in h) t) (λ is. unfired (let_in_fired w h legal t is)))
+      (not_more (cut h) cs t (refuted (has_task (cut h) t) (λ is. unfired (cut_fired w h legal t is))) (ap (λ ts. has_task ts t) cuts_so ∙ not_cut (is_teardown s.branch.group) refl))
 
   entering : (i : ℕ) → fired_by w (is_seat_in i) (Fire t (Branch n) ms cs ∷ []) ≡ (if is_seat_in i s then t ∷ [] else [])
   entering i = rw at (of_test (is_seat_in i s))
@@ -187,7 +187,7 @@ waiting-event-admit w h t b legal allowed sizes tasks known i low =
     let oldest : waiting w h facts.card.domain ≡ t ∷ head.0 = ap (waiting w h) own ∙ head.1 in
     ap (λ (r : Rows). row r.waiting i) (rows-admit w t b facts.card facts.is_card)
     ∙ (row-left b.waiting (waiting w h) facts.card.domain i t head.0 (omega (arith, low, sizes.waiting)) (known i low) oldest (waiting_once w h facts.card.domain legal)
-        (waits_elsewhere w h facts.card.domain i t legal (has_oldest (waiting w h facts.card.domain) head.0 t oldest))
+    (waits_elsewhere w h facts.card.domain i t legal (has_oldest (waiting w h facts.card.domain) head.0 t oldest))
     ∙ sym (waiting-admit w h t i))
 
 -- a firing at a site cuts nobody
