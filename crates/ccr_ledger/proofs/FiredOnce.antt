@@ -1,4 +1,4 @@
--- Nobody fires twice, and who was cut or fires anew.
+-- Nobody fires twice, and who is cut fired.
 use Rattle.std.proofs.Common.{◌≡◌, Bool, true, false, List, [], ◌∷◌, ◌++◌, map, filter, refl, ap, ◌∙◌, append-nil, subst}
 use Rattle.std.specs.Prelude.{if◌then◌else◌}
 use Rattle.ccr_base.specs.declared.names.TaskId.{TaskId}

@@ -28,3 +28,6 @@ pub mod Coming
 pub mod NewRoots
 pub mod Admitted
 pub mod Counted
+pub mod Suspended
+pub mod Places
+pub mod Keeping

@@ -34,14 +34,14 @@ started_as-push : (a : ℕ) (h : List Event) (e : Event) → flat_map (started_a
 started_as-push a h e = grind (arith, common_steps)
 
 -- who runs for the actor, after one more event
-by-other : (h : List Event) (e : Event) (a : ℕ) → started_as a e ≡ [] → ended_by e ≡ [] → running_by (h ++ e ∷ []) a ≡ running_by h a
-by-other h e a no_start no_end = rw (started_as-push a h e, ended-push, no_start, no_end, append-nil (flat_map (started_as a) h), append-nil (ended h)) refl
+running_by-other : (h : List Event) (e : Event) (a : ℕ) → started_as a e ≡ [] → ended_by e ≡ [] → running_by (h ++ e ∷ []) a ≡ running_by h a
+running_by-other h e a no_start no_end = rw (started_as-push a h e, ended-push, no_start, no_end, append-nil (flat_map (started_as a) h), append-nil (ended h)) refl
 
-by-end : (h : List Event) (t : TaskId) (how : EndHow) (a : ℕ) → running_by (h ++ End t how ∷ []) a ≡ without (running_by h a) (t ∷ [])
-by-end h t how a = rw (started_as-push a h (End t how), ended-push, append-nil (flat_map (started_as a) h)) (without_both (flat_map (started_as a) h) (ended h) (t ∷ []))
+running_by-end : (h : List Event) (t : TaskId) (how : EndHow) (a : ℕ) → running_by (h ++ End t how ∷ []) a ≡ without (running_by h a) (t ∷ [])
+running_by-end h t how a = rw (started_as-push a h (End t how), ended-push, append-nil (flat_map (started_as a) h)) (without_both (flat_map (started_as a) h) (ended h) (t ∷ []))
 
-by-start : (h : List Event) (t : TaskId) (by a : ℕ) → has_task (ended h) t ≡ false → running_by (h ++ Start t by ∷ []) a ≡ running_by h a ++ (if by == a then t ∷ [] else [])
-by-start h t by a out = rw (started_as-push a h (Start t by), ended-push, append-nil (ended h)) (without-append (flat_map (started_as a) h) (if by == a then t ∷ [] else []) (ended h) ∙ ap (λ ts. running_by h a ++ ts) (of_test (by == a)))
+running_by-start : (h : List Event) (t : TaskId) (by a : ℕ) → has_task (ended h) t ≡ false → running_by (h ++ Start t by ∷ []) a ≡ running_by h a ++ (if by == a then t ∷ [] else [])
+running_by-start h t by a out = rw (started_as-push a h (Start t by), ended-push, append-nil (ended h)) (without-append (flat_map (started_as a) h) (if by == a then t ∷ [] else []) (ended h) ∙ ap (λ ts. running_by h a ++ ts) (of_test (by == a)))
   where
     of_test : (is : Bool) → without (if is then t ∷ [] else []) (ended h) ≡ (if is then t ∷ [] else [])
     of_test true = rw out refl
@@ -67,18 +67,18 @@ runners-more a (r ∷ rs) t by = of_test (r.actor == a) (runners-more a rs t by)
 runners-less : (a : ℕ) (rs : List Runner) (t : TaskId) → runners_of a (stopped t rs) ≡ without (runners_of a rs) (t ∷ [])
 runners-less a rs t = ap runners (filter_swap (λ (r : Runner). r.actor == a) (λ (r : Runner). not (same_task r.task t)) rs) ∙ runners-stopped t (filter (λ (r : Runner). r.actor == a) rs)
 
-pub by-event : (w : Parts) (h : List Event) (e : Event) (b : Books) → IsLegal w h → IsAllowed w h e → KeepsTasks w h b → SaysRunners h b.running → SaysRunners (h ++ e ∷ []) (after_event w e b).running
-by-event w h (Start t by) b legal allowed tasks known a =
+pub running_by-event : (w : Parts) (h : List Event) (e : Event) (b : Books) → IsLegal w h → IsAllowed w h e → KeepsTasks w h b → SaysRunners h b.running → SaysRunners (h ++ e ∷ []) (after_event w e b).running
+running_by-event w h (Start t by) b legal allowed tasks known a =
     let facts = StartFacts-allowed w h t by allowed in
     let card = has_card w h t b tasks (seat_fired w h t facts.place facts.is_place) in
-    rw card.1 (runners-more a b.running t by ∙ (ap (λ ts. ts ++ (if by == a then t ∷ [] else [])) (known a) ∙ sym (by-start h t by a (unended w h t by legal allowed))))
-by-event w h (End t how) b legal allowed tasks known a =
+    rw card.1 (runners-more a b.running t by ∙ (ap (λ ts. ts ++ (if by == a then t ∷ [] else [])) (known a) ∙ sym (running_by-start h t by a (unended w h t by legal allowed))))
+running_by-event w h (End t how) b legal allowed tasks known a =
     let placed = ArePlaced-legal w h legal in
     let began = RunningFacts-allowed w h t how allowed in
     let card = has_card w h t b tasks (placed.all_fired t (placed.lists.put_started t began.started_so)) in
-    rw card.1 (ap (runners_of a) (after-end t how card.0 b) ∙ (runners-less a b.running t ∙ (ap (λ ts. without ts (t ∷ [])) (known a) ∙ sym (by-end h t how a))))
-by-event w h (Post m) b legal allowed tasks known a = ap (λ (r : Rows). runners_of a r.running) (rows-post m b) ∙ (known a ∙ sym (by-other h (Post m) a refl refl))
-by-event w h (Fire t (Branch n) ms cs) b legal allowed tasks known a = ap (λ (r : Rows). runners_of a r.running) (rest-branch w t n ms cs b) ∙ (known a ∙ sym (by-other h (Fire t (Branch n) ms cs) a refl refl))
-by-event w h (Fire t (Site n k) ms cs) b legal allowed tasks known a = ap (λ (r : Rows). runners_of a r.running) (rest-site w t n k ms cs b) ∙ (known a ∙ sym (by-other h (Fire t (Site n k) ms cs) a refl refl))
-by-event w h (Admit t) b legal allowed tasks known a = ap (λ (r : Rows). runners_of a r.running) (rest-admit w t b) ∙ (known a ∙ sym (by-other h (Admit t) a refl refl))
-by-event w h (Put t d) b legal allowed tasks known a = ap (λ (r : Rows). runners_of a r.running) (rest-put w t d b) ∙ (known a ∙ sym (by-other h (Put t d) a refl refl))
+    rw card.1 (ap (runners_of a) (after-end t how card.0 b) ∙ (runners-less a b.running t ∙ (ap (λ ts. without ts (t ∷ [])) (known a) ∙ sym (running_by-end h t how a))))
+running_by-event w h (Post m) b legal allowed tasks known a = ap (λ (r : Rows). runners_of a r.running) (rows-post m b) ∙ (known a ∙ sym (running_by-other h (Post m) a refl refl))
+running_by-event w h (Fire t (Branch n) ms cs) b legal allowed tasks known a = ap (λ (r : Rows). runners_of a r.running) (rest-branch w t n ms cs b) ∙ (known a ∙ sym (running_by-other h (Fire t (Branch n) ms cs) a refl refl))
+running_by-event w h (Fire t (Site n k) ms cs) b legal allowed tasks known a = ap (λ (r : Rows). runners_of a r.running) (rest-site w t n k ms cs b) ∙ (known a ∙ sym (running_by-other h (Fire t (Site n k) ms cs) a refl refl))
+running_by-event w h (Admit t) b legal allowed tasks known a = ap (λ (r : Rows). runners_of a r.running) (rest-admit w t b) ∙ (known a ∙ sym (running_by-other h (Admit t) a refl refl))
+running_by-event w h (Put t d) b legal allowed tasks known a = ap (λ (r : Rows). runners_of a r.running) (rest-put w t d b) ∙ (known a ∙ sym (running_by-other h (Put t d) a refl refl))
