@@ -1,5 +1,5 @@
 -- Each allowed event keeps what the rows of tasks say.
-use Rattle.std.proofs.Common.{◌≡◌, ℕ, zero, suc, ◌+◌, ◌*◌, Bool, true, false, List, [], ◌∷◌, ◌++◌, length, refl}
+use Rattle.std.proofs.Common.{◌≡◌, ℕ, ◌+◌, ◌*◌, Bool, true, false, List, [], ◌∷◌, ◌++◌, length, refl}
 use Rattle.std.specs.Prelude.{if◌then◌else◌, nat_lt}
 use Rattle.ccr_base.specs.declared.names.TaskId.{TaskId}
 use Rattle.ccr_wiring.specs.declared.parts.Parts.{Parts}
@@ -16,6 +16,7 @@ use Rattle.ccr_ledger.proofs.Waiting.{waiting-event}
 use Rattle.ccr_ledger.proofs.Suspended.{suspended-event}
 use Rattle.ccr_ledger.proofs.Running.{running-event}
 use Rattle.ccr_ledger.proofs.RunningBy.{running_by-event}
+use Rattle.ccr_ledger.proofs.Empty.{row-none}
 
 pub places-event : (w : Parts) → IsValid w → (h : List Event) (e : Event) (b : Books) → IsLegal w h → IsAllowed w h e → Keeps w h b → KeepsPlaces w (h ++ e ∷ []) (after_event w e b)
 places-event w valid h e b legal allowed keeps = record {
@@ -27,11 +28,6 @@ places-event w valid h e b legal allowed keeps = record {
 }
 
 -- nobody stands in empty rows
-row-none : (count n : ℕ) → row (empty_rows {T = TaskId} count) n ≡ []
-row-none zero n = refl
-row-none (suc count) zero = refl
-row-none (suc count) (suc n) = row-none count n
-
 suspended-none : (count b k : ℕ) → suspended_at (empty_rows count) b k ≡ []
 suspended-none count b k = of_test (nat_lt k sites_each)
   where
