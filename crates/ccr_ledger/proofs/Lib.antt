@@ -8,3 +8,6 @@ pub mod CardTables
 pub mod Stages
 pub mod Admissions
 pub mod CardSteps
+pub mod NewCards
+pub mod TakenMessages
+pub mod CardsKept

@@ -2,12 +2,13 @@
 
 ghost use Rattle.std.specs.Prelude.{◌≡◌, ◌++◌, ◌∷◌, [], List};
 ghost use Rattle.ccr_wiring.specs.declared.parts.Parts.{Parts};
+ghost use Rattle.ccr_wiring.specs.Valid.{IsValid};
 ghost use Rattle.ccr_model.specs.declared.history.Event.{Event};
 ghost use Rattle.ccr_model.specs.Tasks.{running};
 ghost use Rattle.ccr_model.specs.Legal.{IsAllowed, IsLegal};
 ghost use Rattle.ccr_ledger.specs.Books.{Books, runners};
 ghost use Rattle.ccr_ledger.specs.Events.{after_event};
-ghost use Rattle.ccr_ledger.specs.Kept.{HasSizes, KeepsFlags, KeepsSaid, KeepsTasks};
+ghost use Rattle.ccr_ledger.specs.Kept.{HasSizes, Keeps, KeepsFlags, KeepsSaid, KeepsTasks};
 
 /// No event changes how many rows a table has.
 pub fn sizes_are_kept()
@@ -27,4 +28,9 @@ pub fn posts_are_counted()
 /// After each allowed event those that run are the running tasks, by their starts.
 pub fn running_tasks_are_kept()
     ensures { (wiring : Parts) (history : List Event) (event : Event) (books : Books) → IsLegal wiring history → IsAllowed wiring history event → KeepsTasks wiring history books → runners books.running ≡ running history → runners (after_event wiring event books).running ≡ running (history ++ event ∷ []) }
+{}
+
+/// After each allowed event the cards still say what the model says of each task that fired.
+pub fn cards_are_kept()
+    ensures { (wiring : Parts) → IsValid wiring → (history : List Event) (event : Event) (books : Books) → IsLegal wiring history → IsAllowed wiring history event → Keeps wiring history books → KeepsTasks wiring (history ++ event ∷ []) (after_event wiring event books) }
 {}

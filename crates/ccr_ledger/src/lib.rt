@@ -13,5 +13,7 @@ mod ports;
 mod tasks;
 
 pub use cards::{Card, Runner, Stage};
-pub use laws::{flags_are_kept, posts_are_counted, running_tasks_are_kept, sizes_are_kept};
+pub use laws::{
+    cards_are_kept, flags_are_kept, posts_are_counted, running_tasks_are_kept, sizes_are_kept,
+};
 pub use ledger::Ledger;

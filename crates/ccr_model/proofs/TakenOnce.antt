@@ -113,7 +113,7 @@ named-same name (m ∷ ms) (n ∷ names) is =
     grind (arith, same, named-same name ms names parts.1)
 
 -- the messages of two ports
-times-two : (name : MsgId) (t : Msg → Bool) (p q : ℕ) → not (p == q) ≡ true → (ms : List Msg) → times name (at t ms p) + times name (at t ms q) ≤ times name (filter t ms)
+pub times-two : (name : MsgId) (t : Msg → Bool) (p q : ℕ) → not (p == q) ≡ true → (ms : List Msg) → times name (at t ms p) + times name (at t ms q) ≤ times name (filter t ms)
 times-two name t p q apart [] = grind arith
 times-two name t p q apart (m ∷ ms) = grind (arith, nat_tests, times-two name t p q apart ms)
 
