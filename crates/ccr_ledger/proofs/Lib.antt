@@ -14,6 +14,9 @@ pub mod CardTables
 pub mod Stages
 pub mod Admissions
 pub mod CardSteps
+pub mod NewCards
+pub mod TakenMessages
+pub mod CardsKept
 pub mod RowMoves
 pub mod TaskRows
 pub mod TaskCards

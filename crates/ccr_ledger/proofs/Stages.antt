@@ -74,11 +74,11 @@ in-start es ss ds ps cs ls free t u no_end = rw (has-last ss t u) (of_test (same
     of_test false is = refl
 
 -- in none of the lists
-record IsOut (es ss ds ps : List TaskId) (t : TaskId) : Type 0 where
-  not_ended : has_task es t ≡ false
-  not_started : has_task ss t ≡ false
-  not_dropped : has_task ds t ≡ false
-  not_put : has_task ps t ≡ false
+pub record IsOut (es ss ds ps : List TaskId) (t : TaskId) : Type 0 where
+  pub not_ended : has_task es t ≡ false
+  pub not_started : has_task ss t ≡ false
+  pub not_dropped : has_task ds t ≡ false
+  pub not_put : has_task ps t ≡ false
 
 in-admit : (es ss ds ps cs ls : List TaskId) (free : Bool) (t u : TaskId) → IsOut es ss ds ps t → has_task cs t ≡ false → stage_in es ss ds ps cs (ls ++ t ∷ []) free u ≡ (if same_task t u then stages.Ready else stage_in es ss ds ps cs ls free u)
 in-admit es ss ds ps cs ls free t u out no_cut = rw (has-last ls t u) (of_test (same_task t u) refl)
@@ -146,7 +146,7 @@ module _ (w : Parts) (h : List Event) where
       stage-push (End t how) u s ∙ rw (append-nil (started h), append-nil (dropped h), append-nil (put h), append-nil (cut h), append-nil (let_in h)) (in-end (ended h) (started h) (dropped h) (put h) (cut h) (let_in h) (needs_no_admission w s) t u)
 
   -- who wasn't put neither started, was dropped nor ended
-  unput : (t : TaskId) → IsLegal w h → has_task (put h) t ≡ false → IsOut (ended h) (started h) (dropped h) (put h) t
+  pub unput : (t : TaskId) → IsLegal w h → has_task (put h) t ≡ false → IsOut (ended h) (started h) (dropped h) (put h) t
   unput t legal no_put =
       let placed = ArePlaced-legal w h legal in
       let no_start = not_within (started h) (put h) t (placed.lists.put_started t) no_put in

@@ -30,6 +30,11 @@ pub fn running_tasks_are_kept()
     ensures { (wiring : Parts) (history : List Event) (event : Event) (books : Books) → IsLegal wiring history → IsAllowed wiring history event → KeepsTasks wiring history books → runners books.running ≡ running history → runners (after_event wiring event books).running ≡ running (history ++ event ∷ []) }
 {}
 
+/// After each allowed event the cards still say what the model says of each task that fired.
+pub fn cards_are_kept()
+    ensures { (wiring : Parts) → IsValid wiring → (history : List Event) (event : Event) (books : Books) → IsLegal wiring history → IsAllowed wiring history event → Keeps wiring history books → KeepsTasks wiring (history ++ event ∷ []) (after_event wiring event books) }
+{}
+
 /// After each allowed event the counts are still those of the tasks on their way to each queue, and of the roots admitted to each domain.
 pub fn counts_are_kept()
     ensures { (wiring : Parts) (history : List Event) (event : Event) (books : Books) → IsLegal wiring history → IsAllowed wiring history event → Keeps wiring history books → KeepsCounts wiring (history ++ event ∷ []) (after_event wiring event books) }
@@ -48,4 +53,9 @@ pub fn rows_are_kept()
 /// The tables of the empty history are right.
 pub fn empty_tables_are_kept()
     ensures { (wiring : Parts) → Keeps wiring [] (empty_books wiring) }
+{}
+
+/// Each allowed event of a legal history of a valid wiring keeps what all tables say.
+pub fn tables_are_kept()
+    ensures { (wiring : Parts) → IsValid wiring → (history : List Event) (event : Event) (books : Books) → IsLegal wiring history → IsAllowed wiring history event → Keeps wiring history books → Keeps wiring (history ++ event ∷ []) (after_event wiring event books) }
 {}
