@@ -38,7 +38,9 @@ use Rattle.ccr_ledger.specs.Events.{after_last, after_discard, after_drop, after
 use Rattle.ccr_ledger.specs.Kept.{HasSizes, KeepsTasks}
 use Rattle.ccr_ledger.proofs.Counting.{more_if, less_if, number-more, number-less, left-less, left-more}
 use Rattle.ccr_ledger.proofs.Gone.{gone, gone_fired, not_gone, queued_here, gone-other, gone-fire, gone-start, gone-drop}
-use Rattle.ccr_ledger.proofs.Fired.{CardFacts, HasCard, card_kept, card_moved, fired_by_once, fired_by-is, branch-is, fired_by-fire}
+use Rattle.ccr_ledger.proofs.TaskCards.{CardFacts, CardFacts-fired, card_moved}
+use Rattle.ccr_ledger.proofs.FiredOnce.{fired_where-fire, fired_once}
+use Rattle.ccr_ledger.proofs.FiredBy.{fired_by-is, branch-is}
 
 -- the numbers count, where these are gone, those that branches fired for each queue
 abbrev AreCounted : Parts → List Event → List TaskId → List ℕ → Type 0
@@ -66,14 +68,14 @@ length-without_coming c ns = of_test (is_branch c.spot)
     of_test false = refl
 
 -- one more is gone
-counted-less : (w : Parts) (h : List Event) (out : List TaskId) (ns : List ℕ) (t : TaskId) (c : Card) → IsLegal w h → length ns ≡ length w.queues → CardFacts w h t c → has_task out t ≡ false → AreCounted w h out ns → AreCounted w h (out ++ t ∷ []) (without_coming c ns)
-counted-less w h out ns t c legal size facts there counts q low =
-    number-less (is_branch c.spot) ns c.queue q (omega (arith, low, size))
-    ∙ (ap (λ n. less_if (is_branch c.spot && (c.queue == q)) n) (counts q low)
-    ∙ (ap (λ b. less_if b (length (without (fired_by w (λ s. s.branch.queue == q) h) out))) same
-    ∙ sym (left-less (fired_by w (λ s. s.branch.queue == q) h) out t (fired_by_once w (λ s. s.branch.queue == q) h legal) there)))
+counted-less : (w : Parts) (h : List Event) (out : List TaskId) (ns : List ℕ) (t : TaskId) (b : Books) → IsLegal w h → length ns ≡ length w.queues → (facts : CardFacts w h t b) → has_task out t ≡ false → AreCounted w h out ns → AreCounted w h (out ++ t ∷ []) (without_coming facts.card ns)
+counted-less w h out ns t b legal size facts there counts q low =
+    number-less (is_branch facts.card.spot) ns facts.card.queue q (omega (arith, low, size))
+    ∙ (ap (λ n. less_if (is_branch facts.card.spot && (facts.card.queue == q)) n) (counts q low)
+    ∙ (ap (λ is. less_if is (length (without (fired_by w (λ s. s.branch.queue == q) h) out))) same
+    ∙ sym (left-less (fired_by w (λ s. s.branch.queue == q) h) out t (fired_once w (λ (f : Firing). is_branch_where w (λ s. s.branch.queue == q) f.spot) h legal) there)))
   where
-    same : is_branch c.spot && (c.queue == q) ≡ has_task (fired_by w (λ s. s.branch.queue == q) h) t
+    same : is_branch facts.card.spot && (facts.card.queue == q) ≡ has_task (fired_by w (λ s. s.branch.queue == q) h) t
     same = rw (facts.spot, facts.queue) (sym (fired_by-is w (λ s. s.branch.queue == q) h t facts.firing legal facts.is_firing ∙ branch-is w (λ s. s.branch.queue == q) facts.firing.spot facts.place facts.is_place))
 
 -- one more fired
@@ -81,14 +83,14 @@ counted-more : (w : Parts) (h : List Event) (out : List TaskId) (ns : List ℕ) 
 counted-more w h out ns t n z ms cs at size there counts q low =
     number-more true ns z.branch.queue q (omega (arith, low, size))
     ∙ (ap (λ k. more_if (z.branch.queue == q) k) (counts q low)
-    ∙ sym (ap (λ ts. length (without ts out)) (fired_by-fire w (λ s. s.branch.queue == q) h t (Branch n) ms cs)
+    ∙ sym (ap (λ ts. length (without ts out)) (fired_where-fire (λ (f : Firing). is_branch_where w (λ s. s.branch.queue == q) f.spot) h t (Branch n) ms cs)
     ∙ (left-more (fired_by w (λ s. s.branch.queue == q) h) out t (is_branch_where w (λ s. s.branch.queue == q) (Branch n)) there
     ∙ ap (λ o. more_if (option_map_or (λ (s : Seat). s.branch.queue == q) o false) (length (without (fired_by w (λ s. s.branch.queue == q) h) out))) at)))
 
 -- a site's task is none of a branch
 counted-site : (w : Parts) (h : List Event) (out : List TaskId) (ns : List ℕ) (t : TaskId) (n k : ℕ) (ms : List MsgId) (cs : List TaskId) → AreCounted w h out ns → AreCounted w (h ++ Fire t (Site n k) ms cs ∷ []) out ns
 counted-site w h out ns t n k ms cs counts q low =
-    counts q low ∙ sym (ap (λ ts. length (without ts out)) (fired_by-fire w (λ s. s.branch.queue == q) h t (Site n k) ms cs ∙ append-nil (fired_by w (λ s. s.branch.queue == q) h)))
+    counts q low ∙ sym (ap (λ ts. length (without ts out)) (fired_where-fire (λ (f : Firing). is_branch_where w (λ s. s.branch.queue == q) f.spot) h t (Site n k) ms cs ∙ append-nil (fired_by w (λ s. s.branch.queue == q) h)))
 
 -- what the events make of the counts
 by_card : (b : Books) (o : Option Card) (f : Card → Books) → ((c : Card) → (f c).coming ≡ b.coming) → (option_map_or f o b).coming ≡ b.coming
@@ -115,19 +117,19 @@ same-end t how c b = of_test (is_yield how)
 
 -- cuts, one after the other
 counted-cuts : (w : Parts) (h : List Event) (out cs : List TaskId) (b : Books) → IsLegal w h → length b.coming ≡ length w.queues → are_distinct_tasks cs ≡ true → ((t : TaskId) → has_task cs t ≡ true → has_task out t ≡ false)
-    → ((t : TaskId) → has_task cs t ≡ true → HasCard w h b.tasks t) → AreCounted w h out b.coming → AreCounted w h (out ++ cs) (after_cuts cs b).coming
+    → ((t : TaskId) → has_task cs t ≡ true → CardFacts w h t b) → AreCounted w h out b.coming → AreCounted w h (out ++ cs) (after_cuts cs b).coming
 counted-cuts w h out [] b legal size once apart cards counts = by_list w h out (out ++ []) b.coming (append-nil out) counts
 counted-cuts w h out (t ∷ cs) b legal size once apart cards counts =
     let parts = both (not (has_task cs t)) (are_distinct_tasks cs) once in
     let among = or_left (same_task t t) (has_task cs t) (same_task-self t) in
     let card = cards t among in
-    let one : after_cut t b ≡ cut_card t card.0 b = ap (λ o. option_map_or (λ c. cut_card t c b) o b) card.1 in
+    let one : after_cut t b ≡ cut_card t card.card b = ap (λ o. option_map_or (λ c. cut_card t c b) o b) card.is_card in
     by_list w h ((out ++ t ∷ []) ++ cs) (out ++ t ∷ cs) (after_cuts (t ∷ cs) b).coming (sym (append_assoc out (t ∷ []) cs))
-    (by_numbers w h ((out ++ t ∷ []) ++ cs) (after_cuts cs (cut_card t card.0 b)).coming (after_cuts (t ∷ cs) b).coming (ap (λ d. (after_cuts cs d).coming) one)
-    (counted-cuts w h (out ++ t ∷ []) cs (cut_card t card.0 b) legal (length-without_coming card.0 b.coming ∙ size) parts.1
+    (by_numbers w h ((out ++ t ∷ []) ++ cs) (after_cuts cs (cut_card t card.card b)).coming (after_cuts (t ∷ cs) b).coming (ap (λ d. (after_cuts cs d).coming) one)
+    (counted-cuts w h (out ++ t ∷ []) cs (cut_card t card.card b) legal (length-without_coming card.card b.coming ∙ size) parts.1
     (λ u is. not_more out (t ∷ []) u (apart u (or_right (same_task u t) (has_task cs u) is)) (not_this u is (not_true (has_task cs t) parts.0)))
-    (λ u is. card_moved w h stages.Cut t b.tasks u (cards u (or_right (same_task u t) (has_task cs u) is)))
-    (counted-less w h out b.coming t card.0 legal size card.2 (apart t among) counts)))
+    (λ u is. card_moved w h stages.Cut t b (cut_card t card.card b) u refl (cards u (or_right (same_task u t) (has_task cs u) is)))
+    (counted-less w h out b.coming t b legal size card (apart t among) counts)))
   where
     not_this : (u : TaskId) → has_task cs u ≡ true → has_task cs t ≡ false → has_task (t ∷ []) u ≡ false
     not_this u is out_t = of_test (same_task u t) refl
@@ -145,7 +147,7 @@ distinct_cuts w h n legal = of_option (seat w n)
     of_option (Some z) = of_test (is_teardown z.branch.group)
       where
         of_test : (b : Bool) → are_distinct_tasks (if b then waiting w h z.arbiter else []) ≡ true
-        of_test true = distinct-filter _ (fired_by w (is_seat_in z.arbiter) h) (fired_by_once w (is_seat_in z.arbiter) h legal)
+        of_test true = distinct-filter _ (fired_by w (is_seat_in z.arbiter) h) (fired_once w (λ (f : Firing). is_branch_where w (is_seat_in z.arbiter) f.spot) h legal)
         of_test false = refl
 
 length-cuts : (cs : List TaskId) (b : Books) → length (after_cuts cs b).coming ≡ length b.coming
@@ -190,8 +192,8 @@ counted-branch w h t n ms cs b legal allowed sizes tasks counts =
     out : (u : TaskId) → Waits u → has_task (gone h) u ≡ false
     out u so = not_gone w h u legal (waits_unput w h so.0 u (CutFacts-legal w h legal) so.1) so.1.not_cut
 
-    card : (u : TaskId) → Waits u → HasCard w h b.tasks u
-    card u so = card_kept w h b u legal tasks (waits_fired u so)
+    card : (u : TaskId) → Waits u → CardFacts w h u b
+    card u so = CardFacts-fired w h u b legal tasks (waits_fired u so)
 
 counted-at_site : (w : Parts) (h : List Event) (t : TaskId) (n k : ℕ) (ms : List MsgId) (cs : List TaskId) (b : Books) → IsAllowed w h (Fire t (Site n k) ms cs) → AreCounted w h (gone h) b.coming → Counts w h (Fire t (Site n k) ms cs) b
 counted-at_site w h t n k ms cs b allowed counts =
@@ -206,31 +208,31 @@ counted-start w h t a b legal allowed sizes tasks counts =
     let e : Event = Start t a in
     let facts = StartFacts-allowed w h t a allowed in
     let queued_so = StartFacts-queued w h t facts in
-    let card = card_kept w h b t legal tasks ((ArePlaced-legal w h legal).all_fired t queued_so.put_so) in
-    let ns : List ℕ = without_coming card.0 b.coming in
-    by_numbers w (h ++ e ∷ []) (gone (h ++ e ∷ [])) ns (after_event w e b).coming (ap (λ o. (option_map_or (λ c. after_start t a c b) o b).coming) card.1)
+    let card = CardFacts-fired w h t b legal tasks ((ArePlaced-legal w h legal).all_fired t queued_so.put_so) in
+    let ns : List ℕ = without_coming card.card b.coming in
+    by_numbers w (h ++ e ∷ []) (gone (h ++ e ∷ [])) ns (after_event w e b).coming (ap (λ o. (option_map_or (λ c. after_start t a c b) o b).coming) card.is_card)
     (by_gone w (h ++ e ∷ []) (gone h ++ t ∷ []) (gone (h ++ e ∷ [])) ns (gone-start h t a)
     (by_event w h e (gone h ++ t ∷ []) ns refl
-    (counted-less w h (gone h) b.coming t card.0 legal sizes.coming card.2 (queued_here w h facts.place.branch.queue t legal queued_so) counts)))
+    (counted-less w h (gone h) b.coming t b legal sizes.coming card (queued_here w h facts.place.branch.queue t legal queued_so) counts)))
 
 -- a put, of a task that has a card
 put-card : (w : Parts) (h : List Event) (t : TaskId) (d : Option TaskId) (b : Books) → IsLegal w h → IsAllowed w h (Put t d) → KeepsTasks w h b → (after_event w (Put t d) b).coming ≡ (after_dropped d b).coming
 put-card w h t d b legal allowed tasks =
     let facts = PutFacts-allowed w h t d allowed in
-    let card = card_kept w h b t legal tasks (facts.firing, facts.is_firing) in
-    ap (λ o. (option_map_or (λ c. after_enter t c (after_dropped d b)) o b).coming) card.1
+    let card = CardFacts-fired w h t b legal tasks (facts.firing, facts.is_firing) in
+    ap (λ o. (option_map_or (λ c. after_enter t c (after_dropped d b)) o b).coming) card.is_card
 
 counted-drop : (w : Parts) (h : List Event) (t x : TaskId) (b : Books) → IsLegal w h → IsAllowed w h (Put t (Some x)) → HasSizes w b → KeepsTasks w h b → AreCounted w h (gone h) b.coming → Counts w h (Put t (Some x)) b
 counted-drop w h t x b legal allowed sizes tasks counts =
     let e : Event = Put t (Some x) in
     let queued_so = new_drop w h e x allowed (or_left (same_task x x) false (same_task-self x)) in
-    let card = card_kept w h b x legal tasks ((ArePlaced-legal w h legal).all_fired x queued_so.1.put_so) in
-    let ns : List ℕ = without_coming card.0 b.coming in
-    let same : (after_dropped (Some x) b).coming ≡ ns = ap (λ o. (option_map_or (λ c. after_drop x c b) o b).coming) card.1 ∙ same-last card.0.root (after_discard x card.0.spot card.0.queue b) in
+    let card = CardFacts-fired w h x b legal tasks ((ArePlaced-legal w h legal).all_fired x queued_so.1.put_so) in
+    let ns : List ℕ = without_coming card.card b.coming in
+    let same : (after_dropped (Some x) b).coming ≡ ns = ap (λ o. (option_map_or (λ c. after_drop x c b) o b).coming) card.is_card ∙ same-last card.card.root (after_discard x card.card.spot card.card.queue b) in
     by_numbers w (h ++ e ∷ []) (gone (h ++ e ∷ [])) ns (after_event w e b).coming (put-card w h t (Some x) b legal allowed tasks ∙ same)
     (by_gone w (h ++ e ∷ []) (gone h ++ x ∷ []) (gone (h ++ e ∷ [])) ns (gone-drop h t x)
     (by_event w h e (gone h ++ x ∷ []) ns refl
-    (counted-less w h (gone h) b.coming x card.0 legal sizes.coming card.2 (queued_here w h queued_so.0 x legal queued_so.1) counts)))
+    (counted-less w h (gone h) b.coming x b legal sizes.coming card (queued_here w h queued_so.0 x legal queued_so.1) counts)))
 
 -- each event keeps how many are on their way to each queue
 pub coming-event : (w : Parts) (h : List Event) (e : Event) (b : Books) → IsLegal w h → IsAllowed w h e → HasSizes w b → KeepsTasks w h b → ((q : ℕ) → q < length w.queues → number b.coming q ≡ length (coming w h q))

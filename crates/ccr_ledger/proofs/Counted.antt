@@ -1,6 +1,7 @@
 -- Each event keeps how many are on their way to each queue, and admitted to each domain.
 use Rattle.std.proofs.Common.{◌≡◌, ℕ, Bool, true, false, not, ◌&&◌, List, [], ◌∷◌, ◌++◌, length, filter, refl, sym, ap, ◌∙◌}
 use Rattle.std.specs.Prelude.{if◌then◌else◌}
+use Rattle.std.proofs.Math.Bool.{and-true}
 use Rattle.ccr_base.specs.declared.names.TaskId.{TaskId}
 use Rattle.ccr_wiring.specs.declared.parts.Parts.{Parts}
 use Rattle.ccr_model.specs.declared.history.Event.{Event}
@@ -13,13 +14,12 @@ use Rattle.ccr_ledger.specs.Books.{Books}
 use Rattle.ccr_ledger.specs.Events.{after_event, empty_books}
 use Rattle.ccr_ledger.specs.Kept.{Keeps, KeepsCounts}
 use Rattle.ccr_ledger.proofs.Empty.{number-none}
-use Rattle.ccr_ledger.proofs.Counting.{and_true}
 use Rattle.ccr_ledger.proofs.Coming.{coming-event}
 use Rattle.ccr_ledger.proofs.Admitted.{AreCounted, counts_as, counted-event}
 
 -- all admitted roots
 filter_all : (w : Parts) (h : List Event) (i : ℕ) → filter (counts_as true w h i) (let_in h) ≡ admitted w h i
-filter_all w h i = filter_on (counts_as true w h i) (λ t. is_in_arbiter w h i t && not (is_over h t)) (let_in h) (λ u among. and_true (is_in_arbiter w h i u && not (is_over h u)))
+filter_all w h i = filter_on (counts_as true w h i) (λ t. is_in_arbiter w h i t && not (is_over h t)) (let_in h) (λ u among. and-true (is_in_arbiter w h i u && not (is_over h u)))
 
 -- those of them that no concurrent branch fired
 filter_twice : (p q : TaskId → Bool) (ts : List TaskId) → filter (λ t. p t && q t) ts ≡ filter q (filter p ts)

@@ -1,6 +1,7 @@
 -- Over plain lists and numbers: a count where one more stands there, or one less.
 use Rattle.std.proofs.Common.{◌≡◌, ℕ, suc, ◌+◌, ◌-◌, ◌<◌, Bool, true, false, not, ◌&&◌, ◌||◌, List, [], ◌∷◌, ◌++◌, length, filter, refl, ap, ◌∙◌, arith, subst, length-append, append-nil}
 use Rattle.std.specs.Prelude.{◌==◌, if◌then◌else◌}
+use Rattle.std.proofs.Math.Bool.{and-true}
 use Rattle.ccr_base.specs.declared.names.TaskId.{TaskId}
 use Rattle.ccr_base.specs.Names.{same_task, has_task, without}
 use Rattle.ccr_model.specs.Consequences.{are_distinct_tasks}
@@ -35,10 +36,6 @@ number-less true numbers place k low = number-set numbers place k (number number
     of_test true is = ap (λ n. number numbers n - 1) (same_number place k is)
     of_test false is = refl
 
-pub and_true : (a : Bool) → a && true ≡ a
-and_true true = refl
-and_true false = refl
-
 -- one more in a list
 pub length-more : (p : TaskId → Bool) (ts : List TaskId) (t : TaskId) → length (filter p (ts ++ t ∷ [])) ≡ more_if (p t) (length (filter p ts))
 length-more p ts t = rw (filter_append p ts (t ∷ []), length-append) (of_test (p t))
@@ -52,7 +49,7 @@ none_goes : (p q : TaskId → Bool) (ts : List TaskId) (t : TaskId) → ((u : Ta
 none_goes p q ts t same out = filter_on q p ts (λ u among. same u among ∙ of_test u among (same_task u t) refl)
   where
     of_test : (u : TaskId) → has_task ts u ≡ true → (b : Bool) → same_task u t ≡ b → p u && not b ≡ p u
-    of_test u among false is = and_true (p u)
+    of_test u among false is = and-true (p u)
     of_test u among true is =
         let one : u ≡ t = same_task-is u t is in
         let there : has_task ts t ≡ true = subst (λ x. has_task ts x ≡ true) one among in
@@ -79,7 +76,7 @@ one_goes p q (x ∷ ts) t once same among passes =
         let gone : has_task ts t ≡ false = subst (λ u. has_task ts u ≡ false) one out in
         rw (passes_here, fails, first (rw gone refl)) refl
     of_test false is here out first rest =
-        let same_here : q x ≡ p x = here ∙ rw is (and_true (p x)) in
+        let same_here : q x ≡ p x = here ∙ rw is (and-true (p x)) in
         let behind : has_task ts t ≡ true = rw (same_task-sym t x, is) at among in
         rw same_here (of_pass (p x) (rest behind))
 
@@ -98,7 +95,7 @@ length-less p q ts t once same = of_test (has_task ts t && p t) refl
 pub left-less : (ts gone : List TaskId) (t : TaskId) → are_distinct_tasks ts ≡ true → has_task gone t ≡ false → length (without ts (gone ++ t ∷ [])) ≡ less_if (has_task ts t) (length (without ts gone))
 left-less ts gone t once out =
     length-less (λ u. not (has_task gone u)) (λ u. not (has_task (gone ++ t ∷ []) u)) ts t once (λ u among. rw (has_task-append gone (t ∷ []) u) (of_tests (has_task gone u) (same_task u t)))
-    ∙ ap (λ b. less_if b (length (without ts gone))) (ap (λ b. has_task ts t && not b) out ∙ and_true (has_task ts t))
+    ∙ ap (λ b. less_if b (length (without ts gone))) (ap (λ b. has_task ts t && not b) out ∙ and-true (has_task ts t))
   where
     of_tests : (a b : Bool) → not (a || (b || false)) ≡ not a && not b
     of_tests true b = refl

@@ -5,7 +5,7 @@ use Rattle.ccr_base.specs.declared.names.TaskId.{TaskId}
 use Rattle.ccr_base.specs.declared.messages.Msg.{Msg}
 use Rattle.ccr_wiring.specs.declared.parts.Parts.{Parts}
 use Rattle.ccr_wiring.specs.Wirings.{seats}
-use Rattle.ccr_rows.specs.Rows.{empty_rows}
+use Rattle.ccr_rows.specs.Rows.{row, empty_rows}
 use Rattle.ccr_ledger.specs.Books.{number, flag, sites_each}
 use Rattle.ccr_ledger.specs.Events.{empty_books}
 use Rattle.ccr_ledger.specs.Kept.{HasSizes, KeepsSaid, KeepsFlags}
@@ -13,6 +13,11 @@ use Rattle.ccr_ledger.specs.Kept.{HasSizes, KeepsSaid, KeepsFlags}
 length-empty_rows : (T : Type 0) (n : ℕ) → length (empty_rows {T = T} n) ≡ n
 length-empty_rows T zero = refl
 length-empty_rows T (suc n) = ap suc (length-empty_rows T n)
+
+pub row-none : {T : Type 0} (n k : ℕ) → row (empty_rows {T = T} n) k ≡ []
+row-none zero k = refl
+row-none (suc n) zero = refl
+row-none (suc n) (suc k) = row-none n k
 
 pub number-none : (n k : ℕ) → number (replicate n 0) k ≡ 0
 number-none zero k = refl

@@ -1,5 +1,5 @@
 -- Each event keeps what each port holds.
-use Rattle.std.proofs.Common.{◌≡◌, ℕ, zero, suc, ◌<◌, Bool, true, false, not, filter, List, [], ◌∷◌, ◌++◌, length, Option, Some, None, refl, sym, ap, ◌∙◌, arith, append-nil}
+use Rattle.std.proofs.Common.{◌≡◌, ℕ, ◌<◌, Bool, true, false, not, filter, List, [], ◌∷◌, ◌++◌, length, Option, Some, None, refl, sym, ap, ◌∙◌, arith, append-nil}
 use Rattle.std.specs.Prelude.{◌==◌, if◌then◌else◌, option_map, option_and_then}
 use Rattle.std.specs.List.{slice_get}
 use Rattle.std.specs.Option.{option_map_or}
@@ -23,7 +23,7 @@ use Rattle.ccr_model.proofs.HeldSteps.{held-post, held-fire, held-admit, held-pu
 use Rattle.ccr_model.proofs.Options.{some_of}
 use Rattle.ccr_model.proofs.Suspending.{ResumeFacts, ResumeFacts-allowed}
 use Rattle.ccr_model.proofs.TakenOnce.{FireFacts-allowed}
-use Rattle.ccr_rows.specs.Rows.{row, empty_rows}
+use Rattle.ccr_rows.specs.Rows.{row}
 use Rattle.ccr_ledger.specs.declared.cards.Card.{Card}
 use Rattle.ccr_ledger.specs.Books.{Books, card_at, suspended_at}
 use Rattle.ccr_ledger.specs.Posting.{after_post}
@@ -34,6 +34,7 @@ use Rattle.ccr_ledger.specs.Kept.{HasSizes, Keeps, KeepsPorts, card_of}
 use Rattle.ccr_ledger.proofs.Tables.{row-with_row}
 use Rattle.ccr_ledger.proofs.Fresh.{fresh_post, held_apart, held_alone}
 use Rattle.ccr_ledger.proofs.PortsLeft.{AreHeld, pattern_left, site_left}
+use Rattle.ccr_ledger.proofs.Empty.{row-none}
 
 by_card : (b : Books) (o : Option Card) (f : Card → Books) → ((c : Card) → (f c).ports ≡ b.ports) → (option_map_or f o b).ports ≡ b.ports
 by_card b None f same = refl
@@ -119,11 +120,6 @@ ports-event w valid h (Admit t) b legal allowed keeps = ports-other w h (Admit t
 ports-event w valid h (Put t d) b legal allowed keeps = ports-other w h (Put t d) b (after_event w (Put t d) b) (by_card b (card_at b.tasks t) _ (λ c. same-dropped d b)) (held-put h t d) keeps.ports
 ports-event w valid h (Start t a) b legal allowed keeps = ports-other w h (Start t a) b (after_event w (Start t a) b) (by_card b (card_at b.tasks t) _ (λ c. refl)) (held-start h t a) keeps.ports
 ports-event w valid h (End t how) b legal allowed keeps = ports-other w h (End t how) b (after_event w (End t how) b) (by_card b (card_at b.tasks t) _ (λ c. same-end t how c b)) (held-end h t how) keeps.ports
-
-row-none : {T : Type 0} (n k : ℕ) → row (empty_rows {T = T} n) k ≡ []
-row-none zero k = refl
-row-none (suc n) zero = refl
-row-none (suc n) (suc k) = row-none n k
 
 -- no port holds a message at first
 pub ports-none : (w : Parts) → KeepsPorts w [] (empty_books w)

@@ -85,7 +85,7 @@ said-other w h e b c other same keeps = record {
     posts_same : posts (h ++ e ∷ []) ≡ posts h
     posts_same = rw (posts-push, other) (append-nil (posts h))
 
-counted-post : (h : List Event) (m : Msg) (id : MsgId) (test : MsgId → Bool) → m.id ≡ id → length (filter (λ (o : Msg). test o.id) (posts (h ++ Post m ∷ []))) ≡ (if test id then length (filter (λ (o : Msg). test o.id) (posts h)) + 1 else length (filter (λ (o : Msg). test o.id) (posts h)))
+pub counted-post : (h : List Event) (m : Msg) (id : MsgId) (test : MsgId → Bool) → m.id ≡ id → length (filter (λ (o : Msg). test o.id) (posts (h ++ Post m ∷ []))) ≡ (if test id then length (filter (λ (o : Msg). test o.id) (posts h)) + 1 else length (filter (λ (o : Msg). test o.id) (posts h)))
 counted-post h m id test is =
     ap (λ ms. length (filter (λ (o : Msg). test o.id) ms)) (posts-push h (Post m)) ∙ (count-more (λ (o : Msg). test o.id) (posts h) m ∙ ap (λ n. if test n then length (filter (λ (o : Msg). test o.id) (posts h)) + 1 else length (filter (λ (o : Msg). test o.id) (posts h))) is)
 

@@ -41,7 +41,7 @@ pub root_own : (h : List Event) (t : TaskId) (f : Firing) (b : ℕ) → firing_n
 root_own h t f b is at = rw (is, at) refl
 
 -- a resumed task has the root of the one that it goes on for
-root_resumed : (w : Parts) (h : List Event) (t : TaskId) (b k : ℕ) (ms : List MsgId) (cs : List TaskId) → IsAllowed w h (Fire t (Site b k) ms cs) → (facts : ResumeFacts h b k) → root_of (h ++ Fire t (Site b k) ms cs ∷ []) t ≡ root_of h facts.resumes
+pub root_resumed : (w : Parts) (h : List Event) (t : TaskId) (b k : ℕ) (ms : List MsgId) (cs : List TaskId) → IsAllowed w h (Fire t (Site b k) ms cs) → (facts : ResumeFacts h b k) → root_of (h ++ Fire t (Site b k) ms cs ∷ []) t ≡ root_of h facts.resumes
 root_resumed w h t b k ms cs allowed facts =
     let new = (FiresSo-allowed w h t (Site b k) ms cs allowed).new_name in
     let g = h ++ Fire t (Site b k) ms cs ∷ [] in
@@ -196,11 +196,11 @@ not_over w h legal t work = refuted (is_over h (root_of h t)) over
         no_both (subst (λ u. has_task (last_segments h) u ≡ true) one last.1) work.not_last
 
 -- a task of a site has a root that was admitted, where its branch is one of an Interleave
-abbrev pub AreLetIn : Parts → List Event → Type 0
+abbrev AreLetIn : Parts → List Event → Type 0
 AreLetIn w h = (t : TaskId) (f : Firing) (b k : ℕ) (z : Seat) → firing_named h t ≡ Some f → f.spot ≡ Site b k → seat w b ≡ Some z → is_interleave z.kind ≡ true → has_task (let_in h) (root_of h t) ≡ true
 
 -- and so has one that was put
-pub put_let_in : (w : Parts) (h : List Event) → IsLegal w h → AreLetIn w h → (t : TaskId) (f : Firing) (s : Spot) (z : Seat) → has_task (put h) t ≡ true → firing_named h t ≡ Some f → f.spot ≡ s → seat w (branch_of s) ≡ Some z → is_interleave z.kind ≡ true → has_task (let_in h) (root_of h t) ≡ true
+put_let_in : (w : Parts) (h : List Event) → IsLegal w h → AreLetIn w h → (t : TaskId) (f : Firing) (s : Spot) (z : Seat) → has_task (put h) t ≡ true → firing_named h t ≡ Some f → f.spot ≡ s → seat w (branch_of s) ≡ Some z → is_interleave z.kind ≡ true → has_task (let_in h) (root_of h t) ≡ true
 put_let_in w h legal known t f (Site b k) z there is at place kind = known t f b k z is at place kind
 put_let_in w h legal known t f (Branch b) z there is at place kind =
     let entered = (CutFacts-legal w h legal).entered t f there is in
@@ -243,7 +243,7 @@ AreLetIn_kept w h (Put x d) legal allowed known = AreLetIn-other w h (Put x d) r
 AreLetIn_kept w h (Start x a) legal allowed known = AreLetIn-other w h (Start x a) refl known
 AreLetIn_kept w h (End x how) legal allowed known = AreLetIn-other w h (End x how) refl known
 
-pub AreLetIn-legal : (w : Parts) (h : List Event) → IsLegal w h → AreLetIn w h
+AreLetIn-legal : (w : Parts) (h : List Event) → IsLegal w h → AreLetIn w h
 AreLetIn-legal w h legal = along_legal w (AreLetIn w) (AreLetIn_kept w) (λ t f b k z is at place kind. absurd (cc)) h legal
 
 -- a segment has its root's seat
