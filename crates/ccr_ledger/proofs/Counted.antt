@@ -1,14 +1,13 @@
 -- Each event keeps how many are on their way to each queue, and admitted to each domain.
-use Rattle.std.proofs.Common.{◌≡◌, ℕ, Bool, true, false, not, ◌&&◌, List, [], ◌∷◌, ◌++◌, length, filter, refl, sym, ap, ◌∙◌}
-use Rattle.std.specs.Prelude.{if◌then◌else◌}
+use Rattle.std.proofs.Common.{◌≡◌, ℕ, true, false, not, ◌&&◌, List, [], ◌∷◌, ◌++◌, length, filter, sym, ap, ◌∙◌}
 use Rattle.std.proofs.Math.Bool.{and-true}
-use Rattle.ccr_base.specs.declared.names.TaskId.{TaskId}
 use Rattle.ccr_wiring.specs.declared.parts.Parts.{Parts}
 use Rattle.ccr_model.specs.declared.history.Event.{Event}
 use Rattle.ccr_model.specs.Firings.{let_in}
 use Rattle.ccr_model.specs.Tasks.{is_in_arbiter, is_over, admitted}
 use Rattle.ccr_model.specs.Rules.{is_concurrent_task}
 use Rattle.ccr_model.specs.Legal.{IsAllowed, IsLegal}
+use Rattle.ccr_model.proofs.Covered.{filter_twice}
 use Rattle.ccr_model.proofs.TasksLeft.{filter_on}
 use Rattle.ccr_ledger.specs.Books.{Books}
 use Rattle.ccr_ledger.specs.Events.{after_event, empty_books}
@@ -22,17 +21,8 @@ filter_all : (w : Parts) (h : List Event) (i : ℕ) → filter (counts_as true w
 filter_all w h i = filter_on (counts_as true w h i) (λ t. is_in_arbiter w h i t && not (is_over h t)) (let_in h) (λ u among. and-true (is_in_arbiter w h i u && not (is_over h u)))
 
 -- those of them that no concurrent branch fired
-filter_twice : (p q : TaskId → Bool) (ts : List TaskId) → filter (λ t. p t && q t) ts ≡ filter q (filter p ts)
-filter_twice p q [] = refl
-filter_twice p q (t ∷ ts) = of_tests (p t) (q t) refl (filter_twice p q ts)
-  where
-    of_tests : (a b : Bool) → q t ≡ b → filter (λ u. p u && q u) ts ≡ filter q (filter p ts) → (if a && b then t ∷ filter (λ u. p u && q u) ts else filter (λ u. p u && q u) ts) ≡ filter q (if a then t ∷ filter p ts else filter p ts)
-    of_tests true true is rest = rw (is, rest) refl
-    of_tests true false is rest = rw is rest
-    of_tests false b is rest = rest
-
 filter_alone : (w : Parts) (h : List Event) (i : ℕ) → filter (counts_as false w h i) (let_in h) ≡ filter (λ t. not (is_concurrent_task w h t)) (admitted w h i)
-filter_alone w h i = filter_twice (λ t. is_in_arbiter w h i t && not (is_over h t)) (λ t. not (is_concurrent_task w h t)) (let_in h)
+filter_alone w h i = sym (filter_twice (λ t. not (is_concurrent_task w h t)) (λ t. is_in_arbiter w h i t && not (is_over h t)) (let_in h))
 
 -- each event keeps the counts
 pub counts-event : (w : Parts) (h : List Event) (e : Event) (b : Books) → IsLegal w h → IsAllowed w h e → Keeps w h b → KeepsCounts w (h ++ e ∷ []) (after_event w e b)

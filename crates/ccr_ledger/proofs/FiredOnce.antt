@@ -14,7 +14,7 @@ use Rattle.ccr_model.specs.Consequences.{are_distinct_tasks}
 use Rattle.ccr_model.proofs.Allowing.{OneName-legal}
 use Rattle.ccr_model.proofs.Booleans.{refuted, no_both, or_left, or_right}
 use Rattle.ccr_model.proofs.Cutting.{cut_by}
-use Rattle.ccr_model.proofs.FiredTasks.{AreFired, IsFired, IsFired-append}
+use Rattle.ccr_model.proofs.FiredTasks.{AreFired, IsFired-append}
 use Rattle.ccr_model.proofs.FiringFacts.{FiresSo-allowed, firings-other}
 use Rattle.ccr_model.proofs.LegalParts.{along_legal}
 use Rattle.ccr_model.proofs.Pushes.{firings-push, cut-push}
@@ -74,18 +74,16 @@ fired_once w test = along_legal w (λ h. are_distinct_tasks (fired_where test h)
     kept h (End t how) legal allowed once = other h (End t how) refl once
 
 -- who is cut fired
-pub cut_fired : (w : Parts) (h : List Event) → IsLegal w h → AreFired h (cut h)
-cut_fired w = along_legal w (λ h. AreFired h (cut h)) kept (λ t is. absurd (cc))
-  where
-    other : (h : List Event) (e : Event) → cut (e ∷ []) ≡ [] → AreFired h (cut h) → AreFired (h ++ e ∷ []) (cut (h ++ e ∷ []))
-    other h e none known t is = IsFired-append h (e ∷ []) t (known t (subst (λ ts. has_task ts t ≡ true) (cut-push h e ∙ (ap (λ ts. cut h ++ ts) none ∙ append-nil (cut h))) is))
+pub cut_more : (w : Parts) (h : List Event) (e : Event) → IsLegal w h → IsAllowed w h e → AreFired h (cut (e ∷ []))
+cut_more w h (Fire t s ms cs) legal allowed u is = let waits = cut_by w h t s ms cs (OneName-legal w h legal) allowed u is in (waits.1.firing, waits.1.is_firing)
+cut_more w h (Post m) legal allowed u is = absurd (cc)
+cut_more w h (Admit t) legal allowed u is = absurd (cc)
+cut_more w h (Put t d) legal allowed u is = absurd (cc)
+cut_more w h (Start t a) legal allowed u is = absurd (cc)
+cut_more w h (End t how) legal allowed u is = absurd (cc)
 
+pub cut_fired : (w : Parts) (h : List Event) → IsLegal w h → AreFired h (cut h)
+cut_fired w = along_legal w (λ h. AreFired h (cut h)) kept (λ u is. absurd (cc))
+  where
     kept : (h : List Event) (e : Event) → IsLegal w h → IsAllowed w h e → AreFired h (cut h) → AreFired (h ++ e ∷ []) (cut (h ++ e ∷ []))
-    kept h (Fire x s ms cs) legal allowed known t is = of_more (cut h) (cs ++ []) t (IsFired (h ++ Fire x s ms cs ∷ []) t) (subst (λ ts. has_task ts t ≡ true) (cut-push h (Fire x s ms cs)) is)
-        (λ old. IsFired-append h (Fire x s ms cs ∷ []) t (known t old))
-        (λ new. (let waits = (cut_by w h x s ms cs (OneName-legal w h legal) allowed t new).1 in IsFired-append h (Fire x s ms cs ∷ []) t (waits.firing, waits.is_firing)))
-    kept h (Post m) legal allowed known t is = other h (Post m) refl known t is
-    kept h (Admit x) legal allowed known t is = other h (Admit x) refl known t is
-    kept h (Put x d) legal allowed known t is = other h (Put x d) refl known t is
-    kept h (Start x a) legal allowed known t is = other h (Start x a) refl known t is
-    kept h (End x how) legal allowed known t is = other h (End x how) refl known t is
+    kept h e legal allowed known u is = IsFired-append h (e ∷ []) u (of_more (cut h) (cut (e ∷ [])) u _ (subst (λ ts. has_task ts u ≡ true) (cut-push h e) is) (known u) (cut_more w h e legal allowed u))

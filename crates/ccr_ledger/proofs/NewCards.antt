@@ -12,7 +12,7 @@ use Rattle.ccr_base.specs.Names.{same_task, has_task}
 use Rattle.ccr_wiring.specs.declared.parts.Parts.{Parts}
 use Rattle.ccr_wiring.specs.Wirings.{Seat, seat, branch_of, segment_of}
 use Rattle.ccr_model.specs.declared.history.Event.{Event}
-use Rattle.ccr_model.specs.declared.history.Event.TheVariants.{Post, Fire, Admit, Put, Start, End}
+use Rattle.ccr_model.specs.declared.history.Event.TheVariants.{Fire}
 use Rattle.ccr_model.specs.Posts.{messages_named, posts_of_task}
 use Rattle.ccr_model.specs.Firings.{Firing, firings, firing_named, fired, cut, let_in, put}
 use Rattle.ccr_model.specs.Sites.{before, resumed}
@@ -20,19 +20,15 @@ use Rattle.ccr_model.specs.TaskData.{no_load, no_play, with_messages, messages_o
 use Rattle.ccr_model.specs.Tasks.{is_interleave}
 use Rattle.ccr_model.specs.Rules.{needs_no_admission}
 use Rattle.ccr_model.specs.Legal.{IsAllowed, IsLegal}
-use Rattle.ccr_model.proofs.Allowing.{OneName-legal}
 use Rattle.ccr_model.proofs.Alone.{let_in_fired}
 use Rattle.ccr_model.proofs.Booleans.{refuted, no_both}
-use Rattle.ccr_model.proofs.Cutting.{cut_by}
-use Rattle.ccr_model.proofs.FiredTasks.{AreFired, IsFired-append, fired_has}
+use Rattle.ccr_model.proofs.FiredTasks.{AreFired, fired_has}
 use Rattle.ccr_model.proofs.FiringFacts.{FiresSo-allowed, firing_named-new, before-new}
-use Rattle.ccr_model.proofs.LegalParts.{along_legal}
-use Rattle.ccr_model.proofs.Pushes.{cut-push, fired-fire}
+use Rattle.ccr_model.proofs.Pushes.{fired-fire}
 use Rattle.ccr_model.proofs.Roots.{root_own, root_resumed}
 use Rattle.ccr_model.proofs.SameNames.{same_task-is}
 use Rattle.ccr_model.proofs.Stable.{load_at-append}
 use Rattle.ccr_model.proofs.Suspending.{ResumeFacts}
-use Rattle.ccr_model.proofs.TaskLists.{of_more}
 use Rattle.ccr_model.proofs.TaskPlaces.{ArePlaced-legal}
 use Rattle.ccr_model.proofs.TaskSteps.{firing_named-fire}
 use Rattle.ccr_ledger.specs.declared.cards.Card.{Card}
@@ -45,21 +41,7 @@ use Rattle.ccr_ledger.proofs.Admissions.{admitted-other, admitted-new, made-othe
 use Rattle.ccr_ledger.proofs.CardSteps.{altered, card-stays, card-step}
 use Rattle.ccr_ledger.proofs.CardTables.{names, names-all_moved, names-new, card-new, among, card-all_moved, tasks-cuts, ports-cuts}
 use Rattle.ccr_ledger.proofs.Stages.{unput, stage-fire}
-
--- who was cut fired
-cut_more : (w : Parts) (h : List Event) (e : Event) → IsLegal w h → IsAllowed w h e → AreFired h (cut (e ∷ []))
-cut_more w h (Fire t s ms cs) legal allowed u is = let waits = cut_by w h t s ms cs (OneName-legal w h legal) allowed u is in (waits.1.firing, waits.1.is_firing)
-cut_more w h (Post m) legal allowed u is = absurd (cc)
-cut_more w h (Admit t) legal allowed u is = absurd (cc)
-cut_more w h (Put t d) legal allowed u is = absurd (cc)
-cut_more w h (Start t a) legal allowed u is = absurd (cc)
-cut_more w h (End t how) legal allowed u is = absurd (cc)
-
-cut_fired : (w : Parts) (h : List Event) → IsLegal w h → AreFired h (cut h)
-cut_fired w = along_legal w (λ h. AreFired h (cut h)) kept (λ u is. absurd (cc))
-  where
-    kept : (h : List Event) (e : Event) → IsLegal w h → IsAllowed w h e → AreFired h (cut h) → AreFired (h ++ e ∷ []) (cut (h ++ e ∷ []))
-    kept h e legal allowed known u is = IsFired-append h (e ∷ []) u (of_more (cut h) (cut (e ∷ [])) u _ (subst (λ ts. has_task ts u ≡ true) (cut-push h e) is) (known u) (cut_more w h e legal allowed u))
+use Rattle.ccr_ledger.proofs.FiredOnce.{cut_more, cut_fired}
 
 -- as many cards as firings
 card_count : (h : List Event) (cards : List (TaskId × Card)) → names cards ≡ fired h → length cards ≡ length (firings h)

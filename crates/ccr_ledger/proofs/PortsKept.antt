@@ -28,21 +28,18 @@ use Rattle.ccr_ledger.specs.declared.cards.Card.{Card}
 use Rattle.ccr_ledger.specs.Books.{Books, card_at, suspended_at}
 use Rattle.ccr_ledger.specs.Posting.{after_post}
 use Rattle.ccr_ledger.specs.Taking.{take_pattern}
-use Rattle.ccr_ledger.specs.Firing.{after_cut, after_cuts, after_fire, resumed_card}
+use Rattle.ccr_ledger.specs.Firing.{after_fire, resumed_card}
 use Rattle.ccr_ledger.specs.Events.{after_last, after_discard, after_dropped, after_stop, after_yield, after_end, after_event, empty_books, is_yield}
 use Rattle.ccr_ledger.specs.Kept.{HasSizes, Keeps, KeepsPorts, card_of}
 use Rattle.ccr_ledger.proofs.Tables.{row-with_row}
 use Rattle.ccr_ledger.proofs.Fresh.{fresh_post, held_apart, held_alone}
 use Rattle.ccr_ledger.proofs.PortsLeft.{AreHeld, pattern_left, site_left}
 use Rattle.ccr_ledger.proofs.Empty.{row-none}
+use Rattle.ccr_ledger.proofs.CardTables.{ports-cuts}
 
 by_card : (b : Books) (o : Option Card) (f : Card → Books) → ((c : Card) → (f c).ports ≡ b.ports) → (option_map_or f o b).ports ≡ b.ports
 by_card b None f same = refl
 by_card b (Some c) f same = same c
-
-same-cuts : (ts : List TaskId) (b : Books) → (after_cuts ts b).ports ≡ b.ports
-same-cuts [] b = refl
-same-cuts (t ∷ ts) b = same-cuts ts (after_cut t b) ∙ by_card b (card_at b.tasks t) _ (λ c. refl)
 
 same-last : (r : TaskId) (b : Books) → (after_last r b).ports ≡ b.ports
 same-last r b = by_card b (card_at b.tasks r) _ (λ c. of_test b (record b { tasks = _; admitted = _; alone = _ }) c.admitted refl)
@@ -88,7 +85,7 @@ ports-branch : (w : Parts) → IsSound w → (h : List Event) (t : TaskId) (n : 
     → KeepsPorts w (h ++ Fire t (Branch n) ms cs ∷ []) (after_fire w t (Branch n) ms cs b)
 ports-branch w sound h t n ms cs b legal allowed sizes keeps =
     let made = some_of (λ (s : Seat). is_choice_of (held h) s.branch.pattern ms) (seat w n) (FireFacts-allowed w h t (Branch n) ms cs allowed).choice_made in
-    rw made.1 (record { ports = λ port low. rw (same-cuts cs b) (port_left made.0 made.1 made.2 port low ∙ sym (held-fire h t (Branch n) ms cs port)) })
+    rw made.1 (record { ports = λ port low. rw (ports-cuts cs b) (port_left made.0 made.1 made.2 port low ∙ sym (held-fire h t (Branch n) ms cs port)) })
   where
     port_left : (s : Seat) → seat w n ≡ Some s → is_choice_of (held h) s.branch.pattern ms ≡ true → (port : ℕ) → port < length w.ports → row (take_pattern s.branch.pattern ms b.ports).ports port ≡ filter (λ (m : Msg). not (has_message ms m.id)) (held h port)
     port_left s at is port low =

@@ -53,10 +53,10 @@ root_resumed w h t b k ms cs allowed facts =
     now ∙ (step ∙ (same ∙ sym was))
 
 -- a branch fired the root, of which the task's spot is the branch or a site
-abbrev pub HasRoot : List Event → TaskId → Firing → Type 0
+abbrev HasRoot : List Event → TaskId → Firing → Type 0
 HasRoot h t f = (g : Firing) × (firing_named h (root_of h t) ≡ Some g) × (g.spot ≡ Branch (branch_of f.spot))
 
-abbrev pub AreRooted : List Event → Type 0
+abbrev AreRooted : List Event → Type 0
 AreRooted h = (t : TaskId) (f : Firing) → firing_named h t ≡ Some f → HasRoot h t f
 
 rooted_stays : (h es : List Event) (t : TaskId) (f : Firing) → AreRooted h → firing_named h t ≡ Some f → HasRoot (h ++ es) t f
