@@ -9,3 +9,17 @@ pub mod Runs
 pub mod Finished
 pub mod Orders
 pub mod Choices
+pub mod Rooms
+pub mod Takes
+pub mod Touching
+pub mod Places
+pub mod Posters
+pub mod MayPut
+pub mod NumberSets
+pub mod ReadyNumbers
+pub mod Told
+pub mod DeskSteps
+pub mod Telling
+pub mod Firsts
+pub mod PartSteps
+pub mod Along
