@@ -1,22 +1,26 @@
 -- The desk along a legal history.
-use Rattle.std.proofs.Common.{◌≡◌, ◌∙◌, ℕ, zero, suc, ◌+◌, ◌<◌, Bool, true, false, List, [], ◌∷◌, ◌++◌, length, take, drop, Option, None, Some, refl, ap, sym, subst, arith}
+use Rattle.std.proofs.Common.{◌≡◌, ◌∙◌, ℕ, zero, suc, ◌+◌, ◌<◌, ◌≤◌, Bool, true, false, List, [], ◌∷◌, ◌++◌, length, take, drop, Option, None, Some, refl, ap, sym, subst, arith, append_assoc}
+use Rattle.std.specs.Prelude.{◌^◌}
 use Rattle.std.specs.List.{slice_get}
-use Rattle.std.proofs.Math.ListN.{get_or}
+use Rattle.std.proofs.lemmas.Bool.Decides.{nat_tests}
+use Rattle.std.proofs.lemmas.List.{map-append}
+use Rattle.ccr_base.specs.declared.names.TaskId.{TaskId}
 use Rattle.ccr_wiring.specs.declared.parts.Parts.{Parts}
 use Rattle.ccr_wiring.specs.Valid.{IsValid}
 use Rattle.ccr_model.specs.declared.history.Event.{Event}
+use Rattle.ccr_model.specs.Firings.{Firing, firings, fired}
 use Rattle.ccr_model.specs.Legal.{IsAllowed, IsLegal}
-use Rattle.ccr_model.specs.Order.{first}
+use Rattle.ccr_model.specs.Order.{next_attempt}
 use Rattle.ccr_model.proofs.LegalParts.{Parted, Parted-legal}
+use Rattle.ccr_model.proofs.Stable.{firings-append}
 use Rattle.ccr_ledger.specs.Books.{Books}
 use Rattle.ccr_ledger.specs.Events.{after_event, empty_books}
 use Rattle.ccr_ledger.specs.Kept.{Keeps}
-use Rattle.ccr_serial.specs.Desk.{Desk, Stands, AreTold, Follows, IsAhead, IsIdle, first_in}
+use Rattle.ccr_serial.specs.Desk.{Desk, Stands, AreTold, Follows, IsAhead, IsIdle, after_attempt, first_in}
 use Rattle.ccr_serial.specs.Engine.{Engine, next_event}
-use Rattle.ccr_serial.proofs.DeskSteps.{stands-event}
+use Rattle.ccr_serial.proofs.DeskSteps.{attempt_kept, stands-event}
 use Rattle.ccr_serial.proofs.Firsts.{first_told, idle_stands, stands_ahead}
 use Rattle.ccr_serial.proofs.Telling.{AreTold-keeps}
-use Rattle.ccr_serial.proofs.PartSteps.{read}
 
 pub keeps-none : (w : Parts) → Keeps w [] (empty_books w)
 keeps-none = ?
@@ -58,6 +62,26 @@ pub stands_on : (w : Parts) → IsValid w → (c : ℕ) (es : List Event) (i : �
 stands_on w valid c es i e old new legal at stands follows =
     let parts = Parted-legal w (take i es) e (drop (i + 1) es) (subst (IsLegal w) (parted es i e at) legal) in
     subst (λ h. Stands w c h new) (sym (take_more es i e at)) (stands_next w valid c (take i es) e old new parts.legal_before parts.allowed stands follows)
+
+-- those that fired before make the next attempt no greater
+next_attempt-more : (c : ℕ) (ts us : List TaskId) → next_attempt c ts ≤ next_attempt c (ts ++ us)
+next_attempt-more c [] us = omega arith
+next_attempt-more c (t ∷ ts) us = grind (arith, nat_tests, next_attempt-more c ts us)
+
+attempts_before : (c : ℕ) (h rest : List Event) → next_attempt c (fired h) ≤ next_attempt c (fired (h ++ rest))
+attempts_before c h rest =
+    let whole : fired (h ++ rest) ≡ fired h ++ fired rest = rw (firings-append h rest) (map-append (λ (f : Firing). f.task) (firings h) (firings rest)) in
+    rw whole (next_attempt-more c (fired h) (fired rest))
+
+-- the attempt after the event fits, where that of the whole history does
+pub attempt_fits : (w : Parts) (c : ℕ) (h : List Event) (e : Event) (d : Desk) → Stands w c h d → next_attempt c (fired (h ++ e ∷ [])) < 2 ^ 32 → after_attempt c e d.attempt < 2 ^ 32
+attempt_fits w c h e d stands low = rw (attempt_kept c h e d.attempt stands.attempt) low
+
+pub attempt_fits_on : (w : Parts) (c : ℕ) (es : List Event) (i : ℕ) (e : Event) (d : Desk) → slice_get es i ≡ Some e → Stands w c (take i es) d → next_attempt c (fired es) < 2 ^ 32 → after_attempt c e d.attempt < 2 ^ 32
+attempt_fits_on w c es i e d at stands low =
+    let whole : es ≡ (take i es ++ e ∷ []) ++ drop (i + 1) es = parted es i e at ∙ sym (append_assoc (take i es) (e ∷ []) (drop (i + 1) es)) in
+    let some : next_attempt c (fired (take i es ++ e ∷ [])) ≤ next_attempt c (fired es) = subst (λ h. next_attempt c (fired (take i es ++ e ∷ [])) ≤ next_attempt c (fired h)) (sym whole) (attempts_before c (take i es ++ e ∷ []) (drop (i + 1) es)) in
+    attempt_fits w c (take i es) e d stands (omega (arith, some, low))
 
 pub stands_start : (w : Parts) (c : ℕ) (es : List Event) (d : Desk) → d ≡ record { books = empty_books w; attempt = 0; poster = 0; place = 0; ready = [] } → Stands w c (take 0 es) d
 stands_start w c es d is = rw is (subst (λ h. Stands w c h (record { books = empty_books w; attempt = 0; poster = 0; place = 0; ready = [] })) (none es) (stands_none w c))

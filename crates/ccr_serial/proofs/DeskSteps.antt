@@ -48,7 +48,7 @@ next-push : (c : ℕ) (ts : List TaskId) (t : TaskId) → next_attempt c (ts ++ 
 next-push c [] t = refl
 next-push c (x ∷ ts) t = grind (arith, nat_tests, next-push c ts t)
 
-attempt_kept : (c : ℕ) (h : List Event) (e : Event) (n : ℕ) → n ≡ next_attempt c (fired h) → after_attempt c e n ≡ next_attempt c (fired (h ++ e ∷ []))
+pub attempt_kept : (c : ℕ) (h : List Event) (e : Event) (n : ℕ) → n ≡ next_attempt c (fired h) → after_attempt c e n ≡ next_attempt c (fired (h ++ e ∷ []))
 attempt_kept c h (Fire t s ms cs) n known = rw (fired-fire, next-push, known) refl
 attempt_kept c h (Post m) n known = rw (firings-other h (Post m) refl) known
 attempt_kept c h (Admit t) n known = rw (firings-other h (Admit t) refl) known

@@ -7,8 +7,6 @@ pub mod Complete
 pub mod Attempts
 pub mod Runs
 pub mod Finished
-pub mod Orders
-pub mod Choices
 pub mod Rooms
 pub mod Takes
 pub mod Touching
@@ -23,3 +21,4 @@ pub mod Telling
 pub mod Firsts
 pub mod PartSteps
 pub mod Along
+pub mod Reading

@@ -26,6 +26,7 @@ use Rattle.ccr_ledger.specs.Events.{after_event}
 use Rattle.ccr_ledger.specs.Kept.{Keeps}
 use Rattle.ccr_serial.specs.Cursor.{lowered, IsStill, are_done}
 use Rattle.ccr_serial.specs.Ready.{has_number, AreReady, IsLeastFirst}
+use Rattle.ccr_serial.specs.Engine.{Engine, IsSound}
 use Rattle.ccr_serial.specs.Parts.{post_in, first_fire_in, first_admit_in, put_in, run_in, start_in, are_done_in, some_fires_in, touches_in, comes_to, yields_in}
 
 -- the tables; the closer's next attempt; no poster before this one has a line left, and no spot before the place can fire; the numbers of the tasks that may be put
@@ -44,6 +45,11 @@ pub record Stands (wiring : Parts) (closer : ℕ) (history : List Event) (desk :
   pub place : IsStill wiring history desk.place
   pub ready : AreReady wiring history desk.ready
   pub least : IsLeastFirst desk.ready
+
+-- the engine is sound, and the desk says what the model says of its history, where it is current
+pub record IsRead (engine : Engine) (desk : Desk) (current : Bool) : Type 0 where
+  pub sound : IsSound engine
+  pub stands : current ≡ true → Stands engine.wiring engine.closer engine.history desk
 
 -- no poster before the desk's has a line left, and no spot before its place can fire, by the tables
 pub record IsIdle (wiring : Parts) (closer : ℕ) (desk : Desk) : Type 0 where

@@ -31,20 +31,18 @@ pub(crate) struct Desk {
     ready: Numbers,
 }
 
-/// The closer's next attempt after the event. A number that no longer fits is a want of memory.
-fn attempt_after(closer: ActorNo, event: &Event, attempt: u32) -> Result<u32, OutOfMemory>
-    ensures { IfOk result (λ next. next ≡ after_attempt closer event.now attempt) }
+/// The closer's next attempt after the event.
+fn attempt_after(closer: ActorNo, event: &Event, attempt: u32) -> u32
+    requires { after_attempt closer event.now attempt < 2 ^ 32 }
+    ensures { result ≡ after_attempt closer event.now attempt }
 {
     let Event::Fire { task, .. } = event else {
-        return Ok(attempt);
+        return attempt;
     };
     if task.actor != closer || task.attempt < attempt {
-        return Ok(attempt);
+        return attempt;
     }
-    match task.attempt.checked_add(1) {
-        Some(next) => Ok(next),
-        None => Err(OutOfMemory),
-    }
+    task.attempt + 1
 }
 
 /// Whether tasks of the spot are put without an admission.
@@ -157,10 +155,11 @@ impl Desk {
         closer: ActorNo,
         event: &Event,
     ) -> Result<(), OutOfMemory>
+        requires { after_attempt closer event.now self.old.attempt < 2 ^ 32 }
         ensures { OnOk result (Follows wiring.now closer event.now self.old self.new) }
     {
         let place = place_after(&self.ledger, wiring, event, self.place);
-        let attempt = attempt_after(closer, event, self.attempt)?;
+        let attempt = attempt_after(closer, event, self.attempt);
         note_ready(&self.ledger, wiring, event, &mut self.ready)?;
         self.ledger.push(wiring, event)?;
         self.place = place;

@@ -1,13 +1,11 @@
 //! The engine on one thread.
 #![tactic(auto)]
 
-mod choice;
 mod cursor_laws;
 mod desk;
 mod desk_laws;
 mod laws;
 mod numbers;
-mod order;
 mod parts;
 mod ready_laws;
 mod serial;

@@ -1,7 +1,9 @@
 //! The desk beside its history.
 
-ghost use Rattle.std.specs.Prelude.{◌≡◌, ◌++◌, ◌∷◌, [], IfOk, OnErr, OnOk, true};
+ghost use Rattle.std.specs.Prelude.{◌≡◌, ◌<◌, ◌^◌, ◌++◌, ◌∷◌, [], IfOk, OnErr, OnOk, true};
+ghost use Rattle.ccr_model.specs.Firings.{fired};
 ghost use Rattle.ccr_model.specs.Legal.{IsAllowed, IsLegal};
+ghost use Rattle.ccr_model.specs.Order.{next_attempt};
 ghost use Rattle.ccr_serial.specs.Desk.{Stands};
 ghost use Rattle.ccr_serial.specs.Engine.{IsSound, next_event};
 
@@ -27,6 +29,7 @@ fn desk_of(
     events: &[Event],
 ) -> Result<Desk, OutOfMemory>
     requires legal { IsLegal wiring.now events.now }
+    requires attempts { next_attempt closer (fired events.now) < 2 ^ 32 }
     ensures { IfOk result (Stands wiring.now closer events.now) }
 {
     let _valid = wiring.parts();
@@ -47,6 +50,7 @@ fn make_current(
     current: bool,
 ) -> Result<(), OutOfMemory>
     requires legal { IsLegal wiring.now history.now }
+    requires attempts { next_attempt closer (fired history.now) < 2 ^ 32 }
     requires stands { current ≡ true → Stands wiring.now closer history.now desk.old }
     ensures stands { OnOk result (Stands wiring.now closer history.now desk.new) }
     ensures err { OnErr result (desk.new ≡ desk.old) }
@@ -91,6 +95,7 @@ pub(crate) fn enter(
 ) -> Result<(), OutOfMemory>
     requires legal { IsLegal wiring.now history.old }
     requires allowed { IsAllowed wiring.now history.old event }
+    requires attempts { next_attempt closer (fired (history.old ++ event ∷ [])) < 2 ^ 32 }
     requires stands { Stands wiring.now closer history.old desk.old }
     ensures ok { OnOk result (history.new ≡ history.old ++ event ∷ []) }
     ensures err { OnErr result (history.new ≡ history.old) }

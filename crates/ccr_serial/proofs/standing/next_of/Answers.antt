@@ -1,7 +1,11 @@
 use Rattle.std.proofs.Common.{arith}
 use Rattle.ccr_serial.proofs.Valid.{HasFewParts-valid}
 use Rattle.ccr_serial.proofs.Along.{idle_by, first_by, ahead_by}
+use Rattle.ccr_serial.proofs.Runs.{IsSound-attempts}
 use Rattle.ccr_serial.proofs.standing.next_of.Goals as goal
+
+pub make_current-requires-clause-attempts : goal.make_current-requires-clause-attempts
+make_current-requires-clause-attempts c = IsSound-attempts _ c.requires.sound
 
 pub first-requires-clause-queues : goal.first-requires-clause-queues
 first-requires-clause-queues c = let few = HasFewParts-valid c.args.wiring.now c.requires.sound.valid in omega (arith, few.queues)
