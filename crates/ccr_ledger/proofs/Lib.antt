@@ -34,3 +34,4 @@ pub mod Counted
 pub mod Suspended
 pub mod Places
 pub mod Keeping
+pub mod Telling

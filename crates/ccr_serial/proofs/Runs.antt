@@ -63,6 +63,9 @@ IsSound-event s sound e is =
 pub IsSound-pushed : (s : Engine) → IsSound s → (e : Event) → next_event s ≡ Some e → (h : List Event) → h ≡ s.history ++ e ∷ [] → IsSound (record s { history = h })
 IsSound-pushed s sound e is h more = rw more (IsSound-event s sound e is)
 
+pub IsSound-fits : (s : Engine) → IsSound s → (e : Event) → next_event s ≡ Some e → next_attempt s.closer (fired (s.history ++ e ∷ [])) < 2 ^ 32
+IsSound-fits s sound e is = IsSound-attempts (record s { history = s.history ++ e ∷ [] }) (IsSound-event s sound e is)
+
 -- what comes next is allowed, and where nothing does, nothing is
 pub IsAllowed-next : (s : Engine) → IsSound s → (e : Event) → next_event s ≡ Some e → IsAllowed s.wiring s.history e
 unfolding next_event

@@ -7,7 +7,8 @@ ghost use Rattle.ccr_model.specs.Order.{next_attempt, IsFinished};
 ghost use Rattle.ccr_serial.specs.Engine.{next_event, next_engine};
 ghost use Rattle.ccr_serial.specs.Steps.{event_of};
 
-use crate::order::first;
+use crate::desk::Desk;
+use crate::standing::{enter, next_of};
 use ccr_base::{ActorNo, OutOfMemory};
 use ccr_model::{Event, History};
 use ccr_wiring::Wiring;
@@ -28,24 +29,21 @@ pub struct Serial<'w> {
     closer: ActorNo,
     history: History,
     alloc: Global,
+    /// What the next event is read from.
+    desk: Desk,
+    /// Whether the desk is that of the history.
+    current: bool,
 }
 
 impl<'w> Model for Serial<'w> {
-    ghost use Rattle.ccr_serial.specs.Engine.{Engine, IsSound};
+    ghost use Rattle.ccr_serial.specs.Engine.{Engine};
+    ghost use Rattle.ccr_serial.specs.Desk.{IsRead};
 
     ghost Value = { Engine };
 
     ghost view = { λ s. record { wiring = s.wiring.now; closer = s.closer; history = s.history } };
 
-    ghost invariant = { λ s. IsSound (record { wiring = s.wiring.now; closer = s.closer; history = s.history }) };
-}
-
-/// Adds the event at the end.
-fn append(history: &mut History, event: Event) -> Result<(), OutOfMemory>
-    ensures ok { OnOk result (history.new ≡ history.old ++ event ∷ []) }
-    ensures err { OnErr result (history.new ≡ history.old) }
-{
-    history.push(event).map_err(|(refused, _)| refused)
+    ghost invariant = { λ s. IsRead (record { wiring = s.wiring.now; closer = s.closer; history = s.history }) s.desk s.current };
 }
 
 impl<'w> Serial<'w> {
@@ -61,6 +59,8 @@ impl<'w> Serial<'w> {
             closer,
             history: History::new(alloc),
             alloc,
+            desk: Desk::new(alloc, wiring)?,
+            current: true,
         })
     }
 
@@ -79,12 +79,17 @@ impl<'w> Serial<'w> {
         ensures returned { IfErr result (λ refused. refused.1 ≡ history) }
     {
         wiring.parts();
-        Ok(Serial {
-            wiring,
-            closer,
-            history,
-            alloc,
-        })
+        match Desk::new(alloc, wiring) {
+            Ok(desk) => Ok(Serial {
+                wiring,
+                closer,
+                history,
+                alloc,
+                desk,
+                current: false,
+            }),
+            Err(refused) => Err((refused, history)),
+        }
     }
 
     /// What happened so far.
@@ -103,12 +108,26 @@ impl<'w> Serial<'w> {
         ensures quiet { IfOk result (λ did. IfNone (event_of did) (IsQuiet self.old.wiring self.old.history)) }
         ensures err { OnErr result (self.new ≡ self.old) }
     {
-        let next = first(self.alloc, self.wiring, self.closer, self.history.events())?;
+        let next = next_of(
+            self.alloc,
+            self.wiring,
+            self.closer,
+            &self.history,
+            &mut self.desk,
+            &mut self.current,
+        )?;
         let Some(event) = next else {
             return Ok(Stepped::Quiet);
         };
         let kept = event.copy(self.alloc)?;
-        append(&mut self.history, kept)?;
+        enter(
+            self.wiring,
+            self.closer,
+            &mut self.history,
+            &mut self.desk,
+            &mut self.current,
+            kept,
+        )?;
         Ok(Stepped::Did(event))
     }
 
@@ -130,11 +149,25 @@ impl<'w> Serial<'w> {
         ensures history { OnOk result (self.new ≡ next_engine self.old) }
         ensures err { OnErr result (self.new ≡ self.old) }
     {
-        let next = first(self.alloc, self.wiring, self.closer, self.history.events())?;
+        let next = next_of(
+            self.alloc,
+            self.wiring,
+            self.closer,
+            &self.history,
+            &mut self.desk,
+            &mut self.current,
+        )?;
         let Some(event) = next else {
             return Ok(false);
         };
-        append(&mut self.history, event)?;
+        enter(
+            self.wiring,
+            self.closer,
+            &mut self.history,
+            &mut self.desk,
+            &mut self.current,
+            event,
+        )?;
         Ok(true)
     }
 }

@@ -1,0 +1,71 @@
+-- The event that comes first, by the desk.
+use Rattle.std.proofs.Common.{◌≡◌, ◌∙◌, ℕ, zero, suc, ◌+◌, ◌≤◌, Bool, true, false, ◌&&◌, ◌||◌, List, [], ◌∷◌, length, take, Option, None, Some, refl, ap, sym, subst, arith}
+use Rattle.std.specs.Prelude.{nat_le, is_some, option_map, option_and_then}
+use Rattle.std.specs.List.{slice_get, list_any}
+use Rattle.std.specs.Option.{option_or}
+use Rattle.ccr_base.specs.declared.names.TaskId.{TaskId}
+use Rattle.ccr_base.specs.declared.names.Spot.{Spot}
+use Rattle.ccr_wiring.specs.declared.parts.Parts.{Parts}
+use Rattle.ccr_wiring.specs.declared.parts.PosterPart.{PosterPart}
+use Rattle.ccr_wiring.specs.Wirings.{spots}
+use Rattle.ccr_model.specs.declared.history.Event.{Event}
+use Rattle.ccr_model.specs.Firings.{fired}
+use Rattle.ccr_model.specs.Enough.{can_fire}
+use Rattle.ccr_model.specs.Posts.{posts_of_poster}
+use Rattle.ccr_model.specs.Order.{first, fire_from, next_attempt, put_first}
+use Rattle.ccr_model.proofs.CanFire.{some_fire_at}
+use Rattle.ccr_ledger.specs.Books.{Books}
+use Rattle.ccr_serial.specs.Cursor.{IsStill, are_done}
+use Rattle.ccr_serial.specs.Ready.{AreReady, IsLeastFirst}
+use Rattle.ccr_serial.specs.Parts.{fire_in, first_fire_in, put_in, are_done_in, some_fires_in}
+use Rattle.ccr_serial.specs.Desk.{Desk, Stands, AreTold, IsIdle, IsAhead, first_in}
+use Rattle.ccr_serial.proofs.Told.{post_told, fire_told, first_fire_told, first_admit_told, put_told, none_put_told, first_run_told, start_told}
+
+any_same : {X : Type 0} (p q : X → Bool) (xs : List X) → ((x : X) → p x ≡ q x) → list_any p xs ≡ list_any q xs
+any_same p q [] same = refl
+any_same p q (x ∷ xs) same = rw (same x, any_same p q xs same) refl
+
+length-take : {X : Type 0} (n : ℕ) (xs : List X) → length (take n xs) ≤ length xs
+length-take zero [] = omega arith
+length-take zero (x ∷ xs) = omega arith
+length-take (suc n) [] = omega arith
+length-take (suc n) (x ∷ xs) = omega (arith, length-take n xs)
+
+module _ (w : Parts) (c : ℕ) (h : List Event) (d : Desk) (told : AreTold w h d.books) where
+  done_told : (n : ℕ) (ps : List PosterPart) → n + length ps ≤ length w.posters → are_done_in d.books n ps ≡ are_done h n ps
+  done_told n [] low = refl
+  done_told n (p ∷ ps) low = rw (told.said n (omega (arith, low)), done_told (n + 1) ps (omega (arith, low))) refl
+
+  done_so : (k : ℕ) → are_done_in d.books 0 (take k w.posters) ≡ are_done h 0 (take k w.posters)
+  done_so k = done_told 0 (take k w.posters) (omega (arith, length-take k w.posters))
+
+  fires_so : (ss : List Spot) → d.attempt ≡ next_attempt c (fired h) → some_fires_in w (record { actor = c; attempt = d.attempt }) d.books ss ≡ list_any (can_fire w h) ss
+  fires_so ss same = any_same (λ (s : Spot). is_some (fire_in w (record { actor = c; attempt = d.attempt }) d.books s)) (can_fire w h) ss (λ s. rw same (ap is_some (fire_told w c h d.books told s) ∙ some_fire_at w c h s))
+
+  pub idle_stands : Stands w c h d → IsIdle w c d
+  idle_stands stands = record {
+    posters = done_so d.poster ∙ stands.poster;
+    spots = fires_so (take d.place (spots w)) stands.attempt ∙ stands.place;
+  }
+
+  put_so : (ns : List ℕ) → AreReady w h ns → IsLeastFirst ns → option_and_then (put_in w d.books) (slice_get ns 0) ≡ put_first w h
+  put_so [] ready least = sym (none_put_told w c h d.books told ready)
+  put_so (n ∷ ns) ready least = put_told w c h d.books told (n ∷ ns) n ready (least n refl)
+
+  pub first_told : Stands w c h d → first_in w c d ≡ first w c h
+  first_told stands =
+      let fires : first_fire_in w (record { actor = c; attempt = d.attempt }) d.books (spots w) ≡ fire_from w c h (spots w) = rw stands.attempt (first_fire_told w c h d.books told (spots w)) in
+      rw (post_told w c h d.books told 0 w.posters (omega arith), fires, first_admit_told w c h d.books told 0 w.arbiters (omega arith), put_so d.ready stands.ready stands.least, first_run_told w c h d.books told _ told.runs_so, start_told w c h d.books told 0 w.queues (omega arith)) refl
+
+pub stands_ahead : (w : Parts) (c : ℕ) (h : List Event) (old new : Desk) → AreTold w h old.books → Stands w c h old → IsAhead w c old new → Stands w c h new
+stands_ahead w c h old new told stands ahead =
+    let told_now : AreTold w h new.books = rw ahead.books told in
+    let attempt : new.attempt ≡ next_attempt c (fired h) = ahead.attempt ∙ stands.attempt in
+    record {
+      books = rw ahead.books stands.books;
+      attempt = attempt;
+      poster = sym (done_so w c h new told_now new.poster) ∙ ahead.idle.posters;
+      place = sym (fires_so w c h new told_now (take new.place (spots w)) attempt) ∙ ahead.idle.spots;
+      ready = rw ahead.ready stands.ready;
+      least = rw ahead.ready stands.least;
+    }

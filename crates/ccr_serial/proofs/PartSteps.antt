@@ -1,0 +1,197 @@
+-- How the parts go on over the domains and the queues.
+use Rattle.std.proofs.Common.{◌≡◌, ◌∙◌, ℕ, zero, suc, ◌+◌, ◌-◌, ◌<◌, ◌≤◌, Bool, true, false, List, [], ◌∷◌, length, take, drop, Option, None, Some, ◌⊎◌, inl, inr, refl, sym, subst, arith}
+use Rattle.std.specs.Prelude.{nat_le, is_some, min, if◌then◌else◌}
+use Rattle.std.proofs.Math.ListN.{get_or}
+use Rattle.std.proofs.lemmas.Option.{slice_get-get_or}
+use Rattle.std.proofs.lemmas.Bool.Decides.{nat_tests}
+use Rattle.std.specs.Prelude.{option_map}
+use Rattle.std.specs.List.{slice_get}
+use Rattle.std.specs.Option.{option_or}
+use Rattle.ccr_base.specs.declared.names.TaskId.{TaskId}
+use Rattle.ccr_base.specs.declared.names.Spot.{Spot}
+use Rattle.ccr_wiring.specs.declared.parts.Parts.{Parts}
+use Rattle.ccr_wiring.specs.declared.parts.PosterPart.{PosterPart}
+use Rattle.ccr_wiring.specs.declared.parts.ArbiterPart.{ArbiterPart}
+use Rattle.ccr_wiring.specs.declared.parts.QueuePart.{QueuePart}
+use Rattle.ccr_model.specs.declared.history.Event.{Event}
+use Rattle.ccr_model.specs.declared.history.Event.TheVariants.{Start}
+use Rattle.ccr_model.specs.Order.{script_post}
+use Rattle.ccr_model.proofs.Booleans.{both, neither}
+use Rattle.ccr_model.proofs.Options.{none-above, none_map}
+use Rattle.ccr_rows.specs.Rows.{row}
+use Rattle.ccr_ledger.specs.Books.{Books, number}
+use Rattle.ccr_serial.specs.Cursor.{lowered}
+use Rattle.ccr_serial.specs.Parts.{admit_in, are_done_in, fire_in, first_admit_in, first_fire_in, line_in, post_in, some_fires_in, start_in}
+
+-- a poster is done where it has no next line
+past : {X : Type 0} (xs : List X) (n : ℕ) → length xs ≤ n → slice_get xs n ≡ None
+past [] n few = refl
+past (x ∷ xs) zero few = absurd (omega arith)
+past (x ∷ xs) (suc n) few = past xs n (omega arith)
+
+no_line : (b : Books) (n : ℕ) (p : PosterPart) → nat_le (length p.posts) (number b.said n) ≡ true → line_in b n p ≡ None
+no_line b n p full = let none : slice_get p.posts (number b.said n) ≡ None = past p.posts (number b.said n) (grind (arith, nat_tests, full)) in rw none refl
+
+line_none : (b : Books) (n : ℕ) (p : PosterPart) → line_in b n p ≡ None → nat_le (length p.posts) (number b.said n) ≡ true
+line_none b n p none =
+    let out = none-above p.posts (number b.said n) (none_map (script_post n (number b.said n)) (slice_get p.posts (number b.said n)) none) in
+    grind (arith, nat_tests, out)
+
+not_some : {X : Type 0} (o : Option X) → is_some o ≡ false → o ≡ None
+not_some None is = refl
+not_some (Some x) is = absurd (cc)
+
+drop_all : {X : Type 0} (n : ℕ) (xs : List X) → length xs ≤ n → drop n xs ≡ []
+drop_all zero [] all = refl
+drop_all (suc n) [] all = refl
+drop_all zero (x ∷ xs) all = absurd (omega arith)
+drop_all (suc n) (x ∷ xs) all = drop_all n xs (omega arith)
+
+-- the domain at a place first, and then those after it
+pub first_admit_in-drop : (b : Books) (xs : List ArbiterPart) (i n : ℕ) → i < length xs → first_admit_in b n (drop i xs) ≡ option_or (admit_in b (slice_get (row b.waiting n) 0)) (first_admit_in b (n + 1) (drop (i + 1) xs))
+first_admit_in-drop b [] i n lt = absurd (omega arith)
+first_admit_in-drop b (x ∷ xs) zero n lt = refl
+first_admit_in-drop b (x ∷ xs) (suc i) n lt = let e : suc i + 1 ≡ suc (i + 1) = omega arith in rw e (first_admit_in-drop b xs i n (omega arith))
+
+-- the queue at a place first, and then those after it
+pub start_in-drop : (c : ℕ) (b : Books) (qs : List QueuePart) (i n : ℕ) → i < length qs → start_in c b n (drop i qs) ≡ option_or (option_map (λ (t : TaskId). Start t c) (slice_get (row b.queued n) 0)) (start_in c b (n + 1) (drop (i + 1) qs))
+start_in-drop c b [] i n lt = absurd (omega arith)
+start_in-drop c b (q ∷ qs) zero n lt = refl
+start_in-drop c b (q ∷ qs) (suc i) n lt = let e : suc i + 1 ≡ suc (i + 1) = omega arith in rw e (start_in-drop c b qs i n (omega arith))
+
+-- the item at a place is read
+pub read : {T : Type 0} (ss xs : List T) (i : ℕ) (d : T) → ss ≡ xs → i < length ss → slice_get xs i ≡ Some (get_or ss i d)
+read ss xs i d same lt = rw (← same) (slice_get-get_or ss i d lt)
+
+-- the poster there has the first line
+post_at : (b : Books) (n k : ℕ) (ps : List PosterPart) (p : PosterPart) (e : Event) → are_done_in b n (take k ps) ≡ true → slice_get ps k ≡ Some p → line_in b (n + k) p ≡ Some e → post_in b n ps ≡ Some e
+post_at b n k [] p e done at line = absurd (cc)
+post_at b n zero (q ∷ ps) p e done at line =
+    let one : q ≡ p = cc in
+    let here : n + 0 ≡ n = omega arith in
+    let first : line_in b n q ≡ Some e = rw one (subst (λ m. line_in b m p ≡ Some e) here line) in
+    rw first refl
+post_at b n (suc k) (q ∷ ps) p e done at line =
+    let parts = both (nat_le (length q.posts) (number b.said n)) (are_done_in b (n + 1) (take k ps)) done in
+    let none : line_in b n q ≡ None = no_line b n q parts.0 in
+    let here : n + suc k ≡ (n + 1) + k = omega arith in
+    rw none (post_at b (n + 1) k ps p e parts.1 at (subst (λ m. line_in b m p ≡ Some e) here line))
+
+-- the poster there has none: the done ones are one more
+done_on : (b : Books) (n k : ℕ) (ps : List PosterPart) (p : PosterPart) → are_done_in b n (take k ps) ≡ true → slice_get ps k ≡ Some p → line_in b (n + k) p ≡ None → are_done_in b n (take (k + 1) ps) ≡ true
+done_on b n k [] p done at line = absurd (cc)
+done_on b n zero (q ∷ ps) p done at line =
+    let one : q ≡ p = cc in
+    let here : n + 0 ≡ n = omega arith in
+    let full : nat_le (length q.posts) (number b.said n) ≡ true = line_none b n q (rw one (subst (λ m. line_in b m p ≡ None) here line)) in
+    rw full (no_more ps)
+  where
+    no_more : (ps : List PosterPart) → are_done_in b (n + 1) (take 0 ps) ≡ true
+    no_more [] = refl
+    no_more (x ∷ ps) = refl
+done_on b n (suc k) (q ∷ ps) p done at line =
+    let parts = both (nat_le (length q.posts) (number b.said n)) (are_done_in b (n + 1) (take k ps)) done in
+    let here : n + suc k ≡ (n + 1) + k = omega arith in
+    let more : suc k + 1 ≡ suc (k + 1) = omega arith in
+    rw (more, parts.0) (done_on b (n + 1) k ps p parts.1 at (subst (λ m. line_in b m p ≡ None) here line))
+
+-- all are done
+post_none : (b : Books) (n k : ℕ) (ps : List PosterPart) → are_done_in b n (take k ps) ≡ true → length ps ≤ k → post_in b n ps ≡ None
+post_none b n k [] done all = refl
+post_none b n zero (q ∷ ps) done all = absurd (omega (arith, all))
+post_none b n (suc k) (q ∷ ps) done all =
+    let parts = both (nat_le (length q.posts) (number b.said n)) (are_done_in b (n + 1) (take k ps)) done in
+    rw (no_line b n q parts.0) (post_none b (n + 1) k ps parts.1 (omega (arith, all)))
+
+pub post_stops : (b : Books) (ss xs : List PosterPart) (i : ℕ) (d p : PosterPart) (r : Option Event) (e : Event) → ss ≡ xs → i < length ss → are_done_in b 0 (take i xs) ≡ true → p ≡ get_or ss i d → r ≡ line_in b i p → r ≡ Some e → Some e ≡ post_in b 0 xs
+post_stops b ss xs i d p r e same lt done at asked is = sym (post_at b 0 i xs p e done (rw at (read ss xs i d same lt)) (let here : 0 + i ≡ i = omega arith in subst (λ m. line_in b m p ≡ Some e) (sym here) (sym asked ∙ is)))
+
+pub post_passes : (b : Books) (ss xs : List PosterPart) (i : ℕ) (d p : PosterPart) (r : Option Event) → ss ≡ xs → i < length ss → are_done_in b 0 (take i xs) ≡ true → p ≡ get_or ss i d → r ≡ line_in b i p → r ≡ None → are_done_in b 0 (take (i + 1) xs) ≡ true
+post_passes b ss xs i d p r same lt done at asked is = done_on b 0 i xs p done (rw at (read ss xs i d same lt)) (let here : 0 + i ≡ i = omega arith in subst (λ m. line_in b m p ≡ None) (sym here) (sym asked ∙ is))
+
+pub post_ends : (b : Books) (xs : List PosterPart) (i : ℕ) → are_done_in b 0 (take i xs) ≡ true → length xs ≤ i → None ≡ post_in b 0 xs
+post_ends b xs i done all = sym (post_none b 0 i xs done all)
+
+-- the spot there is the first that can fire
+fire_at_place : (w : Parts) (t : TaskId) (b : Books) (k : ℕ) (xs : List Spot) (x : Spot) (e : Event) → some_fires_in w t b (take k xs) ≡ false → slice_get xs k ≡ Some x → fire_in w t b x ≡ Some e → first_fire_in w t b xs ≡ Some e
+fire_at_place w t b k [] x e none at fires = absurd (cc)
+fire_at_place w t b zero (y ∷ xs) x e none at fires =
+    let one : y ≡ x = cc in
+    rw (one, fires) refl
+fire_at_place w t b (suc k) (y ∷ xs) x e none at fires =
+    let outs = neither (is_some (fire_in w t b y)) (some_fires_in w t b (take k xs)) none in
+    rw (not_some (fire_in w t b y) outs.0) (fire_at_place w t b k xs x e outs.1 at fires)
+
+fire_none : (w : Parts) (t : TaskId) (b : Books) (k : ℕ) (xs : List Spot) → some_fires_in w t b (take k xs) ≡ false → length xs ≤ k → first_fire_in w t b xs ≡ None
+fire_none w t b k [] none all = refl
+fire_none w t b zero (y ∷ xs) none all = absurd (omega (arith, all))
+fire_none w t b (suc k) (y ∷ xs) none all =
+    let outs = neither (is_some (fire_in w t b y)) (some_fires_in w t b (take k xs)) none in
+    rw (not_some (fire_in w t b y) outs.0) (fire_none w t b k xs outs.1 (omega (arith, all)))
+
+pub fire_stops : (w : Parts) (t : TaskId) (b now : Books) (ss xs : List Spot) (i : ℕ) (d : Spot) (r : Option Event) (e : Event) → now ≡ b → ss ≡ xs → i < length ss → some_fires_in w t now (take i xs) ≡ false → r ≡ fire_in w t now (get_or ss i d) → r ≡ Some e → Some e ≡ first_fire_in w t b xs
+fire_stops w t b now ss xs i d r e kept same lt none asked is = rw (← kept) (sym (fire_at_place w t now i xs (get_or ss i d) e none (read ss xs i d same lt) (sym asked ∙ is)))
+
+pub fire_ends : (w : Parts) (t : TaskId) (b now : Books) (xs : List Spot) (i : ℕ) → now ≡ b → some_fires_in w t now (take i xs) ≡ false → length xs ≤ i → None ≡ first_fire_in w t b xs
+fire_ends w t b now xs i kept none all = rw (← kept) (sym (fire_none w t now i xs none all))
+
+-- over plain variables: the item there is read, and stops the walk or lets it pass
+lowered-drop : {T : Type 0} (test : T → Bool) (xs : List T) (i n : ℕ) (x : T) → i < n → slice_get xs i ≡ Some x → lowered test (drop i xs) (n - i) ≡ (if test x then zero else suc (lowered test (drop (i + 1) xs) (n - (i + 1))))
+lowered-drop test [] i n x lt at = absurd (cc)
+lowered-drop test (y ∷ xs) zero zero x lt at = absurd (omega arith)
+lowered-drop test (y ∷ xs) zero (suc n) x lt at =
+    let same : y ≡ x = cc in
+    let one : suc n - 0 ≡ suc n = omega arith in
+    let two : suc n - (0 + 1) ≡ n = omega arith in
+    rw (same, one, two) refl
+lowered-drop test (y ∷ xs) (suc i) zero x lt at = absurd (omega arith)
+lowered-drop test (y ∷ xs) (suc i) (suc n) x lt at =
+    let e : suc i + 1 ≡ suc (i + 1) = omega arith in
+    let one : suc n - suc i ≡ n - i = omega arith in
+    let two : suc n - suc (i + 1) ≡ n - (i + 1) = omega arith in
+    rw (e, one, two) (lowered-drop test xs i n x (omega (arith, lt)) at)
+
+lowered-stop : (b : Bool) (r i m k : ℕ) → i + r ≡ m → r ≡ (if b then zero else suc k) → b ≡ true → i ≡ m
+lowered-stop true r i m k whole is stop = omega (arith, whole, is)
+lowered-stop false r i m k whole is stop = absurd (cc)
+
+lowered-pass : (b : Bool) (r i m k : ℕ) → i + r ≡ m → r ≡ (if b then zero else suc k) → b ≡ false → (i + 1) + k ≡ m
+lowered-pass true r i m k whole is pass = absurd (cc)
+lowered-pass false r i m k whole is pass = omega (arith, whole, is)
+
+pub place_stops : {T : Type 0} (test : T → Bool) (ss xs : List T) (i n : ℕ) (d : T) (r : Bool) → ss ≡ xs → r ≡ test (get_or ss i d) → r ≡ true → i < n → i < length ss → i + lowered test (drop i xs) (n - i) ≡ lowered test xs n → i ≡ lowered test xs n
+place_stops test ss xs i n d r same asked is lt within so_far =
+    lowered-stop (test (get_or ss i d)) (lowered test (drop i xs) (n - i)) i (lowered test xs n) (lowered test (drop (i + 1) xs) (n - (i + 1))) so_far (lowered-drop test xs i n (get_or ss i d) lt (read ss xs i d same within)) (sym asked ∙ is)
+
+pub place_passes : {T : Type 0} (test : T → Bool) (ss xs : List T) (i n : ℕ) (d : T) (r : Bool) → ss ≡ xs → r ≡ test (get_or ss i d) → r ≡ false → i < n → i < length ss → i + lowered test (drop i xs) (n - i) ≡ lowered test xs n → (i + 1) + lowered test (drop (i + 1) xs) (n - (i + 1)) ≡ lowered test xs n
+place_passes test ss xs i n d r same asked is lt within so_far =
+    lowered-pass (test (get_or ss i d)) (lowered test (drop i xs) (n - i)) i (lowered test xs n) (lowered test (drop (i + 1) xs) (n - (i + 1))) so_far (lowered-drop test xs i n (get_or ss i d) lt (read ss xs i d same within)) (sym asked ∙ is)
+
+-- nothing before the end stops it
+lowered-rest : {T : Type 0} (test : T → Bool) (xs : List T) (i n : ℕ) → (n ≤ i) ⊎ (length xs ≤ i) → i ≤ n → i + lowered test (drop i xs) (n - i) ≡ n
+lowered-rest test xs i n (inl few) le =
+    let none : n - i ≡ 0 = omega (arith, few) in
+    rw none (at_zero (drop i xs))
+  where
+    at_zero : (ys : List _) → i + lowered test ys 0 ≡ n
+    at_zero [] = omega (arith, few, le)
+    at_zero (y ∷ ys) = omega (arith, few, le)
+lowered-rest test xs i n (inr all) le =
+    let none : drop i xs ≡ [] = drop_all i xs all in
+    rw none (of_number (n - i) (omega (arith, le)))
+  where
+    of_number : (k : ℕ) → i + k ≡ n → i + lowered test [] k ≡ n
+    of_number zero whole = whole
+    of_number (suc k) whole = whole
+
+pub min_reached : (n m i : ℕ) → min n m ≤ i → (n ≤ i) ⊎ (m ≤ i)
+min_reached n m i over = of_test (nat_le n m) refl
+  where
+    of_test : (b : Bool) → nat_le n m ≡ b → (n ≤ i) ⊎ (m ≤ i)
+    of_test true is = inl (grind (arith, nat_tests, over, is))
+    of_test false is = inr (grind (arith, nat_tests, over, is))
+
+pub place_ends : {T : Type 0} (test : T → Bool) (ss xs : List T) (i n : ℕ) → ss ≡ xs → (n ≤ i) ⊎ (length ss ≤ i) → i ≤ n → i + lowered test (drop i xs) (n - i) ≡ lowered test xs n → n ≡ lowered test xs n
+place_ends test ss xs i n same over le so_far = sym (lowered-rest test xs i n (rw (← same) over) le) ∙ so_far
+
+pub ruleset part_steps = (first_admit_in-drop, start_in-drop)

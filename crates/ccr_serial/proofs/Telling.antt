@@ -1,0 +1,60 @@
+-- What the order asks of the tables is what the model says, where they keep what it says.
+use Rattle.std.proofs.Common.{◌≡◌, ◌∙◌, ℕ, Bool, true, false, ◌&&◌, List, Option, None, Some, refl, ap}
+use Rattle.std.specs.Prelude.{◌==◌, option_map}
+use Rattle.std.specs.List.{slice_get}
+use Rattle.std.specs.Option.{option_map_or}
+use Rattle.std.proofs.lemmas.Option.{slice_get-map}
+use Rattle.std.proofs.Common.{sym}
+use Rattle.ccr_base.specs.declared.names.TaskId.{TaskId}
+use Rattle.ccr_base.specs.declared.names.Spot.{Spot}
+use Rattle.ccr_base.specs.Names.{same_spot, has_task}
+use Rattle.ccr_wiring.specs.declared.parts.Parts.{Parts}
+use Rattle.ccr_wiring.specs.Wirings.{Seat, is_branch, next_site}
+use Rattle.ccr_wiring.specs.Valid.{IsValid}
+use Rattle.ccr_model.specs.declared.history.Event.{Event}
+use Rattle.ccr_model.specs.Firings.{Firing, firing_named}
+use Rattle.ccr_model.specs.Tasks.{fired_by}
+use Rattle.ccr_model.specs.Sites.{yields_at}
+use Rattle.ccr_model.specs.Legal.{IsLegal}
+use Rattle.ccr_model.proofs.Allowing.{OneName-legal}
+use Rattle.ccr_model.proofs.FiringFacts.{fired_by_named, BranchFacts, BranchFacts-where}
+use Rattle.ccr_ledger.specs.declared.cards.Card.{Card}
+use Rattle.ccr_ledger.specs.Books.{Books}
+use Rattle.ccr_ledger.specs.Kept.{Keeps, card_of}
+use Rattle.ccr_ledger.proofs.Telling.{lives_told, room_told, choice_told, cuts_told, enters_told, drops_told, play_told, made_told, budget_told}
+use Rattle.ccr_serial.specs.Parts.{comes_to, yields_in}
+use Rattle.ccr_serial.specs.Desk.{AreTold}
+
+module _ (w : Parts) (valid : IsValid w) (h : List Event) (legal : IsLegal w h) (b : Books) (keeps : Keeps w h b) where
+  comes_told : (q : ℕ) (t : TaskId) → has_task (fired_by w (λ s. s.branch.queue == q) h) t ≡ true → comes_to b q t ≡ true
+  comes_told q t among =
+      let found = fired_by_named w (λ s. s.branch.queue == q) h t (OneName-legal w h legal) among in
+      let branch = BranchFacts-where w (λ s. s.branch.queue == q) found.0.spot found.2 in
+      rw (keeps.tasks.cards t, found.1, branch.is_branch, branch.is_place) branch.passes
+
+  yields_told : (site : Spot) (t : TaskId) → yields_in b site t ≡ yields_at h site t
+  yields_told site t = rw (keeps.tasks.cards t) (of_firing (firing_named h t) refl)
+    where
+      of_firing : (o : Option Firing) → firing_named h t ≡ o → option_map_or (λ (card : Card). same_spot (next_site card.spot) site) (option_map (card_of w h t) o) false ≡ yields_at h site t
+      of_firing None at = rw at refl
+      of_firing (Some f) at = rw at refl
+
+  pub AreTold-keeps : AreTold w h b
+  AreTold-keeps = record {
+    said = keeps.said.said;
+    lives_so = lives_told w valid h legal b keeps;
+    room_so = room_told w valid h legal b keeps;
+    choice_so = choice_told w valid h legal b keeps;
+    cuts_so = cuts_told w valid h legal b keeps;
+    waits_so = keeps.places.waiting;
+    enters_so = enters_told w valid h legal b keeps;
+    names = λ place. sym (slice_get-map (λ (entry : TaskId × Card). entry.0) b.tasks place) ∙ ap (λ ts. slice_get ts place) keeps.tasks.names;
+    drops_so = drops_told w valid h legal b keeps;
+    runs_so = keeps.places.running;
+    play_so = play_told w valid h legal b keeps;
+    made_so = made_told w valid h legal b keeps;
+    budget_so = budget_told w valid h legal b keeps;
+    queued_so = keeps.places.queued;
+    comes_so = comes_told;
+    yields_so = yields_told;
+  }

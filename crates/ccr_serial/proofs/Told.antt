@@ -1,0 +1,118 @@
+-- The parts of the order by the tables are those by the model.
+use Rattle.std.proofs.Common.{◌≡◌, ◌∙◌, ℕ, ◌+◌, ◌≤◌, ◌<◌, Bool, true, false, ◌&&◌, ◌||◌, List, [], ◌∷◌, ◌++◌, length, take, drop, Option, None, Some, refl, ap, sym, subst, arith}
+use Rattle.std.specs.Prelude.{◌==◌, find, option_map, if◌then◌else◌}
+use Rattle.std.specs.List.{slice_get, list_any}
+use Rattle.std.specs.Option.{option_or, option_map_or}
+use Rattle.ccr_base.specs.declared.names.TaskId.{TaskId}
+use Rattle.ccr_base.specs.declared.messages.Sent.{Sent}
+use Rattle.ccr_handler.specs.declared.segments.Play.{Play}
+use Rattle.ccr_base.specs.declared.names.Spot.{Spot}
+use Rattle.ccr_base.specs.declared.names.Spot.TheVariants.{Branch, Site}
+use Rattle.ccr_base.specs.Names.{has_task}
+use Rattle.ccr_wiring.specs.declared.parts.Parts.{Parts}
+use Rattle.ccr_wiring.specs.declared.parts.PosterPart.{PosterPart}
+use Rattle.ccr_wiring.specs.declared.parts.ArbiterPart.{ArbiterPart}
+use Rattle.ccr_wiring.specs.declared.parts.QueuePart.{QueuePart}
+use Rattle.ccr_wiring.specs.Wirings.{Seat, seat, spots, policy_of, site_port}
+use Rattle.ccr_model.specs.declared.history.Event.{Event}
+use Rattle.ccr_model.specs.declared.history.Event.TheVariants.{Put}
+use Rattle.ccr_model.specs.Firings.{fired, yielded_by}
+use Rattle.ccr_model.specs.Sites.{yields_at}
+use Rattle.ccr_model.specs.TaskData.{play_of}
+use Rattle.ccr_model.specs.Posts.{posts_of_task}
+use Rattle.ccr_model.specs.Enough.{can_fire}
+use Rattle.ccr_model.specs.Legal.{IsLegal}
+use Rattle.ccr_model.specs.Rules.{may_put, drop_at}
+use Rattle.ccr_model.specs.Tasks.{running, fired_by}
+use Rattle.ccr_model.specs.Order.{post_from, next_attempt, fire_at, fire_from, admit_first, admit_from, put_first, run_task, run_with, start_from}
+use Rattle.ccr_model.proofs.Booleans.{neither, refuted, no_both, or_left}
+use Rattle.ccr_model.proofs.SameNames.{same_task-self}
+use Rattle.ccr_ledger.specs.Books.{Books}
+use Rattle.ccr_ledger.specs.Asked.{drops, play_in, made_in, budget_lasts}
+use Rattle.ccr_serial.specs.Touched.{posts_to, freed_by, names_any, frees, is_throttle, touches_branch, touches}
+use Rattle.ccr_serial.specs.Cursor.{IsStill}
+use Rattle.ccr_serial.specs.Ready.{AreReady, IsLeast}
+use Rattle.ccr_serial.specs.Parts.{line_in, post_in, fire_in, first_fire_in, admit_in, first_admit_in, put_in, run_in, run_with_in, start_in, comes_to, yields_in, touches_branch_in, touches_in}
+use Rattle.ccr_serial.specs.Desk.{AreTold, after_place}
+use Rattle.ccr_serial.proofs.Touching.{still}
+use Rattle.ccr_serial.proofs.Places.{lowered-none}
+use Rattle.ccr_serial.proofs.ReadyNumbers.{first_ready, none_ready}
+
+-- over plain lists: who passes nowhere by the wider test passes nowhere by the narrower
+none_narrower : {X : Type 0} (narrow wide : X → Bool) (xs : List X) → ((x : X) → narrow x ≡ true → wide x ≡ true) → list_any wide xs ≡ false → list_any narrow xs ≡ false
+none_narrower narrow wide [] within none = refl
+none_narrower narrow wide (x ∷ xs) within none =
+    let outs = neither (wide x) (list_any wide xs) none in
+    let here : narrow x ≡ false = refuted (narrow x) (λ is. no_both (within x is) outs.0) in
+    rw here (none_narrower narrow wide xs within outs.1)
+
+module _ (w : Parts) (c : ℕ) (h : List Event) (b : Books) (told : AreTold w h b) where
+  pub post_told : (n : ℕ) (ps : List PosterPart) → n + length ps ≤ length w.posters → post_in b n ps ≡ post_from h n ps
+  post_told n [] low = refl
+  post_told n (p ∷ ps) low = rw (told.said n (omega (arith, low)), post_told (n + 1) ps (omega (arith, low))) refl
+
+  pub fire_told : (s : Spot) → fire_in w (record { actor = c; attempt = next_attempt c (fired h) }) b s ≡ fire_at w c h s
+  fire_told s = rw (told.lives_so s, told.room_so s, told.choice_so s, told.cuts_so s) refl
+
+  pub first_fire_told : (ss : List Spot) → first_fire_in w (record { actor = c; attempt = next_attempt c (fired h) }) b ss ≡ fire_from w c h ss
+  first_fire_told [] = refl
+  first_fire_told (s ∷ ss) = rw (fire_told s, first_fire_told ss) refl
+
+  pub admit_told : (ts : List TaskId) → admit_in b (slice_get ts 0) ≡ admit_first w h ts
+  admit_told [] = refl
+  admit_told (t ∷ ts) = rw (told.enters_so t) refl
+
+  pub first_admit_told : (n : ℕ) (xs : List ArbiterPart) → n + length xs ≤ length w.arbiters → first_admit_in b n xs ≡ admit_from w h n xs
+  first_admit_told n [] low = refl
+  first_admit_told n (x ∷ xs) low = rw (told.waits_so n (omega (arith, low)), admit_told, first_admit_told (n + 1) xs (omega (arith, low))) refl
+
+  pub put_told : (ns : List ℕ) (n : ℕ) → AreReady w h ns → IsLeast ns n → put_in w b n ≡ put_first w h
+  put_told ns n ready least = of_entry (slice_get b.tasks n) ∙ ap (λ o. option_map (λ task. Put task (drop_at w h task)) o) (told.names n ∙ first_ready w h ns n ready least)
+    where
+      of_entry : {X : Type 0} (o : Option (TaskId × X)) → option_map (λ entry. Put entry.0 (drops w b entry.0)) o ≡ option_map (λ task. Put task (drop_at w h task)) (option_map (λ entry. entry.0) o)
+      of_entry None = refl
+      of_entry (Some entry) = rw (told.drops_so entry.0) refl
+
+  pub none_put_told : AreReady w h [] → put_first w h ≡ None
+  none_put_told ready = ap (λ o. option_map (λ task. Put task (drop_at w h task)) o) (none_ready w h ready)
+
+  pub run_told : (t : TaskId) → has_task (running h) t ≡ true → run_in w b t ≡ run_task w h t
+  run_told t runs = ap (λ (play : Play). run_with_in w b t play (slice_get play.posts (made_in b t))) (told.play_so t) ∙ (ap (λ n. run_with_in w b t (play_of w h t) (slice_get (play_of w h t).posts n)) (told.made_so t runs) ∙ of_option (slice_get (play_of w h t).posts (posts_of_task h t)))
+    where
+      of_option : (o : Option Sent) → run_with_in w b t (play_of w h t) o ≡ run_with w h t (play_of w h t) o
+      of_option None = refl
+      of_option (Some sent) = rw (told.budget_so, told.made_so t runs) refl
+
+  pub first_run_told : (ts : List TaskId) → ts ≡ running h → option_map (run_in w b) (slice_get ts 0) ≡ option_map (run_task w h) (slice_get (running h) 0)
+  first_run_told ts same = subst (λ us. option_map (run_in w b) (slice_get us 0) ≡ option_map (run_task w h) (slice_get (running h) 0)) (sym same) (of_list (running h) refl)
+    where
+      of_list : (us : List TaskId) → running h ≡ us → option_map (run_in w b) (slice_get us 0) ≡ option_map (run_task w h) (slice_get us 0)
+      of_list [] at = refl
+      of_list (t ∷ us) at = ap Some (run_told t (rw at (or_left _ _ (same_task-self t))))
+
+  pub start_told : (n : ℕ) (qs : List QueuePart) → n + length qs ≤ length w.queues → start_in c b n qs ≡ start_from w c h n qs
+  start_told n [] low = refl
+  start_told n (q ∷ qs) low = rw (told.queued_so n (omega (arith, low)), start_told (n + 1) qs (omega (arith, low))) refl
+
+  -- what does not touch by the tables doesn't by the model
+  untouched_branch : (e : Event) (s : Seat) → touches_branch_in w b e s ≡ false → touches_branch w h e s ≡ false
+  untouched_branch e s none =
+      let outs = neither (names_any (posts_to e) s.branch.pattern) (is_throttle (policy_of w s.branch.queue) && list_any (comes_to b s.branch.queue) (freed_by e)) none in
+      rw outs.0 (of_test (is_throttle (policy_of w s.branch.queue)) outs.1)
+    where
+      of_test : (t : Bool) → t && list_any (comes_to b s.branch.queue) (freed_by e) ≡ false → t && frees w h e s.branch.queue ≡ false
+      of_test false out = refl
+      of_test true out = none_narrower (has_task (fired_by w (λ r. r.branch.queue == s.branch.queue) h)) (comes_to b s.branch.queue) (freed_by e) (told.comes_so s.branch.queue) out
+
+  pub untouched : (e : Event) (s : Spot) → touches_in w b e s ≡ false → touches w h e s ≡ false
+  untouched e (Branch n) none = of_seat (seat w n) none
+    where
+      of_seat : (o : Option Seat) → option_map_or (touches_branch_in w b e) o false ≡ false → option_map_or (touches_branch w h e) o false ≡ false
+      of_seat None out = refl
+      of_seat (Some s) out = untouched_branch e s out
+  untouched e (Site n k) none =
+      let outs = neither (option_map_or (posts_to e) (site_port w n k) false) (list_any (yields_in b (Site n k)) (yielded_by e)) none in
+      rw outs.0 (none_narrower (yields_at h (Site n k)) (yields_in b (Site n k)) (yielded_by e) (λ t is. told.yields_so (Site n k) t ∙ is) outs.1)
+
+  pub place_kept : (e : Event) (n : ℕ) → IsLegal w h → IsStill w h n → IsStill w (h ++ e ∷ []) (after_place w b e n)
+  place_kept e n legal known = lowered-none (can_fire w h) (can_fire w (h ++ e ∷ [])) (touches_in w b e) (spots w) n (λ s none was. still w h e s legal (untouched e s none) was) known

@@ -1,0 +1,20 @@
+use Rattle.std.proofs.Common.{arith}
+use Rattle.ccr_serial.proofs.Valid.{HasFewParts-valid}
+use Rattle.ccr_serial.proofs.Along.{idle_by, first_by, ahead_by}
+use Rattle.ccr_serial.proofs.Runs.{IsSound-attempts}
+use Rattle.ccr_serial.proofs.standing.next_of.Goals as goal
+
+pub make_current-requires-clause-attempts : goal.make_current-requires-clause-attempts
+make_current-requires-clause-attempts c = IsSound-attempts _ c.requires.sound
+
+pub first-requires-clause-queues : goal.first-requires-clause-queues
+first-requires-clause-queues c = let few = HasFewParts-valid c.args.wiring.now c.requires.sound.valid in omega (arith, few.queues)
+
+pub first-requires-clause-idle : goal.first-requires-clause-idle
+first-requires-clause-idle c = idle_by c.args.wiring.now c.requires.sound.valid c.args.closer c.args.history.now c.make_current.new.desk c.requires.sound.legal c.in_ok-make_current.ensures.stands
+
+pub returns-clause-event : goal.returns-clause-event
+returns-clause-event c = first_by c.args.wiring.now c.requires.sound.valid c.args.closer c.args.history.now c.make_current.new.desk c.in_ok-next.next c.requires.sound.legal c.in_ok-make_current.ensures.stands c.in_ok-next.ensures.event
+
+pub returns-clause-stands : goal.returns-clause-stands
+returns-clause-stands c current = ahead_by c.args.wiring.now c.requires.sound.valid c.args.closer c.args.history.now c.make_current.new.desk c.first.new.self c.requires.sound.legal c.in_ok-make_current.ensures.stands c.in_ok-next.ensures.ahead

@@ -1,0 +1,38 @@
+//! Laws of the place from which the spots are to be asked. Each is the contract of a function that does nothing.
+
+ghost use Rattle.std.specs.Prelude.{◌≡◌, ◌++◌, ◌∷◌, [], ℕ, List, false, true, take, drop, ◌+◌};
+ghost use Rattle.ccr_base.specs.declared.names.Spot.{Spot};
+ghost use Rattle.ccr_wiring.specs.declared.parts.Parts.{Parts};
+ghost use Rattle.ccr_wiring.specs.declared.parts.PosterPart.{PosterPart};
+ghost use Rattle.ccr_wiring.specs.Wirings.{spots};
+ghost use Rattle.ccr_model.specs.declared.history.Event.{Event};
+ghost use Rattle.ccr_model.specs.Enough.{can_fire};
+ghost use Rattle.ccr_model.specs.Legal.{IsAllowed, IsLegal};
+ghost use Rattle.ccr_model.specs.Order.{fire_from, post_from};
+ghost use Rattle.ccr_serial.specs.Touched.{touches};
+ghost use Rattle.ccr_serial.specs.Cursor.{IsStill, after_touch, are_done};
+
+/// A spot that cannot fire cannot after an event that does not touch it.
+pub fn spots_stay_still()
+    ensures { (wiring : Parts) (history : List Event) (event : Event) (spot : Spot) → IsLegal wiring history → IsAllowed wiring history event → touches wiring history event spot ≡ false → can_fire wiring history spot ≡ false → can_fire wiring (history ++ event ∷ []) spot ≡ false }
+{}
+
+/// Each event keeps it that no spot before the place can fire.
+pub fn the_place_is_kept()
+    ensures { (wiring : Parts) (history : List Event) (event : Event) (place : ℕ) → IsLegal wiring history → IsStill wiring history place → IsStill wiring (history ++ event ∷ []) (after_touch wiring history event place) }
+{}
+
+/// The first firing is the first at the place or behind it.
+pub fn the_search_goes_on()
+    ensures { (wiring : Parts) (closer : ℕ) (history : List Event) (place : ℕ) → IsStill wiring history place → fire_from wiring closer history (spots wiring) ≡ fire_from wiring closer history (drop place (spots wiring)) }
+{}
+
+/// A poster that has no line left never has one again.
+pub fn done_posters_stay_done()
+    ensures { (history : List Event) (event : Event) (number : ℕ) (posters : List PosterPart) → are_done history number posters ≡ true → are_done (history ++ event ∷ []) number posters ≡ true }
+{}
+
+/// The next line is of a poster behind those that are done.
+pub fn posts_go_on()
+    ensures { (history : List Event) (number place : ℕ) (posters : List PosterPart) → are_done history number (take place posters) ≡ true → post_from history number posters ≡ post_from history (number + place) (drop place posters) }
+{}

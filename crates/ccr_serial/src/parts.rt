@@ -1,0 +1,231 @@
+//! The parts of the order, asked of the tables.
+
+ghost use Rattle.std.specs.Prelude.{◌≡◌, ◌<◌, ◌≤◌, ◌^◌, IfOk, OnOk, false, true, length, take};
+ghost use Rattle.std.specs.List.{slice_get};
+ghost use Rattle.std.specs.Option.{option_map, option_and_then};
+ghost use Rattle.ccr_wiring.specs.Wirings.{spots};
+ghost use Rattle.ccr_model.specs.Order.{how_of};
+ghost use Rattle.ccr_rows.specs.Rows.{row};
+ghost use Rattle.ccr_ledger.specs.Books.{runners};
+ghost use Rattle.ccr_serial.specs.Parts.{admit_in, are_done_in, fire_in, first_admit_in, first_fire_in, line_in, post_in, put_in, run_in, some_fires_in, start_in};
+
+use crate::numbers::Numbers;
+use ccr_base::{ActorNo, List, Msg, MsgId, OutOfMemory, Sent, Spot, TaskId};
+use ccr_handler::PlayEnd;
+use ccr_ledger::Ledger;
+use ccr_model::{EndHow, Event};
+use ccr_wiring::{PosterPart, Wiring};
+use std::alloc::Global;
+
+/// The post as a message of this name.
+pub(crate) fn named(alloc: Global, id: MsgId, sent: &Sent) -> Result<Msg, OutOfMemory>
+    ensures { IfOk result (λ message. message ≡ record { id = id; port = sent.now.port; value = sent.now.value; causes = sent.now.causes }) }
+{
+    Ok(Msg {
+        id,
+        port: sent.port,
+        value: sent.value,
+        causes: sent.causes.copy(alloc)?,
+    })
+}
+
+/// The poster's next line.
+fn next_line(
+    alloc: Global,
+    ledger: &Ledger,
+    number: ActorNo,
+    poster: &PosterPart,
+) -> Result<Option<Event>, OutOfMemory>
+    ensures { IfOk result (λ event. event ≡ line_in ledger.now number poster.now) }
+{
+    let place = ledger.said(number);
+    let Some(sent) = poster.posts.as_slice().get(place as usize) else {
+        return Ok(None);
+    };
+    let id = MsgId::Script {
+        actor: number,
+        place,
+    };
+    Ok(Some(Event::Post(named(alloc, id, sent)?)))
+}
+
+/// The next line of the lowest poster that has one left, which the number goes on to.
+pub(crate) fn first_post(
+    alloc: Global,
+    wiring: &Wiring,
+    ledger: &Ledger,
+    poster: &mut usize,
+) -> Result<Option<Event>, OutOfMemory>
+    requires few { length wiring.now.posters < 2 ^ 32 }
+    requires done { are_done_in ledger.now 0 (take poster.old wiring.now.posters) ≡ true }
+    ensures event { IfOk result (λ event. event ≡ post_in ledger.now 0 wiring.now.posters) }
+    ensures done { are_done_in ledger.now 0 (take poster.new wiring.now.posters) ≡ true }
+{
+    let posters = wiring.parts().posters.as_slice();
+    for number in *poster..posters.len() {
+        if let Some(event) = next_line(alloc, ledger, number as u32, &posters[number])? {
+            return Ok(Some(event));
+        }
+        *poster = number + 1;
+    }
+    Ok(None)
+}
+
+/// The firing of the task at the spot, where it can fire.
+fn fire_at(
+    wiring: &Wiring,
+    ledger: &mut Ledger,
+    task: TaskId,
+    spot: Spot,
+) -> Result<Option<Event>, OutOfMemory>
+    ensures event { IfOk result (λ event. event ≡ fire_in wiring.now task ledger.old spot) }
+    ensures kept { OnOk result (ledger.new ≡ ledger.old) }
+{
+    if !ledger.lives(wiring, spot) || !ledger.room(wiring, spot) {
+        return Ok(None);
+    }
+    let Some(messages) = ledger.choice(wiring, spot)? else {
+        return Ok(None);
+    };
+    let cuts = ledger.cuts(wiring, spot)?;
+    Ok(Some(Event::Fire {
+        task,
+        spot,
+        messages: List::from_vec(messages),
+        cuts: List::from_vec(cuts),
+    }))
+}
+
+/// The firing of the task at the first spot that can fire, which the place goes on to.
+pub(crate) fn first_fire(
+    wiring: &Wiring,
+    ledger: &mut Ledger,
+    task: TaskId,
+    place: &mut usize,
+) -> Result<Option<Event>, OutOfMemory>
+    requires still { some_fires_in wiring.now task ledger.old (take place.old (spots wiring.now)) ≡ false }
+    ensures event { IfOk result (λ event. event ≡ first_fire_in wiring.now task ledger.old (spots wiring.now)) }
+    ensures kept { OnOk result (ledger.new ≡ ledger.old) }
+    ensures still { some_fires_in wiring.now task ledger.old (take place.new (spots wiring.now)) ≡ false }
+{
+    let spots = wiring.spots();
+    for number in *place..spots.len() {
+        if let Some(event) = fire_at(wiring, ledger, task, spots[number])? {
+            return Ok(Some(event));
+        }
+        *place = number + 1;
+    }
+    Ok(None)
+}
+
+/// The admission of the domain's oldest waiting task, where it may enter.
+fn admit_at(ledger: &Ledger, domain: usize) -> Option<Event>
+    ensures { result ≡ admit_in ledger.now (slice_get (row ledger.now.waiting domain) 0) }
+{
+    let task = ledger.oldest_waiting(domain)?;
+    if ledger.enters(task) {
+        Some(Event::Admit(task))
+    } else {
+        None
+    }
+}
+
+/// The admission at the first domain that has one.
+#[tactic(auto, using(crate::proofs::PartSteps::part_steps))]
+pub(crate) fn first_admit(wiring: &Wiring, ledger: &Ledger) -> Option<Event>
+    ensures { result ≡ first_admit_in ledger.now 0 wiring.now.arbiters }
+{
+    for number in 0..wiring.parts().arbiters.as_slice().len() {
+        if let Some(event) = admit_at(ledger, number) {
+            return Some(event);
+        }
+    }
+    None
+}
+
+/// The put of the task that fired first among those that may be put.
+pub(crate) fn first_put(wiring: &Wiring, ledger: &Ledger, ready: &Numbers) -> Option<Event>
+    ensures { result ≡ option_and_then (put_in wiring.now ledger.now) (slice_get ready.now 0) }
+{
+    let task = ledger.fired(ready.first()?)?;
+    Some(Event::Put {
+        task,
+        dropped: ledger.drops(wiring, task),
+    })
+}
+
+/// The end that the play asks for.
+pub(crate) fn how_of(end: PlayEnd) -> EndHow
+    ensures { result ≡ how_of end }
+{
+    match end {
+        PlayEnd::Done => EndHow::Done,
+        PlayEnd::Failed(value) => EndHow::Failed(value),
+        PlayEnd::Yield(_) => EndHow::Yield,
+    }
+}
+
+/// The next event of a running task: its next post, its end for want of budget, or the end of its play.
+fn run_task(
+    alloc: Global,
+    wiring: &Wiring,
+    ledger: &Ledger,
+    task: TaskId,
+) -> Result<Event, OutOfMemory>
+    ensures { IfOk result (λ event. event ≡ run_in wiring.now ledger.now task) }
+{
+    let Some(card) = ledger.card(task) else {
+        return Ok(Event::End {
+            task,
+            how: EndHow::Done,
+        });
+    };
+    let Some(sent) = card.play.posts.as_slice().get(card.made as usize) else {
+        return Ok(Event::End {
+            task,
+            how: how_of(card.play.end),
+        });
+    };
+    if !ledger.budget_lasts(wiring) {
+        return Ok(Event::End {
+            task,
+            how: EndHow::Shed,
+        });
+    }
+    let id = MsgId::Task {
+        task,
+        place: card.made,
+    };
+    Ok(Event::Post(named(alloc, id, sent)?))
+}
+
+/// The next event of the running task that started first.
+pub(crate) fn first_run(
+    alloc: Global,
+    wiring: &Wiring,
+    ledger: &Ledger,
+) -> Result<Option<Event>, OutOfMemory>
+    ensures { IfOk result (λ event. event ≡ option_map (run_in wiring.now ledger.now) (slice_get (runners ledger.now.running) 0)) }
+{
+    match ledger.running().first() {
+        Some(runner) => Ok(Some(run_task(alloc, wiring, ledger, runner.task)?)),
+        None => Ok(None),
+    }
+}
+
+/// The start of the oldest task of the first queue that has one.
+#[tactic(auto, using(crate::proofs::PartSteps::part_steps))]
+pub(crate) fn first_start(wiring: &Wiring, ledger: &Ledger, closer: ActorNo) -> Option<Event>
+    requires { length wiring.now.queues < 2 ^ 32 }
+    ensures { result ≡ start_in closer ledger.now 0 wiring.now.queues }
+{
+    for number in 0..wiring.parts().queues.as_slice().len() as u32 {
+        if let Some(task) = ledger.oldest_queued(number) {
+            return Some(Event::Start {
+                task,
+                actor: closer,
+            });
+        }
+    }
+    None
+}
