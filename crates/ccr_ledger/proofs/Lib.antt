@@ -4,3 +4,4 @@ pub mod Sizes
 pub mod Flags
 pub mod Running
 pub mod Said
+pub mod Telling
