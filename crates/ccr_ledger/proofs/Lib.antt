@@ -5,3 +5,4 @@ pub mod Flags
 pub mod Running
 pub mod Said
 pub mod Telling
+pub mod Fronts

@@ -9,6 +9,7 @@ mod fires;
 mod laws;
 mod ledger;
 mod loads;
+mod named;
 mod ports;
 mod tasks;
 
