@@ -6,3 +6,4 @@ pub mod Running
 pub mod Said
 pub mod Telling
 pub mod Fronts
+pub mod RulesTold
