@@ -1,3 +1,8 @@
+pub mod SameLists
 pub mod Numbered
 pub mod Places
 pub mod Stillness
+pub mod Refusals
+pub mod StillTold
+pub mod Along
+pub mod Accepting

@@ -64,7 +64,7 @@ some_put : (w : Parts) (h : List Event) → is_some (put_first w h) ≡ list_any
 some_put w h = rw (is_some-map, is_some-find) refl
 
 -- a start
-some_head : (ts : List TaskId) → is_some (slice_get ts 0) ≡ not (is_none_of ts)
+pub some_head : (ts : List TaskId) → is_some (slice_get ts 0) ≡ not (is_none_of ts)
 some_head [] = refl
 some_head (t ∷ ts) = grind (arith, nat_tests)
 

@@ -2,7 +2,10 @@
 
 ghost use Rattle.std.specs.Prelude.{◌≡◌, ◌<◌, ◌^◌, length};
 ghost use Rattle.ccr_model.specs.Legal.{are_whole_from, is_complete};
+ghost use Rattle.ccr_check.specs.LeftInTables.{are_whole_in, is_complete_in};
 
+use ccr_base::ActorNo;
+use ccr_ledger::Ledger;
 use ccr_model::Event;
 use ccr_model::firings::has_shed;
 use ccr_model::posts::{posts_of_poster, posts_of_tasks};
@@ -28,4 +31,26 @@ pub(crate) fn is_complete(wiring: &Wiring, events: &[Event]) -> bool
 {
     let budget = wiring.parts().budget as usize;
     are_whole(wiring, events) && (!has_shed(events) || posts_of_tasks(events) == budget)
+}
+
+/// Whether each poster has made as many posts as its script has, by the tables.
+#[tactic(auto, using(crate::proofs::Numbered::numbered))]
+fn are_whole_in(wiring: &Wiring, ledger: &Ledger) -> bool
+    ensures { result ≡ are_whole_in ledger.now 0 wiring.now.posters }
+{
+    valid_wirings_are_sound();
+    for (number, poster) in wiring.parts().posters.as_slice().iter().enumerate() {
+        if ledger.said(number as ActorNo) as usize != poster.posts.as_slice().len() {
+            return false;
+        }
+    }
+    true
+}
+
+/// The same by the tables, and by whether a task was shed.
+pub(crate) fn is_complete_in(wiring: &Wiring, ledger: &Ledger, shed: bool) -> bool
+    ensures { result ≡ is_complete_in wiring.now ledger.now shed }
+{
+    let budget = wiring.parts().budget;
+    are_whole_in(wiring, ledger) && (!shed || ledger.task_posts() == budget)
 }

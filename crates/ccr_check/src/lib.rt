@@ -1,12 +1,17 @@
 //! The judge of a history. It shares nothing with the engine.
 #![tactic(auto)]
 
+mod alike;
 mod complete;
+mod judge;
 mod judging;
 mod laws;
 mod left;
+mod refusing;
+mod standing;
 mod verdicts;
 
+pub use judge::Judge;
 pub use judging::verdict;
 pub use laws::still_is_quiet;
 pub use verdicts::Verdict;

@@ -35,3 +35,4 @@ pub mod Suspended
 pub mod Places
 pub mod Keeping
 pub mod Telling
+pub mod RulesTold

@@ -1,7 +1,6 @@
 use Rattle.std.proofs.Common.{◌≡◌, [], None, arith}
 use Rattle.ccr_model.specs.Legal.{first_refusal}
 use Rattle.ccr_check.proofs.Places.{IsLegalAfter-none, not_legal}
-use Rattle.ccr_check.proofs.Stillness.{MeansQuiet-still}
 use Rattle.ccr_check.proofs.judging.verdict.Goals as goal
 
 pub returns-in-Some-clause-legal : goal.returns-in-Some-clause-legal
@@ -11,10 +10,3 @@ pub returns-clause-legal : goal.returns-clause-legal
 returns-clause-legal c =
     let none : first_refusal c.args.wiring.now [] 0 c.args.history.now ≡ None = grind arith in
     IsLegalAfter-none c.args.wiring.now [] 0 c.args.history.now none
-
-pub returns-clause-quiet : goal.returns-clause-quiet
-returns-clause-quiet c =
-    let none : first_refusal c.args.wiring.now [] 0 c.args.history.now ≡ None = grind arith in
-    let legal = IsLegalAfter-none c.args.wiring.now [] 0 c.args.history.now none in
-    let valid = c.parts-valid.ensures.valid in
-    MeansQuiet-still c.args.wiring.now c.args.history.now c.in_ok-is_still.field-0 (grind arith) (c.still_is_quiet.ensures.still c.args.wiring.now c.args.history.now valid) (c.still_is_quiet.ensures.left c.args.wiring.now c.args.history.now valid legal)

@@ -1,0 +1,7 @@
+use Rattle.ccr_check.proofs.Along.{keeps-event}
+use Rattle.ccr_check.proofs.standing.enter.Goals as goal
+
+pub returns-clause-tables : goal.returns-clause-tables
+returns-clause-tables c current =
+    rw (c.in_ok-append.ensures.ok, c.in_ok-push.ensures, c.in_ok-kept.ensures)
+    (keeps-event c.args.wiring.now c.parts-valid.ensures.valid c.args.history.now c.args.event.now c.args.ledger.now c.requires.legal c.requires.allowed (c.requires.tables c.requires.current))

@@ -1,0 +1,60 @@
+-- Which event the tables refuse: the rules of ccr_model, asked of the tables.
+use Rattle.std.specs.Prelude.{ℕ, ◌+◌, ◌-◌, Bool, true, false, not, ◌==◌, ◌&&◌, nat_le, List, length, Option, None, option_and_then, if◌then◌else◌}
+use Rattle.std.specs.List.{slice_get}
+use Rattle.std.specs.Option.{option_map_or}
+use Rattle.ccr_base.specs.declared.names.TaskId.{TaskId}
+use Rattle.ccr_base.specs.declared.names.MsgId.{MsgId}
+use Rattle.ccr_base.specs.declared.names.MsgId.TheVariants.{Script, Task}
+use Rattle.ccr_base.specs.declared.messages.Msg.{Msg}
+use Rattle.ccr_base.specs.Names.{same_task, same_lists, same_options}
+use Rattle.ccr_wiring.specs.declared.parts.Parts.{Parts}
+use Rattle.ccr_wiring.specs.declared.parts.PosterPart.{PosterPart}
+use Rattle.ccr_model.specs.declared.history.Event.{Event}
+use Rattle.ccr_model.specs.declared.history.Event.TheVariants.{Post, Fire, Admit, Put, Start, End}
+use Rattle.ccr_model.specs.declared.history.EndHow.{EndHow}
+use Rattle.ccr_model.specs.Rules.{is_post, ends_so, is_shed, refused}
+use Rattle.ccr_ledger.specs.Books.{Books, number}
+use Rattle.ccr_ledger.specs.Asked.{has_fired, lives, are_choice, room, cuts, waits_first, enters, is_ready, drops, queued_first, is_busy, runs, play_in, made_in, has_more, unfinished, budget_lasts}
+
+-- rule 1: it is the poster's next line
+abbrev pub is_next_line : Parts → Books → ℕ → ℕ → Msg → Bool
+is_next_line wiring books actor place message = (place == number books.said actor) && option_map_or (is_post message) (option_and_then (λ (p : PosterPart). slice_get p.posts place) (slice_get wiring.posters actor)) false
+
+-- rule 2: it is the next post of the running task's play
+abbrev pub is_next_post : Books → TaskId → ℕ → Msg → Bool
+is_next_post books task place message = runs books task && (place == made_in books task) && option_map_or (is_post message) (slice_get (play_in books task).posts place) false
+
+-- rule 4: no task of this name fired, and its actor is at most 32
+abbrev pub is_unused : Books → TaskId → Bool
+is_unused books task = not (has_fired books task) && nat_le task.actor 32
+
+-- rule 14: the actor is no poster, is at most 32, and runs no task that it started
+abbrev pub is_idle : Parts → Books → ℕ → Bool
+is_idle wiring books actor = nat_le (length wiring.posters) actor && nat_le actor 32 && not (is_busy books actor)
+
+-- rule 16, shed: a post of its play is left, and the posts of tasks and the other running tasks that have a post left are together at least the budget
+abbrev pub sheds : Parts → Books → TaskId → Bool
+sheds wiring books task = has_more books task && nat_le wiring.budget (books.task_posts + (unfinished books - 1))
+
+-- rule 16: shed where it may be; else no post of its play is left and it ends as its play does
+abbrev pub is_ending : Parts → Books → TaskId → EndHow → Bool
+is_ending wiring books task how = if is_shed how then sheds wiring books task else not (has_more books task) && ends_so how (play_in books task).end
+
+-- a post of a script is asked by rule 1, a post of a task by rules 2 and 3
+abbrev pub refusal_of_post_in : Parts → Books → Msg → MsgId → Option ℕ
+refusal_of_post_in wiring books message (Script actor place) = refused (is_next_line wiring books actor place message) 1 None
+refusal_of_post_in wiring books message (Task task place) = refused (is_next_post books task place message) 2 (refused (budget_lasts wiring books) 3 None)
+
+-- the first rule that refuses the event by the tables
+abbrev pub refusal_in : Parts → Books → Event → Option ℕ
+refusal_in wiring books (Post message) = refusal_of_post_in wiring books message message.id
+refusal_in wiring books (Fire task spot messages cut) =
+    refused (is_unused books task) 4
+    (refused (lives wiring books spot) 5
+    (refused (are_choice wiring books spot messages) 6
+    (refused (room wiring books spot) 7
+    (refused (same_lists same_task cut (cuts wiring books spot)) 8 None))))
+refusal_in wiring books (Admit task) = refused (waits_first books task) 9 (refused (enters books task) 10 None)
+refusal_in wiring books (Put task dropped) = refused (is_ready books task) 11 (refused (same_options same_task dropped (drops wiring books task)) 12 None)
+refusal_in wiring books (Start task actor) = refused (queued_first books task) 13 (refused (is_idle wiring books actor) 14 None)
+refusal_in wiring books (End task how) = refused (runs books task) 15 (refused (is_ending wiring books task how) 16 None)
