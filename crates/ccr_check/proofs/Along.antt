@@ -9,12 +9,7 @@ use Rattle.ccr_model.proofs.LegalParts.{Parted-legal}
 use Rattle.ccr_ledger.specs.Books.{Books}
 use Rattle.ccr_ledger.specs.Events.{after_event, empty_books}
 use Rattle.ccr_ledger.specs.Kept.{Keeps}
-
-pub keeps-none : (w : Parts) → Keeps w [] (empty_books w)
-keeps-none = ?
-
-pub keeps-event : (w : Parts) → IsValid w → (h : List Event) (e : Event) (b : Books) → IsLegal w h → IsAllowed w h e → Keeps w h b → Keeps w (h ++ e ∷ []) (after_event w e b)
-keeps-event = ?
+use Rattle.ccr_ledger.proofs.Keeping.{keeps-none, keeps-event}
 
 take_none : {X : Type 0} (xs : List X) → [] ≡ take 0 xs
 take_none [] = refl
