@@ -10,13 +10,13 @@ use Rattle.ccr_model.proofs.LegalParts.{legal_push}
 use Rattle.ccr_ledger.specs.Books.{Books}
 use Rattle.ccr_ledger.specs.Events.{empty_books}
 use Rattle.ccr_ledger.specs.Kept.{Keeps}
+use Rattle.ccr_ledger.proofs.Keeping.{keeps-none}
 use Rattle.ccr_check.specs.Left.{is_still}
 use Rattle.ccr_check.specs.LeftInTables.{is_still_in}
 use Rattle.ccr_check.specs.Verdicts.{AllowsSome, MeansQuiet}
 use Rattle.ccr_check.specs.Judges.{IsJudge}
 use Rattle.ccr_check.proofs.Stillness.{MeansQuiet-still}
 use Rattle.ccr_check.proofs.StillTold.{is_still_told}
-use Rattle.ccr_check.proofs.Along.{keeps-none}
 
 pub IsJudge-none : (w : Parts) (h : List Event) (b : Books) → IsValid w → h ≡ [] → b ≡ empty_books w → IsJudge w h b true false
 IsJudge-none w h b valid none is = rw (none, is) (record { valid = valid; legal = tt; few = omega arith; flag = refl; tables = λ current. keeps-none w })

@@ -1,4 +1,4 @@
-use Rattle.ccr_check.proofs.Along.{keeps-event}
+use Rattle.ccr_ledger.proofs.Keeping.{keeps-event}
 use Rattle.ccr_check.proofs.standing.enter.Goals as goal
 
 pub returns-clause-tables : goal.returns-clause-tables
