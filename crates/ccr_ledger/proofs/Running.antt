@@ -1,6 +1,6 @@
 -- Each event keeps who runs, and which actor started whom.
-use Rattle.std.proofs.Common.{◌≡◌, ℕ, zero, suc, Bool, true, false, not, ◌||◌, List, [], ◌∷◌, ◌++◌, length, map, filter, Option, Some, None, refl, sym, ap, ◌∙◌, arith, append-nil, subst}
-use Rattle.std.specs.Prelude.{◌==◌, if◌then◌else◌, option_map}
+use Rattle.std.proofs.Common.{◌≡◌, ℕ, Bool, true, false, not, ◌||◌, List, [], ◌∷◌, ◌++◌, Option, Some, None, refl, sym, ap, ◌∙◌}
+use Rattle.std.specs.Prelude.{if◌then◌else◌, option_map}
 use Rattle.std.specs.Option.{option_map_or}
 use Rattle.std.proofs.lemmas.List.{map-append}
 use Rattle.ccr_base.specs.declared.names.TaskId.{TaskId}
@@ -14,12 +14,12 @@ use Rattle.ccr_wiring.specs.Wirings.{Seat, seat}
 use Rattle.ccr_model.specs.declared.history.Event.{Event}
 use Rattle.ccr_model.specs.declared.history.Event.TheVariants.{Post, Fire, Admit, Put, Start, End}
 use Rattle.ccr_model.specs.declared.history.EndHow.{EndHow}
-use Rattle.ccr_model.specs.Firings.{firing_named, ended, started}
+use Rattle.ccr_model.specs.Firings.{ended}
 use Rattle.ccr_model.specs.Tasks.{running}
 use Rattle.ccr_model.specs.Legal.{IsAllowed, IsLegal}
 use Rattle.ccr_model.proofs.TaskSteps.{running-start, running-end, running-post, running-fire, running-put, running-admit}
-use Rattle.ccr_model.proofs.TaskPlaces.{StartFacts, StartFacts-allowed, StartFacts-queued, QueuedFacts, ArePlaced-legal}
-use Rattle.ccr_model.proofs.Ending.{RunningFacts, RunningFacts-allowed, AreEnded-legal}
+use Rattle.ccr_model.proofs.TaskPlaces.{StartFacts-allowed, StartFacts-queued, ArePlaced-legal}
+use Rattle.ccr_model.proofs.Ending.{RunningFacts-allowed, AreEnded-legal}
 use Rattle.ccr_model.proofs.FiredTasks.{IsFired, seat_fired}
 use Rattle.ccr_model.proofs.Booleans.{refuted, no_both}
 use Rattle.ccr_ledger.specs.declared.cards.Card.{Card}
@@ -61,7 +61,7 @@ same-fire w t (Branch n) ms cs b = of_seat (seat w n)
     of_seat (Some s) = same-cuts cs b
 same-fire w t (Site n k) ms cs b = by_card b (resumed_card b n k) _ (λ c. refl)
 
-after-end : (t : TaskId) (how : EndHow) (c : Card) (b : Books) → (after_end t how c b).running ≡ stopped t b.running
+pub after-end : (t : TaskId) (how : EndHow) (c : Card) (b : Books) → (after_end t how c b).running ≡ stopped t b.running
 after-end t how c b = of_test (is_yield how)
   where
     of_test : (is : Bool) → (if is then after_yield t c b else after_last c.root (after_stop t b)).running ≡ stopped t b.running
@@ -69,7 +69,7 @@ after-end t how c b = of_test (is_yield how)
     of_test false = same-last c.root (after_stop t b)
 
 -- who runs without the task that ended
-runners-stopped : (t : TaskId) (rs : List Runner) → runners (stopped t rs) ≡ without (runners rs) (t ∷ [])
+pub runners-stopped : (t : TaskId) (rs : List Runner) → runners (stopped t rs) ≡ without (runners rs) (t ∷ [])
 runners-stopped t [] = refl
 runners-stopped t (r ∷ rs) = of_test (same_task r.task t) (runners-stopped t rs)
   where
@@ -79,11 +79,11 @@ runners-stopped t (r ∷ rs) = of_test (same_task r.task t) (runners-stopped t r
     of_test false rest = ap (λ (ts : List TaskId). r.task ∷ ts) rest
 
 -- the card of a task that fired
-has_card : (w : Parts) (h : List Event) (t : TaskId) (b : Books) → KeepsTasks w h b → IsFired h t → (c : Card) × (card_at b.tasks t ≡ Some c)
+pub has_card : (w : Parts) (h : List Event) (t : TaskId) (b : Books) → KeepsTasks w h b → IsFired h t → (c : Card) × (card_at b.tasks t ≡ Some c)
 has_card w h t b keeps fired = (card_of w h t fired.0, keeps.cards t ∙ ap (option_map (card_of w h t)) fired.1)
 
 -- who is to start has not ended
-unended : (w : Parts) (h : List Event) (t : TaskId) (a : ℕ) → IsLegal w h → IsAllowed w h (Start t a) → has_task (ended h) t ≡ false
+pub unended : (w : Parts) (h : List Event) (t : TaskId) (a : ℕ) → IsLegal w h → IsAllowed w h (Start t a) → has_task (ended h) t ≡ false
 unended w h t a legal allowed =
     let queued = StartFacts-queued w h t (StartFacts-allowed w h t a allowed) in
     refuted (has_task (ended h) t) (λ is. no_both ((AreEnded-legal w h legal).started_ended t is) queued.not_started)

@@ -1,5 +1,5 @@
 -- Each event keeps how many posts were made.
-use Rattle.std.proofs.Common.{◌≡◌, ℕ, zero, suc, ◌+◌, ◌<◌, Bool, true, false, List, [], ◌∷◌, ◌++◌, length, filter, Option, Some, None, refl, sym, ap, ◌∙◌, arith, append-nil}
+use Rattle.std.proofs.Common.{◌≡◌, ℕ, ◌+◌, Bool, true, false, List, [], ◌∷◌, ◌++◌, length, filter, Option, Some, None, refl, sym, ap, ◌∙◌, arith, append-nil}
 use Rattle.std.specs.Prelude.{◌==◌, if◌then◌else◌}
 use Rattle.std.specs.Option.{option_map_or}
 use Rattle.ccr_base.specs.declared.names.TaskId.{TaskId}
@@ -13,12 +13,12 @@ use Rattle.ccr_wiring.specs.Wirings.{Seat, seat}
 use Rattle.ccr_model.specs.declared.history.Event.{Event}
 use Rattle.ccr_model.specs.declared.history.Event.TheVariants.{Post, Fire, Admit, Put, Start, End}
 use Rattle.ccr_model.specs.declared.history.EndHow.{EndHow}
-use Rattle.ccr_model.specs.Posts.{posts, post_of, is_script_of, is_task_message, posts_of_poster, posts_of_tasks}
+use Rattle.ccr_model.specs.Posts.{posts, post_of, is_script_of, is_task_message, posts_of_poster}
 use Rattle.ccr_model.proofs.Booleans.{same_number}
 use Rattle.ccr_model.proofs.Pushes.{posts-push}
 use Rattle.ccr_ledger.specs.declared.cards.Card.{Card}
-use Rattle.ccr_ledger.specs.Books.{Books, card_at, number, more}
-use Rattle.ccr_ledger.specs.Posting.{counted, after_post}
+use Rattle.ccr_ledger.specs.Books.{Books, card_at, number}
+use Rattle.ccr_ledger.specs.Posting.{counted}
 use Rattle.ccr_ledger.specs.Firing.{after_cut, after_cuts, after_taking, after_fire, resumed_card}
 use Rattle.ccr_ledger.specs.Events.{after_last, after_discard, after_dropped, after_stop, after_yield, after_end, after_event, is_yield}
 use Rattle.ccr_ledger.specs.Kept.{HasSizes, KeepsSaid}
@@ -85,7 +85,7 @@ said-other w h e b c other same keeps = record {
     posts_same : posts (h ++ e ∷ []) ≡ posts h
     posts_same = rw (posts-push, other) (append-nil (posts h))
 
-counted-post : (h : List Event) (m : Msg) (id : MsgId) (test : MsgId → Bool) → m.id ≡ id → length (filter (λ (o : Msg). test o.id) (posts (h ++ Post m ∷ []))) ≡ (if test id then length (filter (λ (o : Msg). test o.id) (posts h)) + 1 else length (filter (λ (o : Msg). test o.id) (posts h)))
+pub counted-post : (h : List Event) (m : Msg) (id : MsgId) (test : MsgId → Bool) → m.id ≡ id → length (filter (λ (o : Msg). test o.id) (posts (h ++ Post m ∷ []))) ≡ (if test id then length (filter (λ (o : Msg). test o.id) (posts h)) + 1 else length (filter (λ (o : Msg). test o.id) (posts h)))
 counted-post h m id test is =
     ap (λ ms. length (filter (λ (o : Msg). test o.id) ms)) (posts-push h (Post m)) ∙ (count-more (λ (o : Msg). test o.id) (posts h) m ∙ ap (λ n. if test n then length (filter (λ (o : Msg). test o.id) (posts h)) + 1 else length (filter (λ (o : Msg). test o.id) (posts h))) is)
 

@@ -1,6 +1,6 @@
 -- No event changes how many rows a table has.
-use Rattle.std.proofs.Common.{◌≡◌, ℕ, ◌+◌, zero, suc, Bool, true, false, List, [], ◌∷◌, ◌++◌, length, Option, Some, None, drop, ◌-◌, refl, sym, ap, ◌∙◌, length-set, ◌*◌}
-use Rattle.std.specs.Prelude.{if◌then◌else◌, nat_lt, slice_set}
+use Rattle.std.proofs.Common.{◌≡◌, ℕ, ◌+◌, Bool, true, false, List, [], ◌∷◌, ◌++◌, length, Option, Some, None, drop, ◌-◌, refl, ap, ◌∙◌, length-set, ◌*◌}
+use Rattle.std.specs.Prelude.{if◌then◌else◌, nat_lt}
 use Rattle.std.specs.Option.{option_map_or}
 use Rattle.ccr_base.specs.declared.names.TaskId.{TaskId}
 use Rattle.ccr_base.specs.declared.names.MsgId.{MsgId}
@@ -17,13 +17,13 @@ use Rattle.ccr_model.specs.declared.history.Event.{Event}
 use Rattle.ccr_model.specs.declared.history.Event.TheVariants.{Post, Fire, Admit, Put, Start, End}
 use Rattle.ccr_model.specs.declared.history.EndHow.{EndHow}
 use Rattle.ccr_model.specs.Tasks.{is_interleave, is_teardown}
-use Rattle.ccr_rows.specs.Rows.{row, with_row, empty_rows}
+use Rattle.ccr_rows.specs.Rows.{row, with_row}
 use Rattle.ccr_ledger.specs.declared.cards.Card.{Card}
 use Rattle.ccr_ledger.specs.Books.{Books, card_at, more, less, number, raised, sites_each, suspended_at, with_suspended, changed}
 use Rattle.ccr_ledger.specs.Posting.{after_post, counted}
-use Rattle.ccr_ledger.specs.Taking.{Takes, take_slot, take_slots, take_oldest, take_gather, take_pattern, take_site}
-use Rattle.ccr_ledger.specs.Firing.{after_cut, after_cuts, after_choice, after_wait, after_clear, after_new, after_branch, after_taking, after_site, after_fire, without_coming, resumed_card}
-use Rattle.ccr_ledger.specs.Events.{after_admit, after_over, after_last, after_discard, after_drop, after_dropped, after_enter, after_start, after_stop, after_yield, after_end, after_event, is_yield, not_admitted}
+use Rattle.ccr_ledger.specs.Taking.{take_slot, take_slots, take_pattern, take_site}
+use Rattle.ccr_ledger.specs.Firing.{after_cut, after_cuts, after_wait, after_taking, after_fire, resumed_card}
+use Rattle.ccr_ledger.specs.Events.{after_last, after_discard, after_dropped, after_enter, after_stop, after_yield, after_end, after_event, is_yield, not_admitted}
 use Rattle.ccr_ledger.specs.Kept.{HasSizes}
 use Rattle.ccr_ledger.proofs.Tables.{length-with_row}
 

@@ -4,4 +4,5 @@ pub mod Taking
 pub mod Firing
 pub mod Events
 pub mod Asked
+pub mod Fronts
 pub mod Kept

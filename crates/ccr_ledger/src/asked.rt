@@ -8,10 +8,11 @@ ghost use Rattle.ccr_rows.specs.Rows.{row};
 ghost use Rattle.ccr_model.specs.Choice.{names_of};
 ghost use Rattle.ccr_ledger.specs.declared.cards.Card.{Card};
 ghost use Rattle.ccr_ledger.specs.Books.{card_at, number};
-ghost use Rattle.ccr_ledger.specs.Asked.{admits, budget_lasts, can_choose, choice_at, cuts, drops, enters, group_lives, has_fired, has_more, is_busy, is_ready, is_ready_stage, lives, queue_has_room, queued_first, room, runs, unfinished, waits_first};
+ghost use Rattle.ccr_ledger.specs.Asked.{admits, are_choice, budget_lasts, can_choose, choice_at, cuts, drops, enters, group_lives, has_fired, has_more, is_busy, is_ready, is_ready_stage, lives, queue_has_room, queued_first, room, runs, unfinished, waits_first};
 
 use crate::choices::{count, has_enough, names_of_choice, names_of_site};
 use crate::counts::{flag, number};
+use crate::named::{are_choice_of, are_oldest};
 use crate::tasks::first_suspended;
 use crate::{Card, Ledger, Runner, Stage};
 use ccr_base::{ActorNo, BranchNo, Group, MsgId, OutOfMemory, Policy, QueueNo, Spot, TaskId};
@@ -154,6 +155,30 @@ impl Ledger {
             Spot::Site(branch, site) => match site_port(wiring, branch, site) {
                 Some(port) => names_of_site(self.alloc, &mut self.ports, port),
                 None => Ok(None),
+            },
+        }
+    }
+
+    /// Whether the names are a choice at the spot. Which split of a gather is free.
+    pub fn are_choice(
+        &mut self,
+        wiring: &Wiring,
+        spot: Spot,
+        names: &[MsgId],
+    ) -> Result<bool, OutOfMemory>
+        ensures are { IfOk result (λ are. are ≡ are_choice wiring.now self.old spot names.now) }
+        ensures kept { OnOk result (self.new ≡ self.old) }
+    {
+        match spot {
+            Spot::Branch(branch) => match seat(wiring, branch) {
+                Some(seat) => {
+                    are_choice_of(self.alloc, &mut self.ports, &seat.branch.pattern, names)
+                }
+                None => Ok(false),
+            },
+            Spot::Site(branch, site) => match site_port(wiring, branch, site) {
+                Some(port) => are_oldest(self.alloc, &mut self.ports, port, names),
+                None => Ok(false),
             },
         }
     }

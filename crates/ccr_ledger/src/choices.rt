@@ -99,7 +99,7 @@ fn choice_names(
 }
 
 /// The names of the slots' choice, slot by slot, if each port holds enough.
-fn names_of_slots(
+pub(crate) fn names_of_slots(
     alloc: Global,
     ports: &mut Vec<Held>,
     slots: &[Slot],

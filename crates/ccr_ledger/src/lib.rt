@@ -9,9 +9,13 @@ mod fires;
 mod laws;
 mod ledger;
 mod loads;
+mod named;
 mod ports;
 mod tasks;
 
 pub use cards::{Card, Runner, Stage};
-pub use laws::{flags_are_kept, posts_are_counted, running_tasks_are_kept, sizes_are_kept};
+pub use laws::{
+    cards_are_kept, counts_are_kept, empty_tables_are_kept, flags_are_kept, ports_are_kept,
+    posts_are_counted, rows_are_kept, running_tasks_are_kept, sizes_are_kept, tables_are_kept,
+};
 pub use ledger::Ledger;

@@ -58,7 +58,7 @@ one_changes p q t (x ∷ ts) distinct same =
     of_test true e rest all one = let same_rest = all e in grind (arith, same_rest)
     of_test false e rest all one = let same_here = one e in grind (arith, same_here, rest)
 
-filter_twice : (p r : TaskId → Bool) (ts : List TaskId) → filter p (filter r ts) ≡ filter (λ u. r u && p u) ts
+pub filter_twice : (p r : TaskId → Bool) (ts : List TaskId) → filter p (filter r ts) ≡ filter (λ u. r u && p u) ts
 filter_twice p r [] = refl
 filter_twice p r (x ∷ ts) = grind (arith, filter_twice p r ts)
 

@@ -141,7 +141,7 @@ firing_back h es t f fired is =
     let one : fired.0 ≡ f = cc in
     subst (λ g. firing_named h t ≡ Some g) one fired.1
 
-cut_by : (w : Parts) (h : List Event) (t : TaskId) (s : Spot) (ms : List MsgId) (cs : List TaskId) → OneName h → IsAllowed w h (Fire t s ms cs) → (u : TaskId) → has_task (cs ++ []) u ≡ true → (i : ℕ) × WaitingFacts w h i u
+pub cut_by : (w : Parts) (h : List Event) (t : TaskId) (s : Spot) (ms : List MsgId) (cs : List TaskId) → OneName h → IsAllowed w h (Fire t s ms cs) → (u : TaskId) → has_task (cs ++ []) u ≡ true → (i : ℕ) × WaitingFacts w h i u
 cut_by w h t s ms cs one allowed u among =
     let so = (FiresSo-allowed w h t s ms cs allowed).cuts in
     let there : has_task (cuts_at w h s) u ≡ true = subst (λ ts. has_task ts u ≡ true) (append-nil cs ∙ so) among in

@@ -41,7 +41,7 @@ pub root_own : (h : List Event) (t : TaskId) (f : Firing) (b : ℕ) → firing_n
 root_own h t f b is at = rw (is, at) refl
 
 -- a resumed task has the root of the one that it goes on for
-root_resumed : (w : Parts) (h : List Event) (t : TaskId) (b k : ℕ) (ms : List MsgId) (cs : List TaskId) → IsAllowed w h (Fire t (Site b k) ms cs) → (facts : ResumeFacts h b k) → root_of (h ++ Fire t (Site b k) ms cs ∷ []) t ≡ root_of h facts.resumes
+pub root_resumed : (w : Parts) (h : List Event) (t : TaskId) (b k : ℕ) (ms : List MsgId) (cs : List TaskId) → IsAllowed w h (Fire t (Site b k) ms cs) → (facts : ResumeFacts h b k) → root_of (h ++ Fire t (Site b k) ms cs ∷ []) t ≡ root_of h facts.resumes
 root_resumed w h t b k ms cs allowed facts =
     let new = (FiresSo-allowed w h t (Site b k) ms cs allowed).new_name in
     let g = h ++ Fire t (Site b k) ms cs ∷ [] in

@@ -33,7 +33,7 @@ use Rattle.ccr_model.proofs.TaskPlaces.{ArePlaced-legal}
 use Rattle.ccr_model.proofs.FiringFacts.{FiresSo-allowed, firings-other}
 use Rattle.ccr_model.proofs.Ending.{AreEnded-legal, RunningFacts-allowed}
 
-same_site : (c l b k : ℕ) → (c == b) && (l == k) ≡ true → Site c l ≡ Site b k
+pub same_site : (c l b k : ℕ) → (c == b) && (l == k) ≡ true → Site c l ≡ Site b k
 same_site c l b k is =
     let numbers = both (c == b) (l == k) is in
     ap (λ n. Site n l) (same_number c b numbers.0) ∙ ap (λ n. Site b n) (same_number l k numbers.1)
@@ -101,7 +101,7 @@ ResumeFacts-allowed w h t b k ms cs allowed =
 abbrev AreEnough : List Event → Type 0
 AreEnough h = (b k : ℕ) → length (fired_at h (Site b k)) ≤ length (yielded_at h (Site b k))
 
-end_fired : (w : Parts) (h : List Event) (t : TaskId) (how : EndHow) → IsLegal w h → IsAllowed w h (End t how) → (u : TaskId) → has_task (yielded_by (End t how)) u ≡ true → IsFired h u
+pub end_fired : (w : Parts) (h : List Event) (t : TaskId) (how : EndHow) → IsLegal w h → IsAllowed w h (End t how) → (u : TaskId) → has_task (yielded_by (End t how)) u ≡ true → IsFired h u
 end_fired w h t how legal allowed u among =
     let placed = ArePlaced-legal w h legal in
     let runs = RunningFacts-allowed w h t how allowed in
@@ -144,13 +144,13 @@ AreEnough-legal : (w : Parts) (h : List Event) → IsLegal w h → AreEnough h
 AreEnough-legal w h legal = along_legal w AreEnough (AreEnough_kept w) (λ b k. omega arith) h legal
 
 -- who is suspended after one more event
-suspended-other : (w : Parts) (h : List Event) (e : Event) (b k : ℕ) → firing_of e ≡ [] → IsLegal w h → ((t : TaskId) → has_task (yielded_by e) t ≡ true → IsFired h t) → suspended (h ++ e ∷ []) (Site b k) ≡ suspended h (Site b k) ++ filter (yields_at h (Site b k)) (yielded_by e)
+pub suspended-other : (w : Parts) (h : List Event) (e : Event) (b k : ℕ) → firing_of e ≡ [] → IsLegal w h → ((t : TaskId) → has_task (yielded_by e) t ≡ true → IsFired h t) → suspended (h ++ e ∷ []) (Site b k) ≡ suspended h (Site b k) ++ filter (yields_at h (Site b k)) (yielded_by e)
 suspended-other w h e b k none legal fires = rw (fired_at-other h e (Site b k) none, yielded_at-push w h e (Site b k) legal fires) (drop_behind (length (fired_at h (Site b k))) (yielded_at h (Site b k)) (filter (yields_at h (Site b k)) (yielded_by e)) (AreEnough-legal w h legal b k))
 
-suspended-branch : (w : Parts) (h : List Event) (t : TaskId) (c : ℕ) (ms : List MsgId) (cs : List TaskId) (b k : ℕ) → IsLegal w h → suspended (h ++ Fire t (Branch c) ms cs ∷ []) (Site b k) ≡ suspended h (Site b k)
+pub suspended-branch : (w : Parts) (h : List Event) (t : TaskId) (c : ℕ) (ms : List MsgId) (cs : List TaskId) (b k : ℕ) → IsLegal w h → suspended (h ++ Fire t (Branch c) ms cs ∷ []) (Site b k) ≡ suspended h (Site b k)
 suspended-branch w h t c ms cs b k legal = rw (fired_at-fire h t (Branch c) ms cs (Site b k), yielded_at-push w h (Fire t (Branch c) ms cs) (Site b k) legal (none_fired h), append-nil (fired_at h (Site b k)), append-nil (yielded_at h (Site b k))) refl
 
-suspended-elsewhere : (w : Parts) (h : List Event) (t : TaskId) (c l : ℕ) (ms : List MsgId) (cs : List TaskId) (b k : ℕ) → IsLegal w h → (c == b) && (l == k) ≡ false → suspended (h ++ Fire t (Site c l) ms cs ∷ []) (Site b k) ≡ suspended h (Site b k)
+pub suspended-elsewhere : (w : Parts) (h : List Event) (t : TaskId) (c l : ℕ) (ms : List MsgId) (cs : List TaskId) (b k : ℕ) → IsLegal w h → (c == b) && (l == k) ≡ false → suspended (h ++ Fire t (Site c l) ms cs ∷ []) (Site b k) ≡ suspended h (Site b k)
 suspended-elsewhere w h t c l ms cs b k legal other = rw (fired_at-fire h t (Site c l) ms cs (Site b k), other, yielded_at-push w h (Fire t (Site c l) ms cs) (Site b k) legal (none_fired h), append-nil (fired_at h (Site b k)), append-nil (yielded_at h (Site b k))) refl
 
 pub suspended-here : (w : Parts) (h : List Event) (t : TaskId) (b k : ℕ) (ms : List MsgId) (cs : List TaskId) → IsLegal w h → (facts : ResumeFacts h b k) → suspended (h ++ Fire t (Site b k) ms cs ∷ []) (Site b k) ≡ facts.others

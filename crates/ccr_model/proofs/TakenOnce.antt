@@ -40,7 +40,7 @@ pub times-filter : (name : MsgId) (t : Msg → Bool) (ms : List Msg) → times n
 times-filter name t [] = grind arith
 times-filter name t (m ∷ ms) = grind (arith, times-filter name t ms)
 
-times-take : (name : MsgId) (n : ℕ) (ms : List Msg) → times name (take n ms) ≤ times name ms
+pub times-take : (name : MsgId) (n : ℕ) (ms : List Msg) → times name (take n ms) ≤ times name ms
 times-take name zero ms = grind arith
 times-take name (suc n) [] = grind arith
 times-take name (suc n) (m ∷ ms) = grind (arith, times-take name n ms)
@@ -63,7 +63,7 @@ joined_some (Some front) (Some back) xs is = (front, back, refl, refl, grind (ar
 joined_some None b xs is = absurd (cc)
 joined_some (Some front) None xs is = absurd (cc)
 
-choice_some : (slot : Slot) (ms xs : List Msg) → choice slot ms ≡ Some xs → xs ≡ take slot.most (filter (λ m. holds slot.pred m.value) ms)
+pub choice_some : (slot : Slot) (ms xs : List Msg) → choice slot ms ≡ Some xs → xs ≡ take slot.most (filter (λ m. holds slot.pred m.value) ms)
 choice_some slot ms xs is = grind arith
 
 times-choice : (name : MsgId) (slot : Slot) (ms xs : List Msg) → choice slot ms ≡ Some xs → times name xs ≤ times name ms
@@ -113,7 +113,7 @@ named-same name (m ∷ ms) (n ∷ names) is =
     grind (arith, same, named-same name ms names parts.1)
 
 -- the messages of two ports
-times-two : (name : MsgId) (t : Msg → Bool) (p q : ℕ) → not (p == q) ≡ true → (ms : List Msg) → times name (at t ms p) + times name (at t ms q) ≤ times name (filter t ms)
+pub times-two : (name : MsgId) (t : Msg → Bool) (p q : ℕ) → not (p == q) ≡ true → (ms : List Msg) → times name (at t ms p) + times name (at t ms q) ≤ times name (filter t ms)
 times-two name t p q apart [] = grind arith
 times-two name t p q apart (m ∷ ms) = grind (arith, nat_tests, times-two name t p q apart ms)
 

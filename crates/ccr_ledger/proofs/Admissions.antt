@@ -1,0 +1,164 @@
+-- Who is an admitted root that isn't over, and how many posts each task has made, after each event.
+use Rattle.std.proofs.Common.{◌≡◌, ◌+◌, Bool, true, false, not, ◌&&◌, ◌||◌, List, [], ◌∷◌, ◌++◌, length, map, filter, None, inl, inr, refl, sym, ap, ◌∙◌, append-nil, subst}
+use Rattle.std.specs.Prelude.{if◌then◌else◌}
+use Rattle.std.specs.List.{list_any}
+use Rattle.std.proofs.Math.Bool.{or-false}
+use Rattle.std.proofs.lemmas.List.Folds.{list_any-append}
+use Rattle.ccr_base.specs.declared.names.TaskId.{TaskId}
+use Rattle.ccr_base.specs.declared.names.MsgId.{MsgId}
+use Rattle.ccr_base.specs.declared.names.MsgId.TheVariants.{Script, Task}
+use Rattle.ccr_base.specs.declared.names.Spot.{Spot}
+use Rattle.ccr_base.specs.declared.messages.Msg.{Msg}
+use Rattle.ccr_base.specs.Names.{same_task, has_task}
+use Rattle.ccr_wiring.specs.declared.parts.Parts.{Parts}
+use Rattle.ccr_model.specs.declared.history.Event.{Event}
+use Rattle.ccr_model.specs.declared.history.Event.TheVariants.{Post, Fire, Admit, Put, Start, End}
+use Rattle.ccr_model.specs.Posts.{posts, post_of, is_message_of, posts_of_task}
+use Rattle.ccr_model.specs.Firings.{Firing, firing_of, fired, let_in, admitted_by, put, ended, dropped, started, yielded, last_segments, last_by}
+use Rattle.ccr_model.specs.Sites.{root_of}
+use Rattle.ccr_model.specs.Tasks.{is_over, running}
+use Rattle.ccr_model.specs.Rules.{is_play_post, has_budget, refused}
+use Rattle.ccr_model.specs.Legal.{IsAllowed, IsLegal}
+use Rattle.ccr_model.proofs.Allowing.{OneName-legal}
+use Rattle.ccr_model.proofs.Alone.{lasts_fired, let_in_fired}
+use Rattle.ccr_model.proofs.Booleans.{both, or_left, or_right, refuted, no_both}
+use Rattle.ccr_model.proofs.Cutting.{AdmitFacts-allowed, CutFacts-legal, waits_unput}
+use Rattle.ccr_model.proofs.Ending.{AreEnded-legal, RunningFacts-running}
+use Rattle.ccr_model.proofs.FiredTasks.{IsFired, fired_has, root_stays}
+use Rattle.ccr_model.proofs.FiringFacts.{WaitingFacts-waiting, BranchFacts-where, firings-other}
+use Rattle.ccr_model.proofs.LegalParts.{along_legal}
+use Rattle.ccr_model.proofs.PostNames.{refused_not}
+use Rattle.ccr_model.proofs.Pushes.{posts-push, last-push, let_in-push, fired-fire}
+use Rattle.ccr_model.proofs.Roots.{root_own, IsOneEach-legal}
+use Rattle.ccr_model.proofs.SameNames.{same_task-is, same_task-self, same_task-sym}
+use Rattle.ccr_model.proofs.Suspending.{is_gone_on}
+use Rattle.ccr_model.proofs.TaskLists.{any_named, not_within}
+use Rattle.ccr_model.proofs.TaskPlaces.{ArePlaced-legal}
+use Rattle.ccr_model.proofs.TasksLeft.{has_task-append, out_left}
+use Rattle.ccr_ledger.specs.Kept.{is_admitted}
+use Rattle.ccr_ledger.proofs.Said.{counted-post}
+
+-- a test that agrees on the members
+any_on : (p q : TaskId → Bool) (ts : List TaskId) → ((u : TaskId) → has_task ts u ≡ true → p u ≡ q u) → list_any p ts ≡ list_any q ts
+any_on p q [] same = refl
+any_on p q (x ∷ ts) same = rw (same x (or_left (same_task x x) (has_task ts x) (same_task-self x)), any_on p q ts (λ u is. same u (or_right (same_task u x) (has_task ts u) is))) refl
+
+module _ (w : Parts) (h : List Event) (legal : IsLegal w h) where
+  -- a root is over by the last segments so far, or by those of the event
+  over-push : (e : Event) (u : TaskId) → is_over (h ++ e ∷ []) u ≡ is_over h u || list_any (λ x. same_task (root_of (h ++ e ∷ []) x) u) (last_by e)
+  over-push e u =
+      ap (list_any (λ x. same_task (root_of (h ++ e ∷ []) x) u)) (last-push h e)
+      ∙ (list_any-append (λ x. same_task (root_of (h ++ e ∷ []) x) u) (last_segments h) (last_by e)
+      ∙ ap (λ b. b || list_any (λ x. same_task (root_of (h ++ e ∷ []) x) u) (last_by e)) (any_on _ (λ x. same_task (root_of h x) u) (last_segments h) (λ x is. ap (λ r. same_task r u) (root_stays h (e ∷ []) x (lasts_fired w h legal x is)))))
+
+  pub over-other : (e : Event) (u : TaskId) → last_by e ≡ [] → is_over (h ++ e ∷ []) u ≡ is_over h u
+  over-other e u no_last = over-push e u ∙ (ap (λ ts. is_over h u || list_any (λ x. same_task (root_of (h ++ e ∷ []) x) u) ts) no_last ∙ or-false (is_over h u))
+
+  -- the root of one more last segment is over
+  pub over-last : (e : Event) (x u : TaskId) → last_by e ≡ x ∷ [] → IsFired h x → is_over (h ++ e ∷ []) u ≡ is_over h u || same_task (root_of h x) u
+  over-last e x u last fired =
+      over-push e u
+      ∙ (ap (λ ts. is_over h u || list_any (λ y. same_task (root_of (h ++ e ∷ []) y) u) ts) last
+      ∙ (ap (λ r. is_over h u || (same_task r u || false)) (root_stays h (e ∷ []) x fired) ∙ ap (λ b. is_over h u || b) (or-false (same_task (root_of h x) u))))
+
+  pub let_in-other : (e : Event) → admitted_by e ≡ [] → let_in (h ++ e ∷ []) ≡ let_in h
+  let_in-other e no_admit = rw (let_in-push h e, no_admit) (append-nil (let_in h))
+
+  pub admitted-other : (e : Event) (u : TaskId) → last_by e ≡ [] → admitted_by e ≡ [] → is_admitted (h ++ e ∷ []) u ≡ is_admitted h u
+  admitted-other e u no_last no_admit = rw (let_in-other e no_admit, over-other e u no_last) refl
+
+  -- the root of one more last segment is admitted no more
+  pub admitted-last : (e : Event) (x u : TaskId) → last_by e ≡ x ∷ [] → admitted_by e ≡ [] → IsFired h x → is_admitted (h ++ e ∷ []) u ≡ (if same_task (root_of h x) u then false else is_admitted h u)
+  admitted-last e x u last no_admit fired =
+      rw (let_in-other e no_admit, over-last e x u last fired) (of_tests (has_task (let_in h) u) (is_over h u) (same_task (root_of h x) u))
+    where
+      of_tests : (a b c : Bool) → a && not (b || c) ≡ (if c then false else a && not b)
+      of_tests true true true = refl
+      of_tests true true false = refl
+      of_tests true false true = refl
+      of_tests true false false = refl
+      of_tests false b true = refl
+      of_tests false b false = refl
+
+  -- an admitted task's root, which is itself, isn't over
+  pub new_lasts : (t : TaskId) → IsAllowed w h (Admit t) → is_over h t ≡ false
+  new_lasts t allowed = refuted (is_over h t) over
+    where
+      over : is_over h t ≡ true → ⊥
+      over is =
+          let facts = AdmitFacts-allowed w h t allowed in
+          let waits = WaitingFacts-waiting w h facts.place.arbiter t (OneName-legal w h legal) facts.waits in
+          let no_put = waits_unput w h facts.place.arbiter t (CutFacts-legal w h legal) waits in
+          let placed = ArePlaced-legal w h legal in
+          let ended_so = AreEnded-legal w h legal in
+          let no_start = not_within (started h) (put h) t (placed.lists.put_started t) no_put in
+          let no_end = not_within (ended h) (started h) t (ended_so.started_ended t) no_start in
+          let no_drop = not_within (dropped h) (put h) t (placed.lists.put_dropped t) no_put in
+          let unyielded = not_within (yielded h) (ended h) t (ended_so.ended_yielded t) no_end in
+          let branch = BranchFacts-where w _ waits.firing.spot waits.is_branch in
+          let own = root_own h t waits.firing branch.number waits.is_firing branch.is_branch in
+          let last = any_named (λ x. same_task (root_of h x) t) (last_segments h) is in
+          let last_unyielded = refuted (has_task (yielded h) last.0) (λ yields. no_both last.1 (ended_so.not_both last.0 yields)) in
+          let latest : is_gone_on h last.0 ≡ false = rw last_unyielded refl in
+          let latest_t : is_gone_on h t ≡ false = rw unyielded refl in
+          let one : last.0 ≡ t = IsOneEach-legal w h legal last.0 t (lasts_fired w h legal last.0 last.1) (waits.firing, waits.is_firing) latest latest_t (same_task-is (root_of h last.0) t last.2 ∙ sym own) in
+          elim (ended_so.last_ends t (subst (λ u. has_task (last_segments h) u ≡ true) one last.1)) [ inl e ↦ no_both e no_end | inr d ↦ no_both d no_drop ]
+
+  pub admitted-admit : (t u : TaskId) → IsAllowed w h (Admit t) → is_admitted (h ++ Admit t ∷ []) u ≡ (if same_task t u then true else is_admitted h u)
+  admitted-admit t u allowed =
+      let longer : has_task (let_in (h ++ Admit t ∷ [])) u ≡ has_task (let_in h) u || (same_task t u || false) = rw (let_in-push h (Admit t), has_task-append (let_in h) (t ∷ []) u, same_task-sym u t) refl in
+      rw (longer, over-other (Admit t) u refl) (of_test (same_task t u) refl (has_task (let_in h) u) (is_over h u) refl)
+    where
+      of_test : (b : Bool) → same_task t u ≡ b → (a c : Bool) → is_over h u ≡ c → (a || (b || false)) && not c ≡ (if b then true else a && not c)
+      of_test true is a c over =
+          let one : t ≡ u = same_task-is t u is in
+          let lasts : c ≡ false = sym over ∙ subst (λ v. is_over h v ≡ false) one (new_lasts t allowed) in
+          rw lasts (of_entered a)
+        where
+          of_entered : (a : Bool) → (a || true) && true ≡ true
+          of_entered true = refl
+          of_entered false = refl
+      of_test false is true c over = refl
+      of_test false is false c over = refl
+
+  -- a new task wasn't admitted
+  pub admitted-new : (t : TaskId) (s : Spot) (ms : List MsgId) (cs : List TaskId) → has_task (fired h) t ≡ false → is_admitted (h ++ Fire t s ms cs ∷ []) t ≡ false
+  admitted-new t s ms cs new =
+      let out : has_task (let_in h) t ≡ false = refuted (has_task (let_in h) t) (λ is. no_both (fired_has h t (let_in_fired w h legal t is)) new) in
+      rw (let_in-other (Fire t s ms cs) refl, out) refl
+
+-- no post, no more posts of a task
+pub made-other : (h : List Event) (e : Event) (u : TaskId) → post_of e ≡ [] → posts_of_task (h ++ e ∷ []) u ≡ posts_of_task h u
+made-other h e u none = ap (λ (ms : List Msg). length (filter (λ (m : Msg). is_message_of u m.id) ms)) (posts-push h e ∙ (ap (λ ms. posts h ++ ms) none ∙ append-nil (posts h)))
+
+pub made-post : (h : List Event) (m : Msg) (id : MsgId) (u : TaskId) → m.id ≡ id → posts_of_task (h ++ Post m ∷ []) u ≡ (if is_message_of u id then posts_of_task h u + 1 else posts_of_task h u)
+made-post h m id u is = counted-post h m id (is_message_of u) is
+
+-- who never fired made no post
+abbrev HaveFired : List Event → Type 0
+HaveFired h = (t : TaskId) → has_task (fired h) t ≡ false → posts_of_task h t ≡ 0
+
+post_fired : (w : Parts) (h : List Event) (m : Msg) (id : MsgId) (t : TaskId) → m.id ≡ id → IsLegal w h → IsAllowed w h (Post m) → has_task (fired h) t ≡ false → is_message_of t id ≡ false
+post_fired w h m (Script actor place) t is legal allowed new = refl
+post_fired w h m (Task s place) t is legal allowed new =
+    let next : refused (is_play_post w h s place m) 2 (refused (has_budget w h) 3 None) ≡ None = rw is at allowed in
+    let runs = both (has_task (running h) s) _ (both _ _ (refused_not _ 2 _ next).0).0 in
+    let placed = ArePlaced-legal w h legal in
+    let fired_so = fired_has h s (placed.all_fired s (placed.lists.put_started s (RunningFacts-running h s runs.0).started_so)) in
+    refuted (same_task t s) (λ same. no_both (subst (λ x. has_task (fired h) x ≡ true) (sym (same_task-is t s same)) fired_so) new)
+
+have_other : (h : List Event) (e : Event) → post_of e ≡ [] → firing_of e ≡ [] → HaveFired h → HaveFired (h ++ e ∷ [])
+have_other h e no_post no_firing known t new = made-other h e t no_post ∙ known t (sym (ap (λ fs. has_task (map (λ (f : Firing). f.task) fs) t) (firings-other h e no_firing)) ∙ new)
+
+HaveFired_kept : (w : Parts) (h : List Event) (e : Event) → IsLegal w h → IsAllowed w h e → HaveFired h → HaveFired (h ++ e ∷ [])
+HaveFired_kept w h (Post m) legal allowed known = λ t new.
+    let old : has_task (fired h) t ≡ false = sym (ap (λ fs. has_task (map (λ (f : Firing). f.task) fs) t) (firings-other h (Post m) refl)) ∙ new in
+    made-post h m m.id t refl ∙ rw (post_fired w h m m.id t refl legal allowed old) (known t old)
+HaveFired_kept w h (Fire s at ms cs) legal allowed known = λ t new. made-other h (Fire s at ms cs) t refl ∙ known t (out_left (fired h) (s ∷ []) t (sym (ap (λ ts. has_task ts t) (fired-fire h s at ms cs)) ∙ new))
+HaveFired_kept w h (Admit s) legal allowed known = have_other h (Admit s) refl refl known
+HaveFired_kept w h (Put s d) legal allowed known = have_other h (Put s d) refl refl known
+HaveFired_kept w h (Start s a) legal allowed known = have_other h (Start s a) refl refl known
+HaveFired_kept w h (End s how) legal allowed known = have_other h (End s how) refl refl known
+
+pub made-none : (w : Parts) (h : List Event) → IsLegal w h → (t : TaskId) → has_task (fired h) t ≡ false → posts_of_task h t ≡ 0
+made-none w h legal = along_legal w HaveFired (HaveFired_kept w) (λ t new. refl) h legal

@@ -1,0 +1,89 @@
+-- Nobody fires twice, and who is cut fired.
+use Rattle.std.proofs.Common.{◌≡◌, Bool, true, false, List, [], ◌∷◌, ◌++◌, map, filter, refl, ap, ◌∙◌, append-nil, subst}
+use Rattle.std.specs.Prelude.{if◌then◌else◌}
+use Rattle.ccr_base.specs.declared.names.TaskId.{TaskId}
+use Rattle.ccr_base.specs.declared.names.MsgId.{MsgId}
+use Rattle.ccr_base.specs.declared.names.Spot.{Spot}
+use Rattle.ccr_base.specs.Names.{same_task, has_task}
+use Rattle.ccr_wiring.specs.declared.parts.Parts.{Parts}
+use Rattle.ccr_model.specs.declared.history.Event.{Event}
+use Rattle.ccr_model.specs.declared.history.Event.TheVariants.{Post, Fire, Admit, Put, Start, End}
+use Rattle.ccr_model.specs.Firings.{Firing, firing_of, firings, fired_where, cut}
+use Rattle.ccr_model.specs.Legal.{IsAllowed, IsLegal}
+use Rattle.ccr_model.specs.Consequences.{are_distinct_tasks}
+use Rattle.ccr_model.proofs.Allowing.{OneName-legal}
+use Rattle.ccr_model.proofs.Booleans.{refuted, no_both, or_left, or_right}
+use Rattle.ccr_model.proofs.Cutting.{cut_by}
+use Rattle.ccr_model.proofs.FiredTasks.{AreFired, IsFired-append}
+use Rattle.ccr_model.proofs.FiringFacts.{FiresSo-allowed, firings-other}
+use Rattle.ccr_model.proofs.LegalParts.{along_legal}
+use Rattle.ccr_model.proofs.Pushes.{firings-push, cut-push}
+use Rattle.ccr_model.proofs.TasksLeft.{distinct-push}
+use Rattle.ccr_model.proofs.TaskLists.{of_more}
+
+-- who is among those that pass fired
+passed_fired : (test : Firing → Bool) (fs : List Firing) (t : TaskId) → has_task (map (λ (f : Firing). f.task) (filter test fs)) t ≡ true → has_task (map (λ (f : Firing). f.task) fs) t ≡ true
+passed_fired test [] t is = is
+passed_fired test (f ∷ fs) t is = of_test (test f) is (passed_fired test fs t)
+  where
+    of_test : (b : Bool) → has_task (map (λ (g : Firing). g.task) (if b then f ∷ filter test fs else filter test fs)) t ≡ true → (has_task (map (λ (g : Firing). g.task) (filter test fs)) t ≡ true → has_task (map (λ (g : Firing). g.task) fs) t ≡ true) → has_task (f.task ∷ map (λ (g : Firing). g.task) fs) t ≡ true
+    of_test false at rest = or_right (same_task t f.task) _ (rest at)
+    of_test true at rest = of_name (same_task t f.task) refl at
+      where
+        of_name : (c : Bool) → same_task t f.task ≡ c → has_task (f.task ∷ map (λ (g : Firing). g.task) (filter test fs)) t ≡ true → has_task (f.task ∷ map (λ (g : Firing). g.task) fs) t ≡ true
+        of_name true same at' = or_left (same_task t f.task) _ same
+        of_name false other at' = or_right (same_task t f.task) _ (rest (rw other at at'))
+
+-- one more firing, of those that pass
+passed-push : (test : Firing → Bool) (fs : List Firing) (f : Firing) → map (λ (g : Firing). g.task) (filter test (fs ++ f ∷ [])) ≡ map (λ (g : Firing). g.task) (filter test fs) ++ (if test f then f.task ∷ [] else [])
+passed-push test [] f = of_test (test f)
+  where
+    of_test : (b : Bool) → map (λ (g : Firing). g.task) (if b then f ∷ [] else []) ≡ (if b then f.task ∷ [] else [])
+    of_test true = refl
+    of_test false = refl
+passed-push test (x ∷ fs) f = of_test (test x) (passed-push test fs f)
+  where
+    of_test : (b : Bool) → map (λ (g : Firing). g.task) (filter test (fs ++ f ∷ [])) ≡ map (λ (g : Firing). g.task) (filter test fs) ++ (if test f then f.task ∷ [] else [])
+        → map (λ (g : Firing). g.task) (if b then x ∷ filter test (fs ++ f ∷ []) else filter test (fs ++ f ∷ [])) ≡ map (λ (g : Firing). g.task) (if b then x ∷ filter test fs else filter test fs) ++ (if test f then f.task ∷ [] else [])
+    of_test true rest = ap (λ (ts : List TaskId). x.task ∷ ts) rest
+    of_test false rest = rest
+
+pub fired_where-fire : (test : Firing → Bool) (h : List Event) (t : TaskId) (s : Spot) (ms : List MsgId) (cs : List TaskId) → fired_where test (h ++ Fire t s ms cs ∷ []) ≡ fired_where test h ++ (if test (record { task = t; spot = s; messages = ms; cuts = cs }) then t ∷ [] else [])
+fired_where-fire test h t s ms cs = ap (λ fs. map (λ (g : Firing). g.task) (filter test fs)) (firings-push h (Fire t s ms cs)) ∙ passed-push test (firings h) (record { task = t; spot = s; messages = ms; cuts = cs })
+
+-- nobody stands twice among those that pass
+pub fired_once : (w : Parts) (test : Firing → Bool) (h : List Event) → IsLegal w h → are_distinct_tasks (fired_where test h) ≡ true
+fired_once w test = along_legal w (λ h. are_distinct_tasks (fired_where test h) ≡ true) kept refl
+  where
+    other : (h : List Event) (e : Event) → firing_of e ≡ [] → are_distinct_tasks (fired_where test h) ≡ true → are_distinct_tasks (fired_where test (h ++ e ∷ [])) ≡ true
+    other h e none once = ap (λ fs. are_distinct_tasks (map (λ (g : Firing). g.task) (filter test fs))) (firings-other h e none) ∙ once
+
+    one_more : (ts : List TaskId) (t : TaskId) (b : Bool) → are_distinct_tasks ts ≡ true → has_task ts t ≡ false → are_distinct_tasks (ts ++ (if b then t ∷ [] else [])) ≡ true
+    one_more ts t true once out = distinct-push ts t once out
+    one_more ts t false once out = rw (append-nil ts) once
+
+    kept : (h : List Event) (e : Event) → IsLegal w h → IsAllowed w h e → are_distinct_tasks (fired_where test h) ≡ true → are_distinct_tasks (fired_where test (h ++ e ∷ [])) ≡ true
+    kept h (Fire t s ms cs) legal allowed once =
+        let new = (FiresSo-allowed w h t s ms cs allowed).new_name in
+        let out = refuted (has_task (fired_where test h) t) (λ is. no_both (passed_fired test (firings h) t is) new) in
+        ap are_distinct_tasks (fired_where-fire test h t s ms cs) ∙ one_more (fired_where test h) t (test (record { task = t; spot = s; messages = ms; cuts = cs })) once out
+    kept h (Post m) legal allowed once = other h (Post m) refl once
+    kept h (Admit t) legal allowed once = other h (Admit t) refl once
+    kept h (Put t d) legal allowed once = other h (Put t d) refl once
+    kept h (Start t a) legal allowed once = other h (Start t a) refl once
+    kept h (End t how) legal allowed once = other h (End t how) refl once
+
+-- who is cut fired
+pub cut_more : (w : Parts) (h : List Event) (e : Event) → IsLegal w h → IsAllowed w h e → AreFired h (cut (e ∷ []))
+cut_more w h (Fire t s ms cs) legal allowed u is = let waits = cut_by w h t s ms cs (OneName-legal w h legal) allowed u is in (waits.1.firing, waits.1.is_firing)
+cut_more w h (Post m) legal allowed u is = absurd (cc)
+cut_more w h (Admit t) legal allowed u is = absurd (cc)
+cut_more w h (Put t d) legal allowed u is = absurd (cc)
+cut_more w h (Start t a) legal allowed u is = absurd (cc)
+cut_more w h (End t how) legal allowed u is = absurd (cc)
+
+pub cut_fired : (w : Parts) (h : List Event) → IsLegal w h → AreFired h (cut h)
+cut_fired w = along_legal w (λ h. AreFired h (cut h)) kept (λ u is. absurd (cc))
+  where
+    kept : (h : List Event) (e : Event) → IsLegal w h → IsAllowed w h e → AreFired h (cut h) → AreFired (h ++ e ∷ []) (cut (h ++ e ∷ []))
+    kept h e legal allowed known u is = IsFired-append h (e ∷ []) u (of_more (cut h) (cut (e ∷ [])) u _ (subst (λ ts. has_task ts u ≡ true) (cut-push h e) is) (known u) (cut_more w h e legal allowed u))

@@ -1,0 +1,205 @@
+-- The messages that a firing takes out of the ports are those that it names.
+use Rattle.std.proofs.Common.{◌≡◌, ℕ, zero, suc, ◌+◌, ◌-◌, ◌<◌, ◌≤◌, Bool, true, false, not, ◌&&◌, ◌||◌, List, [], ◌∷◌, ◌++◌, length, take, drop, filter, Some, inl, inr, refl, sym, ap, ◌∙◌, arith, subst}
+use Rattle.std.specs.Prelude.{◌==◌, if◌then◌else◌, find, filter_map}
+use Rattle.std.specs.List.{slice_get}
+use Rattle.std.proofs.lemmas.Bool.Decides.{nat_tests}
+use Rattle.ccr_base.specs.declared.names.MsgId.{MsgId}
+use Rattle.ccr_base.specs.declared.messages.Msg.{Msg}
+use Rattle.ccr_base.specs.declared.patterns.Slot.{Slot}
+use Rattle.ccr_base.specs.declared.patterns.Pattern.{Pattern}
+use Rattle.ccr_base.specs.declared.patterns.Pattern.TheVariants.{Slots, Gather}
+use Rattle.ccr_base.specs.declared.names.Spot.TheVariants.{Branch, Site}
+use Rattle.ccr_base.specs.Choice.{holds, fitting, choice}
+use Rattle.ccr_base.specs.Names.{same_message, has_message, same_lists}
+use Rattle.ccr_wiring.specs.declared.parts.Parts.{Parts}
+use Rattle.ccr_wiring.specs.Valid.{IsValid, has_port, are_apart, slot_ports}
+use Rattle.ccr_wiring.specs.Wirings.{Seat, seat, site_port}
+use Rattle.ccr_wiring.proofs.Soundness.{sound}
+use Rattle.ccr_model.specs.declared.history.Event.{Event}
+use Rattle.ccr_model.specs.Posts.{posts, taken, held, messages_named}
+use Rattle.ccr_model.specs.Choice.{names_of, choice_of_slots, are_first, are_split, are_oldest, is_choice_of, is_choice}
+use Rattle.ccr_model.specs.Legal.{IsLegal}
+use Rattle.ccr_model.proofs.Booleans.{both, neither, either, not_true, same_number}
+use Rattle.ccr_model.proofs.Members.{Among, Among-either}
+use Rattle.ccr_model.proofs.Options.{some_of}
+use Rattle.ccr_model.proofs.PostNames.{times, posted_once}
+use Rattle.ccr_model.proofs.SameNames.{same_message-is, same_message-self}
+use Rattle.ccr_model.proofs.TakenOnce.{joined_some, choice_some, times-filter, times-two}
+use Rattle.ccr_rows.specs.Rows.{row, with_row}
+use Rattle.ccr_held.specs.Taken.{shared}
+use Rattle.ccr_ledger.specs.Books.{Books}
+use Rattle.ccr_ledger.specs.Taking.{take_slot, take_slots, take_pattern, take_site}
+use Rattle.ccr_ledger.specs.Kept.{HasSizes, KeepsPorts}
+
+-- a member has its name among them, and is found by it
+times-among : (ms : List Msg) (m : Msg) → Among m ms → 0 < times m.id ms
+times-among [] m among = absurd among
+times-among (x ∷ ms) m (inl same) = rw (same, same_message-self x.id) (omega arith)
+times-among (x ∷ ms) m (inr more) = grind (arith, times-among ms m more)
+
+find-named : (ms : List Msg) (m : Msg) → Among m ms → times m.id ms ≤ 1 → find (λ (o : Msg). same_message o.id m.id) ms ≡ Some m
+find-named [] m among once = absurd among
+find-named (x ∷ ms) m (inl same) once = let here : same_message x.id m.id ≡ true = rw same (same_message-self x.id) in rw here (ap Some (sym same))
+find-named (x ∷ ms) m (inr more) once = of_test (same_message x.id m.id) refl (times-among ms m more) (find-named ms m more)
+  where
+    of_test : (b : Bool) → same_message x.id m.id ≡ b → 0 < times m.id ms → (times m.id ms ≤ 1 → find (λ (o : Msg). same_message o.id m.id) ms ≡ Some m) → (if b then Some x else find (λ (o : Msg). same_message o.id m.id) ms) ≡ Some m
+    of_test true is some rest = let two : times m.id (x ∷ ms) ≡ suc (times m.id ms) = rw is refl in absurd (omega (arith, two, some, once))
+    of_test false is some rest = let same : times m.id (x ∷ ms) ≡ times m.id ms = rw is refl in rest (omega (arith, same, once))
+
+-- some of the messages, found by their names
+named-found : (all ms : List Msg) → ((name : MsgId) → times name all ≤ 1) → ((m : Msg) → Among m ms → Among m all) → filter_map (λ name. find (λ (o : Msg). same_message o.id name) all) (names_of ms) ≡ ms
+named-found all [] once within = refl
+named-found all (m ∷ ms) once within = rw (find-named all m (within m (inl refl)) (once m.id)) (ap (λ (rest : List Msg). m ∷ rest) (named-found all ms once (λ x is. within x (inr is))))
+
+among-kept : (p : Msg → Bool) (ms : List Msg) (m : Msg) → Among m (filter p ms) → Among m ms
+among-kept p [] m among = among
+among-kept p (x ∷ ms) m among = of_test (p x) among (among-kept p ms m)
+  where
+    of_test : (b : Bool) → Among m (if b then x ∷ filter p ms else filter p ms) → (Among m (filter p ms) → Among m ms) → Among m (x ∷ ms)
+    of_test true (inl same) rest = inl same
+    of_test true (inr more) rest = inr (rest more)
+    of_test false more rest = inr (rest more)
+
+among-take : (n : ℕ) (ms : List Msg) (m : Msg) → Among m (take n ms) → Among m ms
+among-take zero ms m among = absurd among
+among-take (suc n) [] m among = absurd among
+among-take (suc n) (x ∷ ms) m (inl same) = inl same
+among-take (suc n) (x ∷ ms) m (inr more) = inr (among-take n ms m more)
+
+-- a write to one row leaves the others
+row-other : (rows : List (List Msg)) (n k : ℕ) (items : List Msg) → (n == k) ≡ false → row (with_row rows n items) k ≡ row rows k
+row-other [] n k items other = refl
+row-other (r ∷ rows) zero zero items other = absurd (cc)
+row-other (r ∷ rows) zero (suc k) items other = refl
+row-other (r ∷ rows) (suc n) zero items other = refl
+row-other (r ∷ rows) (suc n) (suc k) items other = row-other rows n k items (grind (arith, nat_tests, other))
+
+-- a port that stands there isn't one that doesn't
+apart_at : (ports : List ℕ) (place port other : ℕ) → slice_get ports place ≡ Some port → has_port ports other ≡ false → (other == port) ≡ false
+apart_at [] place port other is out = absurd (cc)
+apart_at (p ∷ ports) zero port other is out = let same : p ≡ port = cc in let parts = neither (p == other) (has_port ports other) out in grind (arith, nat_tests, same, parts.0)
+apart_at (p ∷ ports) (suc place) port other is out = apart_at ports place port other is (neither (p == other) (has_port ports other) out).1
+
+-- slots of different ports take their choice
+slots-take : (slots : List Slot) (ports : List (List Msg)) (held_at : ℕ → List Msg) (xs : List Msg) → ((place port : ℕ) → slice_get (slot_ports slots) place ≡ Some port → row ports port ≡ held_at port)
+    → are_apart (slot_ports slots) ≡ true → choice_of_slots held_at slots ≡ Some xs → (take_slots slots ports).messages ≡ xs
+slots-take [] ports held_at xs told once is = cc
+slots-take (slot ∷ slots) ports held_at xs told once is =
+    let parts = joined_some (choice slot (held_at slot.port)) (choice_of_slots held_at slots) xs is in
+    let apart = both (not (has_port (slot_ports slots) slot.port)) (are_apart (slot_ports slots)) once in
+    let out = not_true (has_port (slot_ports slots) slot.port) apart.0 in
+    let front : take slot.most (fitting slot.pred (row ports slot.port)) ≡ parts.0 = ap (λ ms. take slot.most (fitting slot.pred ms)) (told 0 slot.port refl) ∙ sym (choice_some slot (held_at slot.port) parts.0 parts.2) in
+    let back = slots-take slots (take_slot slot ports).ports held_at parts.1 (λ place port at. row-other ports slot.port port _ (apart_at (slot_ports slots) place port slot.port at out) ∙ told (suc place) port at) apart.1 parts.3 in
+    ap (λ ms. ms ++ (take_slots slots (take_slot slot ports).ports).messages) front ∙ (ap (λ ms. parts.0 ++ ms) back ∙ parts.4)
+
+-- what they choose is held
+choice-within : (slots : List Slot) (held_at : ℕ → List Msg) (all xs : List Msg) → ((port : ℕ) (m : Msg) → Among m (held_at port) → Among m all) → choice_of_slots held_at slots ≡ Some xs → (m : Msg) → Among m xs → Among m all
+choice-within [] held_at all xs within is m among = let none : xs ≡ [] = cc in absurd (subst (λ ms. Among m ms) none among)
+choice-within (slot ∷ slots) held_at all xs within is m among =
+    let parts = joined_some (choice slot (held_at slot.port)) (choice_of_slots held_at slots) xs is in
+    elim (Among-either m parts.0 parts.1 (subst (λ ms. Among m ms) (sym parts.4) among)) [
+      | inl here ↦ within slot.port m (among-kept (λ (o : Msg). holds slot.pred o.value) (held_at slot.port) m (among-take slot.most (fitting slot.pred (held_at slot.port)) m (subst (λ ms. Among m ms) (choice_some slot (held_at slot.port) parts.0 parts.2) here)))
+      | inr there ↦ choice-within slots held_at all parts.1 within parts.3 m there
+    ]
+
+-- the names of the first messages
+first-named : (ms : List Msg) (names : List MsgId) → are_first ms names ≡ true → names_of (take (length names) ms) ≡ names
+first-named ms [] is = refl
+first-named [] (n ∷ names) is = absurd (cc)
+first-named (m ∷ ms) (n ∷ names) is =
+    let parts = both (same_message m.id n) (are_first ms names) is in
+    ap (λ (id : MsgId). id ∷ names_of (take (length names) ms)) (same_message-is m.id n parts.0) ∙ ap (λ (ns : List MsgId). n ∷ ns) (first-named ms names parts.1)
+
+first-has : (ms : List Msg) (n : MsgId) (names : List MsgId) → are_first ms (n ∷ names) ≡ true → 0 < times n ms
+first-has [] n names is = absurd (cc)
+first-has (m ∷ ms) n names is = rw (both (same_message m.id n) (are_first ms names) is).0 (omega arith)
+
+-- the names of a split: of the first messages as many as are shared, then of the second
+split-named : (a b : List Msg) (names : List MsgId) → are_split a b names ≡ true → ((name : MsgId) → times name a + times name b ≤ 1) → names_of (take (shared a names) a ++ take (length names - shared a names) b) ≡ names
+split-named a b [] is apart = refl
+split-named [] b (n ∷ names) is apart =
+    let all : length (n ∷ names) ≡ length (n ∷ names) - 0 = omega arith in
+    subst (λ k. names_of (take k b) ≡ n ∷ names) all (first-named b (n ∷ names) is)
+split-named (m ∷ a) b (n ∷ names) is apart = of_test (same_message m.id n) refl is (split-named a b names)
+  where
+    of_test : (same : Bool) → same_message m.id n ≡ same → are_first b (n ∷ names) || (same && are_split a b names) ≡ true
+        → (are_split a b names ≡ true → ((name : MsgId) → times name a + times name b ≤ 1) → names_of (take (shared a names) a ++ take (length names - shared a names) b) ≡ names)
+        → names_of (take (if same then suc (shared a names) else 0) (m ∷ a) ++ take (length (n ∷ names) - (if same then suc (shared a names) else 0)) b) ≡ n ∷ names
+    of_test true e at rest =
+        let here : times n (m ∷ a) ≡ suc (times n a) = rw e refl in
+        let split = either (are_first b (n ∷ names)) (are_split a b names) at (are_split a b names ≡ true) (λ first. absurd (omega (arith, here, apart n, first-has b n names first))) (λ both_so. both_so) in
+        let fewer : length (n ∷ names) - suc (shared a names) ≡ length names - shared a names = omega arith in
+        let behind = rest split (λ name. omega (arith, apart name, times-more name)) in
+        ap (λ k. m.id ∷ names_of (take (shared a names) a ++ take k b)) fewer ∙ (ap (λ (id : MsgId). id ∷ names_of (take (shared a names) a ++ take (length names - shared a names) b)) (same_message-is m.id n e) ∙ ap (λ (ns : List MsgId). n ∷ ns) behind)
+      where
+        times-more : (name : MsgId) → times name a ≤ times name (m ∷ a)
+        times-more name = of_same (same_message m.id name)
+          where
+            of_same : (s : Bool) → times name a ≤ length (if s then m ∷ filter (λ (o : Msg). same_message o.id name) a else filter (λ (o : Msg). same_message o.id name) a)
+            of_same true = omega arith
+            of_same false = omega arith
+    of_test false e at rest =
+        let first = either (are_first b (n ∷ names)) false at (are_first b (n ∷ names) ≡ true) (λ f. f) (λ never. absurd (cc)) in
+        let all : length (n ∷ names) ≡ length (n ∷ names) - 0 = omega arith in
+        subst (λ k. names_of (take k b) ≡ n ∷ names) all (first-named b (n ∷ names) first)
+
+-- the same by their names, the same
+same_messages-is : (xs ys : List MsgId) → same_lists same_message xs ys ≡ true → xs ≡ ys
+same_messages-is [] [] is = refl
+same_messages-is [] (y ∷ ys) is = absurd (cc)
+same_messages-is (x ∷ xs) [] is = absurd (cc)
+same_messages-is (x ∷ xs) (y ∷ ys) is = let parts = both (same_message x y) (same_lists same_message xs ys) is in rw (same_message-is x y parts.0, same_messages-is xs ys parts.1) refl
+
+module _ (w : Parts) (valid : IsValid w) (h : List Event) (legal : IsLegal w h) (b : Books) (sizes : HasSizes w b) (ports : KeepsPorts w h b) where
+  held-posted : (port : ℕ) (m : Msg) → Among m (held h port) → Among m (posts h)
+  held-posted port m among = among-kept (λ (o : Msg). o.port == port) (posts h) m (among-kept (λ (o : Msg). not (has_message (taken h) o.id)) _ m among)
+
+  -- posted messages of these names are the ones that are found by them
+  found : (ms : List Msg) (names : List MsgId) → names_of ms ≡ names → ((m : Msg) → Among m ms → Among m (posts h)) → ms ≡ messages_named h names
+  found ms names same within = sym (named-found (posts h) ms (posted_once w h legal) within) ∙ ap (messages_named h) same
+
+  of_slots : (slots : List Slot) (names : List MsgId) → ((place port : ℕ) → slice_get (slot_ports slots) place ≡ Some port → port < length w.ports) → are_apart (slot_ports slots) ≡ true → is_choice_of (held h) (Slots slots) names ≡ true
+      → (take_slots slots b.ports).messages ≡ messages_named h names
+  of_slots slots names low once is =
+      let made = some_of (λ (ms : List Msg). same_lists same_message (names_of ms) names) (choice_of_slots (held h) slots) is in
+      slots-take slots b.ports (held h) made.0 (λ place port at. ports.ports port (low place port at)) once made.1
+      ∙ found made.0 names (same_messages-is (names_of made.0) names made.2) (choice-within slots (held h) (posts h) made.0 held-posted made.1)
+
+  of_gather : (total first second : ℕ) (names : List MsgId) → first < length w.ports → second < length w.ports → not (first == second) ≡ true → is_choice_of (held h) (Gather total first second) names ≡ true
+      → (take_pattern (Gather total first second) names b.ports).messages ≡ messages_named h names
+  of_gather total first second names low_first low_second once is =
+      let split = (both (length names == total) (are_split (held h first) (held h second) names) is).1 in
+      let one = ports.ports first low_first in
+      let other = row-other b.ports first second (drop (shared (row b.ports first) names) (row b.ports first)) (not_true (first == second) once) ∙ ports.ports second low_second in
+      let apart : (name : MsgId) → times name (held h first) + times name (held h second) ≤ 1 =
+      λ name. omega (arith, times-two name (λ (m : Msg). not (has_message (taken h) m.id)) first second once (posts h), times-filter name (λ (m : Msg). not (has_message (taken h) m.id)) (posts h), posted_once w h legal name) in
+      let takes : List Msg = take (shared (held h first) names) (held h first) ++ take (length names - shared (held h first) names) (held h second) in
+      ap (λ ms. take (shared ms names) ms ++ take (length names - shared ms names) (row (with_row b.ports first (drop (shared (row b.ports first) names) (row b.ports first))) second)) one
+      ∙ (ap (λ ms. take (shared (held h first) names) (held h first) ++ take (length names - shared (held h first) names) ms) other
+      ∙ found takes names (split-named (held h first) (held h second) names split apart) within)
+    where
+      within : (m : Msg) → Among m (take (shared (held h first) names) (held h first) ++ take (length names - shared (held h first) names) (held h second)) → Among m (posts h)
+      within m among = elim (Among-either m (take (shared (held h first) names) (held h first)) _ among) [
+        | inl here ↦ held-posted first m (among-take (shared (held h first) names) (held h first) m here)
+        | inr there ↦ held-posted second m (among-take (length names - shared (held h first) names) (held h second) m there)
+      ]
+
+  of_pattern : (p : Pattern) (n : ℕ) (s : Seat) (names : List MsgId) → seat w n ≡ Some s → s.branch.pattern ≡ p → is_choice_of (held h) p names ≡ true → (take_pattern p names b.ports).messages ≡ messages_named h names
+  of_pattern (Slots slots) n s names at one is = of_slots slots names (λ place port there. (sound w valid).pattern_ports n s place port at (rw one there)) (rw one at ((sound w valid).apart n s at)) is
+  of_pattern (Gather total first second) n s names at one is =
+      of_gather total first second names ((sound w valid).pattern_ports n s 0 first at (rw one refl)) ((sound w valid).pattern_ports n s 1 second at (rw one refl)) (rw one at ((sound w valid).apart n s at)) is
+
+  -- at a branch
+  pub branch-takes : (n : ℕ) (s : Seat) (names : List MsgId) → seat w n ≡ Some s → is_choice w h (Branch n) names ≡ true → (take_pattern s.branch.pattern names b.ports).messages ≡ messages_named h names
+  branch-takes n s names at is = of_pattern s.branch.pattern n s names at refl (rw at at is)
+
+  -- at a site
+  pub site-takes : (n k : ℕ) (names : List MsgId) → is_choice w h (Site n k) names ≡ true → (take_site (site_port w n k) b.ports).messages ≡ messages_named h names
+  site-takes n k names is =
+      let found_port = some_of (λ port. are_oldest (held h port) names) (site_port w n k) is in
+      rw found_port.1 (of_port found_port.0 ((sound w valid).site_ports n k found_port.0 found_port.1) (both (length names == 1) (are_first (held h found_port.0) names) found_port.2))
+    where
+      of_port : (port : ℕ) → port < length w.ports → ((length names == 1) ≡ true) × (are_first (held h port) names ≡ true) → take 1 (row b.ports port) ≡ messages_named h names
+      of_port port low parts =
+          let one : length names ≡ 1 = same_number (length names) 1 parts.0 in
+          ap (take 1) (ports.ports port low) ∙ found (take 1 (held h port)) names (subst (λ k. names_of (take k (held h port)) ≡ names) one (first-named (held h port) names parts.1)) (λ m among. held-posted port m (among-take 1 (held h port) m among))

@@ -1,0 +1,115 @@
+-- The card of a task that fired, and the seat of its branch.
+use Rattle.std.proofs.Common.{◌≡◌, ℕ, inl, inr, Bool, true, false, List, [], ◌∷◌, Option, Some, refl, sym, ap, ◌∙◌}
+use Rattle.std.specs.Prelude.{◌==◌, if◌then◌else◌, find, option_map}
+use Rattle.std.specs.Option.{option_map_or}
+use Rattle.ccr_base.specs.declared.names.TaskId.{TaskId}
+use Rattle.ccr_base.specs.Names.{same_task}
+use Rattle.ccr_wiring.specs.declared.parts.Parts.{Parts}
+use Rattle.ccr_wiring.specs.Wirings.{Seat, seat, branch_of}
+use Rattle.ccr_model.specs.declared.history.Event.{Event}
+use Rattle.ccr_model.specs.Firings.{Firing, firings, firing_named}
+use Rattle.ccr_model.specs.TaskData.{seat_of}
+use Rattle.ccr_model.specs.Sites.{root_of}
+use Rattle.ccr_model.specs.Tasks.{is_for_queue, is_concurrent}
+use Rattle.ccr_model.specs.Legal.{IsLegal}
+use Rattle.ccr_model.proofs.Members.{Among}
+use Rattle.ccr_model.proofs.Seated.{firing_seated}
+use Rattle.ccr_model.proofs.FiredTasks.{IsFired}
+use Rattle.ccr_model.proofs.TaskPlaces.{seat_by}
+use Rattle.ccr_ledger.specs.declared.cards.Card.{Card}
+use Rattle.ccr_ledger.specs.declared.cards.Stage.{Stage}
+use Rattle.ccr_ledger.specs.Books.{Books, card_at, in_stage, moved}
+use Rattle.ccr_ledger.specs.Kept.{KeepsTasks, card_of, is_admitted}
+use Rattle.ccr_ledger.proofs.Tables.{card-changed}
+
+-- who is found is among them
+pub found_among : (p : Firing → Bool) (fs : List Firing) (f : Firing) → find p fs ≡ Some f → Among f fs
+found_among p [] f is = absurd (cc)
+found_among p (g ∷ fs) f is = of_test (p g) is (found_among p fs f)
+  where
+    of_test : (b : Bool) → (if b then Some g else find p fs) ≡ Some f → (find p fs ≡ Some f → Among f fs) → Among f (g ∷ fs)
+    of_test true at rest = let same : f ≡ g = cc in inl same
+    of_test false at rest = inr (rest at)
+
+-- what stands on the card of a task that fired
+pub record CardFacts (w : Parts) (h : List Event) (t : TaskId) (b : Books) : Type 0 where
+  pub card : Card
+  pub is_card : card_at b.tasks t ≡ Some card
+  pub firing : Firing
+  pub is_firing : firing_named h t ≡ Some firing
+  pub place : Seat
+  pub is_place : seat w (branch_of firing.spot) ≡ Some place
+  pub is_seat : seat_of w h t ≡ Some place
+  pub spot : card.spot ≡ firing.spot
+  pub queue : card.queue ≡ place.branch.queue
+  pub domain : card.domain ≡ place.arbiter
+  pub concurrent : card.concurrent ≡ is_concurrent place.branch.group
+  pub root : card.root ≡ root_of h t
+  pub admitted : card.admitted ≡ is_admitted h t
+
+pub CardFacts-fired : (w : Parts) (h : List Event) (t : TaskId) (b : Books) → IsLegal w h → KeepsTasks w h b → IsFired h t → CardFacts w h t b
+CardFacts-fired w h t b legal tasks fired =
+    let f = fired.0 in
+    let seated = firing_seated w h legal f (found_among (λ (g : Firing). same_task g.task t) (firings h) f fired.1) in
+    record {
+      card = card_of w h t f;
+      is_card = tasks.cards t ∙ ap (option_map (card_of w h t)) fired.1;
+      firing = f;
+      is_firing = fired.1;
+      place = seated.0;
+      is_place = seated.1;
+      is_seat = seat_by w h t f fired.1 ∙ seated.1;
+      spot = refl;
+      queue = ap (λ o. option_map_or (λ (s : Seat). s.branch.queue) o 0) seated.1;
+      domain = ap (λ o. option_map_or (λ (s : Seat). s.arbiter) o 0) seated.1;
+      concurrent = ap (λ o. option_map_or (λ (s : Seat). is_concurrent s.branch.group) o false) seated.1;
+      root = refl;
+      admitted = refl;
+    }
+
+-- another stage of a card changes nothing of this
+pub card_moved : (w : Parts) (h : List Event) (stage : Stage) (x : TaskId) (b d : Books) (t : TaskId) → d.tasks ≡ moved stage x b.tasks → CardFacts w h t b → CardFacts w h t d
+card_moved w h stage x b d t same facts = of_test (same_task x t) refl
+  where
+    at : card_at d.tasks t ≡ (if same_task x t then option_map (in_stage stage) (card_at b.tasks t) else card_at b.tasks t)
+    at = ap (λ cards. card_at cards t) same ∙ card-changed (in_stage stage) b.tasks x t
+
+    of_test : (is : Bool) → same_task x t ≡ is → CardFacts w h t d
+    of_test false other = record {
+      card = facts.card;
+      is_card = at ∙ rw other facts.is_card;
+      firing = facts.firing;
+      is_firing = facts.is_firing;
+      place = facts.place;
+      is_place = facts.is_place;
+      is_seat = facts.is_seat;
+      spot = facts.spot;
+      queue = facts.queue;
+      domain = facts.domain;
+      concurrent = facts.concurrent;
+      root = facts.root;
+      admitted = facts.admitted;
+    }
+    of_test true here = record {
+      card = in_stage stage facts.card;
+      is_card = at ∙ rw (here, facts.is_card) refl;
+      firing = facts.firing;
+      is_firing = facts.is_firing;
+      place = facts.place;
+      is_place = facts.is_place;
+      is_seat = facts.is_seat;
+      spot = facts.spot;
+      queue = facts.queue;
+      domain = facts.domain;
+      concurrent = facts.concurrent;
+      root = facts.root;
+      admitted = facts.admitted;
+    }
+
+-- one task has one seat
+pub same_seat : (s r : Seat) (o : Option Seat) → o ≡ Some s → o ≡ Some r → s ≡ r
+same_seat s r o one other = let same : Some s ≡ Some r = sym one ∙ other in cc
+
+-- whether the task is for the queue, by its card
+pub for_queue : (w : Parts) (h : List Event) (t : TaskId) (b : Books) (facts : CardFacts w h t b) (q : ℕ) → is_for_queue w h q t ≡ (facts.card.queue == q)
+for_queue w h t b facts q = ap (λ o. option_map_or (λ (s : Seat). s.branch.queue == q) o false) facts.is_seat ∙ ap (λ n. n == q) (sym facts.queue)
