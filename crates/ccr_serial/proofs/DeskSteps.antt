@@ -4,6 +4,7 @@ use Rattle.std.specs.Prelude.{◌==◌, if◌then◌else◌, option_map}
 use Rattle.std.specs.List.{slice_get}
 use Rattle.std.specs.Option.{option_map_or}
 use Rattle.std.proofs.lemmas.Bool.Decides.{nat_tests}
+use Rattle.std.proofs.lemmas.List.{length-map}
 use Rattle.ccr_base.specs.declared.names.TaskId.{TaskId}
 use Rattle.ccr_base.specs.Names.{same_task}
 use Rattle.ccr_wiring.specs.declared.parts.Parts.{Parts}
@@ -56,10 +57,6 @@ attempt_kept c h (Put t d) n known = rw (firings-other h (Put t d) refl) known
 attempt_kept c h (Start t a) n known = rw (firings-other h (Start t a) refl) known
 attempt_kept c h (End t how) n known = rw (firings-other h (End t how) refl) known
 
-length-names : {X : Type 0} (xs : List (TaskId × X)) → length (map (λ entry. entry.0) xs) ≡ length xs
-length-names [] = refl
-length-names (x ∷ xs) = ap suc (length-names xs)
-
 where_needed : (needs there was : Bool) → (if needs then there || was else was) ≡ (there && needs) || was
 where_needed true true was = refl
 where_needed true false was = refl
@@ -71,7 +68,7 @@ module _ (w : Parts) (h : List Event) (b : Books) (keeps : Keeps w h b) where
   number_known t f place is = rw (keeps.tasks.cards t, is) refl
 
   tasks_counted : length b.tasks ≡ length (fired h)
-  tasks_counted = sym (length-names b.tasks) ∙ ap length keeps.tasks.names
+  tasks_counted = sym (length-map b.tasks (λ (entry : TaskId × Card). entry.0)) ∙ ap length keeps.tasks.names
 
   ready_kept : (e : Event) (old new : List ℕ) → IsLegal w h → IsAllowed w h e → AreReady w h old → ((place : ℕ) → has_number new place ≡ after_ready w b e old place) → AreReady w (h ++ e ∷ []) new
   ready_kept (Fire t s ms cs) old new legal allowed known changed = ready-fire w h t s ms cs old new legal allowed known (λ place. subst (λ n. has_number new place ≡ ((place == n) && needs_no_admission w s) || has_number old place) tasks_counted (changed place ∙ where_needed (needs_no_admission w s) (place == length b.tasks) (has_number old place)))

@@ -10,7 +10,7 @@ pub mod Finished
 pub mod Rooms
 pub mod Takes
 pub mod Touching
-pub mod Places
+pub mod Lowering
 pub mod Posters
 pub mod MayPut
 pub mod NumberSets
@@ -22,3 +22,6 @@ pub mod Firsts
 pub mod PartSteps
 pub mod Along
 pub mod Reading
+pub mod FirstPlaces
+pub mod SpotPlaces
+pub mod TouchedPlaces

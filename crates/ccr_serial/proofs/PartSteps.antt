@@ -2,7 +2,7 @@
 use Rattle.std.proofs.Common.{◌≡◌, ◌∙◌, ℕ, zero, suc, ◌+◌, ◌-◌, ◌<◌, ◌≤◌, Bool, true, false, List, [], ◌∷◌, length, take, drop, Option, None, Some, ◌⊎◌, inl, inr, refl, sym, subst, arith}
 use Rattle.std.specs.Prelude.{nat_le, is_some, min, if◌then◌else◌}
 use Rattle.std.proofs.Math.ListN.{get_or}
-use Rattle.std.proofs.lemmas.Option.{slice_get-get_or}
+use Rattle.std.proofs.lemmas.Option.{slice_get-get_or, slice_get_past}
 use Rattle.std.proofs.lemmas.Bool.Decides.{nat_tests}
 use Rattle.std.specs.Prelude.{option_map}
 use Rattle.std.specs.List.{slice_get}
@@ -24,13 +24,8 @@ use Rattle.ccr_serial.specs.Cursor.{lowered}
 use Rattle.ccr_serial.specs.Parts.{admit_in, are_done_in, fire_in, first_admit_in, first_fire_in, line_in, post_in, some_fires_in, start_in}
 
 -- a poster is done where it has no next line
-past : {X : Type 0} (xs : List X) (n : ℕ) → length xs ≤ n → slice_get xs n ≡ None
-past [] n few = refl
-past (x ∷ xs) zero few = absurd (omega arith)
-past (x ∷ xs) (suc n) few = past xs n (omega arith)
-
 no_line : (b : Books) (n : ℕ) (p : PosterPart) → nat_le (length p.posts) (number b.said n) ≡ true → line_in b n p ≡ None
-no_line b n p full = let none : slice_get p.posts (number b.said n) ≡ None = past p.posts (number b.said n) (grind (arith, nat_tests, full)) in rw none refl
+no_line b n p full = let none : slice_get p.posts (number b.said n) ≡ None = slice_get_past p.posts (number b.said n) (grind (arith, nat_tests, full)) in rw none refl
 
 line_none : (b : Books) (n : ℕ) (p : PosterPart) → line_in b n p ≡ None → nat_le (length p.posts) (number b.said n) ≡ true
 line_none b n p none =
@@ -40,12 +35,6 @@ line_none b n p none =
 not_some : {X : Type 0} (o : Option X) → is_some o ≡ false → o ≡ None
 not_some None is = refl
 not_some (Some x) is = absurd (cc)
-
-drop_all : {X : Type 0} (n : ℕ) (xs : List X) → length xs ≤ n → drop n xs ≡ []
-drop_all zero [] all = refl
-drop_all (suc n) [] all = refl
-drop_all zero (x ∷ xs) all = absurd (omega arith)
-drop_all (suc n) (x ∷ xs) all = drop_all n xs (omega arith)
 
 -- the domain at a place first, and then those after it
 pub first_admit_in-drop : (b : Books) (xs : List ArbiterPart) (i n : ℕ) → i < length xs → first_admit_in b n (drop i xs) ≡ option_or (admit_in b (slice_get (row b.waiting n) 0)) (first_admit_in b (n + 1) (drop (i + 1) xs))
@@ -134,64 +123,5 @@ fire_stops w t b now ss xs i d r e kept same lt none asked is = rw (← kept) (s
 
 pub fire_ends : (w : Parts) (t : TaskId) (b now : Books) (xs : List Spot) (i : ℕ) → now ≡ b → some_fires_in w t now (take i xs) ≡ false → length xs ≤ i → None ≡ first_fire_in w t b xs
 fire_ends w t b now xs i kept none all = rw (← kept) (sym (fire_none w t now i xs none all))
-
--- over plain variables: the item there is read, and stops the walk or lets it pass
-lowered-drop : {T : Type 0} (test : T → Bool) (xs : List T) (i n : ℕ) (x : T) → i < n → slice_get xs i ≡ Some x → lowered test (drop i xs) (n - i) ≡ (if test x then zero else suc (lowered test (drop (i + 1) xs) (n - (i + 1))))
-lowered-drop test [] i n x lt at = absurd (cc)
-lowered-drop test (y ∷ xs) zero zero x lt at = absurd (omega arith)
-lowered-drop test (y ∷ xs) zero (suc n) x lt at =
-    let same : y ≡ x = cc in
-    let one : suc n - 0 ≡ suc n = omega arith in
-    let two : suc n - (0 + 1) ≡ n = omega arith in
-    rw (same, one, two) refl
-lowered-drop test (y ∷ xs) (suc i) zero x lt at = absurd (omega arith)
-lowered-drop test (y ∷ xs) (suc i) (suc n) x lt at =
-    let e : suc i + 1 ≡ suc (i + 1) = omega arith in
-    let one : suc n - suc i ≡ n - i = omega arith in
-    let two : suc n - suc (i + 1) ≡ n - (i + 1) = omega arith in
-    rw (e, one, two) (lowered-drop test xs i n x (omega (arith, lt)) at)
-
-lowered-stop : (b : Bool) (r i m k : ℕ) → i + r ≡ m → r ≡ (if b then zero else suc k) → b ≡ true → i ≡ m
-lowered-stop true r i m k whole is stop = omega (arith, whole, is)
-lowered-stop false r i m k whole is stop = absurd (cc)
-
-lowered-pass : (b : Bool) (r i m k : ℕ) → i + r ≡ m → r ≡ (if b then zero else suc k) → b ≡ false → (i + 1) + k ≡ m
-lowered-pass true r i m k whole is pass = absurd (cc)
-lowered-pass false r i m k whole is pass = omega (arith, whole, is)
-
-pub place_stops : {T : Type 0} (test : T → Bool) (ss xs : List T) (i n : ℕ) (d : T) (r : Bool) → ss ≡ xs → r ≡ test (get_or ss i d) → r ≡ true → i < n → i < length ss → i + lowered test (drop i xs) (n - i) ≡ lowered test xs n → i ≡ lowered test xs n
-place_stops test ss xs i n d r same asked is lt within so_far =
-    lowered-stop (test (get_or ss i d)) (lowered test (drop i xs) (n - i)) i (lowered test xs n) (lowered test (drop (i + 1) xs) (n - (i + 1))) so_far (lowered-drop test xs i n (get_or ss i d) lt (read ss xs i d same within)) (sym asked ∙ is)
-
-pub place_passes : {T : Type 0} (test : T → Bool) (ss xs : List T) (i n : ℕ) (d : T) (r : Bool) → ss ≡ xs → r ≡ test (get_or ss i d) → r ≡ false → i < n → i < length ss → i + lowered test (drop i xs) (n - i) ≡ lowered test xs n → (i + 1) + lowered test (drop (i + 1) xs) (n - (i + 1)) ≡ lowered test xs n
-place_passes test ss xs i n d r same asked is lt within so_far =
-    lowered-pass (test (get_or ss i d)) (lowered test (drop i xs) (n - i)) i (lowered test xs n) (lowered test (drop (i + 1) xs) (n - (i + 1))) so_far (lowered-drop test xs i n (get_or ss i d) lt (read ss xs i d same within)) (sym asked ∙ is)
-
--- nothing before the end stops it
-lowered-rest : {T : Type 0} (test : T → Bool) (xs : List T) (i n : ℕ) → (n ≤ i) ⊎ (length xs ≤ i) → i ≤ n → i + lowered test (drop i xs) (n - i) ≡ n
-lowered-rest test xs i n (inl few) le =
-    let none : n - i ≡ 0 = omega (arith, few) in
-    rw none (at_zero (drop i xs))
-  where
-    at_zero : (ys : List _) → i + lowered test ys 0 ≡ n
-    at_zero [] = omega (arith, few, le)
-    at_zero (y ∷ ys) = omega (arith, few, le)
-lowered-rest test xs i n (inr all) le =
-    let none : drop i xs ≡ [] = drop_all i xs all in
-    rw none (of_number (n - i) (omega (arith, le)))
-  where
-    of_number : (k : ℕ) → i + k ≡ n → i + lowered test [] k ≡ n
-    of_number zero whole = whole
-    of_number (suc k) whole = whole
-
-pub min_reached : (n m i : ℕ) → min n m ≤ i → (n ≤ i) ⊎ (m ≤ i)
-min_reached n m i over = of_test (nat_le n m) refl
-  where
-    of_test : (b : Bool) → nat_le n m ≡ b → (n ≤ i) ⊎ (m ≤ i)
-    of_test true is = inl (grind (arith, nat_tests, over, is))
-    of_test false is = inr (grind (arith, nat_tests, over, is))
-
-pub place_ends : {T : Type 0} (test : T → Bool) (ss xs : List T) (i n : ℕ) → ss ≡ xs → (n ≤ i) ⊎ (length ss ≤ i) → i ≤ n → i + lowered test (drop i xs) (n - i) ≡ lowered test xs n → n ≡ lowered test xs n
-place_ends test ss xs i n same over le so_far = sym (lowered-rest test xs i n (rw (← same) over) le) ∙ so_far
 
 pub ruleset part_steps = (first_admit_in-drop, start_in-drop)

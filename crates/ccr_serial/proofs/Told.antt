@@ -35,7 +35,7 @@ use Rattle.ccr_serial.specs.Ready.{AreReady, IsLeast}
 use Rattle.ccr_serial.specs.Parts.{line_in, post_in, fire_in, first_fire_in, admit_in, first_admit_in, put_in, run_in, run_with_in, start_in, comes_to, yields_in, touches_branch_in, touches_in}
 use Rattle.ccr_serial.specs.Desk.{AreTold, after_place}
 use Rattle.ccr_serial.proofs.Touching.{still}
-use Rattle.ccr_serial.proofs.Places.{lowered-none}
+use Rattle.ccr_serial.proofs.Lowering.{lowered-none}
 use Rattle.ccr_serial.proofs.ReadyNumbers.{first_ready, none_ready}
 
 -- over plain lists: who passes nowhere by the wider test passes nowhere by the narrower

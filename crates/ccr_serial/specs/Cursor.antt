@@ -27,17 +27,3 @@ after_touch wiring history event place = lowered (touches wiring history event) 
 abbrev pub are_done : List Event → ℕ → List PosterPart → Bool
 are_done history number [] = true
 are_done history number (poster ∷ posters) = nat_le (length poster.posts) (posts_of_poster history number) && are_done history (number + 1) posters
-
--- how many of the first ones the test refuses
-abbrev pub idle : {T : Type 0} → (T → Bool) → List T → ℕ
-idle test [] = zero
-idle test (item ∷ items) = if test item then zero else suc (idle test items)
-
--- the first place at this one or behind it where the test passes
-abbrev pub raised : {T : Type 0} → (T → Bool) → List T → ℕ → ℕ
-raised test items n = n + idle test (drop n items)
-
--- of the posters, of which the first has this number, how many of the first ones have no line left
-abbrev pub done_count : List Event → ℕ → List PosterPart → ℕ
-done_count history number [] = zero
-done_count history number (poster ∷ posters) = if nat_le (length poster.posts) (posts_of_poster history number) then suc (done_count history (number + 1) posters) else zero

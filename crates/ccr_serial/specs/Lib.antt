@@ -2,6 +2,7 @@ pub mod Potential
 pub mod Engine
 pub mod Steps
 pub mod Touched
+pub mod Places
 pub mod Cursor
 pub mod Ready
 pub mod Parts

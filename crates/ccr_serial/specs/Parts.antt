@@ -83,6 +83,11 @@ comes_to books queue task = option_map_or (λ (card : Card). is_branch card.spot
 abbrev pub yields_in : Books → Spot → TaskId → Bool
 yields_in books site task = option_map_or (λ (card : Card). same_spot (next_site card.spot) site) (card_at books.tasks task) false
 
+-- whether the spot is a branch on a throttle queue for which a branch fired the task
+abbrev pub frees_in : Parts → Books → TaskId → Spot → Bool
+frees_in wiring books task (Branch branch) = option_map_or (λ (s : Seat). is_throttle (policy_of wiring s.branch.queue) && comes_to books s.branch.queue task) (seat wiring branch) false
+frees_in wiring books task (Site branch site) = false
+
 -- a branch: a post to a port that it names, or a place that becomes free in its throttle queue
 abbrev pub touches_branch_in : Parts → Books → Event → Seat → Bool
 touches_branch_in wiring books event s = names_any (posts_to event) s.branch.pattern || (is_throttle (policy_of wiring s.branch.queue) && list_any (comes_to books s.branch.queue) (freed_by event))

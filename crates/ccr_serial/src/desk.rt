@@ -8,6 +8,7 @@ ghost use Rattle.ccr_serial.specs.Desk.{Follows, IsAhead, IsIdle, after_attempt,
 
 use crate::numbers::Numbers;
 use crate::parts::{first_admit, first_fire, first_post, first_put, first_run, first_start};
+use crate::places::Places;
 use crate::touched::place_after;
 use ccr_base::{ActorNo, OutOfMemory, Spot, TaskId};
 use ccr_ledger::Ledger;
@@ -151,14 +152,15 @@ impl Desk {
     /// Enters the event, which is allowed after those before it.
     pub(crate) fn push(
         &mut self,
-        wiring: &Wiring,
+        places: &Places<'_>,
         closer: ActorNo,
         event: &Event,
     ) -> Result<(), OutOfMemory>
         requires { after_attempt closer event.now self.old.attempt < 2 ^ 32 }
-        ensures { OnOk result (Follows wiring.now closer event.now self.old self.new) }
+        ensures { OnOk result (Follows places.now closer event.now self.old self.new) }
     {
-        let place = place_after(&self.ledger, wiring, event, self.place);
+        let wiring = places.wiring();
+        let place = place_after(&self.ledger, places, event, self.place);
         let attempt = attempt_after(closer, event, self.attempt);
         note_ready(&self.ledger, wiring, event, &mut self.ready)?;
         self.ledger.push(wiring, event)?;

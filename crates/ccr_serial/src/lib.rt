@@ -7,6 +7,7 @@ mod desk_laws;
 mod laws;
 mod numbers;
 mod parts;
+mod places;
 mod ready_laws;
 mod serial;
 mod standing;

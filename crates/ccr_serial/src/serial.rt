@@ -4,10 +4,12 @@ ghost use Rattle.std.specs.Prelude.{◌≡◌, ◌<◌, ◌≤◌, ◌^◌, ◌+
 ghost use Rattle.ccr_model.specs.Firings.{fired};
 ghost use Rattle.ccr_model.specs.Legal.{IsAllowed, IsLegal, IsQuiet, is_complete};
 ghost use Rattle.ccr_model.specs.Order.{next_attempt, IsFinished};
+ghost use Rattle.ccr_ledger.specs.Events.{empty_books};
 ghost use Rattle.ccr_serial.specs.Engine.{next_event, next_engine};
 ghost use Rattle.ccr_serial.specs.Steps.{event_of};
 
 use crate::desk::Desk;
+use crate::places::Places;
 use crate::standing::{enter, next_of};
 use ccr_base::{ActorNo, OutOfMemory};
 use ccr_model::{Event, History};
@@ -25,7 +27,7 @@ pub enum Stepped {
 /// An engine over a wiring, with its history so far.
 #[derive(Drop)]
 pub struct Serial<'w> {
-    wiring: &'w Wiring,
+    places: Places<'w>,
     closer: ActorNo,
     history: History,
     alloc: Global,
@@ -41,9 +43,17 @@ impl<'w> Model for Serial<'w> {
 
     ghost Value = { Engine };
 
-    ghost view = { λ s. record { wiring = s.wiring.now; closer = s.closer; history = s.history } };
+    ghost view = { λ s. record { wiring = s.places; closer = s.closer; history = s.history } };
 
-    ghost invariant = { λ s. IsRead (record { wiring = s.wiring.now; closer = s.closer; history = s.history }) s.desk s.current };
+    ghost invariant = { λ s. IsRead (record { wiring = s.places; closer = s.closer; history = s.history }) s.desk s.current };
+}
+
+/// The wiring's first places, and an empty desk.
+fn begin<'w>(alloc: Global, wiring: &'w Wiring) -> Result<(Places<'w>, Desk), OutOfMemory>
+    ensures places { IfOk result (λ both. both.0 ≡ wiring.now) }
+    ensures desk { IfOk result (λ both. both.1 ≡ record { books = empty_books wiring.now; attempt = 0; poster = 0; place = 0; ready = [] }) }
+{
+    Ok((Places::new(alloc, wiring)?, Desk::new(alloc, wiring)?))
 }
 
 impl<'w> Serial<'w> {
@@ -54,12 +64,13 @@ impl<'w> Serial<'w> {
         ensures { IfOk result (λ engine. engine ≡ record { wiring = wiring.now; closer = closer; history = [] }) }
     {
         wiring.parts();
+        let (places, desk) = begin(alloc, wiring)?;
         Ok(Serial {
-            wiring,
+            places,
             closer,
             history: History::new(alloc),
             alloc,
-            desk: Desk::new(alloc, wiring)?,
+            desk,
             current: true,
         })
     }
@@ -79,9 +90,9 @@ impl<'w> Serial<'w> {
         ensures returned { IfErr result (λ refused. refused.1 ≡ history) }
     {
         wiring.parts();
-        match Desk::new(alloc, wiring) {
-            Ok(desk) => Ok(Serial {
-                wiring,
+        match begin(alloc, wiring) {
+            Ok((places, desk)) => Ok(Serial {
+                places,
                 closer,
                 history,
                 alloc,
@@ -110,7 +121,7 @@ impl<'w> Serial<'w> {
     {
         let next = next_of(
             self.alloc,
-            self.wiring,
+            &self.places,
             self.closer,
             &self.history,
             &mut self.desk,
@@ -121,7 +132,7 @@ impl<'w> Serial<'w> {
         };
         let kept = event.copy(self.alloc)?;
         enter(
-            self.wiring,
+            &self.places,
             self.closer,
             &mut self.history,
             &mut self.desk,
@@ -151,7 +162,7 @@ impl<'w> Serial<'w> {
     {
         let next = next_of(
             self.alloc,
-            self.wiring,
+            &self.places,
             self.closer,
             &self.history,
             &mut self.desk,
@@ -161,7 +172,7 @@ impl<'w> Serial<'w> {
             return Ok(false);
         };
         enter(
-            self.wiring,
+            &self.places,
             self.closer,
             &mut self.history,
             &mut self.desk,

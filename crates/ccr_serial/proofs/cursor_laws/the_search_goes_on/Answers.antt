@@ -1,4 +1,4 @@
-use Rattle.ccr_serial.proofs.Places.{fire_from-drop}
+use Rattle.ccr_serial.proofs.Lowering.{fire_from-drop}
 use Rattle.ccr_serial.proofs.cursor_laws.the_search_goes_on.Goals as goal
 
 pub returns : goal.returns

@@ -1,4 +1,6 @@
-use Rattle.std.proofs.Common.{arith}
+use Rattle.std.proofs.Common.{◌≡◌, subst, arith}
+use Rattle.ccr_wiring.specs.declared.parts.Parts.{Parts}
+use Rattle.ccr_serial.specs.Desk.{IsAhead, first_in}
 use Rattle.ccr_serial.proofs.Valid.{HasFewParts-valid}
 use Rattle.ccr_serial.proofs.Along.{idle_by, first_by, ahead_by}
 use Rattle.ccr_serial.proofs.Runs.{IsSound-attempts}
@@ -7,14 +9,17 @@ use Rattle.ccr_serial.proofs.standing.next_of.Goals as goal
 pub make_current-requires-clause-attempts : goal.make_current-requires-clause-attempts
 make_current-requires-clause-attempts c = IsSound-attempts _ c.requires.sound
 
+pub first-requires-clause-few : goal.first-requires-clause-few
+first-requires-clause-few c = rw c.wiring.ensures (omega (arith, c.requires.sound.high, c.requires.sound.low))
+
 pub first-requires-clause-queues : goal.first-requires-clause-queues
-first-requires-clause-queues c = let few = HasFewParts-valid c.args.wiring.now c.requires.sound.valid in omega (arith, few.queues)
+first-requires-clause-queues c = let few = HasFewParts-valid c.args.places.now c.requires.sound.valid in rw c.wiring.ensures (omega (arith, few.queues))
 
 pub first-requires-clause-idle : goal.first-requires-clause-idle
-first-requires-clause-idle c = idle_by c.args.wiring.now c.requires.sound.valid c.args.closer c.args.history.now c.make_current.new.desk c.requires.sound.legal c.in_ok-make_current.ensures.stands
+first-requires-clause-idle c = rw c.wiring.ensures (idle_by c.args.places.now c.requires.sound.valid c.args.closer c.args.history.now c.make_current.new.desk c.requires.sound.legal c.in_ok-make_current.ensures.stands)
 
 pub returns-clause-event : goal.returns-clause-event
-returns-clause-event c = first_by c.args.wiring.now c.requires.sound.valid c.args.closer c.args.history.now c.make_current.new.desk c.in_ok-next.next c.requires.sound.legal c.in_ok-make_current.ensures.stands c.in_ok-next.ensures.event
+returns-clause-event c = first_by c.args.places.now c.requires.sound.valid c.args.closer c.args.history.now c.make_current.new.desk c.in_ok-next.next c.requires.sound.legal c.in_ok-make_current.ensures.stands (subst (λ (w : Parts). c.in_ok-next.next ≡ first_in w c.args.closer c.make_current.new.desk) c.wiring.ensures c.in_ok-next.ensures.event)
 
 pub returns-clause-stands : goal.returns-clause-stands
-returns-clause-stands c current = ahead_by c.args.wiring.now c.requires.sound.valid c.args.closer c.args.history.now c.make_current.new.desk c.first.new.self c.requires.sound.legal c.in_ok-make_current.ensures.stands c.in_ok-next.ensures.ahead
+returns-clause-stands c current = ahead_by c.args.places.now c.requires.sound.valid c.args.closer c.args.history.now c.make_current.new.desk c.first.new.self c.requires.sound.legal c.in_ok-make_current.ensures.stands (subst (λ (w : Parts). IsAhead w c.args.closer c.make_current.new.desk c.first.new.self) c.wiring.ensures c.in_ok-next.ensures.ahead)

@@ -1,0 +1,207 @@
+-- Where a wiring's spots stand: numbers past its own have none, and a branch's sites stand behind it.
+use Rattle.std.proofs.Common.{◌≡◌, ◌∙◌, ℕ, zero, suc, ◌+◌, ◌<◌, ◌≤◌, ◌⊎◌, inl, inr, Bool, true, false, ◌&&◌, ◌||◌, List, [], ◌∷◌, ◌++◌, length, Option, None, Some, refl, ap, sym, subst, arith}
+use Rattle.std.specs.Prelude.{◌==◌, ◌^◌, filter_map, if◌then◌else◌, option_map, option_and_then}
+use Rattle.std.specs.List.{slice_get, list_any}
+use Rattle.std.specs.Option.{option_map_or}
+use Rattle.std.proofs.lemmas.Bool.Decides.{nat_tests}
+use Rattle.std.proofs.lemmas.List.Folds.{list_any-append}
+use Rattle.std.proofs.lemmas.Option.{slice_get_past}
+use Rattle.ccr_base.specs.declared.handlers.Action.{Action}
+use Rattle.ccr_base.specs.declared.handlers.Action.TheVariants.{Post, Fail, Add, Remove, Await}
+use Rattle.ccr_base.specs.declared.names.Spot.{Spot}
+use Rattle.ccr_base.specs.declared.names.Spot.TheVariants.{Branch, Site}
+use Rattle.ccr_base.specs.declared.patterns.Slot.{Slot}
+use Rattle.ccr_base.specs.declared.patterns.Pattern.{Pattern}
+use Rattle.ccr_base.specs.declared.patterns.Pattern.TheVariants.{Slots, Gather}
+use Rattle.ccr_base.specs.Names.{same_spot}
+use Rattle.ccr_wiring.specs.declared.parts.Parts.{Parts}
+use Rattle.ccr_wiring.specs.Wirings.{Seat, seat, seats, policy_of, site_port, branch_of, awaited, actions_of, sites_from, spots, spots_from}
+use Rattle.ccr_wiring.specs.Repeats.{slot_ports}
+use Rattle.ccr_wiring.specs.Spots.{pattern_ports}
+use Rattle.ccr_wiring.specs.Valid.{IsValid}
+use Rattle.ccr_wiring.proofs.Soundness.{sound}
+use Rattle.ccr_model.proofs.Booleans.{and_false, eq-self}
+use Rattle.ccr_model.proofs.Options.{none-above, some-below}
+use Rattle.ccr_serial.specs.declared.places.Key.{Key}
+use Rattle.ccr_serial.specs.declared.places.Key.TheVariants as keys
+use Rattle.ccr_serial.specs.Touched.{names_any, is_throttle}
+use Rattle.ccr_serial.specs.Places.{first_place, first_keyed, is_keyed, count_of, AreFirst}
+use Rattle.ccr_serial.proofs.FirstPlaces.{first_never, first_behind, first_within}
+
+nowhere : {T : Type 0} (test : T → Bool) (xs : List T) → ((x : T) → test x ≡ false) → list_any test xs ≡ false
+nowhere test [] never = refl
+nowhere test (x ∷ xs) never = rw (never x) (nowhere test xs never)
+
+other : (n k : ℕ) → k < n → (n == k) ≡ false
+other n k low = grind (arith, nat_tests, low)
+
+-- a pattern names no port past the wiring's
+slots_low : (n : ℕ) (slots : List Slot) → ((place port : ℕ) → slice_get (slot_ports slots) place ≡ Some port → port < n) → list_any (λ (s : Slot). n == s.port) slots ≡ false
+slots_low n [] low = refl
+slots_low n (s ∷ slots) low =
+    let here = other n s.port (low 0 s.port refl) in
+    rw here (slots_low n slots (λ place port at. low (suc place) port at))
+
+pattern_low : (n : ℕ) (p : Pattern) → ((place port : ℕ) → slice_get (pattern_ports p) place ≡ Some port → port < n) → names_any (λ port. n == port) p ≡ false
+pattern_low n (Slots slots) low = slots_low n slots low
+pattern_low n (Gather total a b) low =
+    let one = other n a (low 0 a refl) in
+    let two = other n b (low 1 b refl) in
+    rw (one, two) refl
+
+no_port : (w : Parts) → IsValid w → (n : ℕ) → length w.ports ≤ n → (s : Spot) → is_keyed w keys.Port n s ≡ false
+no_port w valid n past (Branch b) = of_seat (seat w b) refl
+  where
+    of_seat : (o : Option Seat) → seat w b ≡ o → option_map_or (λ (s : Seat). names_any (λ port. n == port) s.branch.pattern) o false ≡ false
+    of_seat None at = refl
+    of_seat (Some s) at = pattern_low n s.branch.pattern (λ place port there. omega (arith, past, (sound w valid).pattern_ports b s place port at there))
+no_port w valid n past (Site b k) = of_port (site_port w b k) refl
+  where
+    of_port : (o : Option ℕ) → site_port w b k ≡ o → option_map_or (λ port. n == port) o false ≡ false
+    of_port None at = refl
+    of_port (Some port) at = other n port (omega (arith, past, (sound w valid).site_ports b k port at))
+
+no_queue : (w : Parts) → IsValid w → (n : ℕ) → length w.queues ≤ n → (s : Spot) → is_keyed w keys.Queue n s ≡ false
+no_queue w valid n past (Site b k) = refl
+no_queue w valid n past (Branch b) = of_seat (seat w b) refl
+  where
+    of_seat : (o : Option Seat) → seat w b ≡ o → option_map_or (λ (s : Seat). is_throttle (policy_of w s.branch.queue) && (n == s.branch.queue)) o false ≡ false
+    of_seat None at = refl
+    of_seat (Some s) at = rw (other n s.branch.queue (omega (arith, past, (sound w valid).queues b s at))) (and_false (is_throttle (policy_of w s.branch.queue)))
+
+-- among the sites of a branch none passes that passes at no site of it
+sites_never : (test : Spot → Bool) (b j : ℕ) (ports : List ℕ) → ((k : ℕ) → test (Site b k) ≡ false) → list_any test (sites_from b j ports) ≡ false
+sites_never test b j [] never = refl
+sites_never test b j (port ∷ ports) never = rw (never j) (sites_never test b (j + 1) ports never)
+
+-- among the spots of other branches none passes that passes at the spots of one alone
+others_never : (w : Parts) (n : ℕ) (test : Spot → Bool) → ((s : Spot) → (n == branch_of s) ≡ false → test s ≡ false) → (m : ℕ) (ss : List Seat) → (n < m) ⊎ (m + length ss ≤ n) → list_any test (spots_from w m ss) ≡ false
+others_never w n test alone m [] past = refl
+others_never w n test alone m (s ∷ ss) past =
+    let differs = not_here past in
+    let ports = awaited (actions_of w s.branch.handler) in
+    rw (alone (Branch m) differs, list_any-append test (sites_from m 0 ports) (spots_from w (m + 1) ss), sites_never test m 0 ports (λ k. alone (Site m k) differs)) (others_never w n test alone (m + 1) ss (further past))
+  where
+    not_here : (n < m) ⊎ (m + suc (length ss) ≤ n) → (n == m) ≡ false
+    not_here (inl low) = grind (arith, nat_tests, low)
+    not_here (inr high) = grind (arith, nat_tests, high)
+
+    further : (n < m) ⊎ (m + suc (length ss) ≤ n) → (n < m + 1) ⊎ ((m + 1) + length ss ≤ n)
+    further (inl low) = inl (omega (arith, low))
+    further (inr high) = inr (omega (arith, high))
+
+branch_alone : (w : Parts) (n : ℕ) (s : Spot) → (n == branch_of s) ≡ false → is_keyed w keys.Branch n s ≡ false
+branch_alone w n (Branch b) differs = differs
+branch_alone w n (Site b k) differs = refl
+
+site_alone : (n k : ℕ) (s : Spot) → (n == branch_of s) ≡ false → same_spot (Site n k) s ≡ false
+site_alone n k (Branch b) differs = refl
+site_alone n k (Site b j) differs = rw differs refl
+
+-- a number past the wiring's has no place
+pub none_keyed : (w : Parts) → IsValid w → (key : Key) (n : ℕ) → count_of w key ≤ n → first_keyed w key n ≡ None
+none_keyed w valid keys.Port n past = first_never (is_keyed w keys.Port n) (spots w) (nowhere (is_keyed w keys.Port n) (spots w) (no_port w valid n past))
+none_keyed w valid keys.Queue n past = first_never (is_keyed w keys.Queue n) (spots w) (nowhere (is_keyed w keys.Queue n) (spots w) (no_queue w valid n past))
+none_keyed w valid keys.Branch n past = first_never (is_keyed w keys.Branch n) (spots w) (others_never w n (is_keyed w keys.Branch n) (branch_alone w n) 0 (seats w) (inr (omega (arith, past))))
+
+-- among a branch's own sites
+own_site : (n k j i : ℕ) (ports : List ℕ) (rest : List Spot) → k ≡ j + i → first_place (same_spot (Site n k)) rest ≡ None → first_place (same_spot (Site n k)) (sites_from n j ports ++ rest) ≡ option_map (λ port. i) (slice_get ports i)
+own_site n k j i [] rest is none = none
+own_site n k j zero (port ∷ ports) rest is none =
+    let same : (k == j) ≡ true = grind (arith, nat_tests, is) in
+    rw (eq-self n, same) refl
+own_site n k j (suc i) (port ∷ ports) rest is none =
+    let differs : (k == j) ≡ false = grind (arith, nat_tests, is) in
+    rw (differs, and_false (n == n), own_site n k (j + 1) i ports rest (omega (arith, is)) none) (of_option (slice_get ports i))
+  where
+    of_option : (o : Option ℕ) → option_map suc (option_map (λ port. i) o) ≡ option_map (λ port. suc i) o
+    of_option None = refl
+    of_option (Some port) = refl
+
+-- the port that the branch awaits at the site
+abbrev port_at : Parts → ℕ → Seat → Option ℕ
+port_at w k s = slice_get (awaited (actions_of w s.branch.handler)) k
+
+-- so far behind the place of the branch
+abbrev behind : ℕ → Option ℕ → Option ℕ → Option ℕ
+behind k place port = option_and_then (λ p. option_map (λ i. i + 1 + k) place) port
+
+site_from : (w : Parts) (n k m : ℕ) (ss : List Seat) (d : ℕ) → n ≡ m + d → first_place (same_spot (Site n k)) (spots_from w m ss) ≡ option_and_then (λ (s : Seat). behind k (first_place (is_keyed w keys.Branch n) (spots_from w m ss)) (port_at w k s)) (slice_get ss d)
+site_from w n k m [] d is = refl
+site_from w n k m (s ∷ ss) zero is =
+    let same : m ≡ n = omega (arith, is) in
+    let rest = first_never (same_spot (Site n k)) (spots_from w (m + 1) ss) (others_never w n (same_spot (Site n k)) (site_alone n k) (m + 1) ss (inl (omega (arith, is)))) in
+    let here : (n == m) ≡ true = grind (arith, nat_tests, same) in
+    rw (here, ap (λ b. first_place (same_spot (Site n k)) (sites_from b 0 (awaited (actions_of w s.branch.handler)) ++ spots_from w (m + 1) ss)) same, own_site n k 0 k (awaited (actions_of w s.branch.handler)) (spots_from w (m + 1) ss) (omega arith) rest) (of_option (port_at w k s))
+  where
+    of_option : (o : Option ℕ) → option_map suc (option_map (λ port. k) o) ≡ behind k (Some 0) o
+    of_option None = refl
+    of_option (Some port) = let e : suc k ≡ 0 + 1 + k = omega arith in ap Some e
+site_from w n k m (s ∷ ss) (suc d) is =
+    let differs : (n == m) ≡ false = grind (arith, nat_tests, is) in
+    let ports = awaited (actions_of w s.branch.handler) in
+    let site = first_behind (same_spot (Site n k)) (sites_from m 0 ports) (spots_from w (m + 1) ss) (sites_never (same_spot (Site n k)) m 0 ports (λ j. site_alone n k (Site m j) differs)) in
+    let branch = first_behind (is_keyed w keys.Branch n) (sites_from m 0 ports) (spots_from w (m + 1) ss) (sites_never (is_keyed w keys.Branch n) m 0 ports (λ j. refl)) in
+    rw (differs, site, branch, site_from w n k (m + 1) ss d (omega (arith, is))) (of_seat (slice_get ss d) (first_place (is_keyed w keys.Branch n) (spots_from w (m + 1) ss)) (length (sites_from m 0 ports)))
+  where
+    of_place : (o p : Option ℕ) (l : ℕ) → option_map suc (option_map (λ i. l + i) (behind k p o)) ≡ behind k (option_map suc (option_map (λ i. l + i) p)) o
+    of_place None p l = refl
+    of_place (Some port) None l = refl
+    of_place (Some port) (Some i) l = let e : suc (l + (i + 1 + k)) ≡ suc (l + i) + 1 + k = omega arith in ap Some e
+
+    of_seat : (o : Option Seat) (p : Option ℕ) (l : ℕ) → option_map suc (option_map (λ i. l + i) (option_and_then (λ (s : Seat). behind k p (port_at w k s)) o)) ≡ option_and_then (λ (s : Seat). behind k (option_map suc (option_map (λ i. l + i) p)) (port_at w k s)) o
+    of_seat None p l = refl
+    of_seat (Some s) p l = of_place (port_at w k s) p l
+
+-- a site stands behind its branch, by its number
+pub site_place : (w : Parts) (n k : ℕ) → first_place (same_spot (Site n k)) (spots w) ≡ option_and_then (λ port. option_map (λ i. i + 1 + k) (first_keyed w keys.Branch n)) (site_port w n k)
+site_place w n k = site_from w n k 0 (seats w) n (omega arith) ∙ of_seat (seat w n)
+  where
+    of_seat : (o : Option Seat) → option_and_then (λ (s : Seat). behind k (first_keyed w keys.Branch n) (port_at w k s)) o ≡ option_and_then (λ port. option_map (λ i. i + 1 + k) (first_keyed w keys.Branch n)) (option_map_or (λ (s : Seat). slice_get (awaited (actions_of w s.branch.handler)) k) o None)
+    of_seat None = refl
+    of_seat (Some s) = refl
+
+-- what is awaited is no more than the actions
+few_awaited : (actions : List Action) → length (awaited actions) ≤ length actions
+few_awaited [] = omega arith
+few_awaited (Await port ∷ actions) = omega (arith, few_awaited actions)
+few_awaited (Post port expr ∷ actions) = omega (arith, few_awaited actions)
+few_awaited (Add cause ∷ actions) = omega (arith, few_awaited actions)
+few_awaited (Remove cause ∷ actions) = omega (arith, few_awaited actions)
+few_awaited (Fail expr ∷ actions) = omega (arith, few_awaited actions)
+
+-- no handler has so many sites
+pub no_site : (w : Parts) → IsValid w → (n k : ℕ) → 2 ^ 32 ≤ k → first_place (same_spot (Site n k)) (spots w) ≡ None
+no_site w valid n k far = site_place w n k ∙ rw (of_seat (seat w n)) refl
+  where
+    of_seat : (o : Option Seat) → option_map_or (λ (s : Seat). slice_get (awaited (actions_of w s.branch.handler)) k) o None ≡ None
+    of_seat None = refl
+    of_seat (Some s) = slice_get_past (awaited (actions_of w s.branch.handler)) k (omega (arith, far, few_awaited (actions_of w s.branch.handler), (sound w valid).few_actions s.branch.handler))
+
+-- what the list of first places says of a number
+pub listed : (w : Parts) → IsValid w → (key : Key) (n : ℕ) (firsts : List (Option ℕ)) → AreFirst w key (count_of w key) firsts → option_and_then (λ first. first) (slice_get firsts n) ≡ first_keyed w key n
+listed w valid key n firsts first = of_option (slice_get firsts n) refl
+  where
+    some_is : (p q : Option ℕ) → Some p ≡ Some q → p ≡ q
+    some_is p q same = cc
+
+    of_option : (o : Option (Option ℕ)) → slice_get firsts n ≡ o → option_and_then (λ first. first) o ≡ first_keyed w key n
+    of_option None at = sym (none_keyed w valid key n (omega (arith, first.size, none-above firsts n at)))
+    of_option (Some place) at = some_is place (first_keyed w key n) (sym at ∙ first.each n (omega (arith, first.size, some-below firsts n place at)))
+
+-- the place of a site, by that of its branch
+pub site_stands : (w : Parts) (n k port i : ℕ) → site_port w n k ≡ Some port → first_keyed w keys.Branch n ≡ Some i → Some (i + 1 + k) ≡ first_place (same_spot (Site n k)) (spots w)
+site_stands w n k port i at place = sym (site_place w n k ∙ rw (at, place) refl)
+
+pub site_fits : (w : Parts) (n k port i : ℕ) → site_port w n k ≡ Some port → first_keyed w keys.Branch n ≡ Some i → i + 1 + k < length (spots w)
+site_fits w n k port i at place = first_within (same_spot (Site n k)) (spots w) (i + 1 + k) (sym (site_stands w n k port i at place))
+
+pub no_such_site : (w : Parts) (n k : ℕ) → site_port w n k ≡ None → None ≡ first_place (same_spot (Site n k)) (spots w)
+no_such_site w n k at = sym (site_place w n k ∙ rw at refl)
+
+pub no_such_branch : (w : Parts) (n k : ℕ) → first_keyed w keys.Branch n ≡ None → None ≡ first_place (same_spot (Site n k)) (spots w)
+no_such_branch w n k none = sym (site_place w n k ∙ rw none (of_option (site_port w n k)))
+  where
+    of_option : (o : Option ℕ) → option_and_then (λ port. option_map (λ i. i + 1 + k) None) o ≡ None
+    of_option None = refl
+    of_option (Some port) = refl
