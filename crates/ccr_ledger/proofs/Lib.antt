@@ -4,7 +4,6 @@ pub mod Sizes
 pub mod Flags
 pub mod Running
 pub mod Said
-pub mod Telling
 pub mod Empty
 pub mod Fresh
 pub mod Fitting
@@ -35,3 +34,4 @@ pub mod Counted
 pub mod Suspended
 pub mod Places
 pub mod Keeping
+pub mod Telling
