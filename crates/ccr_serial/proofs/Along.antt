@@ -1,5 +1,5 @@
 -- The desk along a legal history.
-use Rattle.std.proofs.Common.{◌≡◌, ◌∙◌, ℕ, zero, suc, ◌+◌, ◌<◌, ◌≤◌, Bool, true, false, List, [], ◌∷◌, ◌++◌, length, take, drop, Option, None, Some, refl, ap, sym, subst, arith, append_assoc}
+use Rattle.std.proofs.Common.{◌≡◌, ◌∙◌, ℕ, zero, suc, ◌+◌, ◌<◌, ◌≤◌, true, List, [], ◌∷◌, ◌++◌, take, drop, Option, Some, refl, ap, sym, subst, arith, append_assoc}
 use Rattle.std.specs.Prelude.{◌^◌}
 use Rattle.std.specs.List.{slice_get}
 use Rattle.std.proofs.lemmas.Bool.Decides.{nat_tests}
@@ -11,14 +11,12 @@ use Rattle.ccr_model.specs.declared.history.Event.{Event}
 use Rattle.ccr_model.specs.Firings.{Firing, firings, fired}
 use Rattle.ccr_model.specs.Legal.{IsAllowed, IsLegal}
 use Rattle.ccr_model.specs.Order.{next_attempt}
-use Rattle.ccr_model.proofs.LegalParts.{Parted, Parted-legal}
+use Rattle.ccr_model.proofs.LegalParts.{Parted-legal}
 use Rattle.ccr_model.proofs.Stable.{firings-append}
-use Rattle.ccr_ledger.specs.Books.{Books}
-use Rattle.ccr_ledger.specs.Events.{after_event, empty_books}
-use Rattle.ccr_ledger.specs.Kept.{Keeps}
-use Rattle.ccr_ledger.proofs.Keeping.{keeps-event, keeps-none}
+use Rattle.ccr_ledger.specs.Events.{empty_books}
+use Rattle.ccr_ledger.proofs.Keeping.{keeps-none, keeps-event}
 use Rattle.ccr_serial.specs.Desk.{Desk, Stands, AreTold, Follows, IsAhead, IsIdle, after_attempt, first_in}
-use Rattle.ccr_serial.specs.Engine.{Engine, next_event}
+use Rattle.ccr_serial.specs.Engine.{next_event}
 use Rattle.ccr_serial.proofs.DeskSteps.{attempt_kept, stands-event}
 use Rattle.ccr_serial.proofs.Firsts.{first_told, idle_stands, stands_ahead}
 use Rattle.ccr_serial.proofs.Telling.{AreTold-keeps}

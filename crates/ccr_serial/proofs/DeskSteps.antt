@@ -1,8 +1,7 @@
 -- The desk after each event.
-use Rattle.std.proofs.Common.{◌≡◌, ◌∙◌, ℕ, zero, suc, ◌+◌, max, Bool, true, false, not, ◌&&◌, ◌||◌, List, [], ◌∷◌, ◌++◌, length, map, take, Option, None, Some, refl, ap, sym, subst, arith, append-nil}
-use Rattle.std.specs.Prelude.{◌==◌, if◌then◌else◌, option_map}
+use Rattle.std.proofs.Common.{◌≡◌, ◌∙◌, ℕ, ◌+◌, max, Bool, true, false, ◌&&◌, ◌||◌, List, [], ◌∷◌, ◌++◌, length, take, Some, refl, ap, sym, subst, arith}
+use Rattle.std.specs.Prelude.{◌==◌, if◌then◌else◌}
 use Rattle.std.specs.List.{slice_get}
-use Rattle.std.specs.Option.{option_map_or}
 use Rattle.std.proofs.lemmas.Bool.Decides.{nat_tests}
 use Rattle.std.proofs.lemmas.List.{length-map}
 use Rattle.ccr_base.specs.declared.names.TaskId.{TaskId}
@@ -18,13 +17,13 @@ use Rattle.ccr_model.specs.Rules.{needs_no_admission}
 use Rattle.ccr_model.proofs.Pushes.{fired-fire}
 use Rattle.ccr_model.proofs.SameNames.{same_task-is}
 use Rattle.ccr_model.proofs.FiredTasks.{seat_fired}
-use Rattle.ccr_model.proofs.TaskPlaces.{PutFacts, PutFacts-allowed}
+use Rattle.ccr_model.proofs.TaskPlaces.{PutFacts-allowed}
 use Rattle.ccr_model.proofs.FiringFacts.{firings-other}
-use Rattle.ccr_model.proofs.Cutting.{AdmitFacts, AdmitFacts-allowed}
+use Rattle.ccr_model.proofs.Cutting.{AdmitFacts-allowed}
 use Rattle.ccr_ledger.specs.declared.cards.Card.{Card}
-use Rattle.ccr_ledger.specs.Books.{Books, card_at}
+use Rattle.ccr_ledger.specs.Books.{Books}
 use Rattle.ccr_ledger.specs.Events.{after_event}
-use Rattle.ccr_ledger.specs.Kept.{Keeps, card_of}
+use Rattle.ccr_ledger.specs.Kept.{Keeps}
 use Rattle.ccr_serial.specs.Ready.{has_number, AreReady}
 use Rattle.ccr_serial.specs.Desk.{Desk, Stands, AreTold, Follows, after_attempt, after_ready, is_number_of}
 use Rattle.ccr_serial.proofs.Posters.{done-event}

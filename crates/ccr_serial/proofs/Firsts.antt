@@ -1,9 +1,7 @@
 -- The event that comes first, by the desk.
-use Rattle.std.proofs.Common.{◌≡◌, ◌∙◌, ℕ, zero, suc, ◌+◌, ◌≤◌, Bool, true, false, ◌&&◌, ◌||◌, List, [], ◌∷◌, length, take, Option, None, Some, refl, ap, sym, subst, arith}
-use Rattle.std.specs.Prelude.{nat_le, is_some, option_map, option_and_then}
+use Rattle.std.proofs.Common.{◌≡◌, ◌∙◌, ℕ, zero, suc, ◌+◌, ◌≤◌, Bool, List, [], ◌∷◌, length, take, refl, ap, sym, arith}
+use Rattle.std.specs.Prelude.{is_some, option_and_then}
 use Rattle.std.specs.List.{slice_get, list_any}
-use Rattle.std.specs.Option.{option_or}
-use Rattle.ccr_base.specs.declared.names.TaskId.{TaskId}
 use Rattle.ccr_base.specs.declared.names.Spot.{Spot}
 use Rattle.ccr_wiring.specs.declared.parts.Parts.{Parts}
 use Rattle.ccr_wiring.specs.declared.parts.PosterPart.{PosterPart}
@@ -11,11 +9,9 @@ use Rattle.ccr_wiring.specs.Wirings.{spots}
 use Rattle.ccr_model.specs.declared.history.Event.{Event}
 use Rattle.ccr_model.specs.Firings.{fired}
 use Rattle.ccr_model.specs.Enough.{can_fire}
-use Rattle.ccr_model.specs.Posts.{posts_of_poster}
 use Rattle.ccr_model.specs.Order.{first, fire_from, next_attempt, put_first}
 use Rattle.ccr_model.proofs.CanFire.{some_fire_at}
-use Rattle.ccr_ledger.specs.Books.{Books}
-use Rattle.ccr_serial.specs.Cursor.{IsStill, are_done}
+use Rattle.ccr_serial.specs.Cursor.{are_done}
 use Rattle.ccr_serial.specs.Ready.{AreReady, IsLeastFirst}
 use Rattle.ccr_serial.specs.Parts.{fire_in, first_fire_in, put_in, are_done_in, some_fires_in}
 use Rattle.ccr_serial.specs.Desk.{Desk, Stands, AreTold, IsIdle, IsAhead, first_in}

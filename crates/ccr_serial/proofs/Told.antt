@@ -1,8 +1,8 @@
 -- The parts of the order by the tables are those by the model.
-use Rattle.std.proofs.Common.{◌≡◌, ◌∙◌, ℕ, ◌+◌, ◌≤◌, ◌<◌, Bool, true, false, ◌&&◌, ◌||◌, List, [], ◌∷◌, ◌++◌, length, take, drop, Option, None, Some, refl, ap, sym, subst, arith}
-use Rattle.std.specs.Prelude.{◌==◌, find, option_map, if◌then◌else◌}
+use Rattle.std.proofs.Common.{◌≡◌, ◌∙◌, ℕ, ◌+◌, ◌≤◌, Bool, true, false, ◌&&◌, List, [], ◌∷◌, ◌++◌, length, Option, None, Some, refl, ap, sym, subst, arith}
+use Rattle.std.specs.Prelude.{◌==◌, option_map}
 use Rattle.std.specs.List.{slice_get, list_any}
-use Rattle.std.specs.Option.{option_or, option_map_or}
+use Rattle.std.specs.Option.{option_map_or}
 use Rattle.ccr_base.specs.declared.names.TaskId.{TaskId}
 use Rattle.ccr_base.specs.declared.messages.Sent.{Sent}
 use Rattle.ccr_handler.specs.declared.segments.Play.{Play}
@@ -22,17 +22,17 @@ use Rattle.ccr_model.specs.TaskData.{play_of}
 use Rattle.ccr_model.specs.Posts.{posts_of_task}
 use Rattle.ccr_model.specs.Enough.{can_fire}
 use Rattle.ccr_model.specs.Legal.{IsLegal}
-use Rattle.ccr_model.specs.Rules.{may_put, drop_at}
+use Rattle.ccr_model.specs.Rules.{drop_at}
 use Rattle.ccr_model.specs.Tasks.{running, fired_by}
 use Rattle.ccr_model.specs.Order.{post_from, next_attempt, fire_at, fire_from, admit_first, admit_from, put_first, run_task, run_with, start_from}
 use Rattle.ccr_model.proofs.Booleans.{neither, refuted, no_both, or_left}
 use Rattle.ccr_model.proofs.SameNames.{same_task-self}
 use Rattle.ccr_ledger.specs.Books.{Books}
-use Rattle.ccr_ledger.specs.Asked.{drops, play_in, made_in, budget_lasts}
+use Rattle.ccr_ledger.specs.Asked.{drops, made_in}
 use Rattle.ccr_serial.specs.Touched.{posts_to, freed_by, names_any, frees, is_throttle, touches_branch, touches}
 use Rattle.ccr_serial.specs.Cursor.{IsStill}
 use Rattle.ccr_serial.specs.Ready.{AreReady, IsLeast}
-use Rattle.ccr_serial.specs.Parts.{line_in, post_in, fire_in, first_fire_in, admit_in, first_admit_in, put_in, run_in, run_with_in, start_in, comes_to, yields_in, touches_branch_in, touches_in}
+use Rattle.ccr_serial.specs.Parts.{post_in, fire_in, first_fire_in, admit_in, first_admit_in, put_in, run_in, run_with_in, start_in, comes_to, yields_in, touches_branch_in, touches_in}
 use Rattle.ccr_serial.specs.Desk.{AreTold, after_place}
 use Rattle.ccr_serial.proofs.Touching.{still}
 use Rattle.ccr_serial.proofs.Lowering.{lowered-none}

@@ -1,5 +1,5 @@
 -- The parts of the order, by the tables.
-use Rattle.std.specs.Prelude.{ℕ, ◌+◌, ◌&&◌, ◌||◌, true, false, nat_le, length, is_some, List, [], ◌∷◌, Option, Some, None, option_map, option_and_then, if◌then◌else◌}
+use Rattle.std.specs.Prelude.{ℕ, ◌+◌, ◌&&◌, ◌||◌, true, false, nat_le, length, is_some, List, [], ◌∷◌, Option, Some, None, option_map, if◌then◌else◌}
 use Rattle.std.specs.List.{slice_get, list_any}
 use Rattle.std.specs.Option.{option_or, option_map_or}
 use Rattle.std.specs.Prelude.{◌==◌, Bool}
@@ -22,8 +22,8 @@ use Rattle.ccr_model.specs.Firings.{yielded_by}
 use Rattle.ccr_model.specs.Order.{script_post, task_post, how_of}
 use Rattle.ccr_rows.specs.Rows.{row}
 use Rattle.ccr_ledger.specs.declared.cards.Card.{Card}
-use Rattle.ccr_ledger.specs.Books.{Books, number, card_at, runners}
-use Rattle.ccr_ledger.specs.Asked.{lives, room, can_choose, choice_at, cuts, enters, drops, play_in, made_in, budget_lasts}
+use Rattle.ccr_ledger.specs.Books.{Books, number, card_at}
+use Rattle.ccr_ledger.specs.Asked.{lives, room, choice_at, cuts, enters, drops, play_in, made_in, budget_lasts}
 use Rattle.ccr_serial.specs.Touched.{posts_to, freed_by, names_any, is_throttle}
 
 -- the next line of the poster of this number
