@@ -1,10 +1,10 @@
 -- The tables along a legal history.
-use Rattle.std.proofs.Common.{◌≡◌, ◌∙◌, ℕ, zero, suc, ◌+◌, List, [], ◌∷◌, ◌++◌, take, drop, Some, refl, ap, sym, subst, arith}
+use Rattle.std.proofs.Common.{◌≡◌, ℕ, zero, suc, ◌+◌, List, [], ◌∷◌, ◌++◌, take, drop, Some, refl, ap, sym, subst, arith}
 use Rattle.std.specs.List.{slice_get}
 use Rattle.ccr_wiring.specs.declared.parts.Parts.{Parts}
 use Rattle.ccr_wiring.specs.Valid.{IsValid}
 use Rattle.ccr_model.specs.declared.history.Event.{Event}
-use Rattle.ccr_model.specs.Legal.{IsAllowed, IsLegal}
+use Rattle.ccr_model.specs.Legal.{IsLegal}
 use Rattle.ccr_model.proofs.LegalParts.{Parted-legal}
 use Rattle.ccr_ledger.specs.Books.{Books}
 use Rattle.ccr_ledger.specs.Events.{after_event, empty_books}
