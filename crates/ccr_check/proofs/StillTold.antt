@@ -1,8 +1,9 @@
 -- What is left by the tables is what is left after the history, where they keep what the model says.
-use Rattle.std.proofs.Common.{◌≡◌, ◌∙◌, ℕ, suc, ◌+◌, ◌≤◌, Bool, false, ◌||◌, List, [], ◌∷◌, length, map, refl, ap, arith}
+use Rattle.std.proofs.Common.{◌≡◌, ◌∙◌, ℕ, ◌+◌, ◌≤◌, Bool, false, ◌||◌, List, [], ◌∷◌, length, map, refl, ap, sym, arith}
 use Rattle.std.specs.Prelude.{◌==◌}
 use Rattle.std.specs.List.{slice_get, list_any}
 use Rattle.std.specs.Option.{option_map_or}
+use Rattle.std.proofs.lemmas.List.{length-map}
 use Rattle.ccr_base.specs.declared.names.TaskId.{TaskId}
 use Rattle.ccr_base.specs.declared.names.Spot.{Spot}
 use Rattle.ccr_wiring.specs.declared.parts.Parts.{Parts}
@@ -38,12 +39,7 @@ any-named p [] = refl
 any-named p (entry ∷ cards) = ap (λ b. p entry.0 || b) (any-named p cards)
 
 none-run : (rs : List Runner) → (length rs == 0) ≡ is_none_of (runners rs)
-none-run [] = refl
-none-run (r ∷ rs) = ap (λ n. suc n == 0) (same-length rs)
-  where
-    same-length : (rs : List Runner) → length rs ≡ length (runners rs)
-    same-length [] = refl
-    same-length (r ∷ rs) = ap suc (same-length rs)
+none-run rs = ap (λ n. n == 0) (sym (length-map rs (λ (r : Runner). r.task)))
 
 module _ (w : Parts) (valid : IsValid w) (h : List Event) (legal : IsLegal w h) (b : Books) (keeps : Keeps w h b) where
   line_left : (n : ℕ) (ps : List PosterPart) → n + length ps ≤ length w.posters → has_line_left_in b n ps ≡ has_line_left h n ps
