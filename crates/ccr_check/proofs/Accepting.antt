@@ -1,7 +1,8 @@
 -- A judge stays one: with no event, and with one more.
-use Rattle.std.proofs.Common.{◌≡◌, ◌∙◌, ◌<◌, ◌^◌, Bool, true, false, ◌||◌, List, [], ◌∷◌, ◌++◌, length, refl, ap, sym, subst, arith}
+use Rattle.std.proofs.Common.{◌≡◌, ◌∙◌, ◌<◌, ◌^◌, Bool, true, false, ◌||◌, List, [], ◌∷◌, ◌++◌, length, refl, ap, sym, arith}
 use Rattle.std.specs.Prelude.{Result, Ok, Err, IfOk}
-use Rattle.std.specs.List.{list_any}
+use Rattle.std.proofs.Math.Bool.{or-false}
+use Rattle.std.proofs.lemmas.List.Folds.{list_any-append}
 use Rattle.ccr_wiring.specs.declared.parts.Parts.{Parts}
 use Rattle.ccr_wiring.specs.Valid.{IsValid}
 use Rattle.ccr_model.specs.declared.history.Event.{Event}
@@ -22,16 +23,7 @@ pub IsJudge-none : (w : Parts) (h : List Event) (b : Books) → IsValid w → h 
 IsJudge-none w h b valid none is = rw (none, is) (record { valid = valid; legal = tt; few = omega arith; flag = refl; tables = λ current. keeps-none w })
 
 shed-more : (h : List Event) (e : Event) → has_shed (h ++ e ∷ []) ≡ has_shed h || is_shed_end e
-shed-more [] e = of_test (is_shed_end e)
-  where
-    of_test : (b : Bool) → b || false ≡ b
-    of_test true = refl
-    of_test false = refl
-shed-more (x ∷ h) e = rw (shed-more h e) (of_test (is_shed_end x) (has_shed h) (is_shed_end e))
-  where
-    of_test : (a b c : Bool) → a || (b || c) ≡ (a || b) || c
-    of_test true b c = refl
-    of_test false b c = refl
+shed-more h e = list_any-append is_shed_end h (e ∷ []) ∙ ap (λ b. has_shed h || b) (or-false (is_shed_end e))
 
 pub IsJudge-more : (w : Parts) (h more : List Event) (e : Event) (b : Books) (current before shed : Bool) → IsValid w → IsLegal w h → IsAllowed w h e → more ≡ h ++ e ∷ [] → length more < 2 ^ 32
     → before ≡ has_shed h → shed ≡ before || is_shed_end e → (current ≡ true → Keeps w more b) → IsJudge w more b current shed

@@ -1,8 +1,9 @@
 -- What is left by the tables is what is left after the history, where they keep what the model says.
-use Rattle.std.proofs.Common.{◌≡◌, ◌∙◌, ℕ, suc, ◌+◌, ◌<◌, ◌≤◌, Bool, true, false, not, ◌&&◌, ◌||◌, List, [], ◌∷◌, length, map, Option, None, Some, refl, ap, arith}
+use Rattle.std.proofs.Common.{◌≡◌, ◌∙◌, ℕ, ◌+◌, ◌≤◌, Bool, false, ◌||◌, List, [], ◌∷◌, length, map, refl, ap, sym, arith}
 use Rattle.std.specs.Prelude.{◌==◌}
 use Rattle.std.specs.List.{slice_get, list_any}
 use Rattle.std.specs.Option.{option_map_or}
+use Rattle.std.proofs.lemmas.List.{length-map}
 use Rattle.ccr_base.specs.declared.names.TaskId.{TaskId}
 use Rattle.ccr_base.specs.declared.names.Spot.{Spot}
 use Rattle.ccr_wiring.specs.declared.parts.Parts.{Parts}
@@ -13,10 +14,10 @@ use Rattle.ccr_wiring.specs.Wirings.{spots}
 use Rattle.ccr_wiring.specs.Valid.{IsValid}
 use Rattle.ccr_model.specs.declared.history.Event.{Event}
 use Rattle.ccr_model.specs.Firings.{fired}
-use Rattle.ccr_model.specs.Tasks.{waiting, running}
+use Rattle.ccr_model.specs.Tasks.{waiting}
 use Rattle.ccr_model.specs.Live.{is_none_of}
 use Rattle.ccr_model.specs.Enough.{can_fire}
-use Rattle.ccr_model.specs.Rules.{may_enter, may_put}
+use Rattle.ccr_model.specs.Rules.{may_put}
 use Rattle.ccr_model.specs.Legal.{IsLegal, has_shed, are_whole_from, is_complete}
 use Rattle.ccr_ledger.specs.declared.cards.Card.{Card}
 use Rattle.ccr_ledger.specs.declared.cards.Runner.{Runner}
@@ -26,7 +27,7 @@ use Rattle.ccr_ledger.specs.Kept.{Keeps}
 use Rattle.ccr_ledger.proofs.Telling.{lives_told, room_told, can_choose_told, enters_told}
 use Rattle.ccr_ledger.proofs.RulesTold.{is_ready_told}
 use Rattle.ccr_check.specs.Left.{has_line_left, can_admit, has_admission, has_queued, is_still}
-use Rattle.ccr_check.specs.LeftInTables.{has_line_left_in, can_fire_in, can_admit_in, has_admission_in, has_ready, has_queued_in, is_still_in, are_whole_in, is_complete_in}
+use Rattle.ccr_check.specs.LeftInTables.{has_line_left_in, can_fire_in, has_admission_in, has_ready, has_queued_in, is_still_in, are_whole_in, is_complete_in}
 
 -- over plain lists: two tests that agree, and a test of the names
 any-same : {X : Type 0} (p q : X → Bool) (xs : List X) → ((x : X) → p x ≡ q x) → list_any p xs ≡ list_any q xs
@@ -38,12 +39,7 @@ any-named p [] = refl
 any-named p (entry ∷ cards) = ap (λ b. p entry.0 || b) (any-named p cards)
 
 none-run : (rs : List Runner) → (length rs == 0) ≡ is_none_of (runners rs)
-none-run [] = refl
-none-run (r ∷ rs) = ap (λ n. suc n == 0) (same-length rs)
-  where
-    same-length : (rs : List Runner) → length rs ≡ length (runners rs)
-    same-length [] = refl
-    same-length (r ∷ rs) = ap suc (same-length rs)
+none-run rs = ap (λ n. n == 0) (sym (length-map rs (λ (r : Runner). r.task)))
 
 module _ (w : Parts) (valid : IsValid w) (h : List Event) (legal : IsLegal w h) (b : Books) (keeps : Keeps w h b) where
   line_left : (n : ℕ) (ps : List PosterPart) → n + length ps ≤ length w.posters → has_line_left_in b n ps ≡ has_line_left h n ps

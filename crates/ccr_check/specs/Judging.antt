@@ -1,5 +1,5 @@
 -- Which event the tables refuse: the rules of ccr_model, asked of the tables.
-use Rattle.std.specs.Prelude.{ℕ, ◌+◌, ◌-◌, Bool, true, false, not, ◌==◌, ◌&&◌, nat_le, List, length, Option, None, option_and_then, if◌then◌else◌}
+use Rattle.std.specs.Prelude.{ℕ, ◌+◌, ◌-◌, Bool, false, not, ◌==◌, ◌&&◌, nat_le, length, Option, None, option_and_then, if◌then◌else◌}
 use Rattle.std.specs.List.{slice_get}
 use Rattle.std.specs.Option.{option_map_or}
 use Rattle.ccr_base.specs.declared.names.TaskId.{TaskId}

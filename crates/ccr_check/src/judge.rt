@@ -1,7 +1,7 @@
-//! The judge of one event after another.
+//! The judge of events, one after another.
 
 ghost use Rattle.std.specs.Prelude.{◌≡◌, ◌++◌, ◌∷◌, [], IfNone, IfOk, IfSome, OnErr, length};
-ghost use Rattle.ccr_model.specs.Legal.{is_complete, is_shed_end};
+ghost use Rattle.ccr_model.specs.Legal.{IsLegal, is_complete, is_shed_end};
 ghost use Rattle.ccr_model.specs.Rules.{refusal};
 ghost use Rattle.ccr_check.specs.Verdicts.{MeansQuiet};
 
@@ -66,8 +66,8 @@ impl<'w> Judge<'w> {
         })
     }
 
-    /// Accepts the event, or answers the first rule of docs/MODEL.md that refuses it after those that were accepted. A history of
-    /// 2^32 events is told as want of memory.
+    /// Accepts the event, or answers the first rule of docs/MODEL.md that refuses it after those that were accepted. More than
+    /// 2^32 - 1 accepted events are told as want of memory.
     pub fn feed(&mut self, event: &Event) -> Result<Option<u8>, OutOfMemory>
         ensures rule { IfOk result (λ rule. rule ≡ refusal self.old.wiring self.old.history event.now) }
         ensures accepted { IfOk result (λ rule. IfNone rule (self.new ≡ record self.old { history = self.old.history ++ event.now ∷ [] })) }
@@ -97,9 +97,10 @@ impl<'w> Judge<'w> {
         Ok(None)
     }
 
-    /// How many events were accepted.
+    /// How many events were accepted. Each was allowed after those before it.
     pub fn len(&self) -> u32
-        ensures { result ≡ length self.now.history }
+        ensures len { result ≡ length self.now.history }
+        ensures legal { IsLegal self.now.wiring self.now.history }
     {
         self.history.events().len() as u32
     }
@@ -116,7 +117,7 @@ impl<'w> Judge<'w> {
         }
     }
 
-    /// Whether no event at all is allowed after those that were accepted.
+    /// Whether no event at all is allowed after those that were accepted. It goes through them once, and makes tables of its own.
     pub fn quiet(&self) -> Result<bool, OutOfMemory>
         ensures { IfOk result (MeansQuiet self.now.wiring self.now.history) }
     {

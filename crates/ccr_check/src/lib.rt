@@ -1,4 +1,4 @@
-//! The judge of a history. It shares nothing with the engine.
+//! The judge of a history. It stands on the model and its tables, and on nothing of the engine.
 #![tactic(auto)]
 
 mod alike;

@@ -12,7 +12,7 @@ use ccr_model::{Event, History};
 use ccr_wiring::Wiring;
 use std::alloc::Global;
 
-/// Adds the event at the end. A history of 2^32 events is a want of memory.
+/// Adds the event at the end. One more than 2^32 - 1 events is a want of memory.
 fn append(history: &mut History, event: Event) -> Result<(), OutOfMemory>
     ensures ok { OnOk result (history.new ≡ history.old ++ event ∷ []) }
     ensures few { OnOk result (length history.new < 2 ^ 32) }

@@ -1,5 +1,4 @@
-use Rattle.std.proofs.Common.{length, refl, arith}
-use Rattle.std.proofs.lemmas.Option.{slice_get_read}
+use Rattle.std.proofs.Common.{arith}
 use Rattle.ccr_check.proofs.Along.{keeps_start, keeps_on}
 use Rattle.ccr_check.proofs.standing.ledger_of.Goals as goal
 
@@ -8,5 +7,5 @@ loop-event-init c = keeps_start c.args.wiring.now c.args.events.now c.in_ok-ledg
 
 pub loop-event-preserved : goal.loop-event-preserved
 loop-event-preserved c =
-    let at = slice_get_read c.args.events.now (length c.args.events.now) c.loop-event.event-index c.event-item.result refl (omega arith) c.event-item.is in
-    keeps_on c.args.wiring.now c.parts-valid.ensures.valid c.args.events.now c.loop-event.event-index c.event-item.result c.loop-event.ledger c.push.new.self c.requires.legal at c.loop-event.invariant c.in_ok-push.ensures
+    keeps_on c.args.wiring.now c.parts-valid.ensures.valid c.args.events.now c.loop-event.event-index c.event-item.result c.loop-event.ledger c.push.new.self
+    c.requires.legal (omega arith) c.event-item.is c.loop-event.invariant c.in_ok-push.ensures

@@ -1,4 +1,4 @@
-use Rattle.std.proofs.Common.{◌≡◌, ◌∙◌, ◌||◌, None, refl, arith}
+use Rattle.std.proofs.Common.{◌≡◌, ◌∙◌, ◌||◌, refl, arith}
 use Rattle.ccr_model.specs.Legal.{IsAllowed, is_shed_end}
 use Rattle.ccr_check.proofs.Accepting.{IsJudge-more}
 use Rattle.ccr_check.proofs.judge.Judge.feed.Goals as goal

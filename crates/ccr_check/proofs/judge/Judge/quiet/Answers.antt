@@ -1,4 +1,4 @@
-use Rattle.std.proofs.Common.{◌≡◌, subst}
+use Rattle.std.proofs.Common.{subst}
 use Rattle.std.specs.Prelude.{IfOk}
 use Rattle.ccr_ledger.specs.Kept.{Keeps}
 use Rattle.ccr_check.specs.Verdicts.{MeansQuiet}
