@@ -17,6 +17,3 @@ pub use ccr_places::{ClaimNote, Note};
 pub use laws::{attempts_settle, attempts_stop};
 pub use outcomes::{Next, Outcome, Why};
 pub use plan::{ClaimPlan, Had};
-
-#[cfg(test)]
-mod tests;

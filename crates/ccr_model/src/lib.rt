@@ -21,6 +21,3 @@ pub use laws::{
     none_first_is_quiet, posts_have_names_of_their_own,
 };
 pub use refusal::refused_by;
-
-#[cfg(test)]
-mod tests;

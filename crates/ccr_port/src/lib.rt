@@ -10,6 +10,3 @@ mod port;
 
 pub use claims::Claimed;
 pub use port::PortObject;
-
-#[cfg(test)]
-mod tests;

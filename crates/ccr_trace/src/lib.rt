@@ -21,6 +21,3 @@ pub use laws::{lines_are_read_exactly, what_is_read_is_written, what_is_written_
 pub use reading::{ReadHistory, read_history};
 pub use refused::HistoryRefused;
 pub use writing::write_history;
-
-#[cfg(test)]
-mod tests;

@@ -1,6 +1,6 @@
 //! Texts that are read, and their canonical form.
 
-use crate::{read_wiring, write_wiring};
+use ccr_wiretext::{read_wiring, write_wiring};
 use std::test::*;
 
 /// A text is written in the canonical form that is wanted.

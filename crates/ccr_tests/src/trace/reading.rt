@@ -1,7 +1,7 @@
 //! Texts that are read, and texts that are refused.
 
-use super::wiring;
-use crate::{HistoryRefused, read_history, write_history};
+use crate::wirings::{AWAITING, AWAITING_2, wiring};
+use ccr_trace::{HistoryRefused, read_history, write_history};
 use ccr_wiring::Wiring;
 use std::alloc::Global;
 use std::test::*;
@@ -164,8 +164,8 @@ fn wrong_row(alloc: Global, wiring: &Wiring, first: &str, rows: &[Row]) -> Optio
 }
 
 #[test]
-fn texts_of_version_1(rt: HostRuntime) -> Result<(), Fail> {
-    let wiring = wiring(rt.alloc(), 1).ok_or("memory")?;
+fn texts_of_version_1(rt: HostRuntime) {
+    let wiring = wiring(&rt, rt.alloc(), AWAITING);
     for (first, rows) in [
         ("", WHOLE.as_slice()),
         ("history 1\n", POSTS.as_slice()),
@@ -174,16 +174,14 @@ fn texts_of_version_1(rt: HostRuntime) -> Result<(), Fail> {
     ] {
         assert_eq!(rt; wrong_row(rt.alloc(), &wiring, first, rows), None);
     }
-    Ok(())
 }
 
 #[test]
-fn texts_of_version_2(rt: HostRuntime) -> Result<(), Fail> {
-    let wiring = wiring(rt.alloc(), 2).ok_or("memory")?;
+fn texts_of_version_2(rt: HostRuntime) {
+    let wiring = wiring(&rt, rt.alloc(), AWAITING_2);
     for (first, rows) in [("", NEWER.as_slice()), ("history 2\n", VALUES.as_slice())] {
         assert_eq!(rt; wrong_row(rt.alloc(), &wiring, first, rows), None);
     }
-    Ok(())
 }
 
 /// One event of each form.
@@ -217,10 +215,10 @@ fn is_again(alloc: Global, wiring: &Wiring, history: &[u8], text: &[u8]) -> bool
 }
 
 #[test]
-fn what_is_read_is_written_again(rt: HostRuntime) -> Result<(), Fail> {
-    let wiring = wiring(rt.alloc(), 1).ok_or("memory")?;
-    let mut text = EACH.as_bytes().to_vec(rt.alloc())?;
-    text.extend_from_slice(b"report 1\nmore")?;
+fn what_is_read_is_written_again(rt: HostRuntime) {
+    let wiring = wiring(&rt, rt.alloc(), AWAITING);
+    let mut text = EACH.as_bytes().to_vec(rt.alloc()).expect(&rt, "memory");
+    text.extend_from_slice(b"report 1\nmore")
+        .expect(&rt, "memory");
     assert!(rt; is_again(rt.alloc(), &wiring, EACH.as_bytes(), &text));
-    Ok(())
 }

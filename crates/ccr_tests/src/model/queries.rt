@@ -1,18 +1,22 @@
 //! What the queries answer after the first events of some worked runs.
 
-use super::cases::{
-    A, AWAIT, B, DISCARD, GATHER, LINE_0, LINE_1, LINE_2, TASK_0, TASK_1, TASK_2, TASK_3,
-    TEARDOWN_CUTS, THROTTLE, X, Y,
-};
-use super::*;
-use crate::choices::is_choice;
-use crate::data::play_of;
-use crate::enough::can_fire;
-use crate::firings::{cut, dropped, fired, put};
-use crate::live::{has_room, is_live};
-use crate::posts::{held, taken};
-use crate::rules::{cuts_at, drop_at, may_enter, may_put};
-use crate::tasks::{queued, running, waiting};
+use super::cases::{A, AWAIT, B, Case, DISCARD, GATHER, TEARDOWN_CUTS, THROTTLE, X, Y};
+use crate::steps::{LINE_0, LINE_1, LINE_2, TASK_0, TASK_1, TASK_2, TASK_3, history};
+use crate::wirings::wiring;
+use ccr_base::{MsgId, OutOfMemory, PortNo, Spot, TaskId, Value};
+use ccr_model::choices::is_choice;
+use ccr_model::data::play_of;
+use ccr_model::enough::can_fire;
+use ccr_model::firings::{cut, dropped, fired, put};
+use ccr_model::live::{has_room, is_live};
+use ccr_model::posts::{held, taken};
+use ccr_model::rules::{cuts_at, drop_at, may_enter, may_put};
+use ccr_model::tasks::{queued, running, waiting};
+use ccr_model::{Event, History};
+use ccr_wiring::Wiring;
+use std::alloc::Global;
+use std::process::Abort;
+use std::test::*;
 
 const SITE: Spot = Spot::Site(0, 0);
 
@@ -40,18 +44,9 @@ enum Question {
     MayPut(TaskId),
 }
 
-/// The first events of the case, each a copy.
-fn begun(alloc: Global, case: &Case, count: usize) -> Result<History, Fail> {
-    let mut history = History::new(alloc);
-    for step in case.steps.iter().take(count) {
-        let next = event(alloc, *step)?;
-        history.push(next.copy(alloc)?)?;
-    }
-    Ok(history)
-}
-
-fn wired(alloc: Global, case: &Case) -> Result<Wiring, Fail> {
-    Ok(Wiring::check(alloc, wirings::parts(alloc, &case.wired)?)?)
+/// The history of the first events of the case.
+fn begun(rt: &impl Abort, alloc: Global, case: &Case, count: usize) -> History {
+    history(rt, alloc, case.steps, count)
 }
 
 fn tasks_among(
@@ -72,10 +67,10 @@ fn tasks_among(
     }
 }
 
-fn tasks(alloc: Global, case: &Case, count: usize, asked: Asked) -> Result<Vec<TaskId>, Fail> {
-    let wiring = wired(alloc, case)?;
-    let history = begun(alloc, case, count)?;
-    Ok(tasks_among(alloc, &wiring, history.events(), asked)?)
+fn tasks(rt: &impl Abort, alloc: Global, case: &Case, count: usize, asked: Asked) -> Vec<TaskId> {
+    let wiring = wiring(rt, alloc, case.wired);
+    let history = begun(rt, alloc, case, count);
+    tasks_among(alloc, &wiring, history.events(), asked).expect(rt, "memory")
 }
 
 fn holds_of(
@@ -94,14 +89,14 @@ fn holds_of(
     }
 }
 
-fn holds(alloc: Global, case: &Case, count: usize, question: Question) -> Result<bool, Fail> {
-    let wiring = wired(alloc, case)?;
-    let history = begun(alloc, case, count)?;
-    Ok(holds_of(alloc, &wiring, history.events(), question)?)
+fn holds(rt: &impl Abort, alloc: Global, case: &Case, count: usize, question: Question) -> bool {
+    let wiring = wiring(rt, alloc, case.wired);
+    let history = begun(rt, alloc, case, count);
+    holds_of(alloc, &wiring, history.events(), question).expect(rt, "memory")
 }
 
 #[test]
-fn tasks_of_a_teardown(rt: HostRuntime) -> Result<(), Fail> {
+fn tasks_of_a_teardown(rt: HostRuntime) {
     let rows: [(usize, Asked, &[TaskId]); 6] = [
         (5, Asked::Fired, &[TASK_0, TASK_1]),
         (5, Asked::Waiting, &[TASK_0, TASK_1]),
@@ -111,28 +106,26 @@ fn tasks_of_a_teardown(rt: HostRuntime) -> Result<(), Fail> {
         (9, Asked::Running, &[TASK_2]),
     ];
     for (count, asked, wanted) in rows {
-        let found = tasks(rt.alloc(), &TEARDOWN_CUTS, count, asked)?;
+        let found = tasks(&rt, rt.alloc(), &TEARDOWN_CUTS, count, asked);
         assert_eq!(rt; found.as_slice(), wanted);
     }
-    Ok(())
 }
 
 #[test]
-fn tasks_of_a_discard_queue(rt: HostRuntime) -> Result<(), Fail> {
+fn tasks_of_a_discard_queue(rt: HostRuntime) {
     let rows: [(usize, Asked, &[TaskId]); 3] = [
         (11, Asked::Put, &[TASK_0, TASK_1, TASK_2]),
         (11, Asked::Dropped, &[TASK_0]),
         (11, Asked::Queued, &[TASK_1, TASK_2]),
     ];
     for (count, asked, wanted) in rows {
-        let found = tasks(rt.alloc(), &DISCARD, count, asked)?;
+        let found = tasks(&rt, rt.alloc(), &DISCARD, count, asked);
         assert_eq!(rt; found.as_slice(), wanted);
     }
-    Ok(())
 }
 
 #[test]
-fn spots_that_may_fire(rt: HostRuntime) -> Result<(), Fail> {
+fn spots_that_may_fire(rt: HostRuntime) {
     let rows: [(&Case, usize, Question, bool); 12] = [
         (&THROTTLE, 2, Question::HasRoom(X), true),
         (&THROTTLE, 4, Question::HasRoom(X), false),
@@ -148,14 +141,13 @@ fn spots_that_may_fire(rt: HostRuntime) -> Result<(), Fail> {
         (&TEARDOWN_CUTS, 3, Question::Takes(X, LINE_1), false),
     ];
     for (case, count, question, wanted) in rows {
-        let found = holds(rt.alloc(), case, count, question)?;
+        let found = holds(&rt, rt.alloc(), case, count, question);
         assert_eq!(rt; found, wanted, "{} after {count}", case.shows);
     }
-    Ok(())
 }
 
 #[test]
-fn tasks_that_may_go_on(rt: HostRuntime) -> Result<(), Fail> {
+fn tasks_that_may_go_on(rt: HostRuntime) {
     let rows: [(&Case, usize, Question, bool); 4] = [
         (&AWAIT, 9, Question::MayEnter(TASK_1), false),
         (&AWAIT, 14, Question::MayEnter(TASK_1), true),
@@ -163,75 +155,77 @@ fn tasks_that_may_go_on(rt: HostRuntime) -> Result<(), Fail> {
         (&DISCARD, 11, Question::MayPut(TASK_3), true),
     ];
     for (case, count, question, wanted) in rows {
-        let found = holds(rt.alloc(), case, count, question)?;
+        let found = holds(&rt, rt.alloc(), case, count, question);
         assert_eq!(rt; found, wanted, "{} after {count}", case.shows);
     }
-    Ok(())
 }
 
 /// The names of the messages that the port holds after the first events of the case.
-fn names_held(alloc: Global, events: &[Event], port: PortNo) -> Result<Vec<MsgId>, Fail> {
+fn names_held(rt: &impl Abort, alloc: Global, events: &[Event], port: PortNo) -> Vec<MsgId> {
     let mut names = Vec::new(alloc);
-    for message in held(alloc, events, port)? {
-        names.push(message.id)?;
+    for message in held(alloc, events, port).expect(rt, "memory") {
+        names.push(message.id).expect(rt, "memory");
     }
-    Ok(names)
+    names
 }
 
 #[test]
-fn messages_that_are_taken(rt: HostRuntime) -> Result<(), Fail> {
-    let history = begun(rt.alloc(), &TEARDOWN_CUTS, 5)?;
-    let found = taken(rt.alloc(), history.events())?;
+fn messages_that_are_taken(rt: HostRuntime) {
+    let history = begun(&rt, rt.alloc(), &TEARDOWN_CUTS, 5);
+    let found = taken(rt.alloc(), history.events()).expect(&rt, "memory");
     assert_eq!(rt; found.as_slice(), [LINE_0, LINE_1].as_slice());
-    Ok(())
 }
 
 #[test]
-fn messages_that_are_held(rt: HostRuntime) -> Result<(), Fail> {
-    let history = begun(rt.alloc(), &TEARDOWN_CUTS, 4)?;
+fn messages_that_are_held(rt: HostRuntime) {
+    let history = begun(&rt, rt.alloc(), &TEARDOWN_CUTS, 4);
     let rows: [(PortNo, &[MsgId]); 2] = [(A, &[LINE_1]), (B, &[LINE_2])];
     for (port, wanted) in rows {
-        let found = names_held(rt.alloc(), history.events(), port)?;
+        let found = names_held(&rt, rt.alloc(), history.events(), port);
         assert_eq!(rt; found.as_slice(), wanted);
     }
-    Ok(())
 }
 
-fn drop_of(alloc: Global, case: &Case, count: usize, task: TaskId) -> Result<Option<TaskId>, Fail> {
-    let wiring = wired(alloc, case)?;
-    let history = begun(alloc, case, count)?;
-    Ok(drop_at(alloc, &wiring, history.events(), task)?)
+fn drop_of(
+    rt: &impl Abort,
+    alloc: Global,
+    case: &Case,
+    count: usize,
+    task: TaskId,
+) -> Option<TaskId> {
+    let wiring = wiring(rt, alloc, case.wired);
+    let history = begun(rt, alloc, case, count);
+    drop_at(alloc, &wiring, history.events(), task).expect(rt, "memory")
 }
 
 #[test]
-fn task_that_a_put_drops(rt: HostRuntime) -> Result<(), Fail> {
-    let found = drop_of(rt.alloc(), &DISCARD, 9, TASK_1)?;
+fn task_that_a_put_drops(rt: HostRuntime) {
+    let found = drop_of(&rt, rt.alloc(), &DISCARD, 9, TASK_1);
     assert_eq!(rt; found, None);
-    let found = drop_of(rt.alloc(), &DISCARD, 11, TASK_3)?;
+    let found = drop_of(&rt, rt.alloc(), &DISCARD, 11, TASK_3);
     assert_eq!(rt; found, Some(TASK_1));
-    Ok(())
 }
 
 /// The ports and values of the posts of the task's segment.
 fn posts_in(
+    rt: &impl Abort,
     alloc: Global,
-    wiring: &Wiring,
-    history: &History,
+    case: &Case,
+    count: usize,
     task: TaskId,
-) -> Result<Vec<(PortNo, Value)>, Fail> {
-    let play = play_of(alloc, wiring, history.events(), task)?;
+) -> Vec<(PortNo, Value)> {
+    let wiring = wiring(rt, alloc, case.wired);
+    let history = begun(rt, alloc, case, count);
+    let play = play_of(alloc, &wiring, history.events(), task).expect(rt, "memory");
     let mut posts = Vec::new(alloc);
     for sent in play.posts.as_slice() {
-        posts.push((sent.port, sent.value))?;
+        posts.push((sent.port, sent.value)).expect(rt, "memory");
     }
-    Ok(posts)
+    posts
 }
 
 #[test]
-fn posts_of_a_running_task(rt: HostRuntime) -> Result<(), Fail> {
-    let wiring = wired(rt.alloc(), &TEARDOWN_CUTS)?;
-    let history = begun(rt.alloc(), &TEARDOWN_CUTS, 9)?;
-    let found = posts_in(rt.alloc(), &wiring, &history, TASK_2)?;
+fn posts_of_a_running_task(rt: HostRuntime) {
+    let found = posts_in(&rt, rt.alloc(), &TEARDOWN_CUTS, 9, TASK_2);
     assert_eq!(rt; found.as_slice(), [(A, Value::one(9))].as_slice());
-    Ok(())
 }

@@ -1,9 +1,9 @@
 //! Attempts over scripted replies: what is asked, step by step.
 
-use super::*;
 use ccr_base::{
     By, Cut, List, Msg, MsgId, OutOfMemory, Pattern, Place, Pred, Slot, Spot, Task, TaskId, Value,
 };
+use ccr_claim::{Ask, Attempt, ClaimPlan, Next, Outcome, Reply, Why, may_come};
 use std::alloc::Global;
 use std::process::Abort;
 use std::test::*;

@@ -1,5 +1,7 @@
-use super::*;
+//! Claims on a port, and what they leave in it.
+
 use ccr_base::{List, Msg, MsgId, Pred, Slot, TaskId, Value};
+use ccr_port::{Claimed, PortObject};
 use std::alloc::Global;
 use std::process::Abort;
 use std::test::*;

@@ -1,13 +1,22 @@
 //! The worked runs of one thread, and wrong events at some of their places.
 
-use super::wirings::{Does, Takes, Wired};
-use super::*;
+use crate::steps::{LINE_0, LINE_1, LINE_2, LINE_3, Step, TASK_0, TASK_1, TASK_2, TASK_3};
+use ccr_base::{MsgId, PortNo, Spot, TaskId};
 
 pub struct Case {
     pub shows: &'static str,
-    pub wired: Wired,
+    /// The text of its wiring, of one arbiter, one queue, one poster and the ports a, b, c and d.
+    pub wired: &'static str,
     pub steps: &'static [Step],
     pub wrong: &'static [Wrong],
+}
+
+/// An event that is refused after so many events of its case, and the rule that refuses it.
+#[derive(Clone, Copy)]
+pub struct Wrong {
+    pub after: usize,
+    pub step: Step,
+    pub rule: u8,
 }
 
 pub const A: PortNo = 0;
@@ -18,38 +27,10 @@ const C: PortNo = 2;
 
 const D: PortNo = 3;
 
-pub const TASK_0: TaskId = TaskId {
-    actor: 1,
-    attempt: 0,
-};
-
-pub const TASK_1: TaskId = TaskId {
-    actor: 1,
-    attempt: 1,
-};
-
-pub const TASK_2: TaskId = TaskId {
-    actor: 1,
-    attempt: 2,
-};
-
-pub const TASK_3: TaskId = TaskId {
-    actor: 1,
-    attempt: 3,
-};
-
 const OF_ACTOR_33: TaskId = TaskId {
     actor: 33,
     attempt: 0,
 };
-
-pub const LINE_0: MsgId = MsgId::Script { actor: 0, place: 0 };
-
-pub const LINE_1: MsgId = MsgId::Script { actor: 0, place: 1 };
-
-pub const LINE_2: MsgId = MsgId::Script { actor: 0, place: 2 };
-
-pub const LINE_3: MsgId = MsgId::Script { actor: 0, place: 3 };
 
 /// The first post of each task, and the second of the first.
 const POST_0: MsgId = MsgId::Task {
@@ -98,30 +79,36 @@ pub const CASES: [Case; 10] = [
 
 const ONE_POST: Case = Case {
     shows: "one post",
-    wired: Wired {
-        budget: 10000,
-        policy: Policy::Unbounded,
-        handlers: &[&[]],
-        kind: Kind::Receive,
-        branches: &[(Group::Always, 0, Takes::One(A))],
-        posts: &[(A, 7)],
-    },
+    wired: "ccr 1
+budget 10000
+queue q unbounded
+port a
+port b
+port c
+port d
+handler h
+end
+receive x always q h take a 1 any
+poster p
+post a 7
+end
+",
     steps: &[
-        Step::Post(LINE_0, A, 7),
+        Step::Post(LINE_0, A, &[7], &[]),
         Step::Fire(TASK_0, X, &[LINE_0], &[]),
         Step::Put(TASK_0, None),
         Step::Start(TASK_0, 1),
-        Step::End(TASK_0, Ends::Done),
+        Step::Done(TASK_0),
     ],
     wrong: &[
         Wrong {
             after: 0,
-            step: Step::Post(LINE_0, A, 8),
+            step: Step::Post(LINE_0, A, &[8], &[]),
             rule: 1,
         },
         Wrong {
             after: 1,
-            step: Step::Post(LINE_0, A, 7),
+            step: Step::Post(LINE_0, A, &[7], &[]),
             rule: 1,
         },
         Wrong {
@@ -166,12 +153,12 @@ const ONE_POST: Case = Case {
         },
         Wrong {
             after: 4,
-            step: Step::End(TASK_0, Ends::Shed),
+            step: Step::Shed(TASK_0),
             rule: 16,
         },
         Wrong {
             after: 5,
-            step: Step::End(TASK_0, Ends::Done),
+            step: Step::Done(TASK_0),
             rule: 15,
         },
     ],
@@ -179,24 +166,31 @@ const ONE_POST: Case = Case {
 
 const CHOICE: Case = Case {
     shows: "a choice fires once",
-    wired: Wired {
-        budget: 10000,
-        policy: Policy::Unbounded,
-        handlers: &[&[]],
-        kind: Kind::Choice,
-        branches: &[
-            (Group::Choice, 0, Takes::One(A)),
-            (Group::Choice, 0, Takes::One(B)),
-        ],
-        posts: &[(A, 1), (B, 2)],
-    },
+    wired: "ccr 1
+budget 10000
+queue q unbounded
+port a
+port b
+port c
+port d
+handler h
+end
+choice i
+branch x q h take a 1 any
+branch y q h take b 1 any
+end
+poster p
+post a 1
+post b 2
+end
+",
     steps: &[
-        Step::Post(LINE_0, A, 1),
-        Step::Post(LINE_1, B, 2),
+        Step::Post(LINE_0, A, &[1], &[]),
+        Step::Post(LINE_1, B, &[2], &[]),
         Step::Fire(TASK_0, X, &[LINE_0], &[]),
         Step::Put(TASK_0, None),
         Step::Start(TASK_0, 1),
-        Step::End(TASK_0, Ends::Done),
+        Step::Done(TASK_0),
     ],
     wrong: &[Wrong {
         after: 3,
@@ -205,27 +199,36 @@ const CHOICE: Case = Case {
     }],
 };
 
-const GATHER_WIRED: Wired = Wired {
-    budget: 10000,
-    policy: Policy::Unbounded,
-    handlers: &[&[]],
-    kind: Kind::Receive,
-    branches: &[(Group::Once, 0, Takes::Gather(3, A, B))],
-    posts: &[(A, 1), (B, 2), (B, 3), (A, 4)],
-};
+const GATHER_WIRED: &str = "ccr 1
+budget 10000
+queue q unbounded
+port a
+port b
+port c
+port d
+handler h
+end
+receive x once q h gather 3 a b
+poster p
+post a 1
+post b 2
+post b 3
+post a 4
+end
+";
 
 pub const GATHER: Case = Case {
     shows: "a gather takes what it can from the lower port",
     wired: GATHER_WIRED,
     steps: &[
-        Step::Post(LINE_0, A, 1),
-        Step::Post(LINE_1, B, 2),
-        Step::Post(LINE_2, B, 3),
-        Step::Post(LINE_3, A, 4),
+        Step::Post(LINE_0, A, &[1], &[]),
+        Step::Post(LINE_1, B, &[2], &[]),
+        Step::Post(LINE_2, B, &[3], &[]),
+        Step::Post(LINE_3, A, &[4], &[]),
         Step::Fire(TASK_0, X, &[LINE_0, LINE_3, LINE_1], &[]),
         Step::Put(TASK_0, None),
         Step::Start(TASK_0, 1),
-        Step::End(TASK_0, Ends::Done),
+        Step::Done(TASK_0),
     ],
     wrong: &[
         Wrong {
@@ -245,33 +248,42 @@ const GATHER_OTHER_SPLIT: Case = Case {
     shows: "another split of a gather is allowed too",
     wired: GATHER_WIRED,
     steps: &[
-        Step::Post(LINE_0, A, 1),
-        Step::Post(LINE_1, B, 2),
-        Step::Post(LINE_2, B, 3),
-        Step::Post(LINE_3, A, 4),
+        Step::Post(LINE_0, A, &[1], &[]),
+        Step::Post(LINE_1, B, &[2], &[]),
+        Step::Post(LINE_2, B, &[3], &[]),
+        Step::Post(LINE_3, A, &[4], &[]),
         Step::Fire(TASK_0, X, &[LINE_0, LINE_1, LINE_2], &[]),
         Step::Put(TASK_0, None),
         Step::Start(TASK_0, 1),
-        Step::End(TASK_0, Ends::Done),
+        Step::Done(TASK_0),
     ],
     wrong: &[],
 };
 
 pub const DISCARD: Case = Case {
     shows: "a full discard queue drops its oldest task",
-    wired: Wired {
-        budget: 10000,
-        policy: Policy::Discard(2),
-        handlers: &[&[]],
-        kind: Kind::Receive,
-        branches: &[(Group::Always, 0, Takes::One(A))],
-        posts: &[(A, 1), (A, 2), (A, 3), (A, 4)],
-    },
+    wired: "ccr 1
+budget 10000
+queue q discard 2
+port a
+port b
+port c
+port d
+handler h
+end
+receive x always q h take a 1 any
+poster p
+post a 1
+post a 2
+post a 3
+post a 4
+end
+",
     steps: &[
-        Step::Post(LINE_0, A, 1),
-        Step::Post(LINE_1, A, 2),
-        Step::Post(LINE_2, A, 3),
-        Step::Post(LINE_3, A, 4),
+        Step::Post(LINE_0, A, &[1], &[]),
+        Step::Post(LINE_1, A, &[2], &[]),
+        Step::Post(LINE_2, A, &[3], &[]),
+        Step::Post(LINE_3, A, &[4], &[]),
         Step::Fire(TASK_0, X, &[LINE_0], &[]),
         Step::Fire(TASK_1, X, &[LINE_1], &[]),
         Step::Fire(TASK_2, X, &[LINE_2], &[]),
@@ -281,9 +293,9 @@ pub const DISCARD: Case = Case {
         Step::Put(TASK_2, Some(TASK_0)),
         Step::Put(TASK_3, Some(TASK_1)),
         Step::Start(TASK_2, 1),
-        Step::End(TASK_2, Ends::Done),
+        Step::Done(TASK_2),
         Step::Start(TASK_3, 1),
-        Step::End(TASK_3, Ends::Done),
+        Step::Done(TASK_3),
     ],
     wrong: &[
         Wrong {
@@ -311,25 +323,32 @@ pub const DISCARD: Case = Case {
 
 pub const THROTTLE: Case = Case {
     shows: "a throttle queue lets fire once there is room",
-    wired: Wired {
-        budget: 10000,
-        policy: Policy::Throttle(1),
-        handlers: &[&[]],
-        kind: Kind::Receive,
-        branches: &[(Group::Always, 0, Takes::One(A))],
-        posts: &[(A, 1), (A, 2)],
-    },
+    wired: "ccr 1
+budget 10000
+queue q throttle 1
+port a
+port b
+port c
+port d
+handler h
+end
+receive x always q h take a 1 any
+poster p
+post a 1
+post a 2
+end
+",
     steps: &[
-        Step::Post(LINE_0, A, 1),
-        Step::Post(LINE_1, A, 2),
+        Step::Post(LINE_0, A, &[1], &[]),
+        Step::Post(LINE_1, A, &[2], &[]),
         Step::Fire(TASK_0, X, &[LINE_0], &[]),
         Step::Put(TASK_0, None),
         Step::Start(TASK_0, 1),
         Step::Fire(TASK_1, X, &[LINE_1], &[]),
         Step::Put(TASK_1, None),
-        Step::End(TASK_0, Ends::Done),
+        Step::Done(TASK_0),
         Step::Start(TASK_1, 1),
-        Step::End(TASK_1, Ends::Done),
+        Step::Done(TASK_1),
     ],
     wrong: &[
         Wrong {
@@ -347,37 +366,45 @@ pub const THROTTLE: Case = Case {
 
 const INTERLEAVE_GROUPS: Case = Case {
     shows: "an exclusive task between two concurrent ones",
-    wired: Wired {
-        budget: 10000,
-        policy: Policy::Unbounded,
-        handlers: &[&[]],
-        kind: Kind::Interleave,
-        branches: &[
-            (Group::Concurrent, 0, Takes::One(A)),
-            (Group::Exclusive, 0, Takes::One(B)),
-            (Group::Concurrent, 0, Takes::One(C)),
-        ],
-        posts: &[(A, 1), (B, 2), (C, 3)],
-    },
+    wired: "ccr 1
+budget 10000
+queue q unbounded
+port a
+port b
+port c
+port d
+handler h
+end
+interleave i
+concurrent x q h take a 1 any
+exclusive y q h take b 1 any
+concurrent z q h take c 1 any
+end
+poster p
+post a 1
+post b 2
+post c 3
+end
+",
     steps: &[
-        Step::Post(LINE_0, A, 1),
-        Step::Post(LINE_1, B, 2),
-        Step::Post(LINE_2, C, 3),
+        Step::Post(LINE_0, A, &[1], &[]),
+        Step::Post(LINE_1, B, &[2], &[]),
+        Step::Post(LINE_2, C, &[3], &[]),
         Step::Fire(TASK_0, X, &[LINE_0], &[]),
         Step::Fire(TASK_1, Y, &[LINE_1], &[]),
         Step::Fire(TASK_2, Z, &[LINE_2], &[]),
         Step::Admit(TASK_0),
         Step::Put(TASK_0, None),
         Step::Start(TASK_0, 1),
-        Step::End(TASK_0, Ends::Done),
+        Step::Done(TASK_0),
         Step::Admit(TASK_1),
         Step::Put(TASK_1, None),
         Step::Start(TASK_1, 1),
-        Step::End(TASK_1, Ends::Done),
+        Step::Done(TASK_1),
         Step::Admit(TASK_2),
         Step::Put(TASK_2, None),
         Step::Start(TASK_2, 1),
-        Step::End(TASK_2, Ends::Done),
+        Step::Done(TASK_2),
     ],
     wrong: &[
         Wrong {
@@ -405,29 +432,40 @@ const INTERLEAVE_GROUPS: Case = Case {
 
 pub const TEARDOWN_CUTS: Case = Case {
     shows: "a teardown cuts the waiting tasks",
-    wired: Wired {
-        budget: 10000,
-        policy: Policy::Unbounded,
-        handlers: &[&[], &[Does::PostNumber(A, 9)]],
-        kind: Kind::Interleave,
-        branches: &[
-            (Group::Exclusive, 0, Takes::One(A)),
-            (Group::Teardown, 1, Takes::One(B)),
-        ],
-        posts: &[(A, 1), (A, 2), (B, 3)],
-    },
+    wired: "ccr 1
+budget 10000
+queue q unbounded
+port a
+port b
+port c
+port d
+handler h
+end
+handler w
+post a 9
+end
+interleave i
+exclusive x q h take a 1 any
+teardown y q w take b 1 any
+end
+poster p
+post a 1
+post a 2
+post b 3
+end
+",
     steps: &[
-        Step::Post(LINE_0, A, 1),
-        Step::Post(LINE_1, A, 2),
-        Step::Post(LINE_2, B, 3),
+        Step::Post(LINE_0, A, &[1], &[]),
+        Step::Post(LINE_1, A, &[2], &[]),
+        Step::Post(LINE_2, B, &[3], &[]),
         Step::Fire(TASK_0, X, &[LINE_0], &[]),
         Step::Fire(TASK_1, X, &[LINE_1], &[]),
         Step::Fire(TASK_2, Y, &[LINE_2], &[TASK_0, TASK_1]),
         Step::Admit(TASK_2),
         Step::Put(TASK_2, None),
         Step::Start(TASK_2, 1),
-        Step::Post(POST_2, A, 9),
-        Step::End(TASK_2, Ends::Done),
+        Step::Post(POST_2, A, &[9], &[]),
+        Step::Done(TASK_2),
     ],
     wrong: &[
         Wrong {
@@ -455,41 +493,53 @@ pub const TEARDOWN_CUTS: Case = Case {
 
 pub const AWAIT: Case = Case {
     shows: "an exclusive task is suspended and resumed",
-    wired: Wired {
-        budget: 10000,
-        policy: Policy::Unbounded,
-        handlers: &[&[], &[Does::Await(B), Does::PostSum(D)]],
-        kind: Kind::Interleave,
-        branches: &[
-            (Group::Exclusive, 1, Takes::One(A)),
-            (Group::Concurrent, 0, Takes::One(C)),
-        ],
-        posts: &[(A, 1), (C, 2), (B, 3)],
-    },
+    wired: "ccr 1
+budget 10000
+queue q unbounded
+port a
+port b
+port c
+port d
+handler h
+end
+handler w
+await b
+post d sum
+end
+interleave i
+exclusive x q w take a 1 any
+concurrent y q h take c 1 any
+end
+poster p
+post a 1
+post c 2
+post b 3
+end
+",
     steps: &[
-        Step::Post(LINE_0, A, 1),
-        Step::Post(LINE_1, C, 2),
-        Step::Post(LINE_2, B, 3),
+        Step::Post(LINE_0, A, &[1], &[]),
+        Step::Post(LINE_1, C, &[2], &[]),
+        Step::Post(LINE_2, B, &[3], &[]),
         Step::Fire(TASK_0, X, &[LINE_0], &[]),
         Step::Fire(TASK_1, Y, &[LINE_1], &[]),
         Step::Admit(TASK_0),
         Step::Put(TASK_0, None),
         Step::Start(TASK_0, 1),
-        Step::End(TASK_0, Ends::Yield),
+        Step::Yield(TASK_0),
         Step::Fire(TASK_2, Spot::Site(0, 0), &[LINE_2], &[]),
         Step::Put(TASK_2, None),
         Step::Start(TASK_2, 1),
-        Step::Post(POST_2, D, 4),
-        Step::End(TASK_2, Ends::Done),
+        Step::Post(POST_2, D, &[4], &[]),
+        Step::Done(TASK_2),
         Step::Admit(TASK_1),
         Step::Put(TASK_1, None),
         Step::Start(TASK_1, 1),
-        Step::End(TASK_1, Ends::Done),
+        Step::Done(TASK_1),
     ],
     wrong: &[
         Wrong {
             after: 8,
-            step: Step::End(TASK_0, Ends::Done),
+            step: Step::Done(TASK_0),
             rule: 16,
         },
         Wrong {
@@ -509,7 +559,7 @@ pub const AWAIT: Case = Case {
         },
         Wrong {
             after: 12,
-            step: Step::Post(POST_2, D, 3),
+            step: Step::Post(POST_2, D, &[3], &[]),
             rule: 2,
         },
     ],
@@ -517,60 +567,67 @@ pub const AWAIT: Case = Case {
 
 pub const BUDGET_SHED: Case = Case {
     shows: "a task whose post finds the budget spent is shed",
-    wired: Wired {
-        budget: 3,
-        policy: Policy::Unbounded,
-        handlers: &[&[Does::PostFirst(A)]],
-        kind: Kind::Receive,
-        branches: &[(Group::Always, 0, Takes::One(A))],
-        posts: &[(A, 5)],
-    },
+    wired: "ccr 1
+budget 3
+queue q unbounded
+port a
+port b
+port c
+port d
+handler h
+post a arg 0
+end
+receive x always q h take a 1 any
+poster p
+post a 5
+end
+",
     steps: &[
-        Step::Post(LINE_0, A, 5),
+        Step::Post(LINE_0, A, &[5], &[]),
         Step::Fire(TASK_0, X, &[LINE_0], &[]),
         Step::Put(TASK_0, None),
         Step::Start(TASK_0, 1),
-        Step::Post(POST_0, A, 5),
+        Step::Post(POST_0, A, &[5], &[]),
         Step::Fire(TASK_1, X, &[POST_0], &[]),
         Step::Put(TASK_1, None),
-        Step::End(TASK_0, Ends::Done),
+        Step::Done(TASK_0),
         Step::Start(TASK_1, 1),
-        Step::Post(POST_1, A, 5),
+        Step::Post(POST_1, A, &[5], &[]),
         Step::Fire(TASK_2, X, &[POST_1], &[]),
         Step::Put(TASK_2, None),
-        Step::End(TASK_1, Ends::Done),
+        Step::Done(TASK_1),
         Step::Start(TASK_2, 1),
-        Step::Post(POST_2, A, 5),
+        Step::Post(POST_2, A, &[5], &[]),
         Step::Fire(TASK_3, X, &[POST_2], &[]),
         Step::Put(TASK_3, None),
-        Step::End(TASK_2, Ends::Done),
+        Step::Done(TASK_2),
         Step::Start(TASK_3, 1),
-        Step::End(TASK_3, Ends::Shed),
+        Step::Shed(TASK_3),
     ],
     wrong: &[
         Wrong {
             after: 4,
-            step: Step::Post(POST_0, A, 6),
+            step: Step::Post(POST_0, A, &[6], &[]),
             rule: 2,
         },
         Wrong {
             after: 4,
-            step: Step::Post(SECOND_POST_0, A, 5),
+            step: Step::Post(SECOND_POST_0, A, &[5], &[]),
             rule: 2,
         },
         Wrong {
             after: 4,
-            step: Step::End(TASK_0, Ends::Shed),
+            step: Step::Shed(TASK_0),
             rule: 16,
         },
         Wrong {
             after: 18,
-            step: Step::Post(POST_3, A, 5),
+            step: Step::Post(POST_3, A, &[5], &[]),
             rule: 2,
         },
         Wrong {
             after: 19,
-            step: Step::Post(POST_3, A, 5),
+            step: Step::Post(POST_3, A, &[5], &[]),
             rule: 3,
         },
     ],

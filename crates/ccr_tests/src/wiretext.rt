@@ -4,9 +4,9 @@
 
 ghost use Rattle.std.specs.Prelude.{◌≢◌, ◌<◌, [], length};
 
-use super::*;
 use ccr_base::OutOfMemory;
 use ccr_text::read_number;
+use ccr_wiretext::{ReadRefused, read_wiring};
 use std::alloc::Global;
 use std::test::*;
 

@@ -1,5 +1,5 @@
 use Rattle.std.proofs.Common.{length}
-use Rattle.ccr_wiretext.proofs.tests.first_wrong.Given as goal
+use Rattle.ccr_tests.proofs.wiretext.first_wrong.Given as goal
 
 abbrev pub decreases-rows : goal.decreases-rows
 decreases-rows l = length l.rest
