@@ -1,6 +1,6 @@
 //! The text of a history.
 
-ghost use Rattle.std.specs.Prelude.{◌≡◌, ◌+◌, ◌++◌, ◌∷◌, ℕ, List as Listed, IfOk, OnOk, Ok, map, length, codes};
+ghost use Rattle.std.specs.Prelude.{◌≡◌, ◌+◌, ◌++◌, ◌∷◌, [], ℕ, List as Listed, IfOk, OnOk, Ok, map, length, codes};
 ghost use Rattle.ccr_text.specs.Spelling.{text_of};
 ghost use Rattle.ccr_trace.specs.Words.{branch_names};
 ghost use Rattle.ccr_trace.specs.HistoryText.{event_words, history_text};
@@ -16,6 +16,17 @@ use ccr_spots::branch_names;
 use ccr_text::put_bytes;
 use ccr_wiring::{Parts, Wiring};
 use std::alloc::Global;
+
+/// How many bytes the line of an event has, about.
+const LINE: usize = 24;
+
+/// An empty text with room for the lines of so many events.
+fn room_for(alloc: Global, events: usize) -> Result<List<u8>, OutOfMemory>
+    ensures { IfOk result (λ text. text ≡ []) }
+{
+    let bytes = Vec::with_capacity(alloc, events.saturating_mul(LINE))?;
+    Ok(List::from_vec(bytes))
+}
 
 /// A line for each event.
 fn put_events(
@@ -49,9 +60,10 @@ pub fn write_history(
     what_is_written_is_read();
     let parts = wiring.parts();
     let branches = branch_names(alloc, parts)?;
-    let mut out = List::new(alloc);
+    let events = history.events();
+    let mut out = room_for(alloc, events.len())?;
     put_bytes(&mut out, first_line(parts))?;
     put_bytes(&mut out, b"\n")?;
-    put_events(&mut out, parts, branches.as_slice(), history.events())?;
+    put_events(&mut out, parts, branches.as_slice(), events)?;
     Ok(out)
 }
