@@ -21,7 +21,6 @@ pub mod Quiet
 pub mod Allowing
 pub mod Covered
 pub mod Alone
-pub mod SeatPlaces
 pub mod Segments
 pub mod ValidHandlers
 pub mod PlayPast

@@ -31,7 +31,7 @@ use Rattle.ccr_model.specs.Legal.{IsAllowed, IsQuiet}
 use Rattle.ccr_model.specs.Order.{first, post_from, script_post, fire_at, fire_from, admit_first, admit_from, put_first, run_task, start_from}
 use Rattle.ccr_wiring.specs.Valid.{HasQueues}
 use Rattle.ccr_model.proofs.PostNames.{refused_not}
-use Rattle.ccr_model.proofs.SeatPlaces.{seat-within}
+use Rattle.ccr_wiring.proofs.SeatPlaces.{seat-within}
 use Rattle.ccr_model.proofs.Options.{some_of, some_then, some_map, none_or, none_map, no_head}
 use Rattle.ccr_model.proofs.Members.{Among, Among-left, Among-right}
 use Rattle.ccr_model.proofs.SameNames.{same_task-is}

@@ -1,4 +1,4 @@
--- A valid wiring's handlers are short, and its arbiters few.
+-- A valid wiring's handlers are short.
 use Rattle.std.proofs.Common.{◌≡◌, ℕ, ◌≤◌, length, Option, Some, subst}
 use Rattle.std.specs.List.{slice_get}
 use Rattle.std.specs.Option.{option_map_or}
@@ -14,7 +14,3 @@ pub handlers_are_short : (wiring : Parts) → IsValid wiring → (k : ℕ) (part
 handlers_are_short wiring valid k part is =
     let actions : Option HandlerPart → List Action = λ found. option_map_or (λ (p : HandlerPart). p.handler.actions) found [] in
     subst (λ found. length (actions found) ≤ 16) is ((sound wiring valid).few_actions k)
-
--- there are at most 256 arbiters
-pub arbiters_are_few : (wiring : Parts) → IsValid wiring → length wiring.arbiters ≤ 256
-arbiters_are_few wiring valid = (sound wiring valid).small.arbiters

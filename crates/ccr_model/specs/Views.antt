@@ -8,15 +8,11 @@ use Rattle.ccr_model.specs.declared.tasks.Branches.{Branches}
 use Rattle.ccr_model.specs.declared.tasks.Branches.TheVariants.{OfInterleave, OfArbiter, TeardownsOf, OfQueue}
 use Rattle.ccr_model.specs.TaskData.{Load}
 use Rattle.ccr_model.specs.Tasks.{is_interleave, is_teardown}
-use Rattle.ccr_model.specs.declared.seats.SeatOf.{SeatOf}
+pub use Rattle.ccr_wiring.specs.Seats.{seat_seen}
 
 -- the messages behind the references
 abbrev pub seen : List (Bor Msg) → List Msg
 seen messages = map (λ (message : Bor Msg). message.now) messages
-
--- the branch behind the reference, with its domain
-abbrev pub seat_seen : SeatOf → Seat
-seat_seen s = record { arbiter = s.arbiter; kind = s.kind; branch = s.branch.now }
 
 -- what the task starts with
 abbrev pub load_seen : TaskLoad → Load

@@ -3,39 +3,19 @@
 ghost use Rattle.std.specs.Prelude.{◌≡◌};
 ghost use Rattle.std.specs.List.{slice_get};
 ghost use Rattle.std.specs.Option.{option_map};
-ghost use Rattle.ccr_wiring.specs.Wirings.{seat, seats_from, policy_of, actions_of, awaited, site_port};
+ghost use Rattle.ccr_wiring.specs.Wirings.{seat, policy_of, actions_of, awaited, site_port};
 ghost use Rattle.ccr_model.specs.Views.{seat_seen};
 ghost use Rattle.ccr_model.specs.Tasks.{is_interleave, is_teardown, is_concurrent};
 
-use ccr_base::{Action, ArbiterNo, BranchNo, Group, HandlerNo, Policy, PortNo, QueueNo};
-use ccr_wiring::{BranchPart, Kind, Wiring};
-
-/// A branch with the number of its arbiter's domain and the arbiter's kind.
-#[derive(Clone, Copy)]
-pub struct SeatOf<'w> {
-    pub arbiter: usize,
-    pub kind: Kind,
-    pub branch: &'w BranchPart,
-}
+use ccr_base::{Action, BranchNo, Group, HandlerNo, Policy, PortNo, QueueNo};
+pub use ccr_wiring::SeatOf;
+use ccr_wiring::{Kind, Wiring};
 
 /// The branch of this number.
 pub fn seat(wiring: &Wiring, branch: BranchNo) -> Option<SeatOf<'_>>
     ensures { option_map seat_seen result ≡ seat wiring.now branch }
 {
-    let mut left = branch as usize;
-    let arbiters = wiring.parts().arbiters.as_slice();
-    for (number, arbiter) in arbiters.iter().enumerate() {
-        let branches = arbiter.branches.as_slice();
-        if left < branches.len() {
-            return Some(SeatOf {
-                arbiter: wiring.domain(number as ArbiterNo) as usize,
-                kind: arbiter.kind,
-                branch: &branches[left],
-            });
-        }
-        left -= branches.len();
-    }
-    None
+    wiring.seat(branch)
 }
 
 /// The queue's policy.

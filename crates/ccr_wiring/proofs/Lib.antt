@@ -4,4 +4,5 @@ pub mod Crowds
 pub mod SpotLemmas
 pub mod Validity
 pub mod DomainLemmas
+pub mod SeatPlaces
 pub mod Soundness

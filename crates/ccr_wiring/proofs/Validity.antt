@@ -53,6 +53,17 @@ few_branches parts none =
     let count = length-all_branches parts.arbiters in
     grind (arith, nat_tests, few, count)
 
+-- there are at most 256 arbiters
+pub few_arbiters : (parts : Parts) → has_outside parts ≡ false → length parts.arbiters ≤ 256
+few_arbiters parts none =
+    let a = nat_lt 16 (length parts.queues) || nat_lt 256 (length parts.ports) || nat_lt 64 (length parts.sets) || nat_lt 32 (length parts.causes) || nat_lt 256 (length parts.handlers) in
+    let b = nat_lt 256 (length parts.arbiters) in
+    let c = nat_lt 16 (length parts.posters) in
+    let three = neither (a || b || c || has_branches_above 256 parts.arbiters) (has_posts_above 10000 parts.posters) (within parts none).many in
+    let two = neither (a || b || c) (has_branches_above 256 parts.arbiters) three.0 in
+    let few : b ≡ false = (neither a b (neither (a || b) c two.0).0).1 in
+    grind (arith, nat_tests, few)
+
 few_of : (part : HandlerPart) → handler_is_outside part ≡ false → length part.handler.actions ≤ 16
 few_of part none =
     let few : nat_lt 16 (length part.handler.actions) ≡ false = (neither (nat_lt 16 (length part.handler.actions)) (list_any action_is_outside part.handler.actions) none).0 in

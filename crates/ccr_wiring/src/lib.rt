@@ -10,6 +10,7 @@ mod names;
 mod parts;
 mod references;
 mod repeats;
+mod seats;
 mod spots;
 mod unfit;
 mod versions;
@@ -25,6 +26,7 @@ pub use parts::{
     ArbiterPart, BranchPart, CausePart, DomainPart, HandlerPart, Kind, Parts, PosterPart,
     QueuePart, SetPart,
 };
+pub use seats::SeatOf;
 pub use unfit::Unfit;
 pub use wiring::Wiring;
 

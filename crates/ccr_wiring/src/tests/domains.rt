@@ -3,7 +3,7 @@
 use super::sizes::{SMALL, parts, pattern};
 use super::{add, code, name};
 use crate::*;
-use ccr_base::{Action, ArbiterNo, Expr, Group, List, OutOfMemory, Sent, Value};
+use ccr_base::{Action, ArbiterNo, BranchNo, Expr, Group, List, OutOfMemory, Sent, Value};
 use std::alloc::Global;
 use std::test::*;
 
@@ -81,6 +81,21 @@ fn domain(alloc: Global, arbiter: ArbiterNo) -> Option<ArbiterNo> {
 fn domain_is_the_least_member(rt: HostRuntime) -> Result<(), Fail> {
     for (arbiter, wanted) in [(0, 0), (1, 1), (2, 2), (3, 2), (4, 2), (5, 5)] {
         assert_eq!(rt; domain(rt.alloc(), arbiter), Some(wanted));
+    }
+    Ok(())
+}
+
+/// The domain of the branch, where 2, 3 and 4 are combined.
+fn domain_of_branch(alloc: Global, branch: BranchNo) -> Option<usize> {
+    let parts = combined(alloc, &[&[4, 2, 3]]).ok()?;
+    let wiring = Wiring::check(alloc, parts).ok()?;
+    Some(wiring.seat(branch)?.arbiter)
+}
+
+#[test]
+fn branch_is_of_its_domain(rt: HostRuntime) -> Result<(), Fail> {
+    for (branch, wanted) in [(0, Some(0)), (4, Some(2)), (10, Some(10)), (11, None)] {
+        assert_eq!(rt; domain_of_branch(rt.alloc(), branch), wanted);
     }
     Ok(())
 }
