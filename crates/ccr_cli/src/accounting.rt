@@ -7,9 +7,7 @@ ghost use Rattle.ccr_model.specs.declared.history.Event.{Event};
 ghost use Rattle.ccr_model.specs.Legal.{IsLegal, is_complete};
 ghost use Rattle.ccr_cli.specs.Accounts.{AccountsForAll};
 
-use ccr_laws::{
-    firings_take_whole_patterns, messages_have_one_fate, posters_follow_their_scripts,
-};
+use ccr_laws::{firings_take_whole_patterns, messages_have_one_fate, posters_follow_their_scripts};
 
 /// A legal and complete history of a valid wiring accounts for each post and each message: the laws of such histories in one.
 pub(crate) fn complete_histories_account_for_all()

@@ -1,4 +1,4 @@
-//! What no clause says: that the engine's calls answer where there is memory.
+//! What no clause says: that the engine's calls answer where there is memory. Want of memory ends a test at once.
 
 use super::*;
 use ccr_model::History;
@@ -8,40 +8,49 @@ use std::alloc::Global;
 use std::test::*;
 
 /// One receiver, and a poster with one post to it.
-fn wiring(alloc: Global) -> Result<Wiring, Fail> {
-    let mut parts = one_receiver(alloc).ok().ok_or("memory")?;
-    parts.posters = one_post(alloc).ok().ok_or("memory")?;
-    Ok(Wiring::check(alloc, parts).ok().ok_or("not valid")?)
+fn made(alloc: Global) -> Option<Wiring> {
+    let mut parts = one_receiver(alloc).ok()?;
+    parts.posters = one_post(alloc).ok()?;
+    Wiring::check(alloc, parts).ok()
 }
 
-/// How many events there are after so many steps.
-fn events_after(engine: &mut Serial<'_>, steps: u32) -> Result<usize, Fail> {
-    for _ in 0..steps {
-        engine.step().ok().ok_or("memory")?;
+/// The event of the next step, if there is one.
+fn has_stepped(engine: &mut Serial<'_>) -> Option<bool> {
+    match engine.step() {
+        Ok(Stepped::Did(_)) => Some(true),
+        Ok(Stepped::Quiet) => Some(false),
+        Err(_) => None,
     }
-    Ok(engine.history().events().len())
 }
 
 #[test]
-fn steps_one_by_one(rt: HostRuntime) -> Result<(), Fail> {
-    let wiring = wiring(rt.alloc())?;
+fn steps_one_by_one(rt: HostRuntime) {
+    let wiring = made(rt.alloc()).expect(&rt, "a wiring");
     assert!(rt; wiring.parts().posters.as_slice().len() == 1);
-    let mut engine = Serial::start(rt.alloc(), &wiring, 1).ok().ok_or("memory")?;
-    let events = events_after(&mut engine, 4)?;
-    assert_eq!(rt; events, 4);
-    let events = events_after(&mut engine, 2)?;
-    assert_eq!(rt; events, 5);
-    Ok(())
+    let mut engine = Serial::start(rt.alloc(), &wiring, 1)
+        .ok()
+        .expect(&rt, "memory");
+    for (events, more) in [
+        (1, true),
+        (2, true),
+        (3, true),
+        (4, true),
+        (5, true),
+        (5, false),
+    ] {
+        let stepped = has_stepped(&mut engine).expect(&rt, "memory");
+        assert_eq!(rt; stepped, more);
+        assert_eq!(rt; engine.history().events().len(), events);
+    }
 }
 
 #[test]
-fn goes_on_from_a_history(rt: HostRuntime) -> Result<(), Fail> {
-    let wiring = wiring(rt.alloc())?;
+fn goes_on_from_a_history(rt: HostRuntime) {
+    let wiring = made(rt.alloc()).expect(&rt, "a wiring");
     assert!(rt; wiring.parts().posters.as_slice().len() == 1);
     let engine = Serial::resume(rt.alloc(), &wiring, 2, History::new(rt.alloc()))
         .ok()
-        .ok_or("memory")?;
-    let history = engine.finish().ok().ok_or("memory")?;
+        .expect(&rt, "memory");
+    let history = engine.finish().ok().expect(&rt, "memory");
     assert_eq!(rt; history.events().len(), 5);
-    Ok(())
 }
