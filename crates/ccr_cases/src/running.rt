@@ -95,8 +95,8 @@ fn words_of(alloc: Global, words: &str) -> Result<List<Name>, OutOfMemory> {
     Ok(names)
 }
 
-/// What the program answers.
-fn answer<R: AllocGlobal>(
+/// Runs the program, and tells what it answered.
+fn run_program<R: AllocGlobal>(
     rt: &R,
     words: &str,
     input: &[u8],
@@ -132,13 +132,13 @@ fn is_legal<R: AllocGlobal>(rt: &R, case: &Case<'_>, written: &[u8]) -> Result<b
     let alloc = rt.alloc();
     let mut input = Vec::from_slice(alloc, case.input.as_slice())?;
     input.extend_from_slice(written)?;
-    let judged = answer(rt, "verify", input.as_slice(), 10_000)?;
+    let judged = run_program(rt, "verify", input.as_slice(), 10_000)?;
     Ok(judged.status == 0 && is_due(alloc, judged.written.as_slice(), Due::Whole(LEGAL))?)
 }
 
 /// Whether the case holds. What a run writes is also judged.
 pub fn holds<R: AllocGlobal>(rt: &R, case: &Case<'_>, due: Due<'_>) -> Result<bool, OutOfMemory> {
-    let given = answer(rt, case.words, case.input.as_slice(), case.room)?;
+    let given = run_program(rt, case.words, case.input.as_slice(), case.room)?;
     let written = given.written.as_slice();
     if given.status != case.status || !is_due(rt.alloc(), written, due)? {
         return Ok(false);
