@@ -43,11 +43,11 @@ put-settles : (task : Option Task) → AreSettling (put_asks task)
 put-settles None = tt
 put-settles (Some task) = (refl, tt)
 
-release-settles : (plan : ClaimPlan) (task : TaskId) (phase : Phase) → AreSettling (release plan task phase)
+pub release-settles : (plan : ClaimPlan) (task : TaskId) (phase : Phase) → AreSettling (release plan task phase)
 release-settles plan task booking = tt
 release-settles plan task (claiming left had) = joined (map (free_ask task) (reverse had)) (unbook_ask plan.queue task ∷ []) (frees-settle task (reverse had)) (refl, tt)
 
-firing-settles : (task : TaskId) (had : List Had) (fired : Option Task) (cuts : List Cut) → AreSettling (firing_hand task had fired cuts)
+pub firing-settles : (task : TaskId) (had : List Had) (fired : Option Task) (cuts : List Cut) → AreSettling (firing_hand task had fired cuts)
 firing-settles task had fired cuts = joined (map (consume_ask task) had) (map cut_ask cuts ++ put_asks fired) (consumes-settle task had) (joined (map cut_ask cuts) (put_asks fired) (cuts-settle cuts) (put-settles fired))
 
 -- ---- one reply
@@ -129,7 +129,7 @@ line-same : (wiring : Parts) (state : State) (place : ℕ) (sents : List Sent) �
 line-same wiring state place [] = refl
 line-same wiring state place (sent ∷ sents) = refl
 
-play-same : (wiring : Parts) (state : State) (task : Task) (place : ℕ) (play : Play) (posts : List Sent) (reply : Reply) → (after_play wiring state task place play posts reply).hand ≡ state.hand
+pub play-same : (wiring : Parts) (state : State) (task : Task) (place : ℕ) (play : Play) (posts : List Sent) (reply : Reply) → (after_play wiring state task place play posts reply).hand ≡ state.hand
 play-same wiring state task place play [] reply = end-same wiring state task play.end
 play-same wiring state task place play (sent ∷ posts) replies.Done = refl
 play-same wiring state task place play (sent ∷ posts) (replies.Got m) = refl
@@ -179,7 +179,7 @@ taking-same wiring state left queue more (replies.Drawn n) = take-same wiring st
 taking-same wiring state left queue more replies.Spent = take-same wiring state left (queue + 1) more
 taking-same wiring state left queue more (replies.Left n) = take-same wiring state left (queue + 1) more
 
-work-same : (wiring : Parts) (state : State) (work : Work) (reply : Reply) → (after_work wiring state work reply).hand ≡ state.hand
+pub work-same : (wiring : Parts) (state : State) (work : Work) (reply : Reply) → (after_work wiring state work reply).hand ≡ state.hand
 work-same wiring state (lines place sents) reply = line-same wiring state place sents
 work-same wiring state round reply = round-same wiring state reply
 work-same wiring state (taking left queue more) reply = taking-same wiring state left queue more reply

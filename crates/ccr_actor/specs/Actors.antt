@@ -128,17 +128,21 @@ asked wiring actor state = ask_in wiring actor state (turn state)
 abbrev pub add_arbiter : Parts → ℕ → List ℕ → List ℕ
 add_arbiter wiring arbiter arbiters = if is_interleave_number wiring arbiter && not (list_any (λ other. other == arbiter) arbiters) then arbiters ++ arbiter ∷ [] else arbiters
 
+-- the Interleave of a dropped task, unless the run of admissions has reached its bound
+abbrev pub admit_too : Parts → State → Task → List ℕ
+admit_too wiring state task = if nat_lt state.admitted 32768 then add_arbiter wiring task.arbiter state.arbiters else state.arbiters
+
 -- the asks in hand go on; a dropped task is noted over at once
 abbrev pub settled : Parts → State → List Asked → Reply → State
-settled wiring state more (replies.Dropped (Some task)) = record state { hand = over_dropped task ∷ more; arbiters = add_arbiter wiring task.arbiter state.arbiters }
+settled wiring state more (replies.Dropped (Some task)) = record state { hand = over_dropped task ∷ more; arbiters = admit_too wiring state task }
 settled wiring state more _ = record state { hand = more }
 
 -- the first Interleave is struck off
 abbrev pub strike : State → List ℕ → State
-strike state [] = record state { arbiters = []; admitted = 0 }
-strike state (arbiter ∷ more) = record state { arbiters = arbiter ∷ more }
+strike state more = record state { arbiters = more }
 
--- an admitted task is put; after so many, which no run within the limits reaches, the run of admissions ends
+-- an admitted task is put; after so many, which no run within the limits reaches, the run of admissions ends. The count
+-- begins anew with a firing and with an end, so no put of this run begins another
 abbrev pub let_in : State → List ℕ → Task → State
 let_in state more task = record state { hand = put_ask task ∷ []; admitted = state.admitted + 1; arbiters = if nat_lt (state.admitted + 1) 32768 then state.arbiters else [] }
 
@@ -164,7 +168,7 @@ driven_on state spot more = if nat_lt (state.fired + 1) 32768 then spot ∷ more
 
 abbrev pub fire : Parts → ℕ → State → Spot → List Spot → Option Task → List Cut → State
 fire wiring actor state spot more task cuts =
-    record (end_attempt state (firing_hand (name_at actor state) (had_in state.phase) task cuts) (driven_on state spot more)) { fired = state.fired + 1; arbiters = admissions_after wiring spot task }
+    record (end_attempt state (firing_hand (name_at actor state) (had_in state.phase) task cuts) (driven_on state spot more)) { fired = state.fired + 1; arbiters = admissions_after wiring spot task; admitted = 0 }
 
 abbrev pub after_attempt : Parts → ℕ → State → Spot → List Spot → Reply → State
 after_attempt wiring actor state spot more replies.Booked = record state { phase = claiming (slots_in (plan_of wiring spot).pattern) [] }
@@ -201,7 +205,7 @@ abbrev pub next_round : ℕ → Work
 next_round taken = if nat_lt taken 32768 then round else resting
 
 abbrev pub after_over : Parts → State → Task → State
-after_over wiring state task = record state { work = next_round state.taken; arbiters = add_arbiter wiring task.arbiter state.arbiters }
+after_over wiring state task = record state { work = next_round state.taken; arbiters = add_arbiter wiring task.arbiter state.arbiters; admitted = 0 }
 
 abbrev pub after_end : Parts → State → Task → PlayEnd → State
 after_end wiring state task (plays.Yield site) = record (driving state (next_site task.spot ∷ [])) { work = next_round state.taken }

@@ -1,15 +1,15 @@
 //! The attempt: it books, claims port by port, commits, and settles what it has in hand.
 
-ghost use Rattle.std.specs.Prelude.{◌≡◌, ◌⊎◌, IsTrue, IfOk, None};
+ghost use Rattle.std.specs.Prelude.{◌≡◌, ◌⊎◌, ◌==◌, length, IsTrue, IfOk, None};
 ghost use Rattle.ccr_claim.specs.declared.asks.Due.TheVariants as dues;
 ghost use Rattle.ccr_claim.specs.declared.asks.Reply.TheVariants as replies;
 ghost use Rattle.ccr_claim.specs.declared.outcomes.Why.TheVariants as whys;
 ghost use Rattle.ccr_claim.specs.Asks.{fits, may_come};
-ghost use Rattle.ccr_claim.specs.Attempts.{begun, next, sent, replied, given_up, port_of, IsAfter, IsAfterReply};
+ghost use Rattle.ccr_claim.specs.Attempts.{begun, next, sent, replied, given_up, port_of, standing_of, IsAfter, IsAfterReply};
 
 use crate::firing::{Firing, ready};
 use crate::hand::{claim, completion, release, resumes, stage_due, unanswered_by};
-use crate::outcomes::{Next, Outcome, Why};
+use crate::outcomes::{Next, Outcome, Standing, Why};
 use crate::slots::{in_order, next_slot};
 use crate::stages::{Stage, Unanswered};
 use crate::{Ask, Asked, ClaimPlan, Due, Had, Reply};
@@ -133,6 +133,30 @@ impl Attempt {
             Unanswered::Nothing => Due::Nothing,
             Unanswered::Ask => stage_due(self.stage, Unanswered::Ask, &self.left),
             Unanswered::Put => stage_due(self.stage, Unanswered::Put, &self.left),
+        }
+    }
+
+    /// Where the attempt stands.
+    pub fn standing(&self) -> Standing
+        ensures { result ≡ standing_of self.now.ended }
+    {
+        match self.stage {
+            Stage::Booking | Stage::Claiming => Standing::Running,
+            Stage::Fired { waits } => Standing::Fired { waits },
+            Stage::GaveUp(why) => Standing::GaveUp(why),
+        }
+    }
+
+    /// Whether nothing is left to be settled.
+    pub fn is_settled(&self) -> bool
+        ensures { result ≡ (length self.now.hand == 0) }
+    {
+        match self.stage {
+            Stage::Booking | Stage::Claiming => true,
+            Stage::Fired { .. } => {
+                self.had.is_empty() && self.cuts.is_empty() && self.put.is_none()
+            }
+            Stage::GaveUp(_) => self.had.is_empty() && !self.booked,
         }
     }
 

@@ -20,6 +20,14 @@ pub enum Outcome {
     GaveUp(Why),
 }
 
+/// Where an attempt stands: it goes on, or it has ended.
+#[derive(Clone, Copy, Debug, PartialEq, Eq)]
+pub enum Standing {
+    Running,
+    Fired { waits: bool },
+    GaveUp(Why),
+}
+
 /// What an attempt does next.
 #[derive(Debug, Drop)]
 pub enum Next {

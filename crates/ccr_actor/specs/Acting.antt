@@ -1,0 +1,112 @@
+-- An actor as its contracts see it: its state as far as it counts, and whether an ask of it is unanswered.
+use Rattle.std.specs.Prelude.{◌≡◌, ◌⊎◌, ℕ, Bool, true, false, List, [], ◌∷◌, Option, Some, None, Result, Ok, Err}
+use Rattle.ccr_base.specs.declared.list.OutOfMemory.{OutOfMemory}
+use Rattle.ccr_base.specs.declared.messages.Sent.{Sent}
+use Rattle.ccr_base.specs.declared.names.Place.{Place}
+use Rattle.ccr_base.specs.declared.tasks.Task.{Task}
+use Rattle.ccr_handler.specs.declared.segments.Play.{Play}
+use Rattle.ccr_handler.specs.declared.segments.PlayEnd.{PlayEnd}
+use Rattle.ccr_handler.specs.declared.segments.PlayEnd.TheVariants as plays
+use Rattle.ccr_wiring.specs.declared.parts.Parts.{Parts}
+use Rattle.ccr_claim.specs.declared.asks.Ask.{Ask}
+use Rattle.ccr_claim.specs.declared.asks.Asked.{Asked}
+use Rattle.ccr_claim.specs.declared.asks.Due.{Due}
+use Rattle.ccr_claim.specs.declared.asks.Due.TheVariants as dues
+use Rattle.ccr_claim.specs.declared.asks.Reply.{Reply}
+use Rattle.ccr_claim.specs.Asks.{Answer, due_of}
+use Rattle.ccr_actor.specs.Actors.{State, Work, lines, round, taking, playing, posting, shedding, resting, Turn, settle, admit, drive, go_on, stop, turn, asked, settled, after, shorten, fresh_state, start}
+
+-- what is unanswered: nothing, an ask of the hand, or another, with the replies that it may have
+pub data Asking : Type 0 where
+  quiet : Asking
+  settling : Due → Asking
+  going : Due → Asking
+
+-- the wiring that it serves, its number, its state, and what is unanswered
+pub record Acting : Type 0 where
+  pub wiring : Parts
+  pub actor : ℕ
+  pub state : State
+  pub asking : Asking
+
+-- which replies the unanswered ask may have
+abbrev pub due_in : Asking → Due
+due_in quiet = dues.Nothing
+due_in (settling due) = due
+due_in (going due) = due
+
+-- a short actor, of which nothing but its hand counts
+abbrev pub bare : List Asked → State
+bare hand = record (fresh_state resting) { hand = hand; is_short = true }
+
+abbrev pub kept_if : Bool → State → State
+kept_if true state = bare state.hand
+kept_if false state = state
+
+-- what of the state counts
+abbrev pub kept : State → State
+kept state = kept_if state.is_short state
+
+-- the actor in this state, with no ask unanswered
+abbrev pub at_state : Parts → ℕ → State → Acting
+at_state wiring actor state = record { wiring = wiring; actor = actor; state = kept state; asking = quiet }
+
+-- before its first step
+abbrev pub started : Parts → ℕ → Acting
+started wiring actor = at_state wiring actor (start wiring actor)
+
+abbrev pub pair_of : Asked → Place × Ask
+pair_of one = (one.place, one.ask)
+
+-- ---- once the next ask is made
+
+-- a suspended task goes out with its values and causes
+abbrev pub sent_play : Task → ℕ → Play → List Sent → PlayEnd → Work
+sent_play task place play [] (plays.Yield site) = playing (record task { values = []; causes = [] }) place (record play { causes = [] })
+sent_play task place play posts end = playing task place play
+
+-- and a post with its causes
+abbrev pub sent_work : Work → Work
+sent_work (playing task place play) = sent_play task place play play.posts play.end
+sent_work (posting task place play sent) = posting task place play (record sent { causes = [] })
+sent_work work = work
+
+abbrev pub sent_state : State → Turn → State
+sent_state state (settle one more) = record state { hand = more }
+sent_state state go_on = record state { work = sent_work state.work }
+sent_state state _ = state
+
+abbrev pub asking_by : Turn → Ask → Asking
+asking_by (settle one more) ask = settling (due_of ask)
+asking_by _ ask = going (due_of ask)
+
+abbrev pub asking_of : Turn → Option Asked → Asking
+asking_of part None = quiet
+asking_of part (Some one) = asking_by part one.ask
+
+-- what it asks next
+abbrev pub next : Acting → Option Asked
+next a = asked a.wiring a.actor a.state
+
+-- once it has asked that
+abbrev pub sent : Acting → Acting
+sent a = record a { state = sent_state a.state (turn a.state); asking = asking_of (turn a.state) (next a) }
+
+-- ---- once that is answered
+
+abbrev pub state_after_reply : Acting → Asking → Reply → State
+state_after_reply a quiet reply = a.state
+state_after_reply a (settling due) reply = settled a.wiring a.state a.state.hand reply
+state_after_reply a (going due) reply = after a.wiring a.actor a.state reply
+
+abbrev pub answered : Acting → Reply → Acting
+answered a reply = at_state a.wiring a.actor (state_after_reply a a.asking reply)
+
+-- where it found no memory
+abbrev pub shortened : Acting → Acting
+shortened a = at_state a.wiring a.actor (shorten a.wiring a.actor a.state)
+
+-- after this answer, or short then for want of memory
+abbrev pub IsAfter : Acting → Answer → Acting → Type 0
+IsAfter a (Ok reply) new = (new ≡ answered a reply) ⊎ ((a.state.is_short ≡ false) × (new ≡ shortened (answered a reply)))
+IsAfter a (Err refused) new = new ≡ shortened a

@@ -1,0 +1,112 @@
+//! Where an actor is in its course: what it has in hand, its admissions, its drive, and its work.
+
+ghost use Rattle.std.specs.Prelude.{◌≡◌, ◌<◌, ◌==◌, ◌&&◌, ◌^◌, drop, not, IfOk, OnOk, OnErr, None, Some, length};
+ghost use Rattle.std.specs.List.{list_any};
+ghost use Rattle.ccr_claim.specs.Inside.{IsFirst};
+ghost use Rattle.ccr_actor.specs.Actors.{add_arbiter, after_admit};
+ghost use Rattle.ccr_actor.specs.Courses.{state_of, hand_of, IsBeside, IsIdle};
+
+use crate::wired::is_interleave_number;
+use crate::work::Work;
+use ccr_base::{ActorNo, ArbiterNo, CauseNo, List, OutOfMemory, Spot, Task};
+use ccr_claim::{Attempt, Reply};
+use ccr_wiring::Wiring;
+use std::alloc::Global;
+use std::collections::VecDeque;
+
+/// How many attempts an actor makes.
+pub const ATTEMPTS: u64 = 4_294_967_296;
+
+/// How many firings one drive has, how many admissions one run of them, and how many tasks one worker.
+pub const MOST: u32 = 32_768;
+
+/// How many empty rounds a worker makes.
+pub const EMPTY_ROUNDS: u32 = 10_000;
+
+/// The course of an actor.
+#[derive(Drop)]
+pub struct Course<'w> {
+    pub alloc: Global,
+    pub wiring: &'w Wiring,
+    pub number: ActorNo,
+    /// The attempt that runs, or the one whose asks are in hand, or an earlier one.
+    pub attempt: Option<Attempt>,
+    /// An admitted task that is to be put.
+    pub put: Option<Task>,
+    /// A dropped task that is to be noted over first.
+    pub dropped: Option<Task>,
+    /// The Interleaves of the run of admissions.
+    pub arbiters: VecDeque<ArbiterNo>,
+    pub admitted: u32,
+    /// The spots that are driven.
+    pub spots: VecDeque<Spot>,
+    pub fired: u32,
+    pub work: Work<'w>,
+    /// How many attempts have ended.
+    pub count: u64,
+    pub taken: u32,
+    /// How many rounds were empty.
+    pub empty: u32,
+    pub short: bool,
+    /// The causes of the post of the script's next line.
+    pub line: Option<List<CauseNo>>,
+}
+
+/// Which part of an actor an ask comes from: the note of a dropped task, the attempt's hand, an admitted task, the
+/// admissions, the attempt that runs, the work.
+#[derive(Clone, Copy, PartialEq, Eq)]
+pub enum Part {
+    Over,
+    Hand,
+    Put,
+    Admit,
+    Drive,
+    Work,
+}
+
+impl Course<'_> {
+    /// Whether the attempt has asks in hand.
+    pub fn has_hand(&self) -> bool
+        ensures { result ≡ not (length (hand_of self.now.attempt) == 0) }
+    {
+        match &self.attempt {
+            Some(attempt) => !attempt.is_settled(),
+            None => false,
+        }
+    }
+
+    /// Adds the Interleave, where it isn't in the run of admissions.
+    pub fn add_arbiter(&mut self, arbiter: ArbiterNo) -> Result<(), OutOfMemory>
+        ensures ok { OnOk result (state_of self.new ≡ record (state_of self.old) { arbiters = add_arbiter self.old.wiring.now arbiter self.old.arbiters.items }) }
+        ensures err { OnErr result (state_of self.new ≡ state_of self.old) }
+        ensures attempt { self.new.attempt ≡ self.old.attempt }
+        ensures work { self.new.work ≡ self.old.work }
+        ensures beside { IsBeside self.old self.new }
+    {
+        if is_interleave_number(self.wiring, arbiter) && !self.arbiters.contains(&arbiter) {
+            self.arbiters.push_back(arbiter)?;
+        }
+        Ok(())
+    }
+
+    /// Puts what the first Interleave admitted, or strikes it off.
+    pub fn admitted(&mut self, reply: Reply)
+        requires idle { IsIdle self.old }
+        requires few { self.old.admitted < 32768 }
+        requires first { 0 < length self.old.arbiters.items }
+        ensures state { state_of self.new ≡ after_admit (state_of self.old) (drop 1 self.old.arbiters.items) reply }
+        ensures attempt { self.new.attempt ≡ self.old.attempt }
+        ensures work { self.new.work ≡ self.old.work }
+        ensures beside { IsBeside self.old self.new }
+    {
+        if let Reply::Admitted(Some(task)) = reply {
+            self.put = Some(task);
+            self.admitted += 1;
+            if self.admitted >= MOST {
+                self.arbiters.clear();
+            }
+        } else {
+            self.arbiters.pop_front();
+        }
+    }
+}
