@@ -8,8 +8,6 @@ mod json;
 #[cfg(test)]
 mod model;
 #[cfg(test)]
-mod port;
-#[cfg(test)]
 mod report;
 #[cfg(test)]
 mod steps;

@@ -1,4 +1,6 @@
-use super::*;
+//! Receivers, and a choice of two branches.
+
+use ccr_arbiter::ArbiterObject;
 use ccr_base::{BranchNo, By, Commit, How, List, Spot, Task, TaskId};
 use std::alloc::Global;
 use std::process::Abort;
@@ -52,7 +54,7 @@ fn is_dead_by(reply: &Commit, id: TaskId) -> bool {
 }
 
 #[test]
-fn once_receiver(rt: HostRuntime) -> Result<(), Fail> {
+fn once_receiver(rt: HostRuntime) {
     let alloc = rt.alloc();
     let mut arbiter = ArbiterObject::receiver(alloc, 3, true);
     let reply = commit(&rt, alloc, &mut arbiter, FIRST, 3);
@@ -63,11 +65,10 @@ fn once_receiver(rt: HostRuntime) -> Result<(), Fail> {
     assert!(rt; arbiter.may_over(FIRST, FIRST, How::Done));
     arbiter.over(FIRST, FIRST, How::Done);
     assert!(rt; !arbiter.may_over(FIRST, FIRST, How::Done));
-    Ok(())
 }
 
 #[test]
-fn always_receiver(rt: HostRuntime) -> Result<(), Fail> {
+fn always_receiver(rt: HostRuntime) {
     let alloc = rt.alloc();
     let mut arbiter = ArbiterObject::receiver(alloc, 3, false);
     for attempt in 0..20 {
@@ -75,16 +76,14 @@ fn always_receiver(rt: HostRuntime) -> Result<(), Fail> {
         let reply = commit(&rt, alloc, &mut arbiter, id, 3);
         assert!(rt; has_fired(&reply, id));
     }
-    Ok(())
 }
 
 #[test]
-fn choice_of_two(rt: HostRuntime) -> Result<(), Fail> {
+fn choice_of_two(rt: HostRuntime) {
     let alloc = rt.alloc();
     let mut arbiter = ArbiterObject::choice(alloc, 4, 2);
     let reply = commit(&rt, alloc, &mut arbiter, FIRST, 5);
     assert!(rt; has_fired(&reply, FIRST));
     let reply = commit(&rt, alloc, &mut arbiter, SECOND, 4);
     assert!(rt; is_dead_by(&reply, FIRST));
-    Ok(())
 }

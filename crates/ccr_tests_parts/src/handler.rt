@@ -1,5 +1,7 @@
-use super::*;
+//! Segments that are played.
+
 use ccr_base::{Action, CauseNo, Expr, Handler, List, PortNo, Value};
+use ccr_handler::{PlayEnd, plays};
 use std::alloc::Global;
 use std::process::Abort;
 use std::test::*;
@@ -20,11 +22,15 @@ struct Row<'a> {
     causes_then: &'a [CauseNo],
 }
 
-fn check(rt: &impl Abort, alloc: Global, row: &Row<'_>) -> Result<(), Fail> {
+fn listed<T: Copy>(rt: &impl Abort, alloc: Global, items: &[T]) -> List<T> {
+    List::from_vec(Vec::from_slice(alloc, items).expect(rt, "memory"))
+}
+
+fn check(rt: &impl Abort, alloc: Global, row: &Row<'_>) {
     let handler = Handler {
-        actions: List::from_vec(row.actions.to_vec(alloc)?),
+        actions: listed(rt, alloc, row.actions),
     };
-    let causes = List::from_vec(row.causes.to_vec(alloc)?);
+    let causes = listed(rt, alloc, row.causes);
     let play = plays(
         alloc,
         &handler,
@@ -33,8 +39,7 @@ fn check(rt: &impl Abort, alloc: Global, row: &Row<'_>) -> Result<(), Fail> {
         row.values,
         &causes,
     )
-    .ok()
-    .ok_or("memory")?;
+    .expect(rt, "memory");
     let posts = play.posts.as_slice();
     assert_eq!(rt; posts.len(), row.posts.len(), "{}", row.shows);
     for (post, wanted) in posts.iter().zip(row.posts) {
@@ -44,11 +49,10 @@ fn check(rt: &impl Abort, alloc: Global, row: &Row<'_>) -> Result<(), Fail> {
     }
     assert_eq!(rt; play.end, row.end, "{}", row.shows);
     assert_eq!(rt; play.causes.as_slice(), row.causes_then, "{}", row.shows);
-    Ok(())
 }
 
 #[test]
-fn each_expression_has_its_value(rt: HostRuntime) -> Result<(), Fail> {
+fn each_expression_has_its_value(rt: HostRuntime) {
     let row = Row {
         shows: "a number, the arguments, their sum and their count",
         actions: &[
@@ -71,11 +75,11 @@ fn each_expression_has_its_value(rt: HostRuntime) -> Result<(), Fail> {
         end: PlayEnd::Done,
         causes_then: &[],
     };
-    check(&rt, rt.alloc(), &row)
+    check(&rt, rt.alloc(), &row);
 }
 
 #[test]
-fn argument_past_the_end_is_zero(rt: HostRuntime) -> Result<(), Fail> {
+fn argument_past_the_end_is_zero(rt: HostRuntime) {
     let row = Row {
         shows: "an argument past the end is 0",
         actions: &[
@@ -89,11 +93,11 @@ fn argument_past_the_end_is_zero(rt: HostRuntime) -> Result<(), Fail> {
         end: PlayEnd::Done,
         causes_then: &[],
     };
-    check(&rt, rt.alloc(), &row)
+    check(&rt, rt.alloc(), &row);
 }
 
 #[test]
-fn sums_wrap_and_begin_at_zero(rt: HostRuntime) -> Result<(), Fail> {
+fn sums_wrap_and_begin_at_zero(rt: HostRuntime) {
     let row = Row {
         shows: "a sum wraps",
         actions: &[Action::Post(1, Expr::Sum), Action::Fail(Expr::Sum)],
@@ -108,7 +112,7 @@ fn sums_wrap_and_begin_at_zero(rt: HostRuntime) -> Result<(), Fail> {
         end: PlayEnd::Failed(Value::one(1)),
         causes_then: &[],
     };
-    check(&rt, rt.alloc(), &row)?;
+    check(&rt, rt.alloc(), &row);
     let row = Row {
         shows: "no value: a sum and a count of 0",
         actions: &[Action::Post(1, Expr::Sum), Action::Post(2, Expr::Count)],
@@ -119,11 +123,11 @@ fn sums_wrap_and_begin_at_zero(rt: HostRuntime) -> Result<(), Fail> {
         end: PlayEnd::Done,
         causes_then: &[],
     };
-    check(&rt, rt.alloc(), &row)
+    check(&rt, rt.alloc(), &row);
 }
 
 #[test]
-fn lists_are_summed_place_by_place(rt: HostRuntime) -> Result<(), Fail> {
+fn lists_are_summed_place_by_place(rt: HostRuntime) {
     let row = Row {
         shows: "a sum as long as the longest value, each place by itself; a number that isn't there is 0",
         actions: &[
@@ -135,29 +139,29 @@ fn lists_are_summed_place_by_place(rt: HostRuntime) -> Result<(), Fail> {
         ],
         segment: 0,
         values: &[
-            Value::of(&[5, 18446744073709551615, 3]).ok_or("none")?,
-            Value::of(&[1, 1]).ok_or("none")?,
+            Value::of(&[5, 18446744073709551615, 3]).expect(&rt, "a value"),
+            Value::of(&[1, 1]).expect(&rt, "a value"),
         ],
         causes: &[],
         posts: &[
-            (1, Value::of(&[6, 0, 3]).ok_or("none")?, &[]),
+            (1, Value::of(&[6, 0, 3]).expect(&rt, "a value"), &[]),
             (2, Value::one(18446744073709551615), &[]),
             (3, Value::one(0), &[]),
             (4, Value::one(0), &[]),
             (
                 5,
-                Value::of(&[5, 18446744073709551615, 3]).ok_or("none")?,
+                Value::of(&[5, 18446744073709551615, 3]).expect(&rt, "a value"),
                 &[],
             ),
         ],
         end: PlayEnd::Done,
         causes_then: &[],
     };
-    check(&rt, rt.alloc(), &row)
+    check(&rt, rt.alloc(), &row);
 }
 
 #[test]
-fn failure_ends_the_play(rt: HostRuntime) -> Result<(), Fail> {
+fn failure_ends_the_play(rt: HostRuntime) {
     let row = Row {
         shows: "a failure without causes posts nothing",
         actions: &[
@@ -171,7 +175,7 @@ fn failure_ends_the_play(rt: HostRuntime) -> Result<(), Fail> {
         end: PlayEnd::Failed(Value::one(9)),
         causes_then: &[],
     };
-    check(&rt, rt.alloc(), &row)?;
+    check(&rt, rt.alloc(), &row);
     let row = Row {
         shows: "a failure under one cause, and what stands behind it is not played",
         actions: &[
@@ -187,11 +191,11 @@ fn failure_ends_the_play(rt: HostRuntime) -> Result<(), Fail> {
         end: PlayEnd::Failed(Value::one(4)),
         causes_then: &[1],
     };
-    check(&rt, rt.alloc(), &row)
+    check(&rt, rt.alloc(), &row);
 }
 
 #[test]
-fn failure_posts_for_each_cause_of_its_moment(rt: HostRuntime) -> Result<(), Fail> {
+fn failure_posts_for_each_cause_of_its_moment(rt: HostRuntime) {
     let row = Row {
         shows: "a failure under three causes, in their order",
         actions: &[Action::Fail(Expr::Count)],
@@ -206,7 +210,7 @@ fn failure_posts_for_each_cause_of_its_moment(rt: HostRuntime) -> Result<(), Fai
         end: PlayEnd::Failed(Value::one(2)),
         causes_then: &[2, 0, 1],
     };
-    check(&rt, rt.alloc(), &row)?;
+    check(&rt, rt.alloc(), &row);
     let row = Row {
         shows: "causes added and removed before a failure",
         actions: &[
@@ -222,11 +226,11 @@ fn failure_posts_for_each_cause_of_its_moment(rt: HostRuntime) -> Result<(), Fai
         end: PlayEnd::Failed(Value::one(6)),
         causes_then: &[0, 1],
     };
-    check(&rt, rt.alloc(), &row)
+    check(&rt, rt.alloc(), &row);
 }
 
 #[test]
-fn post_carries_the_causes_of_its_moment(rt: HostRuntime) -> Result<(), Fail> {
+fn post_carries_the_causes_of_its_moment(rt: HostRuntime) {
     let row = Row {
         shows: "a post carries the causes of its moment",
         actions: &[
@@ -248,7 +252,7 @@ fn post_carries_the_causes_of_its_moment(rt: HostRuntime) -> Result<(), Fail> {
         end: PlayEnd::Done,
         causes_then: &[2],
     };
-    check(&rt, rt.alloc(), &row)
+    check(&rt, rt.alloc(), &row);
 }
 
 /// Two awaits, and so three segments.
@@ -261,7 +265,7 @@ const TWICE: [Action; 5] = [
 ];
 
 #[test]
-fn segments_lie_between_awaits(rt: HostRuntime) -> Result<(), Fail> {
+fn segments_lie_between_awaits(rt: HostRuntime) {
     let row = Row {
         shows: "the first segment ends at the first await",
         actions: &TWICE,
@@ -272,7 +276,7 @@ fn segments_lie_between_awaits(rt: HostRuntime) -> Result<(), Fail> {
         end: PlayEnd::Yield(0),
         causes_then: &[0],
     };
-    check(&rt, rt.alloc(), &row)?;
+    check(&rt, rt.alloc(), &row);
     let row = Row {
         shows: "the second segment",
         actions: &TWICE,
@@ -283,7 +287,7 @@ fn segments_lie_between_awaits(rt: HostRuntime) -> Result<(), Fail> {
         end: PlayEnd::Yield(1),
         causes_then: &[0],
     };
-    check(&rt, rt.alloc(), &row)?;
+    check(&rt, rt.alloc(), &row);
     let row = Row {
         shows: "the last segment",
         actions: &TWICE,
@@ -294,5 +298,5 @@ fn segments_lie_between_awaits(rt: HostRuntime) -> Result<(), Fail> {
         end: PlayEnd::Done,
         causes_then: &[],
     };
-    check(&rt, rt.alloc(), &row)
+    check(&rt, rt.alloc(), &row);
 }

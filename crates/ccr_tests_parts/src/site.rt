@@ -1,5 +1,7 @@
-use super::*;
-use ccr_base::{By, CauseNo, Commit, List, OutOfMemory, Spot, Task, TaskId, Value};
+//! A site where two tasks are suspended.
+
+use ccr_await::SiteObject;
+use ccr_base::{By, CauseNo, Commit, List, Spot, Task, TaskId, Value};
 use std::alloc::Global;
 use std::process::Abort;
 use std::test::*;
@@ -10,17 +12,16 @@ fn id(attempt: u32) -> TaskId {
 
 /// A task whose root is the attempt before it.
 fn task(
+    rt: &impl Abort,
     alloc: Global,
     attempt: u32,
     spot: Spot,
     value: Value,
     cause: CauseNo,
-) -> Result<Task, OutOfMemory> {
-    let mut values = Vec::new(alloc);
-    values.push(value)?;
-    let mut causes = Vec::new(alloc);
-    causes.push(cause)?;
-    Ok(Task {
+) -> Task {
+    let values = Vec::from_slice(alloc, &[value]).expect(rt, "memory");
+    let causes = Vec::from_slice(alloc, &[cause]).expect(rt, "memory");
+    Task {
         id: id(attempt),
         root: id(attempt / 2),
         spot,
@@ -28,7 +29,7 @@ fn task(
         queue: 6,
         values: List::from_vec(values),
         causes: List::from_vec(causes),
-    })
+    }
 }
 
 fn commit(
@@ -38,7 +39,7 @@ fn commit(
     attempt: u32,
     cause: CauseNo,
 ) -> Commit {
-    let task = task(alloc, attempt, Spot::Site(5, 1), Value::one(70), cause).expect(rt, "memory");
+    let task = task(rt, alloc, attempt, Spot::Site(5, 1), Value::one(70), cause);
     assert!(rt; site.may_commit(&task));
     site.commit(task).expect(rt, "memory")
 }
@@ -69,14 +70,14 @@ fn resumes(
 }
 
 #[test]
-fn first_suspended_resumes(rt: HostRuntime) -> Result<(), Fail> {
+fn first_suspended_resumes(rt: HostRuntime) {
     let alloc = rt.alloc();
     let mut site = SiteObject::new(alloc, 5, 1);
     let reply = commit(&rt, alloc, &mut site, 40, 1);
     assert!(rt; matches!(reply, Commit::Dead(By::NoneWaiting)));
-    let first = task(alloc, 10, Spot::Branch(5), Value::one(7), 1).expect(&rt, "memory");
+    let first = task(&rt, alloc, 10, Spot::Branch(5), Value::one(7), 1);
     assert!(rt; site.suspend(first).is_ok());
-    let second = task(alloc, 20, Spot::Branch(5), Value::one(8), 1).expect(&rt, "memory");
+    let second = task(&rt, alloc, 20, Spot::Branch(5), Value::one(8), 1);
     assert!(rt; site.suspend(second).is_ok());
     let reply = commit(&rt, alloc, &mut site, 41, 2);
     assert!(rt; resumes(&reply, 41, 10, &[Value::one(7), Value::one(70)], &[1, 2]));
@@ -84,5 +85,4 @@ fn first_suspended_resumes(rt: HostRuntime) -> Result<(), Fail> {
     assert!(rt; resumes(&reply, 42, 20, &[Value::one(8), Value::one(70)], &[1]));
     let reply = commit(&rt, alloc, &mut site, 43, 1);
     assert!(rt; matches!(reply, Commit::Dead(By::NoneWaiting)));
-    Ok(())
 }

@@ -1,5 +1,7 @@
-use super::*;
-use ccr_base::{List, OutOfMemory, Policy, Spot, Task, TaskId};
+//! A throttle, a discard queue and a meter, each of one.
+
+use ccr_base::{List, Policy, Spot, Task, TaskId};
+use ccr_queue::{Booked, Meter, QueueObject};
 use std::alloc::Global;
 use std::process::Abort;
 use std::test::*;
@@ -26,14 +28,9 @@ fn task(alloc: Global, id: TaskId) -> Task {
     }
 }
 
-fn book(
-    rt: &impl Abort,
-    queue: &mut QueueObject,
-    t: TaskId,
-    resumes: bool,
-) -> Result<Booked, OutOfMemory> {
+fn book(rt: &impl Abort, queue: &mut QueueObject, t: TaskId, resumes: bool) -> Booked {
     assert!(rt; queue.may_book(t, resumes));
-    queue.book(t, resumes)
+    queue.book(t, resumes).expect(rt, "memory")
 }
 
 fn put(rt: &impl Abort, queue: &mut QueueObject, task: Task) -> Option<TaskId> {
@@ -48,32 +45,30 @@ fn take(queue: &mut QueueObject) -> Option<TaskId> {
 }
 
 #[test]
-fn throttle_of_one(rt: HostRuntime) -> Result<(), Fail> {
+fn throttle_of_one(rt: HostRuntime) {
     let mut queue = QueueObject::new(rt.alloc(), 0, Policy::Throttle(1));
-    assert_eq!(rt; book(&rt, &mut queue, T, false)?, Booked::Yes);
-    assert_eq!(rt; book(&rt, &mut queue, U, false)?, Booked::Full(1));
+    assert_eq!(rt; book(&rt, &mut queue, T, false), Booked::Yes);
+    assert_eq!(rt; book(&rt, &mut queue, U, false), Booked::Full(1));
     assert_eq!(rt; put(&rt, &mut queue, task(rt.alloc(), T)), None);
-    assert_eq!(rt; book(&rt, &mut queue, U, false)?, Booked::Full(1));
+    assert_eq!(rt; book(&rt, &mut queue, U, false), Booked::Full(1));
     assert_eq!(rt; take(&mut queue), Some(T));
-    assert_eq!(rt; book(&rt, &mut queue, U, false)?, Booked::Yes);
-    assert_eq!(rt; book(&rt, &mut queue, T, true)?, Booked::Yes);
+    assert_eq!(rt; book(&rt, &mut queue, U, false), Booked::Yes);
+    assert_eq!(rt; book(&rt, &mut queue, T, true), Booked::Yes);
     assert!(rt; !queue.may_book(T, true));
     assert!(rt; queue.may_unbook(U));
     queue.unbook(U);
     assert!(rt; !queue.may_unbook(U));
-    Ok(())
 }
 
 #[test]
-fn discard_of_one(rt: HostRuntime) -> Result<(), Fail> {
+fn discard_of_one(rt: HostRuntime) {
     let mut queue = QueueObject::new(rt.alloc(), 0, Policy::Discard(1));
-    assert_eq!(rt; book(&rt, &mut queue, T, false)?, Booked::Yes);
-    assert_eq!(rt; book(&rt, &mut queue, U, false)?, Booked::Yes);
+    assert_eq!(rt; book(&rt, &mut queue, T, false), Booked::Yes);
+    assert_eq!(rt; book(&rt, &mut queue, U, false), Booked::Yes);
     assert_eq!(rt; put(&rt, &mut queue, task(rt.alloc(), T)), None);
     assert_eq!(rt; put(&rt, &mut queue, task(rt.alloc(), U)), Some(T));
     assert_eq!(rt; take(&mut queue), Some(U));
     assert_eq!(rt; take(&mut queue), None);
-    Ok(())
 }
 
 #[test]

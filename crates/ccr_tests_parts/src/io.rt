@@ -1,21 +1,27 @@
+//! Streams whose calls fail in turn.
+
 ghost use Rattle.std.specs.Prelude.{◌≡◌, IfOk};
 
-use super::*;
 use ccr_base::List;
+use ccr_io::{
+    Failed, MemorySink, MemorySource, ReadEnd, Sink, Source, StdSink, StdSource, read_all,
+    write_all,
+};
 use std::alloc::Global;
 use std::io;
 use std::io::{ErrorKind, Read, Write};
+use std::process::Abort;
 use std::test::*;
 
 /// A source of so many bytes, and the numbers of the calls that fail.
-fn source(alloc: Global, length: usize, failing: &[u64]) -> Result<MemorySource, Fail> {
-    let bytes = vec![in alloc; 7; length]?;
-    let failing = failing.to_vec(alloc)?;
-    Ok(MemorySource::new(List::from_vec(bytes), List::from_vec(failing)))
+fn source(rt: &impl Abort, alloc: Global, length: usize, failing: &[u64]) -> MemorySource {
+    let bytes = Vec::from_elem(alloc, 7, length).expect(rt, "memory");
+    let failing = Vec::from_slice(alloc, failing).expect(rt, "memory");
+    MemorySource::new(List::from_vec(bytes), List::from_vec(failing))
 }
 
 #[test]
-fn reads_all_and_no_more(rt: HostRuntime) -> Result<(), Fail> {
+fn reads_all_and_no_more(rt: HostRuntime) {
     for (limit, length, want, left) in [
         (5, 0, Ok(0), 0),
         (5, 5, Ok(5), 0),
@@ -25,7 +31,7 @@ fn reads_all_and_no_more(rt: HostRuntime) -> Result<(), Fail> {
         (40_000, 40_000, Ok(40_000), 0),
         (40_000, 40_002, Err(ReadEnd::TooLong), 1),
     ] {
-        let mut source = source(rt.alloc(), length, &[])?;
+        let mut source = source(&rt, rt.alloc(), length, &[]);
         let read = read_all(rt.alloc(), &mut source, limit);
         assert_eq!(rt;
             read.map(|bytes| bytes.as_slice().len()),
@@ -34,21 +40,19 @@ fn reads_all_and_no_more(rt: HostRuntime) -> Result<(), Fail> {
         );
         assert_eq!(rt; source.rest().len(), left, "{length} bytes");
     }
-    Ok(())
 }
 
 #[test]
-fn each_read_fails_in_turn(rt: HostRuntime) -> Result<(), Fail> {
+fn each_read_fails_in_turn(rt: HostRuntime) {
     for call in 0..4 {
-        let mut source = source(rt.alloc(), 40_000, &[call])?;
+        let mut source = source(&rt, rt.alloc(), 40_000, &[call]);
         let read = read_all(rt.alloc(), &mut source, 40_000);
         assert_eq!(rt; read.err(), Some(ReadEnd::Fault), "call {call}");
     }
-    Ok(())
 }
 
 #[test]
-fn writes_until_a_call_fails(rt: HostRuntime) -> Result<(), Fail> {
+fn writes_until_a_call_fails(rt: HostRuntime) {
     for (room, failing, want, written) in [
         (7, 9, Ok(()), b"tea 95\n".as_slice()),
         (3, 9, Err(Failed), b"tea".as_slice()),
@@ -56,32 +60,27 @@ fn writes_until_a_call_fails(rt: HostRuntime) -> Result<(), Fail> {
         (3, 0, Err(Failed), b"".as_slice()),
         (3, 1, Err(Failed), b"tea".as_slice()),
     ] {
-        let failing = List::from_vec([failing].to_vec(rt.alloc())?);
-        let mut sink = MemorySink::new(rt.alloc(), room, failing)
-            .ok()
-            .ok_or("memory")?;
+        let failing = List::from_vec([failing].to_vec(rt.alloc()).expect(&rt, "memory"));
+        let mut sink = MemorySink::new(rt.alloc(), room, failing).expect(&rt, "memory");
         assert_eq!(rt; write_all(&mut sink, b"tea 95\n"), want, "room {room}");
         assert_eq!(rt; sink.written(), written, "room {room}");
     }
-    Ok(())
 }
 
 #[test]
-fn standard_input_is_read(rt: HostRuntime) -> Result<(), Fail> {
+fn standard_input_is_read(rt: HostRuntime) {
     let mut source = StdSource::new(rt.stdin());
     let read = read_all(rt.alloc(), &mut source, 100);
     assert_eq!(rt; read.map(|bytes| bytes.as_slice().len()), Ok(0));
     let mut source = StdSource::new(b"tea 95\n".as_slice());
     let read = read_all(rt.alloc(), &mut source, 100);
     assert_eq!(rt; read.map(|bytes| bytes.as_slice().len()), Ok(7));
-    Ok(())
 }
 
 #[test]
-fn standard_output_is_written(rt: HostRuntime) -> Result<(), Fail> {
+fn standard_output_is_written(rt: HostRuntime) {
     let mut sink = StdSink::new(rt.stdout());
     assert_eq!(rt; write_all(&mut sink, b"written\n"), Ok(()));
-    Ok(())
 }
 
 /// Fails at every other call, and else gives or takes nothing.
@@ -120,7 +119,7 @@ impl Write for Broken {
 }
 
 #[test]
-fn errors_and_empty_writes_are_faults(rt: HostRuntime) -> Result<(), Fail> {
+fn errors_and_empty_writes_are_faults(rt: HostRuntime) {
     let mut source = StdSource::new(Broken { fails: true });
     let mut buf = [0; 4];
     assert_eq!(rt; source.read(&mut buf), Err(Failed));
@@ -128,5 +127,4 @@ fn errors_and_empty_writes_are_faults(rt: HostRuntime) -> Result<(), Fail> {
     let mut sink = StdSink::new(Broken { fails: true });
     assert_eq!(rt; sink.write(b"tea"), Err(Failed));
     assert_eq!(rt; sink.write(b"tea"), Err(Failed));
-    Ok(())
 }

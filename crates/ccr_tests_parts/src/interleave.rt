@@ -1,5 +1,7 @@
-use super::*;
+//! An Interleave from its first firing to behind its teardown.
+
 use ccr_base::{By, Commit, Group, How, List, Spot, Task, TaskId};
+use ccr_interleave::InterleaveObject;
 use std::alloc::Global;
 use std::process::Abort;
 use std::test::*;
@@ -20,34 +22,40 @@ fn task(alloc: Global, attempt: u32, branch: u32) -> Task {
     }
 }
 
+fn listed<T: Copy>(rt: &impl Abort, alloc: Global, items: &[T]) -> List<T> {
+    List::from_vec(Vec::from_slice(alloc, items).expect(rt, "memory"))
+}
+
 /// The branches 4, 5 and 8 of a domain, where 6 and 7 aren't: exclusive, concurrent and teardown.
-fn place(alloc: Global) -> Result<InterleaveObject, Fail> {
-    let mut groups = Vec::new(alloc);
-    groups.push(Group::Exclusive)?;
-    groups.push(Group::Concurrent)?;
-    groups.push(Group::Teardown)?;
-    let mut branches = Vec::new(alloc);
-    branches.push(4)?;
-    branches.push(5)?;
-    branches.push(8)?;
-    Ok(InterleaveObject::new(alloc, List::from_vec(branches), List::from_vec(groups)))
+fn place(rt: &impl Abort, alloc: Global) -> InterleaveObject {
+    let groups = [Group::Exclusive, Group::Concurrent, Group::Teardown];
+    let groups = listed(rt, alloc, &groups);
+    let branches = listed(rt, alloc, &[4, 5, 8]);
+    assert!(rt; branches.as_slice().len() == groups.as_slice().len());
+    InterleaveObject::new(alloc, branches, groups)
 }
 
 /// How many tasks the firing cuts, and none where it is dead.
+fn cuts(rt: &impl Abort, reply: &Commit) -> Option<usize> {
+    match reply {
+        Commit::Fired { task, cuts } => {
+            assert!(rt; task.is_none());
+            Some(cuts.as_slice().len())
+        }
+        Commit::Dead(By::Fired(_) | By::NoneWaiting) => None,
+    }
+}
+
 fn commit(
     rt: &impl Abort,
+    alloc: Global,
     place: &mut InterleaveObject,
-    task: Task,
-) -> Result<Option<usize>, Fail> {
+    attempt: u32,
+    branch: u32,
+) -> Option<usize> {
+    let task = task(alloc, attempt, branch);
     assert!(rt; place.may_commit(&task));
-    match place.commit(task)? {
-        Commit::Fired { task: None, cuts } => Ok(Some(cuts.as_slice().len())),
-        Commit::Fired {
-            task: Some(_),
-            cuts: _,
-        } => Err("the task was handed back")?,
-        Commit::Dead(By::Fired(_) | By::NoneWaiting) => Ok(None),
-    }
+    cuts(rt, &place.commit(task).expect(rt, "memory"))
 }
 
 fn admit(place: &mut InterleaveObject) -> Option<u32> {
@@ -62,17 +70,15 @@ fn end(rt: &impl Abort, place: &mut InterleaveObject, attempt: u32) {
 }
 
 #[test]
-fn groups_and_teardown(rt: HostRuntime) -> Result<(), Fail> {
-    let mut place = place(rt.alloc())?;
+fn groups_and_teardown(rt: HostRuntime) {
+    let alloc = rt.alloc();
+    let mut place = place(&rt, alloc);
     // a concurrent task, an exclusive one, two concurrent ones and an exclusive one
     for (attempt, branch) in [(0, 5), (1, 4), (2, 5), (3, 5), (4, 4)] {
-        assert_eq!(rt;
-            commit(&rt, &mut place, task(rt.alloc(), attempt, branch))?,
-            Some(0)
-        );
+        assert_eq!(rt; commit(&rt, alloc, &mut place, attempt, branch), Some(0));
     }
-    assert!(rt; !place.may_commit(&task(rt.alloc(), 4, 5)));
-    assert!(rt; !place.may_commit(&task(rt.alloc(), 5, 6)));
+    assert!(rt; !place.may_commit(&task(alloc, 4, 5)));
+    assert!(rt; !place.may_commit(&task(alloc, 5, 6)));
     assert_eq!(rt; admit(&mut place), Some(0));
     assert_eq!(rt; admit(&mut place), None);
     end(&rt, &mut place, 0);
@@ -82,12 +88,11 @@ fn groups_and_teardown(rt: HostRuntime) -> Result<(), Fail> {
     assert_eq!(rt; admit(&mut place), Some(2));
     assert_eq!(rt; admit(&mut place), Some(3));
     assert_eq!(rt; admit(&mut place), None);
-    assert_eq!(rt; commit(&rt, &mut place, task(rt.alloc(), 5, 8))?, Some(1));
-    assert_eq!(rt; commit(&rt, &mut place, task(rt.alloc(), 6, 5))?, None);
+    assert_eq!(rt; commit(&rt, alloc, &mut place, 5, 8), Some(1));
+    assert_eq!(rt; commit(&rt, alloc, &mut place, 6, 5), None);
     end(&rt, &mut place, 2);
     assert_eq!(rt; admit(&mut place), None);
     end(&rt, &mut place, 3);
     assert_eq!(rt; admit(&mut place), Some(5));
     assert_eq!(rt; admit(&mut place), None);
-    Ok(())
 }

@@ -78,7 +78,7 @@ fn got(reply: &Claimed, values: &[u64]) -> bool {
 }
 
 #[test]
-fn rival_claims(rt: HostRuntime) -> Result<(), Fail> {
+fn rival_claims(rt: HostRuntime) {
     let alloc = rt.alloc();
     let mut port = PortObject::new(alloc, 2);
     for value in [3, 12, 4, 15] {
@@ -102,7 +102,6 @@ fn rival_claims(rt: HostRuntime) -> Result<(), Fail> {
     port.free(RIVAL);
     assert!(rt; holds_values(&port, &[3, 4, 20]));
     assert_eq!(rt; port.claimed_by(), None);
-    Ok(())
 }
 
 fn post_all(rt: &impl Abort, alloc: Global, port: &mut PortObject, count: u64) {

@@ -1,15 +1,17 @@
-use super::*;
-use ccr_base::OutOfMemory;
+//! Rows of numbers.
+
+use ccr_rows::Rows;
 use std::alloc::Global;
+use std::process::Abort;
 use std::test::*;
 
 /// Two rows, the second with 7 and 8. There is no third one for the 9.
-fn filled(alloc: Global) -> Result<Rows<u32>, OutOfMemory> {
-    let mut rows = Rows::new(alloc, 2)?;
-    rows.enter(1, 7)?;
-    rows.enter(1, 8)?;
-    rows.enter(2, 9)?;
-    Ok(rows)
+fn filled(rt: &impl Abort, alloc: Global) -> Rows<u32> {
+    let mut rows = Rows::new(alloc, 2).expect(rt, "memory");
+    for (number, item) in [(1, 7), (1, 8), (2, 9)] {
+        rows.enter(number, item).expect(rt, "memory");
+    }
+    rows
 }
 
 fn counts(rows: &Rows<u32>) -> [usize; 3] {
@@ -43,23 +45,20 @@ fn cleared(mut rows: Rows<u32>, number: usize) -> [usize; 3] {
 }
 
 #[test]
-fn items_stand_in_their_rows(rt: HostRuntime) -> Result<(), Fail> {
-    let rows = filled(rt.alloc())?;
+fn items_stand_in_their_rows(rt: HostRuntime) {
+    let rows = filled(&rt, rt.alloc());
     assert_eq!(rt; counts(&rows), [0, 2, 0]);
     assert_eq!(rt; seen(&rows), [Some(7), Some(8), None, None]);
-    Ok(())
 }
 
 #[test]
-fn the_first_in_is_the_first_out(rt: HostRuntime) -> Result<(), Fail> {
-    assert_eq!(rt; left(filled(rt.alloc())?, 1), [Some(7), Some(8), None]);
-    assert_eq!(rt; left(filled(rt.alloc())?, 2), [None, None, None]);
-    Ok(())
+fn the_first_in_is_the_first_out(rt: HostRuntime) {
+    assert_eq!(rt; left(filled(&rt, rt.alloc()), 1), [Some(7), Some(8), None]);
+    assert_eq!(rt; left(filled(&rt, rt.alloc()), 2), [None, None, None]);
 }
 
 #[test]
-fn a_cleared_row_is_empty(rt: HostRuntime) -> Result<(), Fail> {
-    assert_eq!(rt; cleared(filled(rt.alloc())?, 1), [0, 0, 0]);
-    assert_eq!(rt; cleared(filled(rt.alloc())?, 2), [0, 2, 0]);
-    Ok(())
+fn a_cleared_row_is_empty(rt: HostRuntime) {
+    assert_eq!(rt; cleared(filled(&rt, rt.alloc()), 1), [0, 0, 0]);
+    assert_eq!(rt; cleared(filled(&rt, rt.alloc()), 2), [0, 2, 0]);
 }
