@@ -20,7 +20,7 @@ use Rattle.ccr_claim.specs.declared.plan.ClaimPlan.{ClaimPlan}
 use Rattle.ccr_claim.specs.declared.plan.Had.{Had}
 use Rattle.ccr_claim.specs.Asks.{Answer, due_of, fits, may_come}
 use Rattle.ccr_claim.specs.Plans.{slots_in}
-use Rattle.ccr_claim.specs.Attempts.{AttemptState, Phase, booking, claiming, had_in, attempt_ask, release, firing_hand, claimed, standing_of, IsAfter}
+use Rattle.ccr_claim.specs.Attempts.{AttemptState, Phase, booking, claiming, had_in, attempt_ask, release, firing_hand, claimed, progress_of, IsAfter}
 use Rattle.ccr_actor.specs.Actors.{State, name_at, after_attempt}
 use Rattle.ccr_actor.specs.Courses.{HasEnded, RunsAt, owed, heard, IsHeard}
 use Rattle.ccr_actor.specs.Plans.{plan_of}
@@ -101,7 +101,7 @@ abbrev under : Parts → ℕ → State → Spot → Due → AttemptState
 under wiring actor state spot due = record { plan = plan_of wiring spot; task = name_at actor state; hand = []; phase = state.phase; ended = None; due = due }
 
 abbrev Heard : Parts → ℕ → State → Spot → List Spot → Answer → AttemptState → Type 0
-Heard wiring actor state spot more answer new = IsHeard wiring actor (name_at actor state) state spot more (heard wiring actor state spot more answer) (standing_of new.ended) new
+Heard wiring actor state spot more answer new = IsHeard wiring actor (name_at actor state) state spot more (heard wiring actor state spot more answer) (progress_of new.ended) new
 
 -- it hands back what it had
 gone : (plan : ClaimPlan) (task : TaskId) (phase : Phase) (why : Why) (due : Due) → HasEnded (record { plan = plan; task = task; hand = release plan task phase; phase = booking; ended = Some (outcomes.GaveUp why); due = due })

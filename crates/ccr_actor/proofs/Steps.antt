@@ -12,7 +12,7 @@ use Rattle.ccr_base.specs.declared.tasks.Task.{Task}
 use Rattle.ccr_claim.specs.declared.asks.Reply.{Reply}
 use Rattle.ccr_claim.specs.declared.asks.Reply.TheVariants as replies
 use Rattle.ccr_claim.specs.Asks.{Answer, may_come}
-use Rattle.ccr_claim.specs.Attempts.{AttemptState, booking, over_dropped, standing_of, put_asks, IsAfter}
+use Rattle.ccr_claim.specs.Attempts.{AttemptState, booking, over_dropped, progress_of, put_asks, IsAfter}
 use Rattle.ccr_actor.specs.declared.course.Course.{Course}
 use Rattle.ccr_actor.specs.declared.course.Part.TheVariants as parts
 use Rattle.ccr_actor.specs.Acting.{kept}
@@ -49,7 +49,7 @@ hand_alone course dropped put = rw (dropped, put) (append-nil (hand_of course.at
 -- the attempt of this course, after an answer
 pub heard_in : (course : Course) (attempt new : AttemptState) (answer : Answer) (spot : Spot) (more : List Spot) → course.attempt ≡ Some attempt → course.dropped ≡ None → course.put ≡ None → course.spots.items ≡ spot ∷ more
     → Runs course.wiring.now (record { actor = course.number; attempt = course.count }) course.spots.items course.attempt → due_at course.attempt ≡ due_next course.attempt → may_come (due_at course.attempt) answer ≡ true → IsAfter attempt answer new
-    → IsHeard course.wiring.now course.number (record { actor = course.number; attempt = course.count }) (state_of course) spot more (heard course.wiring.now course.number (state_of course) spot more answer) (standing_of new.ended) new
+    → IsHeard course.wiring.now course.number (record { actor = course.number; attempt = course.count }) (state_of course) spot more (heard course.wiring.now course.number (state_of course) spot more answer) (progress_of new.ended) new
 heard_in course attempt new answer spot more is dropped put at runs due may after =
     let here = runs_at course.wiring.now (record { actor = course.number; attempt = course.count }) course.spots.items course.attempt spot more attempt at is runs in
     let none : (state_of course).hand ≡ [] = hand_alone course dropped put ∙ (ap hand_of is ∙ here.hand) in

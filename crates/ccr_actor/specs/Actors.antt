@@ -18,7 +18,7 @@ use Rattle.ccr_handler.specs.Playing.{play, actions_from}
 use Rattle.ccr_wiring.specs.declared.parts.Parts.{Parts}
 use Rattle.ccr_wiring.specs.declared.parts.PosterPart.{PosterPart}
 use Rattle.ccr_wiring.specs.declared.parts.QueuePart.{QueuePart}
-use Rattle.ccr_wiring.specs.Wirings.{Seat, seat, branch_of, segment_of, next_site, policy_of, actions_of, exception_port}
+use Rattle.ccr_wiring.specs.Wirings.{Placement, placement, branch_of, segment_of, next_site, policy_of, actions_of, exception_port}
 use Rattle.ccr_claim.specs.declared.asks.Ask.TheVariants as asks
 use Rattle.ccr_claim.specs.declared.asks.Asked.{Asked}
 use Rattle.ccr_claim.specs.declared.asks.Reply.{Reply}
@@ -143,11 +143,11 @@ strike state more = record state { arbiters = more }
 
 -- an admitted task is put; after so many, which no run within the limits reaches, the run of admissions ends. The count
 -- begins anew with a firing and with an end, so no put of this run begins another
-abbrev pub let_in : State → List ℕ → Task → State
-let_in state more task = record state { hand = put_ask task ∷ []; admitted = state.admitted + 1; arbiters = if nat_lt (state.admitted + 1) 32768 then state.arbiters else [] }
+abbrev pub put_admitted : State → List ℕ → Task → State
+put_admitted state more task = record state { hand = put_ask task ∷ []; admitted = state.admitted + 1; arbiters = if nat_lt (state.admitted + 1) 32768 then state.arbiters else [] }
 
 abbrev pub after_admit : State → List ℕ → Reply → State
-after_admit state more (replies.Admitted (Some task)) = let_in state more task
+after_admit state more (replies.Admitted (Some task)) = put_admitted state more task
 after_admit state more _ = strike state more
 
 -- the attempt has ended, with these asks to be settled, and these spots are driven on
@@ -191,7 +191,7 @@ take_from wiring state left queue (part ∷ parts) = record state { work = takin
 
 -- the play of the task's segment
 abbrev pub play_in : Parts → Task → Play
-play_in wiring task = play (exception_port wiring) task.values (segment_of task.spot) task.causes (actions_from (segment_of task.spot) (option_map_or (λ (s : Seat). actions_of wiring s.branch.handler) (seat wiring (branch_of task.spot)) []))
+play_in wiring task = play (exception_port wiring) task.values (segment_of task.spot) task.causes (actions_from (segment_of task.spot) (option_map_or (λ (s : Placement). actions_of wiring s.branch.handler) (placement wiring (branch_of task.spot)) []))
 
 abbrev pub begin_play : Parts → State → ℕ → Task → State
 begin_play wiring state queue task = record (driving state (throttled wiring queue (policy_of wiring queue))) { work = playing task 0 (play_in wiring task); taken = state.taken + 1 }

@@ -13,8 +13,8 @@ use Rattle.ccr_claim.specs.declared.asks.Due.TheVariants as dues
 use Rattle.ccr_claim.specs.declared.asks.Reply.{Reply}
 use Rattle.ccr_claim.specs.declared.asks.Reply.TheVariants as replies
 use Rattle.ccr_claim.specs.declared.outcomes.Outcome.{Outcome}
-use Rattle.ccr_claim.specs.declared.outcomes.Standing.{Standing}
-use Rattle.ccr_claim.specs.declared.outcomes.Standing.TheVariants as standings
+use Rattle.ccr_claim.specs.declared.outcomes.Progress.{Progress}
+use Rattle.ccr_claim.specs.declared.outcomes.Progress.TheVariants as progresses
 use Rattle.ccr_claim.specs.declared.outcomes.Why.{Why}
 use Rattle.ccr_claim.specs.declared.outcomes.Why.TheVariants as whys
 use Rattle.ccr_claim.specs.Asks.{Answer, due_of, fits, may_come}
@@ -166,10 +166,10 @@ IsGivenUp true wiring actor state more target attempt = EndsOwing wiring actor t
 IsGivenUp false wiring actor state more target attempt = EndsSo target (end_attempt state attempt.hand more) attempt
 
 -- where the attempt stands after an answer, and which state that is
-abbrev pub IsHeard : Parts → ℕ → TaskId → State → Spot → List Spot → State → Standing → AttemptState → Type 0
-IsHeard wiring actor name state spot more target standings.Running attempt = GoesOn wiring name spot state target attempt
-IsHeard wiring actor name state spot more target (standings.Fired waits) attempt = EndsSo target (fired_on wiring state spot more waits attempt.hand) attempt
-IsHeard wiring actor name state spot more target (standings.GaveUp why) attempt = IsGivenUp (is_memory why) wiring actor state more target attempt
+abbrev pub IsHeard : Parts → ℕ → TaskId → State → Spot → List Spot → State → Progress → AttemptState → Type 0
+IsHeard wiring actor name state spot more target progresses.Running attempt = GoesOn wiring name spot state target attempt
+IsHeard wiring actor name state spot more target (progresses.Fired waits) attempt = EndsSo target (fired_on wiring state spot more waits attempt.hand) attempt
+IsHeard wiring actor name state spot more target (progresses.GaveUp why) attempt = IsGivenUp (is_memory why) wiring actor state more target attempt
 
 -- ---- steps
 

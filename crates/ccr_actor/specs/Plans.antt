@@ -12,7 +12,7 @@ use Rattle.ccr_wiring.specs.declared.parts.ArbiterPart.{ArbiterPart}
 use Rattle.ccr_wiring.specs.declared.parts.Kind.{Kind}
 use Rattle.ccr_wiring.specs.declared.parts.Kind.TheVariants as kinds
 use Rattle.ccr_wiring.specs.declared.parts.Parts.{Parts}
-use Rattle.ccr_wiring.specs.Wirings.{Seat, seat, site_port, spots, branch_of}
+use Rattle.ccr_wiring.specs.Wirings.{Placement, placement, site_port, spots, branch_of}
 use Rattle.ccr_claim.specs.declared.plan.ClaimPlan.{ClaimPlan}
 use Rattle.ccr_claim.specs.Plans.{any_slot, ports_in}
 
@@ -26,16 +26,16 @@ no_pattern = Slots []
 
 -- what a firing at the spot takes
 abbrev pub pattern_at : Parts → Spot → Pattern
-pattern_at wiring (Branch branch) = option_map_or (λ (s : Seat). s.branch.pattern) (seat wiring branch) no_pattern
+pattern_at wiring (Branch branch) = option_map_or (λ (s : Placement). s.branch.pattern) (placement wiring branch) no_pattern
 pattern_at wiring (Site branch site) = option_map_or one_of (site_port wiring branch site) no_pattern
 
 -- the queue of the spot's branch
 abbrev pub queue_at : Parts → Spot → ℕ
-queue_at wiring spot = option_map_or (λ (s : Seat). s.branch.queue) (seat wiring (branch_of spot)) 0
+queue_at wiring spot = option_map_or (λ (s : Placement). s.branch.queue) (placement wiring (branch_of spot)) 0
 
 -- the domain of the spot's branch
 abbrev pub arbiter_at : Parts → Spot → ℕ
-arbiter_at wiring spot = option_map_or (λ (s : Seat). s.arbiter) (seat wiring (branch_of spot)) 0
+arbiter_at wiring spot = option_map_or (λ (s : Placement). s.arbiter) (placement wiring (branch_of spot)) 0
 
 -- the plan of attempts on the spot
 abbrev pub plan_of : Parts → Spot → ClaimPlan
@@ -51,7 +51,7 @@ spots_at wiring port = filter (names_port wiring port) (spots wiring)
 
 -- whether the spot is a branch of the queue
 abbrev pub is_for : Parts → ℕ → Spot → Bool
-is_for wiring queue (Branch branch) = option_map_or (λ (s : Seat). s.branch.queue == queue) (seat wiring branch) false
+is_for wiring queue (Branch branch) = option_map_or (λ (s : Placement). s.branch.queue == queue) (placement wiring branch) false
 is_for wiring queue (Site branch site) = false
 
 -- the branches of a throttle queue

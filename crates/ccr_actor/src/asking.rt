@@ -14,7 +14,7 @@ use crate::course::{Course, Part};
 use crate::wired::plan_of;
 use crate::work::{Work, over};
 use ccr_base::{ActorNo, CauseNo, How, List, Msg, MsgId, OutOfMemory, Place, Sent, TaskId};
-use ccr_claim::{Ask, Asked, Attempt, Standing};
+use ccr_claim::{Ask, Asked, Attempt, Progress};
 
 /// The post of the script's next line, or the poster leaves.
 fn line_ask(
@@ -104,7 +104,7 @@ impl Course<'_> {
         ensures { result ≡ is_running self.now.attempt }
     {
         match &self.attempt {
-            Some(attempt) => matches!(attempt.standing(), Standing::Running),
+            Some(attempt) => matches!(attempt.progress(), Progress::Running),
             None => false,
         }
     }

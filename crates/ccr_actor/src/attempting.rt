@@ -3,13 +3,13 @@
 ghost use Rattle.std.specs.Prelude.{◌≡◌, [], None, IsTrue};
 ghost use Rattle.ccr_claim.specs.declared.asks.Due.TheVariants as dues;
 ghost use Rattle.ccr_claim.specs.Asks.{due_of, fits, may_come};
-ghost use Rattle.ccr_claim.specs.Attempts.{attempt_ask, standing_of, IsAfter};
+ghost use Rattle.ccr_claim.specs.Attempts.{attempt_ask, progress_of, IsAfter};
 ghost use Rattle.ccr_claim.specs.Inside.{IsFirst};
 ghost use Rattle.ccr_actor.specs.Courses.{HasEnded, IsSettlingDue, dropped_by, is_memory};
 ghost use Rattle.ccr_actor.specs.Inside.{due_taken};
 
 use ccr_base::{OutOfMemory, Task};
-use ccr_claim::{Asked, Attempt, Next, Reply, Standing, Why};
+use ccr_claim::{Asked, Attempt, Next, Progress, Reply, Why};
 
 /// Moves out the first ask in hand.
 pub fn take_hand(attempt: &mut Attempt) -> Option<Asked>
@@ -41,14 +41,14 @@ pub fn take_ask(attempt: &mut Attempt) -> Asked
 }
 
 /// Where the attempt stands after this answer.
-pub fn answer(attempt: &mut Attempt, reply: Result<Reply, OutOfMemory>) -> Standing
+pub fn answer(attempt: &mut Attempt, reply: Result<Reply, OutOfMemory>) -> Progress
     requires { IsTrue (may_come attempt.old.due reply) }
     ensures after { IsAfter attempt.old reply attempt.new }
     ensures quiet { attempt.new.due ≡ dues.Nothing }
-    ensures standing { result ≡ standing_of attempt.new.ended }
+    ensures progress { result ≡ progress_of attempt.new.ended }
 {
     attempt.got(reply);
-    attempt.standing()
+    attempt.progress()
 }
 
 /// Whether the attempt found no memory.

@@ -12,7 +12,7 @@ use crate::attempting::{answer, is_memory};
 use crate::course::{ATTEMPTS, Course, MOST};
 use crate::wired::arbiter_at;
 use ccr_base::{OutOfMemory, Spot};
-use ccr_claim::{Reply, Standing};
+use ccr_claim::{Progress, Reply};
 
 impl Course<'_> {
     /// Whether a spot is to be driven.
@@ -84,9 +84,9 @@ impl Course<'_> {
             unreachable!();
         };
         match answer(attempt, reply) {
-            Standing::Running => Ok(()),
-            Standing::Fired { waits } => self.fire(spot, waits),
-            Standing::GaveUp(why) => {
+            Progress::Running => Ok(()),
+            Progress::Fired { waits } => self.fire(spot, waits),
+            Progress::GaveUp(why) => {
                 if is_memory(why) {
                     return Err(OutOfMemory);
                 }

@@ -5,7 +5,7 @@ ghost use Rattle.std.specs.List.{slice_get, list_any};
 ghost use Rattle.std.specs.Option.{option_map_or};
 ghost use Rattle.ccr_handler.specs.Playing.{actions_from, play};
 ghost use Rattle.ccr_wiring.specs.declared.parts.CausePart.{CausePart};
-ghost use Rattle.ccr_wiring.specs.Wirings.{Seat, seat, segment_of, spots as spots_of, actions_of, awaited, branch_of, exception_port, policy_of, site_port};
+ghost use Rattle.ccr_wiring.specs.Wirings.{Placement, placement, segment_of, spots as spots_of, actions_of, awaited, branch_of, exception_port, policy_of, site_port};
 ghost use Rattle.ccr_claim.specs.Plans.{ports_in};
 ghost use Rattle.ccr_actor.specs.Actors.{play_in};
 ghost use Rattle.ccr_actor.specs.Plans.{one_of, pattern_at, queue_at, arbiter_at, plan_of, names_port, spots_at, is_for, throttled, is_interleave_number};
@@ -58,8 +58,8 @@ fn awaited_at(actions: &[Action], site: u32) -> Option<PortNo>
 fn site_port(wiring: &Wiring, branch: BranchNo, site: u32) -> Option<PortNo>
     ensures { result ≡ site_port wiring.now branch site }
 {
-    let seat = wiring.seat(branch)?;
-    awaited_at(actions_of(wiring, seat.branch.handler), site)
+    let placement = wiring.placement(branch)?;
+    awaited_at(actions_of(wiring, placement.branch.handler), site)
 }
 
 fn copy_pattern(alloc: Global, pattern: &Pattern) -> Result<Pattern, OutOfMemory>
@@ -98,8 +98,8 @@ fn pattern_at(alloc: Global, wiring: &Wiring, spot: Spot) -> Result<Pattern, Out
     ensures { IfOk result (λ pattern. pattern ≡ pattern_at wiring.now spot) }
 {
     match spot {
-        Spot::Branch(branch) => match wiring.seat(branch) {
-            Some(seat) => copy_pattern(alloc, &seat.branch.pattern),
+        Spot::Branch(branch) => match wiring.placement(branch) {
+            Some(placement) => copy_pattern(alloc, &placement.branch.pattern),
             None => Ok(Pattern::Slots(List::new(alloc))),
         },
         Spot::Site(branch, site) => match site_port(wiring, branch, site) {
@@ -113,8 +113,8 @@ fn pattern_at(alloc: Global, wiring: &Wiring, spot: Spot) -> Result<Pattern, Out
 fn queue_at(wiring: &Wiring, spot: Spot) -> QueueNo
     ensures { result ≡ queue_at wiring.now spot }
 {
-    match wiring.seat(branch_of(spot)) {
-        Some(seat) => seat.branch.queue,
+    match wiring.placement(branch_of(spot)) {
+        Some(placement) => placement.branch.queue,
         None => 0,
     }
 }
@@ -124,8 +124,8 @@ pub fn arbiter_at(wiring: &Wiring, spot: Spot) -> ArbiterNo
     ensures { result ≡ arbiter_at wiring.now spot }
 {
     let _valid = wiring.parts();
-    match wiring.seat(branch_of(spot)) {
-        Some(seat) => seat.arbiter as ArbiterNo,
+    match wiring.placement(branch_of(spot)) {
+        Some(placement) => placement.arbiter as ArbiterNo,
         None => 0,
     }
 }
@@ -167,8 +167,8 @@ fn names_port(wiring: &Wiring, port: PortNo, spot: Spot) -> bool
     ensures { result ≡ names_port wiring.now port spot }
 {
     match spot {
-        Spot::Branch(branch) => match wiring.seat(branch) {
-            Some(seat) => pattern_names(&seat.branch.pattern, port),
+        Spot::Branch(branch) => match wiring.placement(branch) {
+            Some(placement) => pattern_names(&placement.branch.pattern, port),
             None => false,
         },
         Spot::Site(branch, site) => match site_port(wiring, branch, site) {
@@ -196,8 +196,8 @@ fn is_for(wiring: &Wiring, queue: QueueNo, spot: Spot) -> bool
     ensures { result ≡ is_for wiring.now queue spot }
 {
     match spot {
-        Spot::Branch(branch) => match wiring.seat(branch) {
-            Some(seat) => seat.branch.queue == queue,
+        Spot::Branch(branch) => match wiring.placement(branch) {
+            Some(placement) => placement.branch.queue == queue,
             None => false,
         },
         Spot::Site(..) => false,
@@ -266,14 +266,14 @@ fn exception_ports(alloc: Global, wiring: &Wiring) -> Result<Vec<PortNo>, OutOfM
 
 /// The handler of the branch.
 fn handler_of(wiring: &Wiring, branch: BranchNo) -> Option<&Handler>
-    ensures { option_map_or (λ handler. handler.now.actions) result [] ≡ option_map_or (λ (s : Seat). actions_of wiring.now s.branch.handler) (seat wiring.now branch) [] }
+    ensures { option_map_or (λ handler. handler.now.actions) result [] ≡ option_map_or (λ (s : Placement). actions_of wiring.now s.branch.handler) (placement wiring.now branch) [] }
 {
-    let seat = wiring.seat(branch)?;
+    let placement = wiring.placement(branch)?;
     let part = wiring
         .parts()
         .handlers
         .as_slice()
-        .get(seat.branch.handler as usize)?;
+        .get(placement.branch.handler as usize)?;
     Some(&part.handler)
 }
 

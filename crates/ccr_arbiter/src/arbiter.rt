@@ -2,7 +2,7 @@
 
 ghost use Rattle.std.specs.Prelude.{◌≡◌, ◌≤◌, List, IsTrue, IfOk, OnErr};
 ghost use Rattle.std.specs.Option.{option_map};
-ghost use Rattle.ccr_places.specs.Arbiters.{receiver, choice, has_spot, retired_by, may_commit as can_commit, may_over as can_be_over, after, after_over, IsGiven};
+ghost use Rattle.ccr_places.specs.Arbiters.{receiver, choice, has_spot, retired_by, may_commit as can_commit, may_over as can_over, after, after_over, IsGiven};
 ghost use Rattle.ccr_places.specs.Commits.{commit_note};
 ghost use Rattle.ccr_base.specs.declared.names.MsgId.{MsgId};
 ghost use Rattle.ccr_places.specs.declared.notes.Note.TheVariants.{Over};
@@ -96,14 +96,14 @@ impl ArbiterObject {
 
     /// Whether the root fired here and isn't over.
     pub fn may_over(&self, _task: TaskId, root: TaskId, _how: How) -> bool
-        ensures { result ≡ can_be_over self.now root }
+        ensures { result ≡ can_over self.now root }
     {
         self.fired.contains(&root) && !self.over.contains(&root)
     }
 
     /// Notes that the root is over. It takes no memory: the commit of the root made room for it.
     pub fn over(&mut self, task: TaskId, root: TaskId, how: How)
-        requires { IsTrue (can_be_over self.old root) }
+        requires { IsTrue (can_over self.old root) }
         ensures state { self.new ≡ after_over self.old root }
         ensures step { self.new ≡ after self.old (Over task root how) }
     {

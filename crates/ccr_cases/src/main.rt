@@ -3,7 +3,7 @@
 
 mod running;
 
-use crate::running::{Case, Due, holds, put_generated, put_text, put_times};
+use crate::running::{Case, Expected, holds, put_generated, put_text, put_times};
 use ccr_base::OutOfMemory;
 use std::alloc::Global;
 use std::io;
@@ -27,10 +27,10 @@ fn take_in<'a>(
 }
 
 /// What the line says that the program answers, if it says that.
-fn due_of<'a>(key: &str, value: &'a str) -> Option<Due<'a>> {
+fn due_of<'a>(key: &str, value: &'a str) -> Option<Expected<'a>> {
     match key {
-        "output" => Some(Due::Whole(value)),
-        "ends" => Some(Due::Ending(value)),
+        "output" => Some(Expected::Whole(value)),
+        "ends" => Some(Expected::Ending(value)),
         _ => None,
     }
 }

@@ -23,7 +23,7 @@ pub struct Case<'a> {
 
 /// What the program writes, whole or the last lines of it.
 #[derive(Clone, Copy)]
-pub enum Due<'a> {
+pub enum Expected<'a> {
     Whole(&'a str),
     Ending(&'a str),
 }
@@ -113,14 +113,14 @@ fn run_program<R: AllocGlobal>(
 }
 
 /// Whether what was written is what is due.
-fn is_due(alloc: Global, written: &[u8], due: Due<'_>) -> Result<bool, OutOfMemory> {
+fn is_due(alloc: Global, written: &[u8], due: Expected<'_>) -> Result<bool, OutOfMemory> {
     let mut text = Vec::new(alloc);
     match due {
-        Due::Whole(whole) => {
+        Expected::Whole(whole) => {
             put_text(&mut text, whole)?;
             Ok(written == text.as_slice())
         }
-        Due::Ending(ending) => {
+        Expected::Ending(ending) => {
             put_text(&mut text, ending)?;
             Ok(written.ends_with(text.as_slice()))
         }
@@ -133,11 +133,15 @@ fn is_legal<R: AllocGlobal>(rt: &R, case: &Case<'_>, written: &[u8]) -> Result<b
     let mut input = Vec::from_slice(alloc, case.input.as_slice())?;
     input.extend_from_slice(written)?;
     let judged = run_program(rt, "verify", input.as_slice(), 10_000)?;
-    Ok(judged.status == 0 && is_due(alloc, judged.written.as_slice(), Due::Whole(LEGAL))?)
+    Ok(judged.status == 0 && is_due(alloc, judged.written.as_slice(), Expected::Whole(LEGAL))?)
 }
 
 /// Whether the case holds. What a run writes is also judged.
-pub fn holds<R: AllocGlobal>(rt: &R, case: &Case<'_>, due: Due<'_>) -> Result<bool, OutOfMemory> {
+pub fn holds<R: AllocGlobal>(
+    rt: &R,
+    case: &Case<'_>,
+    due: Expected<'_>,
+) -> Result<bool, OutOfMemory> {
     let given = run_program(rt, case.words, case.input.as_slice(), case.room)?;
     let written = given.written.as_slice();
     if given.status != case.status || !is_due(rt.alloc(), written, due)? {

@@ -23,12 +23,12 @@ are_whole_from-drop h [] i n p at = absurd (cc)
 are_whole_from-drop h (q ∷ ps) zero n p at = let same : q ≡ p = cc in rw same refl
 are_whole_from-drop h (q ∷ ps) (suc i) n p at = let e : suc i + 1 ≡ suc (i + 1) = omega arith in rw e (are_whole_from-drop h ps i n p at)
 
-pub are_whole_in-drop : (b : Books) (ps : List PosterPart) (i n : ℕ) (p : PosterPart) → slice_get ps i ≡ Some p → are_whole_in b n (drop i ps) ≡ (number b.said n == length p.posts) && are_whole_in b (n + 1) (drop (i + 1) ps)
+pub are_whole_in-drop : (b : Books) (ps : List PosterPart) (i n : ℕ) (p : PosterPart) → slice_get ps i ≡ Some p → are_whole_in b n (drop i ps) ≡ (number b.script_posts n == length p.posts) && are_whole_in b (n + 1) (drop (i + 1) ps)
 are_whole_in-drop b [] i n p at = absurd (cc)
 are_whole_in-drop b (q ∷ ps) zero n p at = let same : q ≡ p = cc in rw same refl
 are_whole_in-drop b (q ∷ ps) (suc i) n p at = let e : suc i + 1 ≡ suc (i + 1) = omega arith in rw e (are_whole_in-drop b ps i n p at)
 
-pub has_line_left-drop : (b : Books) (ps : List PosterPart) (i n : ℕ) (p : PosterPart) → slice_get ps i ≡ Some p → has_line_left_in b n (drop i ps) ≡ nat_lt (number b.said n) (length p.posts) || has_line_left_in b (n + 1) (drop (i + 1) ps)
+pub has_line_left-drop : (b : Books) (ps : List PosterPart) (i n : ℕ) (p : PosterPart) → slice_get ps i ≡ Some p → has_line_left_in b n (drop i ps) ≡ nat_lt (number b.script_posts n) (length p.posts) || has_line_left_in b (n + 1) (drop (i + 1) ps)
 has_line_left-drop b [] i n p at = absurd (cc)
 has_line_left-drop b (q ∷ ps) zero n p at = let same : q ≡ p = cc in rw same refl
 has_line_left-drop b (q ∷ ps) (suc i) n p at = let e : suc i + 1 ≡ suc (i + 1) = omega arith in rw e (has_line_left-drop b ps i n p at)

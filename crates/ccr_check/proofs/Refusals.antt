@@ -25,7 +25,7 @@ use Rattle.ccr_model.proofs.Options.{some-below}
 use Rattle.ccr_ledger.specs.Books.{Books, number}
 use Rattle.ccr_ledger.specs.Asked.{made_in}
 use Rattle.ccr_ledger.specs.Kept.{Keeps}
-use Rattle.ccr_ledger.proofs.Telling.{lives_told, room_told, are_choice_told, cuts_told, enters_told, drops_told, play_told, made_told, budget_told}
+use Rattle.ccr_ledger.proofs.Telling.{lives_told, room_told, are_choice_told, cuts_told, may_admit_task_told, drops_told, play_told, made_told, budget_told}
 use Rattle.ccr_ledger.proofs.RulesTold.{has_fired_told, waits_first_told, queued_first_told, is_ready_told, is_busy_told, runs_told, has_more_told, unfinished_told}
 use Rattle.ccr_check.specs.Judging.{is_next_line, is_next_post, is_unused, is_idle, sheds, is_ending, refusal_of_post_in, refusal_in}
 
@@ -38,9 +38,9 @@ module _ (w : Parts) (valid : IsValid w) (h : List Event) (legal : IsLegal w h) 
   next_line a p m = of_poster (slice_get w.posters a) refl
     where
       of_poster : (o : Option PosterPart) → slice_get w.posters a ≡ o
-          → (p == number b.said a) && option_map_or (is_post m) (option_and_then (λ (q : PosterPart). slice_get q.posts p) o) false ≡ (p == posts_of_poster h a) && option_map_or (is_post m) (option_and_then (λ (q : PosterPart). slice_get q.posts p) o) false
-      of_poster None at = and_false (p == number b.said a) ∙ sym (and_false (p == posts_of_poster h a))
-      of_poster (Some q) at = rw (keeps.said.said a (some-below w.posters a q at)) refl
+          → (p == number b.script_posts a) && option_map_or (is_post m) (option_and_then (λ (q : PosterPart). slice_get q.posts p) o) false ≡ (p == posts_of_poster h a) && option_map_or (is_post m) (option_and_then (λ (q : PosterPart). slice_get q.posts p) o) false
+      of_poster None at = and_false (p == number b.script_posts a) ∙ sym (and_false (p == posts_of_poster h a))
+      of_poster (Some q) at = rw (keeps.script_posts.script_posts a (some-below w.posters a q at)) refl
 
   next_post : (t : TaskId) (p : ℕ) (m : Msg) → is_next_post b t p m ≡ is_play_post w h t p m
   next_post t p m = rw (runs_told w valid h legal b keeps t, play_told w valid h legal b keeps t) (of_test (has_task (running h) t) refl)
@@ -56,7 +56,7 @@ module _ (w : Parts) (valid : IsValid w) (h : List Event) (legal : IsLegal w h) 
   idle a = rw (is_busy_told w valid h legal b keeps a, not_not (is_none_of (running_by h a))) refl
 
   shed_so : (t : TaskId) → sheds w b t ≡ may_shed w h t
-  shed_so t = rw (has_more_told w valid h legal b keeps t, unfinished_told w valid h legal b keeps, keeps.said.task_posts) refl
+  shed_so t = rw (has_more_told w valid h legal b keeps t, unfinished_told w valid h legal b keeps, keeps.script_posts.task_posts) refl
 
   ending : (t : TaskId) (how : EndHow) → is_ending w b t how ≡ may_end w h t how
   ending t how = rw (shed_so t, has_more_told w valid h legal b keeps t, play_told w valid h legal b keeps t) refl
@@ -68,7 +68,7 @@ module _ (w : Parts) (valid : IsValid w) (h : List Event) (legal : IsLegal w h) 
   pub refusal_in_told : (e : Event) → refusal_in w b e ≡ refusal w h e
   refusal_in_told (Post m) = refusal_of_post_told m m.id
   refusal_in_told (Fire t s ms cs) = rw (unused t, lives_told w valid h legal b keeps s, are_choice_told w valid h legal b keeps s ms, room_told w valid h legal b keeps s, cuts_told w valid h legal b keeps s) refl
-  refusal_in_told (Admit t) = rw (waits_first_told w valid h legal b keeps t, enters_told w valid h legal b keeps t) refl
+  refusal_in_told (Admit t) = rw (waits_first_told w valid h legal b keeps t, may_admit_task_told w valid h legal b keeps t) refl
   refusal_in_told (Put t d) = rw (is_ready_told w valid h legal b keeps t, drops_told w valid h legal b keeps t) refl
   refusal_in_told (Start t a) = rw (queued_first_told w valid h legal b keeps t, idle a) refl
   refusal_in_told (End t how) = rw (runs_told w valid h legal b keeps t, ending t how) refl

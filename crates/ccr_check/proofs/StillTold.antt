@@ -22,9 +22,9 @@ use Rattle.ccr_model.specs.Legal.{IsLegal, has_shed, are_whole_from, is_complete
 use Rattle.ccr_ledger.specs.declared.cards.Card.{Card}
 use Rattle.ccr_ledger.specs.declared.cards.Runner.{Runner}
 use Rattle.ccr_ledger.specs.Books.{Books, runners}
-use Rattle.ccr_ledger.specs.Asked.{enters, is_ready}
+use Rattle.ccr_ledger.specs.Asked.{may_admit_task, is_ready}
 use Rattle.ccr_ledger.specs.Kept.{Keeps}
-use Rattle.ccr_ledger.proofs.Telling.{lives_told, room_told, can_choose_told, enters_told}
+use Rattle.ccr_ledger.proofs.Telling.{lives_told, room_told, can_choose_told, may_admit_task_told}
 use Rattle.ccr_ledger.proofs.RulesTold.{is_ready_told}
 use Rattle.ccr_check.specs.Left.{has_line_left, can_admit, has_admission, has_queued, is_still}
 use Rattle.ccr_check.specs.LeftInTables.{has_line_left_in, can_fire_in, has_admission_in, has_ready, has_queued_in, is_still_in, are_whole_in, is_complete_in}
@@ -44,14 +44,14 @@ none-run rs = ap (λ n. n == 0) (sym (length-map rs (λ (r : Runner). r.task)))
 module _ (w : Parts) (valid : IsValid w) (h : List Event) (legal : IsLegal w h) (b : Books) (keeps : Keeps w h b) where
   line_left : (n : ℕ) (ps : List PosterPart) → n + length ps ≤ length w.posters → has_line_left_in b n ps ≡ has_line_left h n ps
   line_left n [] low = refl
-  line_left n (p ∷ ps) low = rw (keeps.said.said n (omega (arith, low)), line_left (n + 1) ps (omega (arith, low))) refl
+  line_left n (p ∷ ps) low = rw (keeps.script_posts.script_posts n (omega (arith, low)), line_left (n + 1) ps (omega (arith, low))) refl
 
   fires : (s : Spot) → can_fire_in w b s ≡ can_fire w h s
   fires s = rw (lives_told w valid h legal b keeps s, room_told w valid h legal b keeps s, can_choose_told w valid h legal b keeps s) refl
 
-  admits_first : (ts : List TaskId) → option_map_or (enters b) (slice_get ts 0) false ≡ can_admit w h ts
+  admits_first : (ts : List TaskId) → option_map_or (may_admit_task b) (slice_get ts 0) false ≡ can_admit w h ts
   admits_first [] = refl
-  admits_first (t ∷ ts) = rw (enters_told w valid h legal b keeps t) refl
+  admits_first (t ∷ ts) = rw (may_admit_task_told w valid h legal b keeps t) refl
 
   admission : (n : ℕ) (xs : List ArbiterPart) → n + length xs ≤ length w.arbiters → has_admission_in b n xs ≡ has_admission w h n xs
   admission n [] low = refl
@@ -71,7 +71,7 @@ module _ (w : Parts) (valid : IsValid w) (h : List Event) (legal : IsLegal w h) 
 
   whole : (n : ℕ) (ps : List PosterPart) → n + length ps ≤ length w.posters → are_whole_in b n ps ≡ are_whole_from h n ps
   whole n [] low = refl
-  whole n (p ∷ ps) low = rw (keeps.said.said n (omega (arith, low)), whole (n + 1) ps (omega (arith, low))) refl
+  whole n (p ∷ ps) low = rw (keeps.script_posts.script_posts n (omega (arith, low)), whole (n + 1) ps (omega (arith, low))) refl
 
   pub is_complete_told : (shed : Bool) → shed ≡ has_shed h → is_complete_in w b shed ≡ is_complete w h
-  is_complete_told shed is = rw (whole 0 w.posters (omega arith), is, keeps.said.task_posts) refl
+  is_complete_told shed is = rw (whole 0 w.posters (omega arith), is, keeps.script_posts.task_posts) refl

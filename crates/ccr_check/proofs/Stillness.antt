@@ -15,7 +15,7 @@ use Rattle.ccr_model.specs.declared.history.Event.TheVariants.{Admit}
 use Rattle.ccr_model.specs.Firings.{fired}
 use Rattle.ccr_model.specs.Tasks.{waiting, queued, running}
 use Rattle.ccr_model.specs.Live.{is_none_of}
-use Rattle.ccr_model.specs.Rules.{may_enter, may_put}
+use Rattle.ccr_model.specs.Rules.{may_admit, may_put}
 use Rattle.ccr_model.specs.Order.{first, post_from, fire_from, admit_first, admit_from, put_first, start_from}
 use Rattle.ccr_model.specs.Legal.{IsQuiet}
 use Rattle.ccr_check.specs.Verdicts.{AllowsSome, MeansQuiet}
@@ -49,7 +49,7 @@ some_fire w c h (s ∷ ss) = rw (is_some-or, some_fire_at w c h s, some_fire w c
 -- an admission
 some_admit_first : (w : Parts) (h : List Event) (ts : List TaskId) → is_some (admit_first w h ts) ≡ can_admit w h ts
 some_admit_first w h [] = refl
-some_admit_first w h (t ∷ ts) = of_test (may_enter w h t)
+some_admit_first w h (t ∷ ts) = of_test (may_admit w h t)
   where
     of_test : (b : Bool) → is_some (if b then Some (Admit t) else None) ≡ b
     of_test true = refl

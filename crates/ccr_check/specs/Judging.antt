@@ -14,11 +14,11 @@ use Rattle.ccr_model.specs.declared.history.Event.TheVariants.{Post, Fire, Admit
 use Rattle.ccr_model.specs.declared.history.EndHow.{EndHow}
 use Rattle.ccr_model.specs.Rules.{is_post, ends_so, is_shed, refused}
 use Rattle.ccr_ledger.specs.Books.{Books, number}
-use Rattle.ccr_ledger.specs.Asked.{has_fired, lives, are_choice, room, cuts, waits_first, enters, is_ready, drops, queued_first, is_busy, runs, play_in, made_in, has_more, unfinished, budget_lasts}
+use Rattle.ccr_ledger.specs.Asked.{has_fired, lives, are_choice, room, cuts, waits_first, may_admit_task, is_ready, drops, queued_first, is_busy, runs, play_in, made_in, has_more, unfinished, budget_lasts}
 
 -- rule 1: it is the poster's next line
 abbrev pub is_next_line : Parts → Books → ℕ → ℕ → Msg → Bool
-is_next_line wiring books actor place message = (place == number books.said actor) && option_map_or (is_post message) (option_and_then (λ (p : PosterPart). slice_get p.posts place) (slice_get wiring.posters actor)) false
+is_next_line wiring books actor place message = (place == number books.script_posts actor) && option_map_or (is_post message) (option_and_then (λ (p : PosterPart). slice_get p.posts place) (slice_get wiring.posters actor)) false
 
 -- rule 2: it is the next post of the running task's play
 abbrev pub is_next_post : Books → TaskId → ℕ → Msg → Bool
@@ -54,7 +54,7 @@ refusal_in wiring books (Fire task spot messages cut) =
     (refused (are_choice wiring books spot messages) 6
     (refused (room wiring books spot) 7
     (refused (same_lists same_task cut (cuts wiring books spot)) 8 None))))
-refusal_in wiring books (Admit task) = refused (waits_first books task) 9 (refused (enters books task) 10 None)
+refusal_in wiring books (Admit task) = refused (waits_first books task) 9 (refused (may_admit_task books task) 10 None)
 refusal_in wiring books (Put task dropped) = refused (is_ready books task) 11 (refused (same_options same_task dropped (drops wiring books task)) 12 None)
 refusal_in wiring books (Start task actor) = refused (queued_first books task) 13 (refused (is_idle wiring books actor) 14 None)
 refusal_in wiring books (End task how) = refused (runs books task) 15 (refused (is_ending wiring books task how) 16 None)

@@ -14,7 +14,7 @@ use Rattle.ccr_model.specs.Firings.{fired}
 use Rattle.ccr_model.specs.Tasks.{waiting, queued, running}
 use Rattle.ccr_model.specs.Live.{is_none_of}
 use Rattle.ccr_model.specs.Enough.{can_fire}
-use Rattle.ccr_model.specs.Rules.{may_enter, may_put}
+use Rattle.ccr_model.specs.Rules.{may_admit, may_put}
 
 -- whether one of the posters, of which the first has this number, has a line of its script left
 abbrev pub has_line_left : List Event → ℕ → List PosterPart → Bool
@@ -23,7 +23,7 @@ has_line_left history number (poster ∷ posters) = nat_lt (posts_of_poster hist
 
 -- whether the oldest of the waiting tasks may enter
 abbrev pub can_admit : Parts → List Event → List TaskId → Bool
-can_admit wiring history tasks = option_map_or (may_enter wiring history) (slice_get tasks 0) false
+can_admit wiring history tasks = option_map_or (may_admit wiring history) (slice_get tasks 0) false
 
 -- whether one of the domains, by the numbers of the arbiters, of which the first has this one, can admit a task
 abbrev pub has_admission : Parts → List Event → ℕ → List ArbiterPart → Bool

@@ -13,12 +13,12 @@ use Rattle.ccr_model.specs.Live.{is_none_of}
 use Rattle.ccr_rows.specs.Rows.{row}
 use Rattle.ccr_ledger.specs.declared.cards.Card.{Card}
 use Rattle.ccr_ledger.specs.Books.{Books, number}
-use Rattle.ccr_ledger.specs.Asked.{lives, can_choose, room, enters, is_ready}
+use Rattle.ccr_ledger.specs.Asked.{lives, can_choose, room, may_admit_task, is_ready}
 
 -- whether one of the posters, of which the first has this number, has a line of its script left
 abbrev pub has_line_left_in : Books → ℕ → List PosterPart → Bool
 has_line_left_in books poster [] = false
-has_line_left_in books poster (part ∷ parts) = nat_lt (number books.said poster) (length part.posts) || has_line_left_in books (poster + 1) parts
+has_line_left_in books poster (part ∷ parts) = nat_lt (number books.script_posts poster) (length part.posts) || has_line_left_in books (poster + 1) parts
 
 -- whether the spot can fire
 abbrev pub can_fire_in : Parts → Books → Spot → Bool
@@ -26,7 +26,7 @@ can_fire_in wiring books spot = lives wiring books spot && room wiring books spo
 
 -- whether the oldest task that waits in the domain may be admitted
 abbrev pub can_admit_in : Books → ℕ → Bool
-can_admit_in books domain = option_map_or (enters books) (slice_get (row books.waiting domain) 0) false
+can_admit_in books domain = option_map_or (may_admit_task books) (slice_get (row books.waiting domain) 0) false
 
 -- whether one of the domains, by the numbers of the arbiters, of which the first has this one, can admit a task
 abbrev pub has_admission_in : Books → ℕ → List ArbiterPart → Bool
@@ -59,7 +59,7 @@ is_still_in wiring books =
 -- each of the posters, of which the first has this number, has made as many posts as its script has
 abbrev pub are_whole_in : Books → ℕ → List PosterPart → Bool
 are_whole_in books poster [] = true
-are_whole_in books poster (part ∷ parts) = (number books.said poster == length part.posts) && are_whole_in books (poster + 1) parts
+are_whole_in books poster (part ∷ parts) = (number books.script_posts poster == length part.posts) && are_whole_in books (poster + 1) parts
 
 -- each poster has made its whole script; and where a task was shed, tasks have made exactly as many posts as the budget
 abbrev pub is_complete_in : Parts → Books → Bool → Bool

@@ -40,7 +40,7 @@ fn are_whole_in(wiring: &Wiring, ledger: &Ledger) -> bool
 {
     valid_wirings_are_sound();
     for (number, poster) in wiring.parts().posters.as_slice().iter().enumerate() {
-        if ledger.said(number as ActorNo) as usize != poster.posts.as_slice().len() {
+        if ledger.script_posts(number as ActorNo) as usize != poster.posts.as_slice().len() {
             return false;
         }
     }

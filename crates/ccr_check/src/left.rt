@@ -16,7 +16,7 @@ fn has_line_left(wiring: &Wiring, ledger: &Ledger) -> bool
 {
     valid_wirings_are_sound();
     for (number, poster) in wiring.parts().posters.as_slice().iter().enumerate() {
-        if (ledger.said(number as ActorNo) as usize) < poster.posts.as_slice().len() {
+        if (ledger.script_posts(number as ActorNo) as usize) < poster.posts.as_slice().len() {
             return true;
         }
     }
@@ -53,7 +53,7 @@ fn can_admit(ledger: &Ledger, domain: usize) -> bool
     ensures { result ≡ can_admit_in ledger.now domain }
 {
     match ledger.oldest_waiting(domain) {
-        Some(task) => ledger.enters(task),
+        Some(task) => ledger.may_admit_task(task),
         None => false,
     }
 }

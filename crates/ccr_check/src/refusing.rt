@@ -14,7 +14,7 @@ use ccr_wiring::Wiring;
 fn is_next_line(wiring: &Wiring, ledger: &Ledger, actor: ActorNo, place: u32, message: &Msg) -> bool
     ensures { result ≡ is_next_line wiring.now ledger.now actor place message.now }
 {
-    if place != ledger.said(actor) {
+    if place != ledger.script_posts(actor) {
         return false;
     }
     let Some(poster) = wiring.parts().posters.as_slice().get(actor as usize) else {
@@ -142,7 +142,7 @@ fn refusal_of_admit(wiring: &Wiring, ledger: &Ledger, task: TaskId) -> Option<u8
     if !ledger.waits_first(task) {
         return Some(9);
     }
-    if !ledger.enters(task) {
+    if !ledger.may_admit_task(task) {
         return Some(10);
     }
     None

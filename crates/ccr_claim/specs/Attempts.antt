@@ -19,8 +19,8 @@ use Rattle.ccr_claim.specs.declared.outcomes.Next.{Next}
 use Rattle.ccr_claim.specs.declared.outcomes.Next.TheVariants as nexts
 use Rattle.ccr_claim.specs.declared.outcomes.Outcome.{Outcome}
 use Rattle.ccr_claim.specs.declared.outcomes.Outcome.TheVariants as outcomes
-use Rattle.ccr_claim.specs.declared.outcomes.Standing.{Standing}
-use Rattle.ccr_claim.specs.declared.outcomes.Standing.TheVariants as standings
+use Rattle.ccr_claim.specs.declared.outcomes.Progress.{Progress}
+use Rattle.ccr_claim.specs.declared.outcomes.Progress.TheVariants as progresses
 use Rattle.ccr_claim.specs.declared.outcomes.Why.{Why}
 use Rattle.ccr_claim.specs.declared.outcomes.Why.TheVariants as whys
 use Rattle.ccr_claim.specs.declared.plan.ClaimPlan.{ClaimPlan}
@@ -104,10 +104,10 @@ abbrev pub begun : ClaimPlan → TaskId → AttemptState
 begun plan task = record { plan = plan; task = task; hand = []; phase = booking; ended = None; due = dues.Nothing }
 
 -- where it stands
-abbrev pub standing_of : Option Outcome → Standing
-standing_of None = standings.Running
-standing_of (Some (outcomes.Fired waits dropped)) = standings.Fired waits
-standing_of (Some (outcomes.GaveUp why)) = standings.GaveUp why
+abbrev pub progress_of : Option Outcome → Progress
+progress_of None = progresses.Running
+progress_of (Some (outcomes.Fired waits dropped)) = progresses.Fired waits
+progress_of (Some (outcomes.GaveUp why)) = progresses.GaveUp why
 
 -- what it does next: it settles, or it has ended, or it goes on
 abbrev pub next_of : ClaimPlan → TaskId → List Asked → Option Outcome → Phase → Next

@@ -5,11 +5,11 @@ ghost use Rattle.ccr_claim.specs.declared.asks.Due.TheVariants as dues;
 ghost use Rattle.ccr_claim.specs.declared.asks.Reply.TheVariants as replies;
 ghost use Rattle.ccr_claim.specs.declared.outcomes.Why.TheVariants as whys;
 ghost use Rattle.ccr_claim.specs.Asks.{fits, may_come};
-ghost use Rattle.ccr_claim.specs.Attempts.{begun, next, sent, replied, given_up, port_of, standing_of, IsAfter, IsAfterReply};
+ghost use Rattle.ccr_claim.specs.Attempts.{begun, next, sent, replied, given_up, port_of, progress_of, IsAfter, IsAfterReply};
 
 use crate::firing::{Firing, ready};
 use crate::hand::{claim, completion, release, resumes, stage_due, unanswered_by};
-use crate::outcomes::{Next, Outcome, Standing, Why};
+use crate::outcomes::{Next, Outcome, Progress, Why};
 use crate::slots::{in_order, next_slot};
 use crate::stages::{Stage, Unanswered};
 use crate::{Ask, Asked, ClaimPlan, Due, Had, Reply};
@@ -137,13 +137,13 @@ impl Attempt {
     }
 
     /// Where the attempt stands.
-    pub fn standing(&self) -> Standing
-        ensures { result ≡ standing_of self.now.ended }
+    pub fn progress(&self) -> Progress
+        ensures { result ≡ progress_of self.now.ended }
     {
         match self.stage {
-            Stage::Booking | Stage::Claiming => Standing::Running,
-            Stage::Fired { waits } => Standing::Fired { waits },
-            Stage::GaveUp(why) => Standing::GaveUp(why),
+            Stage::Booking | Stage::Claiming => Progress::Running,
+            Stage::Fired { waits } => Progress::Fired { waits },
+            Stage::GaveUp(why) => Progress::GaveUp(why),
         }
     }
 

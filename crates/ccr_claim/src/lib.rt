@@ -15,5 +15,5 @@ pub use asks::{Ask, Asked, Due, Reply, due_of, fits, may_come, settles};
 pub use attempts::Attempt;
 pub use ccr_places::{ClaimNote, Note};
 pub use laws::{attempts_settle, attempts_stop};
-pub use outcomes::{Next, Outcome, Standing, Why};
+pub use outcomes::{Next, Outcome, Progress, Why};
 pub use plan::{ClaimPlan, Had};

@@ -22,7 +22,7 @@ pub enum Outcome {
 
 /// Where an attempt stands: it goes on, or it has ended.
 #[derive(Clone, Copy, Debug, PartialEq, Eq)]
-pub enum Standing {
+pub enum Progress {
     Running,
     Fired { waits: bool },
     GaveUp(Why),

@@ -9,7 +9,7 @@ use Rattle.ccr_words.specs.declared.requests.Command.{Command}
 use Rattle.ccr_words.specs.declared.requests.Command.TheVariants.{Check, Run, Verify}
 use Rattle.ccr_words.specs.declared.requests.Request.{Request}
 use Rattle.ccr_words.specs.declared.requests.Request.TheVariants.{Read, Load}
-use Rattle.ccr_words.specs.Said.{said}
+use Rattle.ccr_words.specs.Said.{asked_for}
 use Rattle.ccr_cli.specs.Inputs.{limit_of}
 use Rattle.ccr_cli.specs.Loads.{LoadGives}
 use Rattle.ccr_cli.specs.Answers.{usage_text, too_long_text, reads, Answers, AnswersText, AnswersRest, AnswersInput, AnswersRequest, IsExhausted, IsExhaustedFor}
@@ -89,26 +89,26 @@ reads_some (Some request) is = refl
 reads_some None is = absurd cc
 
 -- a request to read reads
-pub read_reads : (words : List (List ℕ)) (command : Command) (json : Bool) → said words ≡ Some (Read command json) → reads (said words) ≡ true
+pub read_reads : (words : List (List ℕ)) (command : Command) (json : Bool) → asked_for words ≡ Some (Read command json) → reads (asked_for words) ≡ true
 read_reads words command json is = ap reads is
 
 -- a load doesn't
-pub load_reads_nothing : (words : List (List ℕ)) (size : ℕ) (json : Bool) → said words ≡ Some (Load size json) → reads (said words) ≡ false
+pub load_reads_nothing : (words : List (List ℕ)) (size : ℕ) (json : Bool) → asked_for words ≡ Some (Load size json) → reads (asked_for words) ≡ false
 load_reads_nothing words size json is = ap reads is
 
-pub none_reads_nothing : (words : List (List ℕ)) → said words ≡ None → reads (said words) ≡ false
+pub none_reads_nothing : (words : List (List ℕ)) → asked_for words ≡ None → reads (asked_for words) ≡ false
 none_reads_nothing words is = ap reads is
 
 -- what was answered so has read the source out
-pub done_reads_out : (words : List (List ℕ)) (command : Command) (json : Bool) (status : Status) (rest after : Option (List ℕ)) → IsExhaustedFor (said words) status rest after → said words ≡ Some (Read command json) → status ≡ Done → IsExhausted Done rest after
-done_reads_out words command json status rest after out is done = subst (λ (o : Option Request). IsExhaustedFor o Done rest after) is (subst (λ (s : Status). IsExhaustedFor (said words) s rest after) done out)
+pub done_reads_out : (words : List (List ℕ)) (command : Command) (json : Bool) (status : Status) (rest after : Option (List ℕ)) → IsExhaustedFor (asked_for words) status rest after → asked_for words ≡ Some (Read command json) → status ≡ Done → IsExhausted Done rest after
+done_reads_out words command json status rest after out is done = subst (λ (o : Option Request). IsExhaustedFor o Done rest after) is (subst (λ (s : Status). IsExhaustedFor (asked_for words) s rest after) done out)
 
-pub shed_reads_out : (words : List (List ℕ)) (status : Status) (rest after : Option (List ℕ)) → IsExhaustedFor (said words) status rest after → status ≡ Shed → IsExhausted Shed rest after
-shed_reads_out words status rest after out shed = subst (λ (s : Status). IsExhaustedFor (said words) s rest after) shed out
+pub shed_reads_out : (words : List (List ℕ)) (status : Status) (rest after : Option (List ℕ)) → IsExhaustedFor (asked_for words) status rest after → status ≡ Shed → IsExhausted Shed rest after
+shed_reads_out words status rest after out shed = subst (λ (s : Status). IsExhaustedFor (asked_for words) s rest after) shed out
 
-pub illegal_reads_out : (words : List (List ℕ)) (status : Status) (rest after : Option (List ℕ)) → IsExhaustedFor (said words) status rest after → status ≡ Illegal → IsExhausted Illegal rest after
-illegal_reads_out words status rest after out illegal = subst (λ (s : Status). IsExhaustedFor (said words) s rest after) illegal out
+pub illegal_reads_out : (words : List (List ℕ)) (status : Status) (rest after : Option (List ℕ)) → IsExhaustedFor (asked_for words) status rest after → status ≡ Illegal → IsExhausted Illegal rest after
+illegal_reads_out words status rest after out illegal = subst (λ (s : Status). IsExhaustedFor (asked_for words) s rest after) illegal out
 
 -- a load meets no fault of the source
-pub load_has_no_fault : (words : List (List ℕ)) (size : ℕ) (json : Bool) → said words ≡ Some (Load size json) → reads (said words) ≡ true → ⊥
+pub load_has_no_fault : (words : List (List ℕ)) (size : ℕ) (json : Bool) → asked_for words ≡ Some (Load size json) → reads (asked_for words) ≡ true → ⊥
 load_has_no_fault words size json is reads_it = let none = load_reads_nothing words size json is in absurd cc

@@ -9,7 +9,7 @@ use Rattle.ccr_cli.specs.declared.findings.Finding.{Finding}
 use Rattle.ccr_cli.specs.declared.findings.Finding.TheVariants as findings
 use Rattle.ccr_words.specs.declared.requests.Request.{Request}
 use Rattle.ccr_words.specs.declared.requests.Request.TheVariants.{Read, Load}
-use Rattle.ccr_words.specs.Said.{said}
+use Rattle.ccr_words.specs.Said.{asked_for}
 use Rattle.ccr_cli.specs.Inputs.{reading_input, history_place, output_part}
 use Rattle.ccr_cli.specs.Loads.{LoadGives}
 use Rattle.ccr_cli.specs.Findings.{IsFound, is_fault}
@@ -100,13 +100,13 @@ for_fault json (Some bytes) TooLong text due verified = absurd (omega (arith, du
 for_fault json (Some bytes) Refused text due verified = absurd (apart _ verified.1.0 (due.1.0, due.1.1) verified.1.2 due.1.2)
 
 -- what is due for a request is due for words that ask for it
-pub due_said : (request : Option Request) (words : List (List ℕ)) (rest : Option (List ℕ)) (status : Status) (text : List ℕ) → request ≡ said words → AnswersRequest request rest status text → IsDue status words rest text
+pub due_said : (request : Option Request) (words : List (List ℕ)) (rest : Option (List ℕ)) (status : Status) (text : List ℕ) → request ≡ asked_for words → AnswersRequest request rest status text → IsDue status words rest text
 due_said request words rest status text asked due = subst (λ (o : Option Request). AnswersRequest o rest status text) asked due
 
-pub usage_status : (words : List (List ℕ)) (rest : Option (List ℕ)) (status : Status) (text : List ℕ) → IsDue status words rest text → said words ≡ None → status ≡ Usage
-usage_status words rest status text due is = for_none (said words) rest status text due is
+pub usage_status : (words : List (List ℕ)) (rest : Option (List ℕ)) (status : Status) (text : List ℕ) → IsDue status words rest text → asked_for words ≡ None → status ≡ Usage
+usage_status words rest status text due is = for_none (asked_for words) rest status text due is
 
-module _ (command : Command) (json : Bool) (words : List (List ℕ)) (rest : Option (List ℕ)) (status : Status) (text : List ℕ) (due : IsDue status words rest text) (is : said words ≡ Some (Read command json)) where
+module _ (command : Command) (json : Bool) (words : List (List ℕ)) (rest : Option (List ℕ)) (status : Status) (text : List ℕ) (due : IsDue status words rest text) (is : asked_for words ≡ Some (Read command json)) where
   for_input : AnswersInput command json rest status text
   for_input = subst (λ (o : Option Request). AnswersRequest o rest status text) is due
 
@@ -119,8 +119,8 @@ module _ (command : Command) (json : Bool) (words : List (List ℕ)) (rest : Opt
   pub over_status : IsAccepted command rest → may_end command status ≡ true
   over_status accepted = for_wiring command json rest status text for_input accepted
 
-pub fault_status : (json : Bool) (words : List (List ℕ)) (rest : Option (List ℕ)) (status : Status) (text : List ℕ) → IsDue status words rest text → said words ≡ Some (Read Verify json) → IsVerified true rest → status ≡ Illegal
+pub fault_status : (json : Bool) (words : List (List ℕ)) (rest : Option (List ℕ)) (status : Status) (text : List ℕ) → IsDue status words rest text → asked_for words ≡ Some (Read Verify json) → IsVerified true rest → status ≡ Illegal
 fault_status json words rest status text due is verified = for_fault json rest status text (for_input Verify json words rest status text due is) verified
 
-pub load_status : (size : ℕ) (json : Bool) (words : List (List ℕ)) (rest : Option (List ℕ)) (status : Status) (text : List ℕ) → IsDue status words rest text → said words ≡ Some (Load size json) → status ≡ Done
+pub load_status : (size : ℕ) (json : Bool) (words : List (List ℕ)) (rest : Option (List ℕ)) (status : Status) (text : List ℕ) → IsDue status words rest text → asked_for words ≡ Some (Load size json) → status ≡ Done
 load_status size json words rest status text due is = for_load size json status text (subst (λ (o : Option Request). AnswersRequest o rest status text) is due)

@@ -12,7 +12,7 @@ use Rattle.ccr_words.specs.declared.requests.Command.{Command}
 use Rattle.ccr_words.specs.declared.requests.Command.TheVariants.{Check, Run, Verify}
 use Rattle.ccr_words.specs.declared.requests.Request.{Request}
 use Rattle.ccr_words.specs.declared.requests.Request.TheVariants.{Read, Load}
-use Rattle.ccr_words.specs.Said.{said}
+use Rattle.ccr_words.specs.Said.{asked_for}
 use Rattle.ccr_cli.specs.declared.findings.Finding.{Finding}
 use Rattle.ccr_cli.specs.Inputs.{limit_of, history_place, output_part, reading_input}
 use Rattle.ccr_cli.specs.Runs.{RunGives}
@@ -75,7 +75,7 @@ AnswersRequest (Some (Load size json)) rest status text = LoadGives size json st
 
 -- the text that is due for the words and for what the source has to come
 abbrev pub IsDue : Status → List (List ℕ) → Option (List ℕ) → List ℕ → Type 0
-IsDue status words rest text = AnswersRequest (said words) rest status text
+IsDue status words rest text = AnswersRequest (asked_for words) rest status text
 
 -- the source tells its bytes, and they say some wiring
 abbrev pub IsAccepted : Command → Option (List ℕ) → Type 0

@@ -3,7 +3,7 @@
 ghost use Rattle.std.specs.Prelude.{◌≡◌, ◌≤◌, Bool, ℕ, None, Some, true, false, IfOk, IfSome, IsErrOf, length};
 ghost use Rattle.ccr_io.specs.Faults.{Rose};
 ghost use Rattle.ccr_wiretext.specs.Answers.{IsReading};
-ghost use Rattle.ccr_words.specs.Said.{said};
+ghost use Rattle.ccr_words.specs.Said.{asked_for};
 ghost use Rattle.ccr_words.specs.Table.{IsSized};
 ghost use Rattle.ccr_words.specs.declared.requests.Command.{Command as Commands};
 ghost use Rattle.ccr_words.specs.declared.requests.Command.TheVariants.{Check, Run, Verify};
@@ -118,16 +118,16 @@ pub fn answer_words<S: Source>(
     source: &mut S,
 ) -> Result<Answer, Failure>
     ensures due { IfOk result (λ due. IsDue due.status words.now (S.rest source.old) due.text) }
-    ensures usage { said words.now ≡ None → IfOk result (λ due. due.status ≡ Status.Usage) }
-    ensures refused { (command : Commands) → (json : Bool) → said words.now ≡ Some (Read command json) → IsDeclined command (S.rest source.old) → IfOk result (λ due. due.status ≡ Status.Refused) }
-    ensures excessive { (command : Commands) → (json : Bool) → said words.now ≡ Some (Read command json) → IsExcessive command (S.rest source.old) → IfOk result (λ due. due.status ≡ Status.TooLong) }
-    ensures accepted { (command : Commands) → (json : Bool) → said words.now ≡ Some (Read command json) → IsAccepted command (S.rest source.old) → IfOk result (λ due. may_end command due.status ≡ true) }
-    ensures faulty { (json : Bool) → said words.now ≡ Some (Read Verify json) → IsVerified true (S.rest source.old) → IfOk result (λ due. due.status ≡ Status.Illegal) }
-    ensures loaded { (size : ℕ) → (json : Bool) → said words.now ≡ Some (Load size json) → IfOk result (λ due. due.status ≡ Status.Done) }
-    ensures exhausted { IfOk result (λ due. IsExhaustedFor (said words.now) due.status (S.rest source.old) (S.rest source.new)) }
+    ensures usage { asked_for words.now ≡ None → IfOk result (λ due. due.status ≡ Status.Usage) }
+    ensures refused { (command : Commands) → (json : Bool) → asked_for words.now ≡ Some (Read command json) → IsDeclined command (S.rest source.old) → IfOk result (λ due. due.status ≡ Status.Refused) }
+    ensures excessive { (command : Commands) → (json : Bool) → asked_for words.now ≡ Some (Read command json) → IsExcessive command (S.rest source.old) → IfOk result (λ due. due.status ≡ Status.TooLong) }
+    ensures accepted { (command : Commands) → (json : Bool) → asked_for words.now ≡ Some (Read command json) → IsAccepted command (S.rest source.old) → IfOk result (λ due. may_end command due.status ≡ true) }
+    ensures faulty { (json : Bool) → asked_for words.now ≡ Some (Read Verify json) → IsVerified true (S.rest source.old) → IfOk result (λ due. due.status ≡ Status.Illegal) }
+    ensures loaded { (size : ℕ) → (json : Bool) → asked_for words.now ≡ Some (Load size json) → IfOk result (λ due. due.status ≡ Status.Done) }
+    ensures exhausted { IfOk result (λ due. IsExhaustedFor (asked_for words.now) due.status (S.rest source.old) (S.rest source.new)) }
     ensures fault { IsErrOf result Failure.ReadFault → Rose (S.faults source.old) (S.faults source.new) }
-    ensures reads { IsErrOf result Failure.ReadFault → reads (said words.now) ≡ true }
-    ensures source { reads (said words.now) ≡ false → source.new ≡ source.old }
+    ensures reads { IsErrOf result Failure.ReadFault → reads (asked_for words.now) ≡ true }
+    ensures source { reads (asked_for words.now) ≡ false → source.new ≡ source.old }
 {
     let request = read_words(alloc, words)?;
     let answer = answer_request(alloc, request, source)?;

@@ -2,7 +2,7 @@
 
 ghost use Rattle.std.specs.Prelude.{◌≡◌, ℕ, Bool, [], ◌∷◌, true, Some, None, IsSome, Contains};
 ghost use Rattle.ccr_io.specs.Faults.{Rose};
-ghost use Rattle.ccr_words.specs.Said.{said};
+ghost use Rattle.ccr_words.specs.Said.{asked_for};
 ghost use Rattle.ccr_words.specs.declared.requests.Command.{Command};
 ghost use Rattle.ccr_words.specs.declared.requests.Command.TheVariants.{Verify};
 ghost use Rattle.ccr_words.specs.declared.requests.Request.TheVariants.{Read, Load};
@@ -23,29 +23,29 @@ pub fn run_ccr<R: AllocGlobal, S: Source, K: Sink, G: Gate + Sync>(
     _gate: &G,
 ) -> u8
     ensures done { result ≡ 0 → IsAnswered Done words.now (S.rest source.old) (K.written sink.old) (K.written sink.new) }
-    ensures done_input { (command : Command) → (json : Bool) → said words.now ≡ Some (Read command json) → result ≡ 0 → IsExhausted Done (S.rest source.old) (S.rest source.new) }
+    ensures done_input { (command : Command) → (json : Bool) → asked_for words.now ≡ Some (Read command json) → result ≡ 0 → IsExhausted Done (S.rest source.old) (S.rest source.new) }
     ensures shed { result ≡ 6 → IsAnswered Shed words.now (S.rest source.old) (K.written sink.old) (K.written sink.new) }
     ensures shed_input { result ≡ 6 → IsExhausted Shed (S.rest source.old) (S.rest source.new) }
 
     ensures usage { result ≡ 1 → IsAnswered Usage words.now (S.rest source.old) (K.written sink.old) (K.written sink.new) }
-    ensures usage_due { said words.now ≡ None → Contains (1 ∷ 4 ∷ 5 ∷ []) result }
-    ensures usage_source { said words.now ≡ None → source.new ≡ source.old }
+    ensures usage_due { asked_for words.now ≡ None → Contains (1 ∷ 4 ∷ 5 ∷ []) result }
+    ensures usage_source { asked_for words.now ≡ None → source.new ≡ source.old }
 
-    ensures load_due { (size : ℕ) → (json : Bool) → said words.now ≡ Some (Load size json) → Contains (0 ∷ 4 ∷ 5 ∷ []) result }
-    ensures load_source { (size : ℕ) → (json : Bool) → said words.now ≡ Some (Load size json) → source.new ≡ source.old }
+    ensures load_due { (size : ℕ) → (json : Bool) → asked_for words.now ≡ Some (Load size json) → Contains (0 ∷ 4 ∷ 5 ∷ []) result }
+    ensures load_source { (size : ℕ) → (json : Bool) → asked_for words.now ≡ Some (Load size json) → source.new ≡ source.old }
 
     ensures refused { result ≡ 2 → IsAnswered Refused words.now (S.rest source.old) (K.written sink.old) (K.written sink.new) }
-    ensures refused_due { (command : Command) → (json : Bool) → said words.now ≡ Some (Read command json) → IsDeclined command (S.rest source.old) → Contains (2 ∷ 3 ∷ 4 ∷ 5 ∷ []) result }
+    ensures refused_due { (command : Command) → (json : Bool) → asked_for words.now ≡ Some (Read command json) → IsDeclined command (S.rest source.old) → Contains (2 ∷ 3 ∷ 4 ∷ 5 ∷ []) result }
 
     ensures illegal { result ≡ 7 → IsAnswered Illegal words.now (S.rest source.old) (K.written sink.old) (K.written sink.new) }
     ensures illegal_input { result ≡ 7 → IsExhausted Illegal (S.rest source.old) (S.rest source.new) }
-    ensures illegal_due { (json : Bool) → said words.now ≡ Some (Read Verify json) → IsVerified true (S.rest source.old) → Contains (3 ∷ 4 ∷ 5 ∷ 7 ∷ []) result }
+    ensures illegal_due { (json : Bool) → asked_for words.now ≡ Some (Read Verify json) → IsVerified true (S.rest source.old) → Contains (3 ∷ 4 ∷ 5 ∷ 7 ∷ []) result }
 
     ensures too_long { result ≡ 8 → IsAnswered TooLong words.now (S.rest source.old) (K.written sink.old) (K.written sink.new) }
-    ensures too_long_due { (command : Command) → (json : Bool) → said words.now ≡ Some (Read command json) → IsExcessive command (S.rest source.old) → Contains (3 ∷ 4 ∷ 5 ∷ 8 ∷ []) result }
+    ensures too_long_due { (command : Command) → (json : Bool) → asked_for words.now ≡ Some (Read command json) → IsExcessive command (S.rest source.old) → Contains (3 ∷ 4 ∷ 5 ∷ 8 ∷ []) result }
 
     ensures read_fault { result ≡ 3 → Rose (S.faults source.old) (S.faults source.new) }
-    ensures read_words { result ≡ 3 → IsSome (said words.now) }
+    ensures read_words { result ≡ 3 → IsSome (asked_for words.now) }
     ensures read_silent { result ≡ 3 → sink.new ≡ sink.old }
 
     ensures write_fault { result ≡ 4 → Rose (K.faults sink.old) (K.faults sink.new) }
@@ -55,10 +55,10 @@ pub fn run_ccr<R: AllocGlobal, S: Source, K: Sink, G: Gate + Sync>(
     ensures statuses { Contains (0 ∷ 1 ∷ 2 ∷ 3 ∷ 4 ∷ 5 ∷ 6 ∷ 7 ∷ 8 ∷ []) result }
 
     // Words and input of their forms, and no fault in this call.
-    ensures complete { (command : Command) → (json : Bool) → said words.now ≡ Some (Read command json) → IsAccepted command (S.rest source.old) →
+    ensures complete { (command : Command) → (json : Bool) → asked_for words.now ≡ Some (Read command json) → IsAccepted command (S.rest source.old) →
         (Rose (S.faults source.old) (S.faults source.new) → ⊥) → (Rose (K.faults sink.old) (K.faults sink.new) → ⊥) →
         Contains (statuses_of command) result }
-    ensures load_complete { (size : ℕ) → (json : Bool) → said words.now ≡ Some (Load size json) →
+    ensures load_complete { (size : ℕ) → (json : Bool) → asked_for words.now ≡ Some (Load size json) →
         (Rose (K.faults sink.old) (K.faults sink.new) → ⊥) → Contains (0 ∷ 5 ∷ []) result }
 {
     match answer_words(rt.alloc(), words, source) {

@@ -15,7 +15,7 @@ use std::marker::Model;
 
 /// What a port holds, oldest first. Each place is of one message that was posted; it is empty once that was taken.
 #[derive(Drop)]
-pub struct Held {
+pub struct HeldMessages {
     alloc: Global,
     items: Vec<Option<Msg>>,
     lanes: Vec<Lane>,
@@ -23,7 +23,7 @@ pub struct Held {
     left: usize,
 }
 
-impl Model for Held {
+impl Model for HeldMessages {
     ghost use Rattle.std.specs.Prelude.{List as Listed};
     ghost use Rattle.ccr_base.specs.declared.messages.Msg.{Msg};
     ghost use Rattle.std.specs.Prelude.{◌≡◌, length};
@@ -212,12 +212,12 @@ fn first_fitting(
     Ok(first_place(items, lane))
 }
 
-impl Held {
+impl HeldMessages {
     /// An empty port.
-    pub fn new(alloc: Global) -> Held
+    pub fn new(alloc: Global) -> HeldMessages
         ensures { result ≡ [] }
     {
-        Held {
+        HeldMessages {
             alloc,
             items: Vec::new(alloc),
             lanes: Vec::new(alloc),

@@ -15,9 +15,9 @@ use Rattle.ccr_base.specs.Names.{same_task, has_task}
 use Rattle.ccr_places.specs.Interleaves.{Waiting}
 use Rattle.ccr_places.specs.TaskSets.{task_cmp, len-there, same_task-true, same_task_equiv}
 use Rattle.ccr_places.specs.TaskTables.{tasks_where, kept_of, contains-tasks_where, tasks_where-put, tasks_where-gone, tasks_where-same, len-tasks_where, len-tasks_where-le}
-use Rattle.ccr_interleave.specs.declared.standing.Standing.{Standing}
-use Rattle.ccr_interleave.specs.declared.standing.Standing.TheVariants.{Outside, Shared, Alone}
-use Rattle.ccr_interleave.specs.Standings.{Tied, is_shared, is_alone, admitted_as}
+use Rattle.ccr_interleave.specs.declared.admission.Admission.{Admission}
+use Rattle.ccr_interleave.specs.declared.admission.Admission.TheVariants.{Outside, Shared, Alone}
+use Rattle.ccr_interleave.specs.Admissions.{Tied, is_shared, is_alone, admitted_as}
 
 pub none-tied : Tied [] [] 0 0
 unfolding IsDistinct
@@ -31,7 +31,7 @@ none-tied = record {
 
 -- ---- what is known of a task
 
-module _ (table : List (TaskId × Standing)) (waiting : List Waiting) (shared alone : ℕ) (tied : Tied table waiting shared alone) where
+module _ (table : List (TaskId × Admission)) (waiting : List Waiting) (shared alone : ℕ) (tied : Tied table waiting shared alone) where
   -- no waiting task, as a teardown leaves it
   pub cleared : Tied table [] shared alone
   unfolding IsDistinct
@@ -67,9 +67,9 @@ module _ (table : List (TaskId × Standing)) (waiting : List Waiting) (shared al
     alone-counted = rw (tied.alone_count) (one_at_most (option_map_or is_alone (kept_of table task) false) _
         (λ e. len-there (tasks_where is_alone table) task (contains-tasks_where is_alone table tied.distinct task ∙ e)))
 
-    there_of : (kept : Option Standing) → (option_map_or is_shared kept false || option_map_or is_alone kept false) ≡ true → is_some kept ≡ true
+    there_of : (kept : Option Admission) → (option_map_or is_shared kept false || option_map_or is_alone kept false) ≡ true → is_some kept ≡ true
     there_of None e = absurd (true≢false (sym e))
-    there_of (Some standing) e = refl
+    there_of (Some admission) e = refl
 
     -- an admitted root fired here
     pub admitted-there : (set.contains (tasks_where is_shared table) task || set.contains (tasks_where is_alone table) task) ≡ true → is_some (kept_of table task) ≡ true
@@ -77,7 +77,7 @@ module _ (table : List (TaskId × Standing)) (waiting : List Waiting) (shared al
 
 -- ---- a firing
 
-module _ (old new : List (TaskId × Standing)) (waiting : List Waiting) (shared alone : ℕ) (tied : Tied old waiting shared alone) (task : TaskId)
+module _ (old new : List (TaskId × Admission)) (waiting : List Waiting) (shared alone : ℕ) (tied : Tied old waiting shared alone) (task : TaskId)
     (none : kept_of old task ≡ None) (distinct : IsDistinct same_task (keys_of new))
     (updates : (other : TaskId) → kept_of new other ≡ cond (same_task task other) (Some Outside) (kept_of old other)) where
   not_waiting : list_any (λ (w : Waiting). same_task task w.task) waiting ≡ false
@@ -130,7 +130,7 @@ or_true : (a : Bool) → (a || true) ≡ true
 or_true true = refl
 or_true false = refl
 
-module _ (old new : List (TaskId × Standing)) (oldest : Waiting) (later : List Waiting) (shared alone : ℕ) (tied : Tied old (oldest ∷ later) shared alone) where
+module _ (old new : List (TaskId × Admission)) (oldest : Waiting) (later : List Waiting) (shared alone : ℕ) (tied : Tied old (oldest ∷ later) shared alone) where
   stands : kept_of old oldest.task ≡ Some Outside
   stands = tied.outside oldest.task (ap (λ b. b || list_any (λ (w : Waiting). same_task oldest.task w.task) later) (same_task_equiv.refl oldest.task))
 
@@ -173,7 +173,7 @@ module _ (old new : List (TaskId × Standing)) (oldest : Waiting) (later : List 
 
 -- ---- the end of a root
 
-module _ (old new : List (TaskId × Standing)) (waiting : List Waiting) (shared alone : ℕ) (tied : Tied old waiting shared alone) (root : TaskId)
+module _ (old new : List (TaskId × Admission)) (waiting : List Waiting) (shared alone : ℕ) (tied : Tied old waiting shared alone) (root : TaskId)
     (distinct : IsDistinct same_task (keys_of new))
     (updates : (other : TaskId) → kept_of new other ≡ cond (same_task root other) (Some Outside) (kept_of old other)) where
   pub over : Tied new waiting (shared - cond (option_map_or is_shared (kept_of old root) false) 1 0) (alone - cond (option_map_or is_alone (kept_of old root) false) 1 0)
@@ -194,9 +194,9 @@ module _ (old new : List (TaskId × Standing)) (waiting : List Waiting) (shared 
 
 -- ---- a task whose name is new
 
-to_none : (kept : Option Standing) → is_some kept ≡ false → kept ≡ None
+to_none : (kept : Option Admission) → is_some kept ≡ false → kept ≡ None
 to_none None e = refl
-to_none (Some standing) e = absurd (true≢false e)
+to_none (Some admission) e = absurd (true≢false e)
 
 second_false : (a b : Bool) → (a && not b) ≡ true → b ≡ false
 second_false true true e = absurd (true≢false (sym e))
@@ -204,16 +204,16 @@ second_false true false e = refl
 second_false false b e = absurd (true≢false (sym e))
 
 -- a task may commit only where the table hasn't its name
-pub absent : (table : List (TaskId × Standing)) (task : TaskId) (here : Bool) → (here && not (has_task (keys_of table) task)) ≡ true → kept_of table task ≡ None
+pub absent : (table : List (TaskId × Admission)) (task : TaskId) (here : Bool) → (here && not (has_task (keys_of table) task)) ≡ true → kept_of table task ≡ None
 absent table task here new = to_none (kept_of table task) (is_some-lookup (same_task task) table ∙ second_false here (has_task (keys_of table) task) new)
 
 -- a new name is the last
-pub keys-new : (table : List (TaskId × Standing)) (task : TaskId) (standing : Standing) → kept_of table task ≡ None
-    → keys_of (insert_entry same_task table task standing) ≡ keys_of table ++ task ∷ []
-keys-new [] task standing none = refl
-keys-new (entry ∷ table) task standing none = by (same_task task entry.0) refl (keys-new table task standing)
+pub keys-new : (table : List (TaskId × Admission)) (task : TaskId) (admission : Admission) → kept_of table task ≡ None
+    → keys_of (insert_entry same_task table task admission) ≡ keys_of table ++ task ∷ []
+keys-new [] task admission none = refl
+keys-new (entry ∷ table) task admission none = by (same_task task entry.0) refl (keys-new table task admission)
   where
-    by : (here : Bool) → same_task task entry.0 ≡ here → (kept_of table task ≡ None → keys_of (insert_entry same_task table task standing) ≡ keys_of table ++ task ∷ [])
-        → keys_of (insert_entry same_task (entry ∷ table) task standing) ≡ keys_of (entry ∷ table) ++ task ∷ []
+    by : (here : Bool) → same_task task entry.0 ≡ here → (kept_of table task ≡ None → keys_of (insert_entry same_task table task admission) ≡ keys_of table ++ task ∷ [])
+        → keys_of (insert_entry same_task (entry ∷ table) task admission) ≡ keys_of (entry ∷ table) ++ task ∷ []
     by true same rest = absurd (true≢false (ap is_some (rw same at none)))
     by false apart rest = rw apart (ap (λ ks. entry.0 ∷ ks) (rest (rw apart at none)))

@@ -9,8 +9,8 @@ use Rattle.ccr_base.specs.declared.tasks.Commit.TheVariants.{Fired, Dead}
 use Rattle.ccr_places.specs.Interleaves.{InterleaveTasks, Waiting, group_at, is_teardown, dead_by, admit_note, after_firing, after_admission}
 
 -- a task by its name and its spot
-abbrev pub named : Task → Waiting
-named task = record { task = task.id; spot = task.spot }
+abbrev pub waiting_of : Task → Waiting
+waiting_of task = record { task = task.id; spot = task.spot }
 
 -- a cut task, and the queue that it was booked at
 abbrev pub cut_of : Task → Cut

@@ -6,12 +6,12 @@ ghost use Rattle.indexmap.specs.IndexMap.{get, keys, Updates, IsUnique};
 ghost use Rattle.ccr_base.specs.Names.{same_task};
 ghost use Rattle.ccr_base.specs.declared.names.MsgId.{MsgId};
 ghost use Rattle.ccr_places.specs.Commits.{commit_note};
-ghost use Rattle.ccr_places.specs.Interleaves.{start, group_at as group_of, is_teardown as is_teardown_group, may_commit as can_commit, may_over as can_be_over, dead_by, lets_in as is_let_in, admit_note, after_over, after, IsGiven};
+ghost use Rattle.ccr_places.specs.Interleaves.{start, group_at as group_of, is_teardown as is_teardown_group, may_commit as can_commit, may_over as can_over, dead_by, may_admit as can_admit, admit_note, after_over, after, IsGiven};
 ghost use Rattle.ccr_places.specs.declared.notes.Note.TheVariants.{Admit, Over};
 ghost use Rattle.ccr_interleave.specs.Replies.{cut_of, commit_reply, after_commit, after_wait, next_task, after_oldest, after_next};
 
+use crate::admission::{self, Admission};
 use crate::groups::{group_at, is_concurrent, is_teardown};
-use crate::standing::{self, Standing};
 use ccr_base::{BranchNo, By, Commit, Cut, Group, How, List, OutOfMemory, Spot, Task, TaskId};
 use indexmap::IndexMap;
 use std::alloc::{AllocError, Global};
@@ -27,7 +27,7 @@ pub struct InterleaveObject {
     branches: List<BranchNo>,
     groups: List<Group>,
     /// All tasks that fired here, in that order.
-    fired: IndexMap<TaskId, Standing>,
+    fired: IndexMap<TaskId, Admission>,
     /// The oldest first.
     waiting: VecDeque<Task>,
     /// How many admitted roots of concurrent branches aren't noted over.
@@ -42,8 +42,8 @@ impl Model for InterleaveObject {
     ghost use Rattle.std.specs.Map.{keys_of};
     ghost use Rattle.ccr_places.specs.Interleaves.{InterleaveTasks, interleave_tasks_code};
     ghost use Rattle.ccr_places.specs.TaskTables.{tasks_where};
-    ghost use Rattle.ccr_interleave.specs.Replies.{named};
-    ghost use Rattle.ccr_interleave.specs.Standings.{Tied, is_shared, is_alone};
+    ghost use Rattle.ccr_interleave.specs.Replies.{waiting_of};
+    ghost use Rattle.ccr_interleave.specs.Admissions.{Tied, is_shared, is_alone};
 
     ghost Value = { InterleaveTasks };
 
@@ -54,7 +54,7 @@ impl Model for InterleaveObject {
         branches = place.branches;
         groups = place.groups;
         fired = keys_of place.fired.entries;
-        waiting = map named place.waiting.items;
+        waiting = map waiting_of place.waiting.items;
         shared = tasks_where is_shared place.fired.entries;
         alone = tasks_where is_alone place.fired.entries;
         teardown = place.teardown;
@@ -62,7 +62,7 @@ impl Model for InterleaveObject {
       tasks = place.waiting.items;
     } };
 
-    ghost invariant = { λ place. Tied place.fired.entries (map named place.waiting.items) place.shared place.alone };
+    ghost invariant = { λ place. Tied place.fired.entries (map waiting_of place.waiting.items) place.shared place.alone };
 }
 
 impl InterleaveObject {
@@ -120,7 +120,7 @@ impl InterleaveObject {
         ensures err { OnErr result (self.new ≡ self.old) }
     {
         self.waiting.reserve(1)?;
-        self.fired.insert(task.id, Standing::Outside)?;
+        self.fired.insert(task.id, Admission::Outside)?;
         self.waiting.push_back_reserved(task);
         Ok(Commit::Fired {
             task: None,
@@ -139,7 +139,7 @@ impl InterleaveObject {
     {
         self.waiting.reserve(1)?;
         let cuts = List::from_vec(cuts_of(self.alloc, &self.waiting)?);
-        self.fired.insert(task.id, Standing::Outside)?;
+        self.fired.insert(task.id, Admission::Outside)?;
         self.teardown = Some(task.id);
         self.waiting.clear();
         self.waiting.push_back_reserved(task);
@@ -155,7 +155,7 @@ impl InterleaveObject {
         ensures step { self.new.state ≡ after self.old.state (Admit (option_map (λ task. task.id) result)) }
     {
         let spot = self.waiting.front()?.spot;
-        if self.lets_in(spot) {
+        if self.may_admit(spot) {
             self.admit_oldest()
         } else {
             None
@@ -163,8 +163,8 @@ impl InterleaveObject {
     }
 
     /// Whether a waiting task of the spot may be admitted beside the roots that are.
-    fn lets_in(&self, spot: Spot) -> bool
-        ensures { result ≡ is_let_in self.now.state spot }
+    fn may_admit(&self, spot: Spot) -> bool
+        ensures { result ≡ can_admit self.now.state spot }
     {
         self.alone == 0
             && (is_concurrent(group_at(&self.branches, &self.groups, spot)) || self.shared == 0)
@@ -178,48 +178,48 @@ impl InterleaveObject {
     {
         let task = self.waiting.pop_front()?;
         let concurrent = is_concurrent(group_at(&self.branches, &self.groups, task.spot));
-        let standing = standing::admitted_as(concurrent);
+        let admission = admission::admitted_as(concurrent);
         let fired = self.fired.len();
         prove!(self.shared <= fired);
         prove!(self.alone <= fired);
-        set_standing(&mut self.fired, task.id, standing);
-        self.shared += standing::shared_count(Some(standing));
-        self.alone += standing::alone_count(Some(standing));
+        set_admission(&mut self.fired, task.id, admission);
+        self.shared += admission::shared_count(Some(admission));
+        self.alone += admission::alone_count(Some(admission));
         Some(task)
     }
 
     /// Whether the root was admitted and isn't noted over.
     pub fn may_over(&self, _task: TaskId, root: TaskId, _how: How) -> bool
-        ensures { result ≡ can_be_over self.now.state root }
+        ensures { result ≡ can_over self.now.state root }
     {
-        standing::is_admitted(self.fired.get(&root).copied())
+        admission::is_admitted(self.fired.get(&root).copied())
     }
 
     /// Notes that the root is over. It takes no memory.
     pub fn over(&mut self, task: TaskId, root: TaskId, how: How)
-        requires { IsTrue (can_be_over self.old.state root) }
+        requires { IsTrue (can_over self.old.state root) }
         ensures state { self.new ≡ record self.old { state = after_over self.old.state root } }
         ensures step { self.new.state ≡ after self.old.state (Over task root how) }
     {
-        let standing = set_standing(&mut self.fired, root, Standing::Outside);
-        self.shared -= standing::shared_count(standing);
-        self.alone -= standing::alone_count(standing);
+        let admission = set_admission(&mut self.fired, root, Admission::Outside);
+        self.shared -= admission::shared_count(admission);
+        self.alone -= admission::alone_count(admission);
     }
 }
 
-/// Changes the standing of a task that fired, and tells the one before. It takes no memory.
-fn set_standing(
-    fired: &mut IndexMap<TaskId, Standing>,
+/// Changes the admission of a task that fired, and tells the one before. It takes no memory.
+fn set_admission(
+    fired: &mut IndexMap<TaskId, Admission>,
     task: TaskId,
-    standing: Standing,
-) -> Option<Standing>
+    admission: Admission,
+) -> Option<Admission>
     requires { IsSome (get same_task fired.old task) }
     ensures before { result ≡ get same_task fired.old task }
-    ensures updates { Updates same_task fired.old fired.new task (Some standing) }
+    ensures updates { Updates same_task fired.old fired.new task (Some admission) }
     ensures keys { keys fired.new ≡ keys fired.old }
     ensures unique { IsUnique same_task fired.new }
 {
-    match fired.insert(task, standing) {
+    match fired.insert(task, admission) {
         Ok(before) => before,
         Err(_) => unreachable!(),
     }

@@ -9,7 +9,7 @@ use Rattle.serde_json.specs.Data.{Data}
 use Rattle.serde_json.specs.View.{items_of}
 use Rattle.serde_json.specs.Written.{has_float, items_have_float}
 use Rattle.serde_json.specs.Data.{string}
-use Rattle.ccr_json.specs.Wiring.{queue_value, port_value, set_value, cause_value, action_value, handler_value, branch_value as seat_value, arbiter_value, member_value, domain_value, post_value, poster_value, wiring_value}
+use Rattle.ccr_json.specs.Wiring.{queue_value, port_value, set_value, cause_value, action_value, handler_value, branch_value as placement_value, arbiter_value, member_value, domain_value, post_value, poster_value, wiring_value}
 use Rattle.ccr_json.specs.Report.{branch_value, port_values, queue_values, report_value}
 
 pub mapped_whole : {X : Type 0} (f : X → Data) (xs : List X) → ((x : X) → has_float (f x) ≡ false) → items_have_float (items_of (map f xs)) ≡ false
@@ -30,7 +30,7 @@ report_whole wiring history = rw (mapped_whole (branch_value (branch_names wirin
 pub wiring_whole : (parts : Parts) → has_float (wiring_value parts) ≡ false
 wiring_whole parts =
     rw (
-      mapped_whole (arbiter_value parts) parts.arbiters (λ a. rw (mapped_whole (seat_value parts) a.branches (λ b. refl)) refl),
+      mapped_whole (arbiter_value parts) parts.arbiters (λ a. rw (mapped_whole (placement_value parts) a.branches (λ b. refl)) refl),
       mapped_whole (cause_value parts) parts.causes (λ c. refl),
       mapped_whole (domain_value parts) parts.domains (λ d. rw (mapped_whole (member_value parts) d.members (λ m. refl)) refl),
       mapped_whole (handler_value parts) parts.handlers (λ h. rw (mapped_whole (action_value parts) h.handler.actions (λ a. refl)) refl),

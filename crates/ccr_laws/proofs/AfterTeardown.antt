@@ -10,40 +10,40 @@ use Rattle.ccr_base.specs.declared.policies.Group.TheVariants as groups
 use Rattle.ccr_base.specs.Names.{has_task}
 use Rattle.ccr_wiring.specs.declared.parts.Parts.{Parts}
 use Rattle.ccr_wiring.specs.Valid.{HasGroups}
-use Rattle.ccr_wiring.specs.Wirings.{Seat, seat, branch_of}
+use Rattle.ccr_wiring.specs.Wirings.{Placement, placement, branch_of}
 use Rattle.ccr_model.specs.declared.history.Event.{Event}
 use Rattle.ccr_model.specs.declared.history.Event.TheVariants.{Post, Fire, Admit, Put, Start, End}
-use Rattle.ccr_model.specs.Firings.{Firing, firing_of, firing_named, fired, cut, let_in, admitted_by, started, started_by}
+use Rattle.ccr_model.specs.Firings.{Firing, firing_of, firing_named, fired, cut, ever_admitted, admitted_by, started, started_by}
 use Rattle.ccr_model.specs.Sites.{root_of}
-use Rattle.ccr_model.specs.TaskData.{seat_of}
+use Rattle.ccr_model.specs.TaskData.{placement_of}
 use Rattle.ccr_model.specs.Tasks.{is_interleave, is_teardown, is_concurrent, is_branch_where, fired_by, waiting, is_in_arbiter, is_over, admitted, queued}
 use Rattle.ccr_model.specs.Rules.{cuts_at}
 use Rattle.ccr_model.specs.Legal.{IsAllowed, IsLegal}
 use Rattle.ccr_model.proofs.Stable.{firing_named-append}
-use Rattle.ccr_model.proofs.Pushes.{started-push, let_in-push, cut-push}
+use Rattle.ccr_model.proofs.Pushes.{started-push, ever_admitted-push, cut-push}
 use Rattle.ccr_model.proofs.LegalParts.{along_legal, onward, Parted-legal}
 use Rattle.ccr_model.proofs.Options.{some_of}
 use Rattle.ccr_model.proofs.TasksLeft.{out_left}
 use Rattle.ccr_model.proofs.Booleans.{both, and_not, refuted, no_both, same_number}
-use Rattle.ccr_model.proofs.FiredTasks.{IsFired, IsFired-append, seat_fired, seat_stays, root_stays}
-use Rattle.ccr_model.proofs.Alone.{over_stays, lasts_fired, let_in_fired}
-use Rattle.ccr_model.specs.Interleaves.{is_seat_in, is_teardown_in, is_exclusive_in, tears_down, is_of_interleave, is_of_teardown, is_of_exclusive}
+use Rattle.ccr_model.proofs.FiredTasks.{IsFired, IsFired-append, placement_fired, placement_stays, root_stays}
+use Rattle.ccr_model.proofs.Alone.{over_stays, lasts_fired, ever_admitted_fired}
+use Rattle.ccr_model.specs.Interleaves.{is_placement_in, is_teardown_in, is_exclusive_in, tears_down, is_of_interleave, is_of_teardown, is_of_exclusive}
 use Rattle.ccr_model.proofs.TaskLists.{has_oldest, of_more, of_one, out_right}
-use Rattle.ccr_model.proofs.TaskPlaces.{ArePlaced-legal, StartFacts-allowed, seat_by}
+use Rattle.ccr_model.proofs.TaskPlaces.{ArePlaced-legal, StartFacts-allowed, placement_by}
 use Rattle.ccr_model.proofs.FiringFacts.{FiresSo, FiresSo-allowed, BranchFacts, BranchFacts-where, waits_parts, waits_whole}
 use Rattle.ccr_model.proofs.Cutting.{fired_by-append, dead, AdmitFacts-allowed}
-use Rattle.ccr_model.proofs.Roots.{of_firing, other_firing, AreRooted-legal, queued_works, at_work_admitted, seat_of_root, AdmittedFacts-admitted, admitted_whole}
+use Rattle.ccr_model.proofs.Roots.{of_firing, other_firing, AreRooted-legal, queued_works, at_work_admitted, placement_of_root, AdmittedFacts-admitted, admitted_whole}
 use Rattle.ccr_laws.proofs.Exclusion.{alone}
 
 -- who waits after one more event waited before it, or fired by it; the event didn't cut him
-waits_before : (w : Parts) (h : List Event) (e : Event) (i : ℕ) (t : TaskId) → has_task (waiting w (h ++ e ∷ []) i) t ≡ true → ((has_task (waiting w h i) t ≡ true) ⊎ (has_task (fired_by w (is_seat_in i) (e ∷ [])) t ≡ true)) × (has_task (cut (e ∷ [])) t ≡ false)
+waits_before : (w : Parts) (h : List Event) (e : Event) (i : ℕ) (t : TaskId) → has_task (waiting w (h ++ e ∷ []) i) t ≡ true → ((has_task (waiting w h i) t ≡ true) ⊎ (has_task (fired_by w (is_placement_in i) (e ∷ [])) t ≡ true)) × (has_task (cut (e ∷ [])) t ≡ false)
 waits_before w h e i t is =
     let parts = waits_parts w (h ++ e ∷ []) i t is in
     let uncut : has_task (cut h ++ cut (e ∷ [])) t ≡ false = rw (cut-push h e) at parts.2 in
-    let outside : has_task (let_in h ++ admitted_by e) t ≡ false = rw (let_in-push h e) at parts.1 in
-    let there : has_task (fired_by w (is_seat_in i) h ++ fired_by w (is_seat_in i) (e ∷ [])) t ≡ true = rw (fired_by-append w (is_seat_in i) h (e ∷ [])) at parts.0 in (
-      of_more (fired_by w (is_seat_in i) h) (fired_by w (is_seat_in i) (e ∷ [])) t ((has_task (waiting w h i) t ≡ true) ⊎ (has_task (fired_by w (is_seat_in i) (e ∷ [])) t ≡ true)) there
-          (λ old. inl (waits_whole w h i t old (out_left (let_in h) (admitted_by e) t outside) (out_left (cut h) (cut (e ∷ [])) t uncut))) (λ new. inr new),
+    let outside : has_task (ever_admitted h ++ admitted_by e) t ≡ false = rw (ever_admitted-push h e) at parts.1 in
+    let there : has_task (fired_by w (is_placement_in i) h ++ fired_by w (is_placement_in i) (e ∷ [])) t ≡ true = rw (fired_by-append w (is_placement_in i) h (e ∷ [])) at parts.0 in (
+      of_more (fired_by w (is_placement_in i) h) (fired_by w (is_placement_in i) (e ∷ [])) t ((has_task (waiting w h i) t ≡ true) ⊎ (has_task (fired_by w (is_placement_in i) (e ∷ [])) t ≡ true)) there
+          (λ old. inl (waits_whole w h i t old (out_left (ever_admitted h) (admitted_by e) t outside) (out_left (cut h) (cut (e ∷ [])) t uncut))) (λ new. inr new),
       out_right (cut h) (cut (e ∷ [])) t uncut,
     )
 
@@ -51,10 +51,10 @@ waits_before w h e i t is =
 abbrev IsTornDown : Parts → ℕ → List Event → Type 0
 IsTornDown w i h = (t : TaskId) (f : Firing) → firing_named h t ≡ Some f → tears_down w i f.spot ≡ true → (u : TaskId) → has_task (waiting w h i) u ≡ true → u ≡ t
 
-fires_one : (w : Parts) (i : ℕ) (x : TaskId) (s : Spot) (ms : List MsgId) (cs : List TaskId) (u : TaskId) → has_task (fired_by w (is_seat_in i) (Fire x s ms cs ∷ [])) u ≡ true → (is_branch_where w (is_seat_in i) s ≡ true) × (u ≡ x)
-fires_one w i x s ms cs u is = of_test (is_branch_where w (is_seat_in i) s) refl is
+fires_one : (w : Parts) (i : ℕ) (x : TaskId) (s : Spot) (ms : List MsgId) (cs : List TaskId) (u : TaskId) → has_task (fired_by w (is_placement_in i) (Fire x s ms cs ∷ [])) u ≡ true → (is_branch_where w (is_placement_in i) s ≡ true) × (u ≡ x)
+fires_one w i x s ms cs u is = of_test (is_branch_where w (is_placement_in i) s) refl is
   where
-    of_test : (b : Bool) → is_branch_where w (is_seat_in i) s ≡ b → has_task (map (λ (f : Firing). f.task) (if b then record { task = x; spot = s; messages = ms; cuts = cs } ∷ [] else [])) u ≡ true → (is_branch_where w (is_seat_in i) s ≡ true) × (u ≡ x)
+    of_test : (b : Bool) → is_branch_where w (is_placement_in i) s ≡ b → has_task (map (λ (f : Firing). f.task) (if b then record { task = x; spot = s; messages = ms; cuts = cs } ∷ [] else [])) u ≡ true → (is_branch_where w (is_placement_in i) s ≡ true) × (u ≡ x)
     of_test true e at = (e, of_one x u at)
     of_test false e at = absurd (cc)
 
@@ -62,7 +62,7 @@ fires_one w i x s ms cs u is = of_test (is_branch_where w (is_seat_in i) s) refl
 cuts_all : (w : Parts) (h : List Event) (i : ℕ) (s : Spot) → tears_down w i s ≡ true → cuts_at w h s ≡ waiting w h i
 cuts_all w h i s tears =
     let facts = BranchFacts-where w (is_teardown_in i) s tears in
-    let parts = both (is_seat_in i facts.place) (is_teardown facts.place.branch.group) facts.passes in
+    let parts = both (is_placement_in i facts.place) (is_teardown facts.place.branch.group) facts.passes in
     let number = same_number facts.place.arbiter i (both (is_interleave facts.place.kind) (facts.place.arbiter == i) parts.0).1 in
     at_branch facts parts.1 ∙ ap (λ n. waiting w h n) number
   where
@@ -75,7 +75,7 @@ torn_fire w groups_fit i h x s ms cs allowed known t f is tears u waits =
     let before = waits_before w h (Fire x s ms cs) i u waits in
     of_cases so before.0 before.1 (of_firing h x s ms cs t f so.new_name is)
   where
-    of_cases : FiresSo w h x s ms cs → (has_task (waiting w h i) u ≡ true) ⊎ (has_task (fired_by w (is_seat_in i) (Fire x s ms cs ∷ [])) u ≡ true) → has_task (cut (Fire x s ms cs ∷ [])) u ≡ false → (firing_named h t ≡ Some f) ⊎ ((t ≡ x) × (f ≡ record { task = x; spot = s; messages = ms; cuts = cs })) → u ≡ t
+    of_cases : FiresSo w h x s ms cs → (has_task (waiting w h i) u ≡ true) ⊎ (has_task (fired_by w (is_placement_in i) (Fire x s ms cs ∷ [])) u ≡ true) → has_task (cut (Fire x s ms cs ∷ [])) u ≡ false → (firing_named h t ≡ Some f) ⊎ ((t ≡ x) × (f ≡ record { task = x; spot = s; messages = ms; cuts = cs })) → u ≡ t
     of_cases so (inl was) uncut (inl old) = known t f old tears u was
     of_cases so (inr now) uncut (inl old) = absurd (dead w groups_fit i h t f s old tears so.live (fires_one w i x s ms cs u now).0)
     of_cases so (inr now) uncut (inr new) = (fires_one w i x s ms cs u now).1 ∙ sym new.0
@@ -85,10 +85,10 @@ torn_fire w groups_fit i h x s ms cs allowed known t f is tears u waits =
         let never : has_task cs u ≡ false = subst (λ ts. has_task ts u ≡ false) (append-nil cs) uncut in
         absurd (cc)
 
-torn_other : (w : Parts) (i : ℕ) (h : List Event) (e : Event) → firing_of e ≡ [] → fired_by w (is_seat_in i) (e ∷ []) ≡ [] → IsTornDown w i h → IsTornDown w i (h ++ e ∷ [])
+torn_other : (w : Parts) (i : ℕ) (h : List Event) (e : Event) → firing_of e ≡ [] → fired_by w (is_placement_in i) (e ∷ []) ≡ [] → IsTornDown w i h → IsTornDown w i (h ++ e ∷ [])
 torn_other w i h e none no_fire known t f is tears u waits = of_case (waits_before w h e i u waits).0
   where
-    of_case : (has_task (waiting w h i) u ≡ true) ⊎ (has_task (fired_by w (is_seat_in i) (e ∷ [])) u ≡ true) → u ≡ t
+    of_case : (has_task (waiting w h i) u ≡ true) ⊎ (has_task (fired_by w (is_placement_in i) (e ∷ [])) u ≡ true) → u ≡ t
     of_case (inl was) = known t f (other_firing h e t f none is) tears u was
     of_case (inr now) = let never : has_task [] u ≡ true = subst (λ ts. has_task ts u ≡ true) no_fire now in absurd (cc)
 
@@ -110,16 +110,16 @@ not_over_before w h e t legal is = refuted (is_over h t) (λ over. no_both (over
 admitted_before : (w : Parts) (h : List Event) (e : Event) (i : ℕ) (t : TaskId) → IsLegal w h → IsAllowed w h e → has_task (admitted w (h ++ e ∷ []) i) t ≡ true → (has_task (admitted w h i) t ≡ true) ⊎ ((has_task (admitted_by e) t ≡ true) × (is_in_arbiter w (h ++ e ∷ []) i t ≡ true))
 admitted_before w h e i t legal allowed is =
     let facts = AdmittedFacts-admitted w (h ++ e ∷ []) i t is in
-    of_more (let_in h) (admitted_by e) t ((has_task (admitted w h i) t ≡ true) ⊎ ((has_task (admitted_by e) t ≡ true) × (is_in_arbiter w (h ++ e ∷ []) i t ≡ true))) (subst (λ ts. has_task ts t ≡ true) (let_in-push h e) facts.entered)
-    (λ old. inl (admitted_whole w h i t old (sym (ap (λ o. option_map_or (λ (s : Seat). s.arbiter == i) o false) (seat_stays w h (e ∷ []) t (let_in_fired w h legal t old))) ∙ facts.within) (not_over_before w h e t legal facts.lasts)))
+    of_more (ever_admitted h) (admitted_by e) t ((has_task (admitted w h i) t ≡ true) ⊎ ((has_task (admitted_by e) t ≡ true) × (is_in_arbiter w (h ++ e ∷ []) i t ≡ true))) (subst (λ ts. has_task ts t ≡ true) (ever_admitted-push h e) facts.entered)
+    (λ old. inl (admitted_whole w h i t old (sym (ap (λ o. option_map_or (λ (s : Placement). s.arbiter == i) o false) (placement_stays w h (e ∷ []) t (ever_admitted_fired w h legal t old))) ∙ facts.within) (not_over_before w h e t legal facts.lasts)))
     (λ new. inr (new, facts.within))
 
 -- a teardown branch isn't concurrent
 torn_exclusive : (w : Parts) (h : List Event) (i : ℕ) (t : TaskId) → is_of_teardown w h i t ≡ true → is_of_exclusive w h i t ≡ true
 torn_exclusive w h i t is =
-    let found = some_of (is_teardown_in i) (seat_of w h t) is in
-    let parts = both (is_seat_in i found.0) (is_teardown found.0.branch.group) found.2 in
-    ap (λ o. option_map_or (is_exclusive_in i) o false) found.1 ∙ and_not (is_seat_in i found.0) (is_concurrent found.0.branch.group) parts.0 (of_group found.0.branch.group parts.1)
+    let found = some_of (is_teardown_in i) (placement_of w h t) is in
+    let parts = both (is_placement_in i found.0) (is_teardown found.0.branch.group) found.2 in
+    ap (λ o. option_map_or (is_exclusive_in i) o false) found.1 ∙ and_not (is_placement_in i found.0) (is_concurrent found.0.branch.group) parts.0 (of_group found.0.branch.group parts.1)
   where
     of_group : (g : Group) → is_teardown g ≡ true → is_concurrent g ≡ false
     of_group groups.Teardown e = refl
@@ -131,16 +131,16 @@ torn_exclusive w h i t is =
 
 torn_within : (w : Parts) (h : List Event) (i : ℕ) (t : TaskId) → is_of_teardown w h i t ≡ true → is_of_interleave w h i t ≡ true
 torn_within w h i t is =
-    let found = some_of (is_teardown_in i) (seat_of w h t) is in
-    let parts = both (is_seat_in i found.0) (is_teardown found.0.branch.group) found.2 in
-    ap (λ o. option_map_or (is_seat_in i) o false) found.1 ∙ parts.0
+    let found = some_of (is_teardown_in i) (placement_of w h t) is in
+    let parts = both (is_placement_in i found.0) (is_teardown found.0.branch.group) found.2 in
+    ap (λ o. option_map_or (is_placement_in i) o false) found.1 ∙ parts.0
 
 -- the root of a teardown's task fired at the teardown branch
 root_tears : (w : Parts) (h : List Event) → IsLegal w h → (i : ℕ) (t : TaskId) → IsFired h t → is_of_teardown w h i t ≡ true → (f : Firing) × (firing_named h (root_of h t) ≡ Some f) × (tears_down w i f.spot ≡ true)
 root_tears w h legal i t fired is =
     let root = AreRooted-legal w h legal t fired.0 fired.1 in
-    let place : seat_of w h t ≡ seat w (branch_of fired.0.spot) = seat_by w h t fired.0 fired.1 in
-    let passes : option_map_or (is_teardown_in i) (seat w (branch_of fired.0.spot)) false ≡ true = sym (ap (λ o. option_map_or (is_teardown_in i) o false) place) ∙ is in
+    let place : placement_of w h t ≡ placement w (branch_of fired.0.spot) = placement_by w h t fired.0 fired.1 in
+    let passes : option_map_or (is_teardown_in i) (placement w (branch_of fired.0.spot)) false ≡ true = sym (ap (λ o. option_map_or (is_teardown_in i) o false) place) ∙ is in
     (root.0, root.1, subst (λ s. tears_down w i s ≡ true) (sym root.2) passes)
 
 -- of the events that follow a history: none but the root is admitted, and who starts has it as root
@@ -155,9 +155,9 @@ none_else_kept w groups_fit i r f h e legal allowed named tears known t is = of_
     by_event (Admit x) allowed' new within =
         let facts = AdmitFacts-allowed w h x allowed' in
         let one : t ≡ x = of_one x t new in
-        let place : seat_of w (h ++ Admit x ∷ []) x ≡ Some facts.place = seat_stays w h (Admit x ∷ []) x (seat_fired w h x facts.place facts.is_place) ∙ facts.is_place in
+        let place : placement_of w (h ++ Admit x ∷ []) x ≡ Some facts.place = placement_stays w h (Admit x ∷ []) x (placement_fired w h x facts.place facts.is_place) ∙ facts.is_place in
         let within_x : is_in_arbiter w (h ++ Admit x ∷ []) i x ≡ true = subst (λ y. is_in_arbiter w (h ++ Admit x ∷ []) i y ≡ true) one within in
-        let there : (facts.place.arbiter == i) ≡ true = sym (ap (λ o. option_map_or (λ (s : Seat). s.arbiter == i) o false) place) ∙ within_x in
+        let there : (facts.place.arbiter == i) ≡ true = sym (ap (λ o. option_map_or (λ (s : Placement). s.arbiter == i) o false) place) ∙ within_x in
         let number = same_number facts.place.arbiter i there in
         one ∙ IsTornDown-legal w groups_fit i h legal r f named tears x (subst (λ n. has_task (waiting w h n) x ≡ true) number facts.waits)
     by_event (Post m) allowed' new within = absurd (cc)
@@ -178,7 +178,7 @@ starts_own w i r h t a legal allowed none_else =
     ((ArePlaced-legal w h legal).all_fired t work.put_so, λ within. none_else (root_of h t) (at_work_admitted w h legal i t within work))
 
 own_stays : (w : Parts) (i : ℕ) (r : TaskId) (h es : List Event) (t : TaskId) → IsFired h t × (is_of_interleave w h i t ≡ true → root_of h t ≡ r) → IsFired (h ++ es) t × (is_of_interleave w (h ++ es) i t ≡ true → root_of (h ++ es) t ≡ r)
-own_stays w i r h es t known = (IsFired-append h es t known.0, λ within. root_stays h es t known.0 ∙ known.1 (sym (ap (λ o. option_map_or (is_seat_in i) o false) (seat_stays w h es t known.0)) ∙ within))
+own_stays w i r h es t known = (IsFired-append h es t known.0, λ within. root_stays h es t known.0 ∙ known.1 (sym (ap (λ o. option_map_or (is_placement_in i) o false) (placement_stays w h es t known.0)) ∙ within))
 
 own_kept : (w : Parts) (i : ℕ) (r : TaskId) (h done : List Event) (e : Event) → IsLegal w h → IsAllowed w h e → ((t : TaskId) → has_task (admitted w h i) t ≡ true → t ≡ r) → ((t : TaskId) → has_task (started done) t ≡ true → IsFired h t × (is_of_interleave w h i t ≡ true → root_of h t ≡ r)) → (t : TaskId) → has_task (started (done ++ e ∷ [])) t ≡ true → IsFired (h ++ e ∷ []) t × (is_of_interleave w (h ++ e ∷ []) i t ≡ true → root_of (h ++ e ∷ []) t ≡ r)
 own_kept w i r h done e legal allowed none_else known t is =
@@ -207,11 +207,11 @@ none_starts w groups_fit i before after t a legal torn u within starts =
     let facts = StartFacts-allowed w before t a parts.allowed in
     let work = queued_works w before parts.legal_before facts.place.branch.queue t (has_oldest (queued w before facts.place.branch.queue) facts.others t facts.is_oldest) in
     let fired_so = (ArePlaced-legal w before parts.legal_before).all_fired t work.put_so in
-    let torn_then : is_of_teardown w before i t ≡ true = sym (ap (λ o. option_map_or (is_teardown_in i) o false) (seat_stays w before (Start t a ∷ after) t fired_so)) ∙ torn in
+    let torn_then : is_of_teardown w before i t ≡ true = sym (ap (λ o. option_map_or (is_teardown_in i) o false) (placement_stays w before (Start t a ∷ after) t fired_so)) ∙ torn in
     let r = root_of before t in
     let root = root_tears w before parts.legal_before i t fired_so torn_then in
     let entered = at_work_admitted w before parts.legal_before i t (torn_within w before i t torn_then) work in
-    let root_torn : is_of_teardown w before i r ≡ true = ap (λ o. option_map_or (is_teardown_in i) o false) (seat_of_root w before parts.legal_before t fired_so) ∙ torn_then in
+    let root_torn : is_of_teardown w before i r ≡ true = ap (λ o. option_map_or (is_teardown_in i) o false) (placement_of_root w before parts.legal_before t fired_so) ∙ torn_then in
     let only = alone w before parts.legal_before i r (torn_exclusive w before i r root_torn) entered in
     let past = before ++ Start t a ∷ [] in
     let none_before : (v : TaskId) → has_task (admitted w before i) v ≡ true → v ≡ r = λ v is. of_one r v (subst (λ ts. has_task ts v ≡ true) only is) in

@@ -8,12 +8,12 @@ use Rattle.std.proofs.lemmas.Bool.Decides.{nat_tests}
 use Rattle.ccr_base.specs.declared.names.TaskId.{TaskId}
 use Rattle.ccr_base.specs.Names.{same_task, has_task}
 use Rattle.ccr_wiring.specs.declared.parts.Parts.{Parts}
-use Rattle.ccr_wiring.specs.Wirings.{Seat}
+use Rattle.ccr_wiring.specs.Wirings.{Placement}
 use Rattle.ccr_model.specs.declared.history.Event.{Event}
 use Rattle.ccr_model.specs.declared.history.Event.TheVariants.{Admit}
-use Rattle.ccr_model.specs.Firings.{let_in}
+use Rattle.ccr_model.specs.Firings.{ever_admitted}
 use Rattle.ccr_model.specs.Sites.{root_of}
-use Rattle.ccr_model.specs.TaskData.{seat_of}
+use Rattle.ccr_model.specs.TaskData.{placement_of}
 use Rattle.ccr_model.specs.Tasks.{is_interleave, is_concurrent, is_in_arbiter, is_over, admitted}
 use Rattle.ccr_model.specs.Rules.{is_concurrent_task}
 use Rattle.ccr_model.specs.Legal.{IsLegal}
@@ -23,23 +23,23 @@ use Rattle.ccr_model.proofs.TasksLeft.{has_task-append}
 use Rattle.ccr_model.proofs.Booleans.{not_true, both, or_left, or_right}
 use Rattle.ccr_model.proofs.Alone.{is_alone-legal}
 use Rattle.ccr_model.specs.AtWork.{is_at_work}
-use Rattle.ccr_model.specs.Interleaves.{is_seat_in, is_exclusive_in, is_of_interleave, is_of_exclusive}
+use Rattle.ccr_model.specs.Interleaves.{is_placement_in, is_exclusive_in, is_of_interleave, is_of_exclusive}
 use Rattle.ccr_model.proofs.TaskLists.{of_one, only_one, passes_all}
 use Rattle.ccr_model.proofs.TaskPlaces.{ArePlaced-legal}
-use Rattle.ccr_model.proofs.Roots.{IsAtWork, at_work_admitted, one_at_work, work_so, seat_of_root, admitted_whole}
+use Rattle.ccr_model.proofs.Roots.{IsAtWork, at_work_admitted, one_at_work, work_so, placement_of_root, admitted_whole}
 
 -- whether the task's branch is concurrent, where it is an exclusive or teardown one of the Interleave
 not_concurrent : (w : Parts) (h : List Event) (i : ℕ) (t : TaskId) → is_of_exclusive w h i t ≡ true → is_concurrent_task w h t ≡ false
 not_concurrent w h i t is =
-    let found = some_of (is_exclusive_in i) (seat_of w h t) is in
-    let parts = both (is_seat_in i found.0) (not (is_concurrent found.0.branch.group)) found.2 in
-    ap (λ o. option_map_or (λ (s : Seat). is_concurrent s.branch.group) o false) found.1 ∙ not_true (is_concurrent found.0.branch.group) parts.1
+    let found = some_of (is_exclusive_in i) (placement_of w h t) is in
+    let parts = both (is_placement_in i found.0) (not (is_concurrent found.0.branch.group)) found.2 in
+    ap (λ o. option_map_or (λ (s : Placement). is_concurrent s.branch.group) o false) found.1 ∙ not_true (is_concurrent found.0.branch.group) parts.1
 
 pub exclusive_within : (w : Parts) (h : List Event) (i : ℕ) (t : TaskId) → is_of_exclusive w h i t ≡ true → is_of_interleave w h i t ≡ true
 exclusive_within w h i t is =
-    let found = some_of (is_exclusive_in i) (seat_of w h t) is in
-    let parts = both (is_seat_in i found.0) (not (is_concurrent found.0.branch.group)) found.2 in
-    ap (λ o. option_map_or (is_seat_in i) o false) found.1 ∙ parts.0
+    let found = some_of (is_exclusive_in i) (placement_of w h t) is in
+    let parts = both (is_placement_in i found.0) (not (is_concurrent found.0.branch.group)) found.2 in
+    ap (λ o. option_map_or (is_placement_in i) o false) found.1 ∙ parts.0
 
 -- an admitted root that isn't over and isn't concurrent is the only one
 pub alone : (w : Parts) (h : List Event) → IsLegal w h → (i : ℕ) (t : TaskId) → is_of_exclusive w h i t ≡ true → has_task (admitted w h i) t ≡ true → admitted w h i ≡ t ∷ []
@@ -53,15 +53,15 @@ alone w h legal i t exclusive is = of_test (list_all (is_concurrent_task w h) (a
 pub alone_since : (w : Parts) (i : ℕ) (before since : List Event) (t : TaskId) → IsLegal w (before ++ Admit t ∷ since) → is_of_exclusive w (before ++ Admit t ∷ since) i t ≡ true → is_over (before ++ Admit t ∷ since) t ≡ false → admitted w (before ++ Admit t ∷ since) i ≡ t ∷ []
 alone_since w i before since t legal exclusive lasts =
     let h = before ++ Admit t ∷ since in
-    let entered : has_task (let_in h) t ≡ true = rw (let_in_more, has_task-append (let_in before) (t ∷ let_in since) t) (or_right (has_task (let_in before) t) (has_task (t ∷ let_in since) t) (or_left (same_task t t) (has_task (let_in since) t) (same_task-self t))) in
-    let found = some_of (is_exclusive_in i) (seat_of w h t) exclusive in
-    let parts = both (is_seat_in i found.0) (not (is_concurrent found.0.branch.group)) found.2 in
+    let entered : has_task (ever_admitted h) t ≡ true = rw (ever_admitted_more, has_task-append (ever_admitted before) (t ∷ ever_admitted since) t) (or_right (has_task (ever_admitted before) t) (has_task (t ∷ ever_admitted since) t) (or_left (same_task t t) (has_task (ever_admitted since) t) (same_task-self t))) in
+    let found = some_of (is_exclusive_in i) (placement_of w h t) exclusive in
+    let parts = both (is_placement_in i found.0) (not (is_concurrent found.0.branch.group)) found.2 in
     let number = (both (is_interleave found.0.kind) (found.0.arbiter == i) parts.0).1 in
-    let there : is_in_arbiter w h i t ≡ true = ap (λ o. option_map_or (λ (s : Seat). s.arbiter == i) o false) found.1 ∙ number in
+    let there : is_in_arbiter w h i t ≡ true = ap (λ o. option_map_or (λ (s : Placement). s.arbiter == i) o false) found.1 ∙ number in
     alone w h legal i t exclusive (admitted_whole w h i t entered there lasts)
   where
-    let_in_more : let_in (before ++ Admit t ∷ since) ≡ let_in before ++ t ∷ let_in since
-    let_in_more = grind (arith, common_steps)
+    ever_admitted_more : ever_admitted (before ++ Admit t ∷ since) ≡ ever_admitted before ++ t ∷ ever_admitted since
+    ever_admitted_more = grind (arith, common_steps)
 
 -- only its segments are at work
 pub own_segments : (w : Parts) (h : List Event) → IsLegal w h → (i : ℕ) (t u : TaskId) → is_of_exclusive w h i t ≡ true → has_task (admitted w h i) t ≡ true → is_of_interleave w h i u ≡ true → is_at_work w h u ≡ true → root_of h u ≡ t
@@ -78,7 +78,7 @@ admitted_works w h legal i t within works = at_work_admitted w h legal i t withi
 
 -- a segment's root is exclusive where the segment is
 pub exclusive_root : (w : Parts) (h : List Event) → IsLegal w h → (i : ℕ) (t : TaskId) → IsAtWork h t → is_of_exclusive w h i t ≡ true → is_of_exclusive w h i (root_of h t) ≡ true
-exclusive_root w h legal i t work is = ap (λ o. option_map_or (is_exclusive_in i) o false) (seat_of_root w h legal t ((ArePlaced-legal w h legal).all_fired t work.put_so)) ∙ is
+exclusive_root w h legal i t work is = ap (λ o. option_map_or (is_exclusive_in i) o false) (placement_of_root w h legal t ((ArePlaced-legal w h legal).all_fired t work.put_so)) ∙ is
 
 -- while such a segment is at work no other task is
 pub no_other_works : (w : Parts) (h : List Event) → IsLegal w h → (i : ℕ) (t u : TaskId) → is_of_exclusive w h i t ≡ true → is_at_work w h t ≡ true → is_of_interleave w h i u ≡ true → is_at_work w h u ≡ true → u ≡ t

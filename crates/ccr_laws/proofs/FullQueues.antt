@@ -9,7 +9,7 @@ use Rattle.ccr_base.specs.declared.names.TaskId.{TaskId}
 use Rattle.ccr_base.specs.declared.policies.Policy.TheVariants.{Unbounded, Discard}
 use Rattle.ccr_wiring.specs.declared.parts.Parts.{Parts}
 use Rattle.ccr_wiring.specs.declared.parts.QueuePart.{QueuePart}
-use Rattle.ccr_wiring.specs.Wirings.{Seat, policy_of}
+use Rattle.ccr_wiring.specs.Wirings.{Placement, policy_of}
 use Rattle.ccr_wiring.specs.Limits.{policy_is_outside, queue_is_outside}
 use Rattle.ccr_wiring.specs.Valid.{IsValid}
 use Rattle.ccr_wiring.proofs.Lists.{none_at}
@@ -18,7 +18,7 @@ use Rattle.ccr_model.specs.declared.history.Event.{Event}
 use Rattle.ccr_model.specs.declared.history.Event.TheVariants.{Post, Fire, Admit, Put, Start, End}
 use Rattle.ccr_base.specs.Names.{has_task, without}
 use Rattle.ccr_model.specs.Firings.{firings, firing_of, fired, put, put_by, dropped, dropped_by, started, started_by}
-use Rattle.ccr_model.specs.TaskData.{seat_of}
+use Rattle.ccr_model.specs.TaskData.{placement_of}
 use Rattle.ccr_model.specs.Tasks.{is_for_queue, queued}
 use Rattle.ccr_model.specs.Rules.{drop_at, drop_by}
 use Rattle.ccr_model.specs.Legal.{IsAllowed, IsLegal}
@@ -95,9 +95,9 @@ one_comes n ts t d some few is = of_test (nat_le n (length ts)) refl is
 -- the queue of a put
 drop_on : (w : Parts) (h : List Event) (q n : ℕ) (t : TaskId) → policy_of w q ≡ Discard n → is_for_queue w h q t ≡ true → drop_at w h t ≡ drop_by (Discard n) (queued w h q)
 drop_on w h q n t policy is =
-    let found = some_of (λ (s : Seat). s.branch.queue == q) (seat_of w h t) is in
+    let found = some_of (λ (s : Placement). s.branch.queue == q) (placement_of w h t) is in
     let same = same_number found.0.branch.queue q found.2 in
-    ap (λ o. option_and_then (λ (s : Seat). drop_by (policy_of w s.branch.queue) (queued w h s.branch.queue)) o) found.1 ∙ ap (λ k. drop_by (policy_of w k) (queued w h k)) same ∙ ap (λ p. drop_by p (queued w h q)) policy
+    ap (λ o. option_and_then (λ (s : Placement). drop_by (policy_of w s.branch.queue) (queued w h s.branch.queue)) o) found.1 ∙ ap (λ k. drop_by (policy_of w k) (queued w h k)) same ∙ ap (λ p. drop_by p (queued w h q)) policy
 
 put_within : (w : Parts) (q n : ℕ) → 1 ≤ n → policy_of w q ≡ Discard n → (h : List Event) (t : TaskId) (d : Option TaskId) → IsLegal w h → IsAllowed w h (Put t d) → length (queued w h q) ≤ n → length (queued w (h ++ Put t d ∷ []) q) ≤ n
 put_within w q n some policy h t d legal allowed few = subst (λ ts. length ts ≤ n) (sym (queued-put w h q t d (put_fresh w h t d legal allowed))) (of_test (is_for_queue w h q t) refl)
@@ -126,4 +126,4 @@ pub drops_oldest : (w : Parts) → IsValid w → (h : List Event) → IsLegal w 
 drops_oldest w valid h legal past t x stands =
     let facts = drop_allowed w past t x (allowed_at w h past (Put t (Some x)) legal stands) in
     let few = few_queued w valid facts.its.branch.queue facts.most facts.policy past (legal_past w h past (Put t (Some x)) legal stands) in
-    record { its = facts.its; seated = facts.seated; most = facts.most; policy = facts.policy; full = omega (arith, few, facts.full); oldest = facts.oldest }
+    record { its = facts.its; with_placement = facts.with_placement; most = facts.most; policy = facts.policy; full = omega (arith, few, facts.full); oldest = facts.oldest }

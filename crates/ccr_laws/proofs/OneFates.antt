@@ -24,7 +24,7 @@ use Rattle.ccr_model.proofs.SameNames.{same_message-self}
 use Rattle.ccr_model.proofs.Booleans.{neither, eq-self}
 use Rattle.ccr_laws.specs.Standing.{Stands}
 use Rattle.ccr_laws.specs.OneFate.{IsHeld, IsTakenBy, HasFate, HasOneFate}
-use Rattle.ccr_model.proofs.Seated.{firing_seated}
+use Rattle.ccr_model.proofs.FiringPlacements.{firing_with_placement}
 use Rattle.ccr_laws.proofs.HeldBefore.{untaken_of_held, untaken_before, has_message-append}
 use Rattle.ccr_laws.proofs.States.{is_in, only_in}
 
@@ -179,10 +179,10 @@ one_fate w valid h legal past m stands = of_taker (find (names_it m.id) (firings
     of_taker (Some f) found =
         let posted_so = found_name (posts h) m (among_posts h past m stands) in
         let among = (found_among (names_it m.id) (firings h) f found).0 in
-        let seated = firing_seated w h legal f among in
+        let with_placement = firing_with_placement w h legal f among in
         record {
           its = Taken f.task (state_of w h f.task);
-          has = (taken_by_found h m.id f found, is_in w h f.task f seated.0 (OneName-legal w h legal f among) seated.1);
+          has = (taken_by_found h m.id f found, is_in w h f.task f with_placement.0 (OneName-legal w h legal f among) with_placement.1);
           alone = taken_alone w valid h legal m.id f found;
           told = told w h m.id posted_so.0 (Some f) posted_so.1 found;
         }

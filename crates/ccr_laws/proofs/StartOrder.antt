@@ -16,7 +16,7 @@ use Rattle.ccr_model.proofs.SameNames.{same_task-is}
 use Rattle.ccr_model.proofs.TasksLeft.{has_task-filter, has_task-without, of_filter, of_without, filter_on, without_both, lists_start, distinct-filter}
 use Rattle.ccr_model.proofs.Booleans.{both, or_left, or_right, and_false, refuted, no_both, same_number}
 use Rattle.ccr_model.proofs.Filters.{filter_swap}
-use Rattle.ccr_model.proofs.FiredTasks.{IsFired, seat_stays}
+use Rattle.ccr_model.proofs.FiredTasks.{IsFired, placement_stays}
 use Rattle.ccr_laws.specs.Queues.{put_into, started_from, stands_before}
 use Rattle.ccr_model.proofs.TaskLists.{filter_append, without-append, without_none, without_other, without_first, of_more, not_more, not_within}
 use Rattle.ccr_model.proofs.TaskPlaces.{AreApart, ArePlaced, ArePlaced_kept, ArePlaced-none, ArePlaced-legal, StartFacts, StartFacts-allowed, PutFacts-allowed, QueuedFacts-queued, put_fired, new_drop}
@@ -65,7 +65,7 @@ IsOrder-test p q ps ss ds known same is =
     rw (filter_on q p ss (λ u among. same u (known.put_started u among)), filter_on q p (without ps (ss ++ ds)) (λ u among. same u (of_without ps (ss ++ ds) u among).0), filter_on q p (without ps ds) (λ u among. same u (of_without ps ds u among).0)) is
 
 for_queue_stays : (w : Parts) (h es : List Event) (q : ℕ) (t : TaskId) → IsFired h t → is_for_queue w (h ++ es) q t ≡ is_for_queue w h q t
-for_queue_stays w h es q t fired = rw (seat_stays w h es t fired) refl
+for_queue_stays w h es q t fired = rw (placement_stays w h es t fired) refl
 
 -- the order of one queue
 abbrev IsOrderOf : Parts → ℕ → List Event → Type 0

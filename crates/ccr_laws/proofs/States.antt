@@ -13,8 +13,8 @@ use Rattle.ccr_model.specs.declared.history.EndHow.{EndHow}
 use Rattle.ccr_model.specs.declared.history.TaskState.{TaskState}
 use Rattle.ccr_model.specs.declared.history.TaskState.TheVariants as states
 use Rattle.ccr_base.specs.Names.{same_task, has_task, without}
-use Rattle.ccr_wiring.specs.Wirings.{Seat, seat, branch_of}
-use Rattle.ccr_model.specs.Firings.{Firing, firing_named, spot_of, cut, let_in, put, dropped, started, ended}
+use Rattle.ccr_wiring.specs.Wirings.{Placement, placement, branch_of}
+use Rattle.ccr_model.specs.Firings.{Firing, firing_named, spot_of, cut, ever_admitted, put, dropped, started, ended}
 use Rattle.ccr_model.specs.Tasks.{is_interleave, is_branch_where, is_for_queue}
 use Rattle.ccr_model.specs.Rules.{needs_no_admission, may_put}
 use Rattle.ccr_model.specs.Fates.{end_of, state_of_started, state_of}
@@ -22,7 +22,7 @@ use Rattle.ccr_model.specs.Legal.{IsLegal}
 use Rattle.ccr_model.proofs.Allowing.{OneName-legal}
 use Rattle.ccr_model.proofs.SameNames.{same_task-is, same_task-self, same_task-sym}
 use Rattle.ccr_model.proofs.Booleans.{neither, refuted, no_both, eq-self}
-use Rattle.ccr_model.specs.Interleaves.{is_seat_in}
+use Rattle.ccr_model.specs.Interleaves.{is_placement_in}
 use Rattle.ccr_laws.specs.OneFate.{Waits, IsQueued, HasEnded, IsIn}
 use Rattle.ccr_laws.proofs.Allowed.{allowed_at}
 use Rattle.ccr_model.proofs.TaskLists.{to_filter, to_without, among_left, not_more, not_within}
@@ -98,23 +98,23 @@ ended-started w h legal t how has =
     subst (λ g. has_task (started g) t ≡ true) (sym has.stands.whole) (subst (λ ts. has_task ts t ≡ true) (sym (started-append has.past (End t how ∷ has.stands.more))) (among_left (started has.past) (started (End t how ∷ has.stands.more)) t (end_facts w h legal t how has).started_so))
 
 -- where the task of this firing stands, by the tests in their order
-queued_in : (w : Parts) (h : List Event) (t : TaskId) (f : Firing) (r : Seat) → firing_named h t ≡ Some f → seat w (branch_of f.spot) ≡ Some r → has_task (dropped h) t ≡ false → has_task (started h) t ≡ false → has_task (put h) t ≡ true → IsQueued w h t
-queued_in w h t f r found seated undropped unstarted was_put =
+queued_in : (w : Parts) (h : List Event) (t : TaskId) (f : Firing) (r : Placement) → firing_named h t ≡ Some f → placement w (branch_of f.spot) ≡ Some r → has_task (dropped h) t ≡ false → has_task (started h) t ≡ false → has_task (put h) t ≡ true → IsQueued w h t
+queued_in w h t f r found with_placement undropped unstarted was_put =
     let inner = to_without (put h) (started h ++ dropped h) t was_put (not_more (started h) (dropped h) t unstarted undropped) in
-    let here : is_for_queue w h r.branch.queue t ≡ true = rw (found, seated) (eq-self r.branch.queue) in
+    let here : is_for_queue w h r.branch.queue t ≡ true = rw (found, with_placement) (eq-self r.branch.queue) in
     record { queue = r.branch.queue; among = to_filter (is_for_queue w h r.branch.queue) (without (put h) (started h ++ dropped h)) t inner here }
 
-waits_in : (w : Parts) (h : List Event) (t : TaskId) (f : Firing) (r : Seat) → firing_named h t ≡ Some f → seat w (branch_of f.spot) ≡ Some r → has_task (cut h) t ≡ false → needs_no_admission w f.spot ≡ false → has_task (let_in h) t ≡ false → (s : Spot) → f.spot ≡ s → Waits w h t
-waits_in w h t f r found seated uncut bound outside (Site b k) at = let free : needs_no_admission w f.spot ≡ true = rw at refl in absurd (no_both free bound)
-waits_in w h t f r found seated uncut bound outside (Branch b) at =
-    let known : seat w b ≡ Some r = ap (λ s. seat w (branch_of s)) (sym at) ∙ seated in
-    let tied : not (is_interleave r.kind) ≡ false = ap (λ o. option_map_or (λ (s : Seat). not (is_interleave s.kind)) o false) (sym known) ∙ ap (λ s. needs_no_admission w s) (sym at) ∙ bound in
+waits_in : (w : Parts) (h : List Event) (t : TaskId) (f : Firing) (r : Placement) → firing_named h t ≡ Some f → placement w (branch_of f.spot) ≡ Some r → has_task (cut h) t ≡ false → needs_no_admission w f.spot ≡ false → has_task (ever_admitted h) t ≡ false → (s : Spot) → f.spot ≡ s → Waits w h t
+waits_in w h t f r found with_placement uncut bound outside (Site b k) at = let free : needs_no_admission w f.spot ≡ true = rw at refl in absurd (no_both free bound)
+waits_in w h t f r found with_placement uncut bound outside (Branch b) at =
+    let known : placement w b ≡ Some r = ap (λ s. placement w (branch_of s)) (sym at) ∙ with_placement in
+    let tied : not (is_interleave r.kind) ≡ false = ap (λ o. option_map_or (λ (s : Placement). not (is_interleave s.kind)) o false) (sym known) ∙ ap (λ s. needs_no_admission w s) (sym at) ∙ bound in
     let kind : is_interleave r.kind ≡ true = grind (arith, tied) in
-    let passes : is_branch_where w (is_seat_in r.arbiter) f.spot ≡ true = ap (λ s. is_branch_where w (is_seat_in r.arbiter) s) at ∙ ap (λ o. option_map_or (is_seat_in r.arbiter) o false) known ∙ rw (kind, eq-self r.arbiter) refl in
-    record { interleave = r.arbiter; among = waits_whole w h r.arbiter t (fired_by_has w (is_seat_in r.arbiter) h t f found passes) outside uncut }
+    let passes : is_branch_where w (is_placement_in r.arbiter) f.spot ≡ true = ap (λ s. is_branch_where w (is_placement_in r.arbiter) s) at ∙ ap (λ o. option_map_or (is_placement_in r.arbiter) o false) known ∙ rw (kind, eq-self r.arbiter) refl in
+    record { interleave = r.arbiter; among = waits_whole w h r.arbiter t (fired_by_has w (is_placement_in r.arbiter) h t f found passes) outside uncut }
 
-unready : (w : Parts) (h : List Event) (t : TaskId) (f : Firing) → firing_named h t ≡ Some f → has_task (cut h) t ≡ false → has_task (put h) t ≡ false → may_put w h t ≡ false → needs_no_admission w f.spot || has_task (let_in h) t ≡ false
-unready w h t f found uncut unput out = sym (by_parts (has_task (put h) t) (has_task (cut h) t) (option_map_or (λ spot. needs_no_admission w spot || has_task (let_in h) t) (spot_of h t) false) unput uncut ∙ ap (λ o. option_map_or (λ spot. needs_no_admission w spot || has_task (let_in h) t) (option_map (λ (g : Firing). g.spot) o) false) found) ∙ out
+unready : (w : Parts) (h : List Event) (t : TaskId) (f : Firing) → firing_named h t ≡ Some f → has_task (cut h) t ≡ false → has_task (put h) t ≡ false → may_put w h t ≡ false → needs_no_admission w f.spot || has_task (ever_admitted h) t ≡ false
+unready w h t f found uncut unput out = sym (by_parts (has_task (put h) t) (has_task (cut h) t) (option_map_or (λ spot. needs_no_admission w spot || has_task (ever_admitted h) t) (spot_of h t) false) unput uncut ∙ ap (λ o. option_map_or (λ spot. needs_no_admission w spot || has_task (ever_admitted h) t) (option_map (λ (g : Firing). g.spot) o) false) found) ∙ out
   where
     by_parts : (a b c : Bool) → a ≡ false → b ≡ false → not a && not b && c ≡ c
     by_parts a b c p q = rw (p, q) refl
@@ -127,19 +127,19 @@ started_in w h t was_started (how ∷ more) some = some_end h t how more some
 abbrev state_by : Bool → Bool → Bool → Bool → Bool → List EndHow → TaskState
 state_by was_cut was_dropped was_started was_put may ways = if was_cut then states.Cut else if was_dropped then states.Dropped else if was_started then state_of_started ways else if was_put then states.Queued else if may then states.Ready else states.Waiting
 
-in_state : (w : Parts) (h : List Event) (t : TaskId) (f : Firing) (r : Seat) → firing_named h t ≡ Some f → seat w (branch_of f.spot) ≡ Some r → (a b c d e : Bool) → has_task (cut h) t ≡ a → has_task (dropped h) t ≡ b → has_task (started h) t ≡ c → has_task (put h) t ≡ d → may_put w h t ≡ e → IsIn w h t (state_by a b c d e (flat_map (end_of t) h))
-in_state w h t f r found seated true b c d e is_cut is_dropped is_started is_put is_free = is_cut
-in_state w h t f r found seated false true c d e is_cut is_dropped is_started is_put is_free = is_dropped
-in_state w h t f r found seated false false true d e is_cut is_dropped is_started is_put is_free = started_in w h t is_started (flat_map (end_of t) h) refl
-in_state w h t f r found seated false false false true e is_cut is_dropped is_started is_put is_free = queued_in w h t f r found seated is_dropped is_started is_put
-in_state w h t f r found seated false false false false true is_cut is_dropped is_started is_put is_free = is_free
-in_state w h t f r found seated false false false false false is_cut is_dropped is_started is_put is_free =
-    let tied = neither (needs_no_admission w f.spot) (has_task (let_in h) t) (unready w h t f found is_cut is_put is_free) in
-    waits_in w h t f r found seated is_cut tied.0 tied.1 f.spot refl
+in_state : (w : Parts) (h : List Event) (t : TaskId) (f : Firing) (r : Placement) → firing_named h t ≡ Some f → placement w (branch_of f.spot) ≡ Some r → (a b c d e : Bool) → has_task (cut h) t ≡ a → has_task (dropped h) t ≡ b → has_task (started h) t ≡ c → has_task (put h) t ≡ d → may_put w h t ≡ e → IsIn w h t (state_by a b c d e (flat_map (end_of t) h))
+in_state w h t f r found with_placement true b c d e is_cut is_dropped is_started is_put is_free = is_cut
+in_state w h t f r found with_placement false true c d e is_cut is_dropped is_started is_put is_free = is_dropped
+in_state w h t f r found with_placement false false true d e is_cut is_dropped is_started is_put is_free = started_in w h t is_started (flat_map (end_of t) h) refl
+in_state w h t f r found with_placement false false false true e is_cut is_dropped is_started is_put is_free = queued_in w h t f r found with_placement is_dropped is_started is_put
+in_state w h t f r found with_placement false false false false true is_cut is_dropped is_started is_put is_free = is_free
+in_state w h t f r found with_placement false false false false false is_cut is_dropped is_started is_put is_free =
+    let tied = neither (needs_no_admission w f.spot) (has_task (ever_admitted h) t) (unready w h t f found is_cut is_put is_free) in
+    waits_in w h t f r found with_placement is_cut tied.0 tied.1 f.spot refl
 
 -- a task that fired is in the state that is told
-pub is_in : (w : Parts) (h : List Event) (t : TaskId) (f : Firing) (r : Seat) → firing_named h t ≡ Some f → seat w (branch_of f.spot) ≡ Some r → IsIn w h t (state_of w h t)
-is_in w h t f r found seated = in_state w h t f r found seated (has_task (cut h) t) (has_task (dropped h) t) (has_task (started h) t) (has_task (put h) t) (may_put w h t) refl refl refl refl refl
+pub is_in : (w : Parts) (h : List Event) (t : TaskId) (f : Firing) (r : Placement) → firing_named h t ≡ Some f → placement w (branch_of f.spot) ≡ Some r → IsIn w h t (state_of w h t)
+is_in w h t f r found with_placement = in_state w h t f r found with_placement (has_task (cut h) t) (has_task (dropped h) t) (has_task (started h) t) (has_task (put h) t) (may_put w h t) refl refl refl refl refl
 
 -- what is known of a task that wasn't put
 unput_by : (w : Parts) (h : List Event) → IsLegal w h → (t : TaskId) → has_task (put h) t ≡ false → (has_task (dropped h) t ≡ false) × (has_task (started h) t ≡ false)
@@ -181,10 +181,10 @@ waits-only w h legal t waits =
     let unready_so : may_put w h t ≡ false = refuted (may_put w h t) (λ is. (let may = PutFacts-may w h t is in contrary facts.firing may.firing facts.is_firing may.is_firing outside may.entered)) in
     waiting_is (has_task (cut h) t) (has_task (dropped h) t) (has_task (started h) t) (has_task (put h) t) (may_put w h t) (flat_map (end_of t) h) facts.not_cut others.0 others.1 unput unready_so
   where
-    contrary : (f g : Firing) → firing_named h t ≡ Some f → firing_named h t ≡ Some g → needs_no_admission w f.spot || has_task (let_in h) t ≡ false → needs_no_admission w g.spot || has_task (let_in h) t ≡ true → ⊥
+    contrary : (f g : Firing) → firing_named h t ≡ Some f → firing_named h t ≡ Some g → needs_no_admission w f.spot || has_task (ever_admitted h) t ≡ false → needs_no_admission w g.spot || has_task (ever_admitted h) t ≡ true → ⊥
     contrary f g one other tied free =
         let same : g ≡ f = cc in
-        no_both (subst (λ (x : Firing). needs_no_admission w x.spot || has_task (let_in h) t ≡ true) same free) tied
+        no_both (subst (λ (x : Firing). needs_no_admission w x.spot || has_task (ever_admitted h) t ≡ true) same free) tied
 
 -- it is in no other
 pub only_in : (w : Parts) (h : List Event) → IsLegal w h → (t : TaskId) (state : TaskState) → IsIn w h t state → state ≡ state_of w h t

@@ -18,7 +18,7 @@ use Rattle.ccr_model.specs.declared.history.Event.{Event}
 use Rattle.ccr_model.specs.declared.history.Event.TheVariants.{Fire}
 use Rattle.ccr_base.specs.Names.{same_message, same_lists}
 use Rattle.ccr_base.specs.Choice.{holds, fitting, is_choosable, choice}
-use Rattle.ccr_wiring.specs.Wirings.{Seat, seat, site_port}
+use Rattle.ccr_wiring.specs.Wirings.{Placement, placement, site_port}
 use Rattle.ccr_wiring.specs.Valid.{IsValid, IsSlotFilled, IsPatternFilled}
 use Rattle.ccr_wiring.proofs.Soundness.{sound}
 use Rattle.ccr_model.specs.Posts.{held}
@@ -153,7 +153,7 @@ one_oldest past port (n ∷ k ∷ names) ms at is =
 
 takes_whole : (w : Parts) → IsValid w → (past : List Event) (spot : Spot) (names : List MsgId) → is_choice w past spot names ≡ true → TakesWhole w past spot names
 takes_whole w valid past (Branch b) names is =
-    let found = some_of (λ (s : Seat). is_choice_of (held past) s.branch.pattern names) (seat w b) is in
+    let found = some_of (λ (s : Placement). is_choice_of (held past) s.branch.pattern names) (placement w b) is in
     record { its = found.0; known = found.1; filled = fills_pattern past found.0.branch.pattern names ((sound w valid).patterns b found.0 found.1) found.2 }
 takes_whole w valid past (Site b k) names is =
     let found = some_of (λ port. are_oldest (held past port) names) (site_port w b k) is in

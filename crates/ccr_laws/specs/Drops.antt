@@ -7,9 +7,9 @@ use Rattle.ccr_wiring.specs.declared.parts.Parts.{Parts}
 use Rattle.ccr_model.specs.declared.history.Event.{Event}
 use Rattle.ccr_model.specs.declared.history.Event.TheVariants.{Put}
 use Rattle.ccr_base.specs.Names.{same_task}
-use Rattle.ccr_wiring.specs.Wirings.{Seat, policy_of}
+use Rattle.ccr_wiring.specs.Wirings.{Placement, policy_of}
 use Rattle.ccr_model.specs.Firings.{dropped}
-use Rattle.ccr_model.specs.TaskData.{seat_of}
+use Rattle.ccr_model.specs.TaskData.{placement_of}
 use Rattle.ccr_model.specs.Tasks.{queued}
 use Rattle.ccr_laws.specs.Standing.{Stands}
 
@@ -25,8 +25,8 @@ pub record IsDroppedByPut (history : List Event) (task : TaskId) : Type 0 where
 
 -- a put of the task, after this past, drops the other by policy alone: their queue is `discard most`, it held that many tasks, and the other was the oldest
 pub record DropsOldest (wiring : Parts) (past : List Event) (task other : TaskId) : Type 0 where
-  pub its : Seat
-  pub seated : seat_of wiring past task ≡ Some its
+  pub its : Placement
+  pub with_placement : placement_of wiring past task ≡ Some its
   pub most : ℕ
   pub policy : policy_of wiring its.branch.queue ≡ Discard most
   pub full : length (queued wiring past its.branch.queue) ≡ most

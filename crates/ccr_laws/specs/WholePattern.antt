@@ -11,7 +11,7 @@ use Rattle.ccr_base.specs.declared.patterns.Pattern.TheVariants.{Slots, Gather}
 use Rattle.ccr_wiring.specs.declared.parts.Parts.{Parts}
 use Rattle.ccr_model.specs.declared.history.Event.{Event}
 use Rattle.ccr_base.specs.Choice.{holds, fitting}
-use Rattle.ccr_wiring.specs.Wirings.{Seat, seat, site_port}
+use Rattle.ccr_wiring.specs.Wirings.{Placement, placement, site_port}
 use Rattle.ccr_model.specs.Posts.{held}
 use Rattle.ccr_model.specs.Choice.{names_of}
 
@@ -56,8 +56,8 @@ pub record IsOldest (past : List Event) (port : ℕ) (names : List MsgId) : Type
 
 -- the firing of a branch fills its pattern
 pub record FillsBranch (wiring : Parts) (past : List Event) (branch : ℕ) (names : List MsgId) : Type 0 where
-  pub its : Seat
-  pub known : seat wiring branch ≡ Some its
+  pub its : Placement
+  pub known : placement wiring branch ≡ Some its
   pub filled : FillsPattern past its.branch.pattern names
 
 -- the firing of a site takes the oldest message of the awaited port

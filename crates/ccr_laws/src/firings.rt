@@ -11,7 +11,7 @@ ghost use Rattle.ccr_wiring.specs.declared.parts.Parts.{Parts};
 ghost use Rattle.ccr_wiring.specs.declared.parts.ArbiterPart.{ArbiterPart};
 ghost use Rattle.ccr_wiring.specs.declared.parts.Kind.TheVariants as kinds;
 ghost use Rattle.ccr_wiring.specs.Valid.{IsValid};
-ghost use Rattle.ccr_wiring.specs.Wirings.{Seat, seat};
+ghost use Rattle.ccr_wiring.specs.Wirings.{Placement, placement};
 ghost use Rattle.ccr_model.specs.declared.history.Event.{Event};
 ghost use Rattle.ccr_model.specs.declared.history.Event.TheVariants.{Post, Fire};
 ghost use Rattle.ccr_base.specs.Names.{has_message};
@@ -33,7 +33,7 @@ pub fn firings_take_whole_patterns()
 /// A choice, a `once` receiver, and the teardown branches of a domain of Interleaves all together, fire at most once.
 pub fn single_firings_come_once()
     ensures choice { (wiring : Parts) → IsValid wiring → (history : List Event) → IsLegal wiring history → (number : ℕ) (arbiter : ArbiterPart) → slice_get wiring.arbiters number ≡ Some arbiter → arbiter.kind ≡ kinds.Choice → times_any_fired wiring history number ≤ 1 }
-    ensures once { (wiring : Parts) (history : List Event) → IsLegal wiring history → (branch : ℕ) (s : Seat) → seat wiring branch ≡ Some s → s.branch.group ≡ groups.Once → times_fired history branch ≤ 1 }
+    ensures once { (wiring : Parts) (history : List Event) → IsLegal wiring history → (branch : ℕ) (s : Placement) → placement wiring branch ≡ Some s → s.branch.group ≡ groups.Once → times_fired history branch ≤ 1 }
     ensures teardown { (wiring : Parts) (history : List Event) → IsLegal wiring history → (domain : ℕ) → times_torn_down wiring history domain ≤ 1 }
 {}
 

@@ -9,7 +9,7 @@ ghost use Rattle.ccr_wiring.specs.declared.parts.Parts.{Parts};
 ghost use Rattle.ccr_wiring.specs.Valid.{HasGroups};
 ghost use Rattle.ccr_model.specs.declared.history.Event.{Event};
 ghost use Rattle.ccr_model.specs.declared.history.Event.TheVariants.{Admit, Fire, Start};
-ghost use Rattle.ccr_model.specs.Firings.{cut, let_in, put, started};
+ghost use Rattle.ccr_model.specs.Firings.{cut, ever_admitted, put, started};
 ghost use Rattle.ccr_model.specs.Sites.{root_of};
 ghost use Rattle.ccr_model.specs.Tasks.{admitted, is_over};
 ghost use Rattle.ccr_model.specs.Legal.{IsLegal};
@@ -46,7 +46,7 @@ pub fn no_branch_fires_after_a_teardown()
 
 /// A task that a teardown cut is neither admitted nor put, and never starts.
 pub fn cut_tasks_never_start()
-    ensures not_admitted { (wiring : Parts) (history : List Event) → IsLegal wiring history → (task : TaskId) → has_task (cut history) task ≡ true → has_task (let_in history) task ≡ false }
+    ensures not_admitted { (wiring : Parts) (history : List Event) → IsLegal wiring history → (task : TaskId) → has_task (cut history) task ≡ true → has_task (ever_admitted history) task ≡ false }
     ensures not_put { (wiring : Parts) (history : List Event) → IsLegal wiring history → (task : TaskId) → has_task (cut history) task ≡ true → has_task (put history) task ≡ false }
     ensures not_started { (wiring : Parts) (history : List Event) → IsLegal wiring history → (task : TaskId) → has_task (cut history) task ≡ true → has_task (started history) task ≡ false }
 {}

@@ -14,13 +14,13 @@ use Rattle.ccr_wiring.specs.declared.parts.Parts.{Parts}
 use Rattle.ccr_model.specs.declared.history.Event.{Event}
 use Rattle.ccr_model.specs.declared.history.Event.TheVariants.{Post, Fire, Admit, Put, Start, End}
 use Rattle.ccr_model.specs.Posts.{posts, post_of, is_message_of, posts_of_task}
-use Rattle.ccr_model.specs.Firings.{Firing, firing_of, fired, let_in, admitted_by, put, ended, dropped, started, yielded, last_segments, last_by}
+use Rattle.ccr_model.specs.Firings.{Firing, firing_of, fired, ever_admitted, admitted_by, put, ended, dropped, started, yielded, last_segments, last_by}
 use Rattle.ccr_model.specs.Sites.{root_of}
 use Rattle.ccr_model.specs.Tasks.{is_over, running}
 use Rattle.ccr_model.specs.Rules.{is_play_post, has_budget, refused}
 use Rattle.ccr_model.specs.Legal.{IsAllowed, IsLegal}
 use Rattle.ccr_model.proofs.Allowing.{OneName-legal}
-use Rattle.ccr_model.proofs.Alone.{lasts_fired, let_in_fired}
+use Rattle.ccr_model.proofs.Alone.{lasts_fired, ever_admitted_fired}
 use Rattle.ccr_model.proofs.Booleans.{both, or_left, or_right, refuted, no_both}
 use Rattle.ccr_model.proofs.Cutting.{AdmitFacts-allowed, CutFacts-legal, waits_unput}
 use Rattle.ccr_model.proofs.Ending.{AreEnded-legal, RunningFacts-running}
@@ -28,7 +28,7 @@ use Rattle.ccr_model.proofs.FiredTasks.{IsFired, fired_has, root_stays}
 use Rattle.ccr_model.proofs.FiringFacts.{WaitingFacts-waiting, BranchFacts-where, firings-other}
 use Rattle.ccr_model.proofs.LegalParts.{along_legal}
 use Rattle.ccr_model.proofs.PostNames.{refused_not}
-use Rattle.ccr_model.proofs.Pushes.{posts-push, last-push, let_in-push, fired-fire}
+use Rattle.ccr_model.proofs.Pushes.{posts-push, last-push, ever_admitted-push, fired-fire}
 use Rattle.ccr_model.proofs.Roots.{root_own, IsOneEach-legal}
 use Rattle.ccr_model.proofs.SameNames.{same_task-is, same_task-self, same_task-sym}
 use Rattle.ccr_model.proofs.Suspending.{is_gone_on}
@@ -36,7 +36,7 @@ use Rattle.ccr_model.proofs.TaskLists.{any_named, not_within}
 use Rattle.ccr_model.proofs.TaskPlaces.{ArePlaced-legal}
 use Rattle.ccr_model.proofs.TasksLeft.{has_task-append, out_left}
 use Rattle.ccr_ledger.specs.Kept.{is_admitted}
-use Rattle.ccr_ledger.proofs.Said.{counted-post}
+use Rattle.ccr_ledger.proofs.ScriptPosts.{counted-post}
 
 -- a test that agrees on the members
 any_on : (p q : TaskId → Bool) (ts : List TaskId) → ((u : TaskId) → has_task ts u ≡ true → p u ≡ q u) → list_any p ts ≡ list_any q ts
@@ -61,16 +61,16 @@ module _ (w : Parts) (h : List Event) (legal : IsLegal w h) where
       ∙ (ap (λ ts. is_over h u || list_any (λ y. same_task (root_of (h ++ e ∷ []) y) u) ts) last
       ∙ (ap (λ r. is_over h u || (same_task r u || false)) (root_stays h (e ∷ []) x fired) ∙ ap (λ b. is_over h u || b) (or-false (same_task (root_of h x) u))))
 
-  pub let_in-other : (e : Event) → admitted_by e ≡ [] → let_in (h ++ e ∷ []) ≡ let_in h
-  let_in-other e no_admit = rw (let_in-push h e, no_admit) (append-nil (let_in h))
+  pub ever_admitted-other : (e : Event) → admitted_by e ≡ [] → ever_admitted (h ++ e ∷ []) ≡ ever_admitted h
+  ever_admitted-other e no_admit = rw (ever_admitted-push h e, no_admit) (append-nil (ever_admitted h))
 
   pub admitted-other : (e : Event) (u : TaskId) → last_by e ≡ [] → admitted_by e ≡ [] → is_admitted (h ++ e ∷ []) u ≡ is_admitted h u
-  admitted-other e u no_last no_admit = rw (let_in-other e no_admit, over-other e u no_last) refl
+  admitted-other e u no_last no_admit = rw (ever_admitted-other e no_admit, over-other e u no_last) refl
 
   -- the root of one more last segment is admitted no more
   pub admitted-last : (e : Event) (x u : TaskId) → last_by e ≡ x ∷ [] → admitted_by e ≡ [] → IsFired h x → is_admitted (h ++ e ∷ []) u ≡ (if same_task (root_of h x) u then false else is_admitted h u)
   admitted-last e x u last no_admit fired =
-      rw (let_in-other e no_admit, over-last e x u last fired) (of_tests (has_task (let_in h) u) (is_over h u) (same_task (root_of h x) u))
+      rw (ever_admitted-other e no_admit, over-last e x u last fired) (of_tests (has_task (ever_admitted h) u) (is_over h u) (same_task (root_of h x) u))
     where
       of_tests : (a b c : Bool) → a && not (b || c) ≡ (if c then false else a && not b)
       of_tests true true true = refl
@@ -106,8 +106,8 @@ module _ (w : Parts) (h : List Event) (legal : IsLegal w h) where
 
   pub admitted-admit : (t u : TaskId) → IsAllowed w h (Admit t) → is_admitted (h ++ Admit t ∷ []) u ≡ (if same_task t u then true else is_admitted h u)
   admitted-admit t u allowed =
-      let longer : has_task (let_in (h ++ Admit t ∷ [])) u ≡ has_task (let_in h) u || (same_task t u || false) = rw (let_in-push h (Admit t), has_task-append (let_in h) (t ∷ []) u, same_task-sym u t) refl in
-      rw (longer, over-other (Admit t) u refl) (of_test (same_task t u) refl (has_task (let_in h) u) (is_over h u) refl)
+      let longer : has_task (ever_admitted (h ++ Admit t ∷ [])) u ≡ has_task (ever_admitted h) u || (same_task t u || false) = rw (ever_admitted-push h (Admit t), has_task-append (ever_admitted h) (t ∷ []) u, same_task-sym u t) refl in
+      rw (longer, over-other (Admit t) u refl) (of_test (same_task t u) refl (has_task (ever_admitted h) u) (is_over h u) refl)
     where
       of_test : (b : Bool) → same_task t u ≡ b → (a c : Bool) → is_over h u ≡ c → (a || (b || false)) && not c ≡ (if b then true else a && not c)
       of_test true is a c over =
@@ -124,8 +124,8 @@ module _ (w : Parts) (h : List Event) (legal : IsLegal w h) where
   -- a new task wasn't admitted
   pub admitted-new : (t : TaskId) (s : Spot) (ms : List MsgId) (cs : List TaskId) → has_task (fired h) t ≡ false → is_admitted (h ++ Fire t s ms cs ∷ []) t ≡ false
   admitted-new t s ms cs new =
-      let out : has_task (let_in h) t ≡ false = refuted (has_task (let_in h) t) (λ is. no_both (fired_has h t (let_in_fired w h legal t is)) new) in
-      rw (let_in-other (Fire t s ms cs) refl, out) refl
+      let out : has_task (ever_admitted h) t ≡ false = refuted (has_task (ever_admitted h) t) (λ is. no_both (fired_has h t (ever_admitted_fired w h legal t is)) new) in
+      rw (ever_admitted-other (Fire t s ms cs) refl, out) refl
 
 -- no post, no more posts of a task
 pub made-other : (h : List Event) (e : Event) (u : TaskId) → post_of e ≡ [] → posts_of_task (h ++ e ∷ []) u ≡ posts_of_task h u

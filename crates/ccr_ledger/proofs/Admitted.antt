@@ -9,24 +9,24 @@ use Rattle.ccr_base.specs.declared.names.Spot.{Spot}
 use Rattle.ccr_base.specs.declared.names.Spot.TheVariants.{Branch, Site}
 use Rattle.ccr_base.specs.Names.{same_task, has_task}
 use Rattle.ccr_wiring.specs.declared.parts.Parts.{Parts}
-use Rattle.ccr_wiring.specs.Wirings.{Seat, seat}
+use Rattle.ccr_wiring.specs.Wirings.{Placement, placement}
 use Rattle.ccr_model.specs.declared.history.Event.{Event}
 use Rattle.ccr_model.specs.declared.history.Event.TheVariants.{Post, Fire, Admit, Put, Start, End}
 use Rattle.ccr_model.specs.declared.history.EndHow.{EndHow}
 use Rattle.ccr_model.specs.declared.history.EndHow.TheVariants as ends
-use Rattle.ccr_model.specs.Firings.{let_in, admitted_by, last_by}
+use Rattle.ccr_model.specs.Firings.{ever_admitted, admitted_by, last_by}
 use Rattle.ccr_model.specs.Sites.{root_of}
 use Rattle.ccr_model.specs.Tasks.{is_concurrent, is_in_arbiter, is_over}
 use Rattle.ccr_model.specs.Rules.{is_concurrent_task}
 use Rattle.ccr_model.specs.Legal.{IsAllowed, IsLegal}
-use Rattle.ccr_model.proofs.Pushes.{let_in-push}
+use Rattle.ccr_model.proofs.Pushes.{ever_admitted-push}
 use Rattle.ccr_model.proofs.SameNames.{same_task-self, same_task-sym}
 use Rattle.ccr_model.proofs.Booleans.{or_left}
 use Rattle.ccr_model.proofs.TasksLeft.{filter_on}
-use Rattle.ccr_model.proofs.FiredTasks.{IsFired, seat_stays}
+use Rattle.ccr_model.proofs.FiredTasks.{IsFired, placement_stays}
 use Rattle.ccr_model.proofs.TaskPlaces.{ArePlaced-legal, PutFacts-allowed, new_drop}
 use Rattle.ccr_model.proofs.Ending.{RunningFacts-allowed}
-use Rattle.ccr_model.proofs.Alone.{let_in_fired}
+use Rattle.ccr_model.proofs.Alone.{ever_admitted_fired}
 use Rattle.ccr_model.proofs.Roots.{AreRooted-legal}
 use Rattle.ccr_ledger.specs.declared.cards.Card.{Card}
 use Rattle.ccr_ledger.specs.declared.cards.Stage.{Stage}
@@ -38,8 +38,8 @@ use Rattle.ccr_ledger.specs.Events.{after_admit, after_over, after_last, after_d
 use Rattle.ccr_ledger.specs.Kept.{HasSizes, KeepsTasks}
 use Rattle.ccr_ledger.proofs.Counting.{more_if, less_if, number-more, number-less, length-more, length-less}
 use Rattle.ccr_ledger.proofs.TaskCards.{CardFacts, CardFacts-fired, card_moved}
-use Rattle.ccr_ledger.proofs.Admissions.{over-other, over-last, let_in-other}
-use Rattle.ccr_ledger.proofs.NewRoots.{NewRoot, NewRoot-allowed, let_in_once}
+use Rattle.ccr_ledger.proofs.Admissions.{over-other, over-last, ever_admitted-other}
+use Rattle.ccr_ledger.proofs.NewRoots.{NewRoot, NewRoot-allowed, ever_admitted_once}
 
 -- whether the root counts: all do, or those alone that no concurrent branch fired
 abbrev pub counts_as : Bool → Parts → List Event → ℕ → TaskId → Bool
@@ -59,7 +59,7 @@ table false roots = roots.alone
 
 -- the numbers count those roots in each domain
 abbrev pub AreCounted : Bool → Parts → List Event → List ℕ → Type 0
-AreCounted all w h numbers = (i : ℕ) → i < length w.arbiters → number numbers i ≡ length (filter (counts_as all w h i) (let_in h))
+AreCounted all w h numbers = (i : ℕ) → i < length w.arbiters → number numbers i ≡ length (filter (counts_as all w h i) (ever_admitted h))
 
 by_numbers : (all : Bool) (w : Parts) (h : List Event) (ns ms : List ℕ) → ms ≡ ns → AreCounted all w h ns → AreCounted all w h ms
 by_numbers all w h ns ms same counts i low = ap (λ numbers. number numbers i) same ∙ counts i low
@@ -71,32 +71,32 @@ table-size false w b sizes = sizes.alone
 -- what is said of a task that fired stays but for who is over
 counts-by : (all : Bool) (w : Parts) (h : List Event) (e : Event) (i : ℕ) (t : TaskId) (over : Bool) → IsFired h t → is_over (h ++ e ∷ []) t ≡ over → counts_as all w (h ++ e ∷ []) i t ≡ (is_in_arbiter w h i t && not over) && (all || not (is_concurrent_task w h t))
 counts-by all w h e i t over fired is =
-    ap (λ o. (option_map_or (λ (s : Seat). s.arbiter == i) o false && not (is_over (h ++ e ∷ []) t)) && (all || not (option_map_or (λ (s : Seat). is_concurrent s.branch.group) o false))) (seat_stays w h (e ∷ []) t fired)
+    ap (λ o. (option_map_or (λ (s : Placement). s.arbiter == i) o false && not (is_over (h ++ e ∷ []) t)) && (all || not (option_map_or (λ (s : Placement). is_concurrent s.branch.group) o false))) (placement_stays w h (e ∷ []) t fired)
     ∙ ap (λ b. (is_in_arbiter w h i t && not b) && (all || not (is_concurrent_task w h t))) is
 
 -- and by its card
 counts-card : (all : Bool) (w : Parts) (h : List Event) (i : ℕ) (t : TaskId) (b : Books) → (facts : CardFacts w h t b) → counts_as all w h i t ≡ ((facts.card.domain == i) && not (is_over h t)) && (all || not facts.card.concurrent)
 counts-card all w h i t b facts =
-    ap (λ o. (option_map_or (λ (s : Seat). s.arbiter == i) o false && not (is_over h t)) && (all || not (option_map_or (λ (s : Seat). is_concurrent s.branch.group) o false))) facts.is_seat
+    ap (λ o. (option_map_or (λ (s : Placement). s.arbiter == i) o false && not (is_over h t)) && (all || not (option_map_or (λ (s : Placement). is_concurrent s.branch.group) o false))) facts.is_placement
     ∙ rw (facts.domain, facts.concurrent) refl
 
 -- those that were let in count as they did
-same_count : (all : Bool) (w : Parts) (h : List Event) (e : Event) (i : ℕ) → IsLegal w h → last_by e ≡ [] → filter (counts_as all w (h ++ e ∷ []) i) (let_in h) ≡ filter (counts_as all w h i) (let_in h)
-same_count all w h e i legal none = filter_on (counts_as all w (h ++ e ∷ []) i) (counts_as all w h i) (let_in h) (λ u among. counts-by all w h e i u (is_over h u) (let_in_fired w h legal u among) (over-other w h legal e u none))
+same_count : (all : Bool) (w : Parts) (h : List Event) (e : Event) (i : ℕ) → IsLegal w h → last_by e ≡ [] → filter (counts_as all w (h ++ e ∷ []) i) (ever_admitted h) ≡ filter (counts_as all w h i) (ever_admitted h)
+same_count all w h e i legal none = filter_on (counts_as all w (h ++ e ∷ []) i) (counts_as all w h i) (ever_admitted h) (λ u among. counts-by all w h e i u (is_over h u) (ever_admitted_fired w h legal u among) (over-other w h legal e u none))
 
 -- an event that neither admits a root nor ends one
 counted-other : (all : Bool) (w : Parts) (h : List Event) (e : Event) (ns : List ℕ) → IsLegal w h → admitted_by e ≡ [] → last_by e ≡ [] → AreCounted all w h ns → AreCounted all w (h ++ e ∷ []) ns
 counted-other all w h e ns legal no_admit no_last counts i low =
-    counts i low ∙ ap length (sym (ap (λ ts. filter (counts_as all w (h ++ e ∷ []) i) ts) (let_in-other w h legal e no_admit) ∙ same_count all w h e i legal no_last))
+    counts i low ∙ ap length (sym (ap (λ ts. filter (counts_as all w (h ++ e ∷ []) i) ts) (ever_admitted-other w h legal e no_admit) ∙ same_count all w h e i legal no_last))
 
 -- one more is admitted
 counted-more : (all : Bool) (w : Parts) (h : List Event) (t : TaskId) (b : Books) (ns : List ℕ) → IsLegal w h → NewRoot h t → (facts : CardFacts w h t b) → length ns ≡ length w.arbiters → AreCounted all w h ns → AreCounted all w (h ++ Admit t ∷ []) (if all || not facts.card.concurrent then more facts.card.domain ns else ns)
 counted-more all w h t b ns legal new facts size counts i low =
     number-more (all || not facts.card.concurrent) ns facts.card.domain i (omega (arith, low, size))
     ∙ (ap (λ n. more_if ((all || not facts.card.concurrent) && (facts.card.domain == i)) n) (counts i low)
-    ∙ (ap (λ is. more_if is (length (filter (counts_as all w h i) (let_in h)))) same
-    ∙ sym (ap (λ ts. length (filter (counts_as all w g i) ts)) (let_in-push h (Admit t))
-    ∙ (length-more (counts_as all w g i) (let_in h) t
+    ∙ (ap (λ is. more_if is (length (filter (counts_as all w h i) (ever_admitted h)))) same
+    ∙ sym (ap (λ ts. length (filter (counts_as all w g i) ts)) (ever_admitted-push h (Admit t))
+    ∙ (length-more (counts_as all w g i) (ever_admitted h) t
     ∙ ap (λ ts. more_if (counts_as all w g i t) (length ts)) (same_count all w h (Admit t) i legal refl)))))
   where
     g : List Event
@@ -138,9 +138,9 @@ counted-less : (all : Bool) (w : Parts) (h : List Event) (e : Event) (x : TaskId
 counted-less all w h e x b ns legal no_admit last fired facts size counts i low =
     number-less (facts.card.admitted && (all || not facts.card.concurrent)) ns facts.card.domain i (omega (arith, low, size))
     ∙ (ap (λ n. less_if ((facts.card.admitted && (all || not facts.card.concurrent)) && (facts.card.domain == i)) n) (counts i low)
-    ∙ (ap (λ is. less_if is (length (filter (counts_as all w h i) (let_in h)))) same
-    ∙ sym (ap (λ ts. length (filter (counts_as all w (h ++ e ∷ []) i) ts)) (let_in-other w h legal e no_admit)
-    ∙ length-less (counts_as all w h i) (counts_as all w (h ++ e ∷ []) i) (let_in h) r (let_in_once w h legal) narrower)))
+    ∙ (ap (λ is. less_if is (length (filter (counts_as all w h i) (ever_admitted h)))) same
+    ∙ sym (ap (λ ts. length (filter (counts_as all w (h ++ e ∷ []) i) ts)) (ever_admitted-other w h legal e no_admit)
+    ∙ length-less (counts_as all w h i) (counts_as all w (h ++ e ∷ []) i) (ever_admitted h) r (ever_admitted_once w h legal) narrower)))
   where
     r : TaskId
     r = root_of h x
@@ -153,9 +153,9 @@ counted-less all w h e x b ns legal no_admit last fired facts size counts i low 
     drops_out true false false true = refl
     drops_out true false false false = refl
 
-    narrower : (u : TaskId) → has_task (let_in h) u ≡ true → counts_as all w (h ++ e ∷ []) i u ≡ counts_as all w h i u && not (same_task u r)
+    narrower : (u : TaskId) → has_task (ever_admitted h) u ≡ true → counts_as all w (h ++ e ∷ []) i u ≡ counts_as all w h i u && not (same_task u r)
     narrower u among =
-        counts-by all w h e i u (is_over h u || same_task r u) (let_in_fired w h legal u among) (over-last w h legal e x u last fired)
+        counts-by all w h e i u (is_over h u || same_task r u) (ever_admitted_fired w h legal u among) (over-last w h legal e x u last fired)
         ∙ (drops_out (is_in_arbiter w h i u) (is_over h u) (same_task r u) (all || not (is_concurrent_task w h u))
         ∙ ap (λ is. counts_as all w h i u && not is) (same_task-sym r u))
 
@@ -168,11 +168,11 @@ counted-less all w h e x b ns legal no_admit last fired facts size counts i low 
     turn true true false true = refl
     turn true true false false = refl
 
-    same : (facts.card.admitted && (all || not facts.card.concurrent)) && (facts.card.domain == i) ≡ has_task (let_in h) r && counts_as all w h i r
+    same : (facts.card.admitted && (all || not facts.card.concurrent)) && (facts.card.domain == i) ≡ has_task (ever_admitted h) r && counts_as all w h i r
     same =
         ap (λ is. (is && (all || not facts.card.concurrent)) && (facts.card.domain == i)) facts.admitted
-        ∙ (turn (has_task (let_in h) r) (not (is_over h r)) (all || not facts.card.concurrent) (facts.card.domain == i)
-        ∙ ap (λ is. has_task (let_in h) r && is) (sym (counts-card all w h i r b facts)))
+        ∙ (turn (has_task (ever_admitted h) r) (not (is_over h r)) (all || not facts.card.concurrent) (facts.card.domain == i)
+        ∙ ap (λ is. has_task (ever_admitted h) r && is) (sym (counts-card all w h i r b facts)))
 
 -- the last segment of a root, in books where its task's stage alone was moved
 counted-last : (all : Bool) (w : Parts) (h : List Event) (e : Event) (x r : TaskId) (stage : Stage) (b d : Books) → IsLegal w h → admitted_by e ≡ [] → last_by e ≡ x ∷ [] → IsFired h x → r ≡ root_of h x → KeepsTasks w h b → HasSizes w b
@@ -201,11 +201,11 @@ same-cuts [] b = refl
 same-cuts (t ∷ ts) b = same-cuts ts (after_cut t b) ∙ by_card b (card_at b.tasks t) _ (λ c. refl)
 
 same-fire : (w : Parts) (t : TaskId) (s : Spot) (ms : List MsgId) (cs : List TaskId) (b : Books) → roots_of (after_fire w t s ms cs b) ≡ roots_of b
-same-fire w t (Branch n) ms cs b = of_seat (seat w n)
+same-fire w t (Branch n) ms cs b = of_placement (placement w n)
   where
-    of_seat : (o : Option Seat) → roots_of (option_map_or (after_taking w t n ms (after_cuts cs b)) o b) ≡ roots_of b
-    of_seat None = refl
-    of_seat (Some s) = same-cuts cs b
+    of_placement : (o : Option Placement) → roots_of (option_map_or (after_taking w t n ms (after_cuts cs b)) o b) ≡ roots_of b
+    of_placement None = refl
+    of_placement (Some s) = same-cuts cs b
 same-fire w t (Site n k) ms cs b = by_card b (resumed_card b n k) _ (λ c. refl)
 
 -- what is counted after the event

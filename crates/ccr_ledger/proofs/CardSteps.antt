@@ -20,7 +20,7 @@ use Rattle.ccr_model.specs.TaskData.{load_of}
 use Rattle.ccr_model.specs.Legal.{IsAllowed, IsLegal}
 use Rattle.ccr_model.proofs.Cutting.{AdmitFacts-allowed}
 use Rattle.ccr_model.proofs.Ending.{RunningFacts-allowed}
-use Rattle.ccr_model.proofs.FiredTasks.{IsFired, root_stays, seat_fired}
+use Rattle.ccr_model.proofs.FiredTasks.{IsFired, root_stays, placement_fired}
 use Rattle.ccr_model.proofs.FiringFacts.{firings-other}
 use Rattle.ccr_model.proofs.SameNames.{same_task-sym, same_task-self}
 use Rattle.ccr_model.proofs.Stable.{firing_named-append, before-append, load_at-append, play_of-append}
@@ -30,7 +30,7 @@ use Rattle.ccr_ledger.specs.declared.cards.Stage.{Stage}
 use Rattle.ccr_ledger.specs.declared.cards.Stage.TheVariants as stages
 use Rattle.ccr_ledger.specs.Books.{Books, card_at, changed, in_stage, moved}
 use Rattle.ccr_ledger.specs.Posting.{with_post, counted}
-use Rattle.ccr_ledger.specs.Events.{let_in as let_in_card, not_admitted, after_last, after_discard, after_stop, after_yield, after_end, after_event}
+use Rattle.ccr_ledger.specs.Events.{admit_root, not_admitted, after_last, after_discard, after_stop, after_yield, after_end, after_event}
 use Rattle.ccr_ledger.specs.Kept.{KeepsTasks, card_of, queue_of, stage_of, is_admitted}
 use Rattle.ccr_ledger.proofs.Admissions.{admitted-other, admitted-last, admitted-admit, made-other, made-post}
 use Rattle.ccr_ledger.proofs.CardTables.{names, names-changed, on, card-on, map-map, card-twice, tasks-last}
@@ -110,14 +110,14 @@ tasks-post w h m (Task t place) b is legal keeps =
 pub tasks-admit : (w : Parts) (h : List Event) (t : TaskId) (b : Books) → IsLegal w h → IsAllowed w h (Admit t) → KeepsTasks w h b → KeepsTasks w (h ++ Admit t ∷ []) (after_event w (Admit t) b)
 tasks-admit w h t b legal allowed keeps =
     let facts = AdmitFacts-allowed w h t allowed in
-    let its = seat_fired w h t facts.place facts.is_place in
-    rw (card_told w h t its.0 b keeps its.1) (keeps-one w h (Admit t) b (record b { tasks = _; waiting = _; admitted = _; alone = _ }) let_in_card t refl keeps refl
+    let its = placement_fired w h t facts.place facts.is_place in
+    rw (card_told w h t its.0 b keeps its.1) (keeps-one w h (Admit t) b (record b { tasks = _; waiting = _; admitted = _; alone = _ }) admit_root t refl keeps refl
     (λ u f named. (
     card-stays w h (Admit t) u f _ _ _ named (stage-admit w h t u f.spot legal allowed) (admitted-admit w h legal t u allowed) (made-other h (Admit t) u refl)
     ∙ of_test u f (same_task t u)
     )))
   where
-    of_test : (u : TaskId) (f : Firing) (b : Bool) → altered (if b then stages.Ready else stage_of w h u f.spot) (if b then true else is_admitted h u) (posts_of_task h u) (card_of w h u f) ≡ (if b then let_in_card (card_of w h u f) else card_of w h u f)
+    of_test : (u : TaskId) (f : Firing) (b : Bool) → altered (if b then stages.Ready else stage_of w h u f.spot) (if b then true else is_admitted h u) (posts_of_task h u) (card_of w h u f) ≡ (if b then admit_root (card_of w h u f) else card_of w h u f)
     of_test u f true = refl
     of_test u f false = refl
 
@@ -125,7 +125,7 @@ tasks-admit w h t b legal allowed keeps =
 pub tasks-start : (w : Parts) (h : List Event) (t : TaskId) (a : ℕ) (b : Books) → IsLegal w h → IsAllowed w h (Start t a) → KeepsTasks w h b → KeepsTasks w (h ++ Start t a ∷ []) (after_event w (Start t a) b)
 tasks-start w h t a b legal allowed keeps =
     let facts = StartFacts-allowed w h t a allowed in
-    let its = seat_fired w h t facts.place facts.is_place in
+    let its = placement_fired w h t facts.place facts.is_place in
     rw (card_told w h t its.0 b keeps its.1) (keeps-one w h (Start t a) b (record b { tasks = _; queued = _; running = _; coming = _ }) (in_stage stages.Running) t refl keeps refl
     (λ u f named. (
     card-stays w h (Start t a) u f _ _ _ named (stage-start w h t a u f.spot legal allowed) (admitted-other w h legal (Start t a) u refl refl) (made-other h (Start t a) u refl)

@@ -5,7 +5,7 @@ use Rattle.std.specs.List.{slice_get}
 use Rattle.ccr_base.specs.declared.names.Spot.TheVariants.{Branch, Site}
 use Rattle.ccr_wiring.specs.declared.parts.Parts.{Parts}
 use Rattle.ccr_wiring.specs.Valid.{IsValid}
-use Rattle.ccr_wiring.specs.Wirings.{Seat, seat, site_port}
+use Rattle.ccr_wiring.specs.Wirings.{Placement, placement, site_port}
 use Rattle.ccr_model.specs.declared.history.Event.{Event}
 use Rattle.ccr_model.specs.declared.history.Event.TheVariants.{Post, Fire, Admit, Put, Start, End}
 use Rattle.ccr_model.specs.Choice.{is_choice_of}
@@ -31,7 +31,7 @@ tasks-event w valid h (Start t a) b legal allowed keeps = tasks-start w h t a b 
 tasks-event w valid h (End t how) b legal allowed keeps = tasks-end w h t how b legal allowed keeps.tasks
 tasks-event w valid h (Fire t (Branch n) ms cs) b legal allowed keeps =
     let made = (FireFacts-allowed w h t (Branch n) ms cs allowed).choice_made in
-    let found = some_of (λ (s : Seat). is_choice_of (held h) s.branch.pattern ms) (seat w n) made in
+    let found = some_of (λ (s : Placement). is_choice_of (held h) s.branch.pattern ms) (placement w n) made in
     rw found.1 (tasks-branch w h t n ms cs legal allowed found.0 b found.1 (branch-takes w valid h legal b keeps.sizes keeps.ports n found.0 ms found.1 made) keeps.tasks)
 tasks-event w valid h (Fire t (Site n k) ms cs) b legal allowed keeps =
     let made = (FireFacts-allowed w h t (Site n k) ms cs allowed).choice_made in

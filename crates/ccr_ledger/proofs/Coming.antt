@@ -8,7 +8,7 @@ use Rattle.ccr_base.specs.declared.names.MsgId.TheVariants.{Script, Task}
 use Rattle.ccr_base.specs.declared.names.Spot.TheVariants.{Branch, Site}
 use Rattle.ccr_base.specs.Names.{same_task, has_task, without}
 use Rattle.ccr_wiring.specs.declared.parts.Parts.{Parts}
-use Rattle.ccr_wiring.specs.Wirings.{Seat, seat, is_branch}
+use Rattle.ccr_wiring.specs.Wirings.{Placement, placement, is_branch}
 use Rattle.ccr_model.specs.declared.history.Event.{Event}
 use Rattle.ccr_model.specs.declared.history.Event.TheVariants.{Post, Fire, Admit, Put, Start, End}
 use Rattle.ccr_model.specs.declared.history.EndHow.{EndHow}
@@ -18,7 +18,7 @@ use Rattle.ccr_model.specs.Live.{is_live_in}
 use Rattle.ccr_model.specs.Rules.{cuts_at}
 use Rattle.ccr_model.specs.Legal.{IsAllowed, IsLegal}
 use Rattle.ccr_model.specs.Consequences.{are_distinct_tasks}
-use Rattle.ccr_model.specs.Interleaves.{is_seat_in}
+use Rattle.ccr_model.specs.Interleaves.{is_placement_in}
 use Rattle.ccr_model.proofs.Allowing.{OneName-legal}
 use Rattle.ccr_model.proofs.Options.{some_of}
 use Rattle.ccr_model.proofs.SameNames.{same_task-is, same_task-self}
@@ -79,13 +79,13 @@ counted-less w h out ns t b legal size facts there counts q low =
     same = rw (facts.spot, facts.queue) (sym (fired_by-is w (λ s. s.branch.queue == q) h t facts.firing legal facts.is_firing ∙ branch-is w (λ s. s.branch.queue == q) facts.firing.spot facts.place facts.is_place))
 
 -- one more fired
-counted-more : (w : Parts) (h : List Event) (out : List TaskId) (ns : List ℕ) (t : TaskId) (n : ℕ) (z : Seat) (ms : List MsgId) (cs : List TaskId) → seat w n ≡ Some z → length ns ≡ length w.queues → has_task out t ≡ false → AreCounted w h out ns → AreCounted w (h ++ Fire t (Branch n) ms cs ∷ []) out (more z.branch.queue ns)
+counted-more : (w : Parts) (h : List Event) (out : List TaskId) (ns : List ℕ) (t : TaskId) (n : ℕ) (z : Placement) (ms : List MsgId) (cs : List TaskId) → placement w n ≡ Some z → length ns ≡ length w.queues → has_task out t ≡ false → AreCounted w h out ns → AreCounted w (h ++ Fire t (Branch n) ms cs ∷ []) out (more z.branch.queue ns)
 counted-more w h out ns t n z ms cs at size there counts q low =
     number-more true ns z.branch.queue q (omega (arith, low, size))
     ∙ (ap (λ k. more_if (z.branch.queue == q) k) (counts q low)
     ∙ sym (ap (λ ts. length (without ts out)) (fired_where-fire (λ (f : Firing). is_branch_where w (λ s. s.branch.queue == q) f.spot) h t (Branch n) ms cs)
     ∙ (left-more (fired_by w (λ s. s.branch.queue == q) h) out t (is_branch_where w (λ s. s.branch.queue == q) (Branch n)) there
-    ∙ ap (λ o. more_if (option_map_or (λ (s : Seat). s.branch.queue == q) o false) (length (without (fired_by w (λ s. s.branch.queue == q) h) out))) at)))
+    ∙ ap (λ o. more_if (option_map_or (λ (s : Placement). s.branch.queue == q) o false) (length (without (fired_by w (λ s. s.branch.queue == q) h) out))) at)))
 
 -- a site's task is none of a branch
 counted-site : (w : Parts) (h : List Event) (out : List TaskId) (ns : List ℕ) (t : TaskId) (n k : ℕ) (ms : List MsgId) (cs : List TaskId) → AreCounted w h out ns → AreCounted w (h ++ Fire t (Site n k) ms cs ∷ []) out ns
@@ -140,14 +140,14 @@ counted-cuts w h out (t ∷ cs) b legal size once apart cards counts =
 
 -- who is cut once, and was on his way
 distinct_cuts : (w : Parts) (h : List Event) (n : ℕ) → IsLegal w h → are_distinct_tasks (cuts_at w h (Branch n)) ≡ true
-distinct_cuts w h n legal = of_option (seat w n)
+distinct_cuts w h n legal = of_option (placement w n)
   where
-    of_option : (o : Option Seat) → are_distinct_tasks (option_map_or (λ (z : Seat). if is_teardown z.branch.group then waiting w h z.arbiter else []) o []) ≡ true
+    of_option : (o : Option Placement) → are_distinct_tasks (option_map_or (λ (z : Placement). if is_teardown z.branch.group then waiting w h z.arbiter else []) o []) ≡ true
     of_option None = refl
     of_option (Some z) = of_test (is_teardown z.branch.group)
       where
         of_test : (b : Bool) → are_distinct_tasks (if b then waiting w h z.arbiter else []) ≡ true
-        of_test true = distinct-filter _ (fired_by w (is_seat_in z.arbiter) h) (fired_once w (λ (f : Firing). is_branch_where w (is_seat_in z.arbiter) f.spot) h legal)
+        of_test true = distinct-filter _ (fired_by w (is_placement_in z.arbiter) h) (fired_once w (λ (f : Firing). is_branch_where w (is_placement_in z.arbiter) f.spot) h legal)
         of_test false = refl
 
 length-cuts : (cs : List TaskId) (b : Books) → length (after_cuts cs b).coming ≡ length b.coming
@@ -171,7 +171,7 @@ counted-other w h e b no_fire no_start no_drop no_cut same counts =
 counted-branch : (w : Parts) (h : List Event) (t : TaskId) (n : ℕ) (ms : List MsgId) (cs : List TaskId) (b : Books) → IsLegal w h → IsAllowed w h (Fire t (Branch n) ms cs) → HasSizes w b → KeepsTasks w h b → AreCounted w h (gone h) b.coming → Counts w h (Fire t (Branch n) ms cs) b
 counted-branch w h t n ms cs b legal allowed sizes tasks counts =
     let so = FiresSo-allowed w h t (Branch n) ms cs allowed in
-    let at = some_of (λ (s : Seat). is_live_in w h n s.arbiter s.branch.group) (seat w n) so.live in
+    let at = some_of (λ (s : Placement). is_live_in w h n s.arbiter s.branch.group) (placement w n) so.live in
     let once : are_distinct_tasks cs ≡ true = subst (λ ts. are_distinct_tasks ts ≡ true) (sym so.cuts) (distinct_cuts w h n legal) in
     let e : Event = Fire t (Branch n) ms cs in
     let after = counted-cuts w h (gone h) cs b legal sizes.coming once (λ u is. out u (waits u is)) (λ u is. card u (waits u is)) counts in

@@ -4,11 +4,11 @@ use Rattle.std.proofs.lemmas.List.{length-replicate}
 use Rattle.ccr_base.specs.declared.names.TaskId.{TaskId}
 use Rattle.ccr_base.specs.declared.messages.Msg.{Msg}
 use Rattle.ccr_wiring.specs.declared.parts.Parts.{Parts}
-use Rattle.ccr_wiring.specs.Wirings.{seats}
+use Rattle.ccr_wiring.specs.Wirings.{placements}
 use Rattle.ccr_rows.specs.Rows.{row, empty_rows}
 use Rattle.ccr_ledger.specs.Books.{number, flag, sites_each}
 use Rattle.ccr_ledger.specs.Events.{empty_books}
-use Rattle.ccr_ledger.specs.Kept.{HasSizes, KeepsSaid, KeepsFlags}
+use Rattle.ccr_ledger.specs.Kept.{HasSizes, KeepsScriptPosts, KeepsFlags}
 
 length-empty_rows : (T : Type 0) (n : ℕ) → length (empty_rows {T = T} n) ≡ n
 length-empty_rows T zero = refl
@@ -34,9 +34,9 @@ sizes-none w = record {
   ports = length-empty_rows Msg (length w.ports);
   queued = length-empty_rows TaskId (length w.queues);
   waiting = length-empty_rows TaskId (length w.arbiters);
-  suspended = length-empty_rows TaskId (length (seats w) * sites_each);
-  said = length-replicate (length w.posters) 0;
-  spent = length-replicate (length (seats w)) false;
+  suspended = length-empty_rows TaskId (length (placements w) * sites_each);
+  script_posts = length-replicate (length w.posters) 0;
+  spent = length-replicate (length (placements w)) false;
   chosen = length-replicate (length w.arbiters) false;
   torn = length-replicate (length w.arbiters) false;
   admitted = length-replicate (length w.arbiters) 0;
@@ -44,15 +44,15 @@ sizes-none w = record {
   coming = length-replicate (length w.queues) 0;
 }
 
-pub said-none : (w : Parts) → KeepsSaid w [] (empty_books w)
-said-none w = record {
-  said = λ poster low. number-none (length w.posters) poster;
+pub script_posts-none : (w : Parts) → KeepsScriptPosts w [] (empty_books w)
+script_posts-none w = record {
+  script_posts = λ poster low. number-none (length w.posters) poster;
   task_posts = refl;
 }
 
 pub flags-none : (w : Parts) → KeepsFlags w [] (empty_books w)
 flags-none w = record {
-  spent = λ branch low. flag-none (length (seats w)) branch;
+  spent = λ branch low. flag-none (length (placements w)) branch;
   chosen = λ domain low. flag-none (length w.arbiters) domain;
   torn = λ domain low. flag-none (length w.arbiters) domain;
 }

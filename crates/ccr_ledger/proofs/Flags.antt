@@ -11,7 +11,7 @@ use Rattle.ccr_base.specs.declared.names.Spot.{Spot}
 use Rattle.ccr_base.specs.declared.names.Spot.TheVariants.{Branch, Site}
 use Rattle.ccr_base.specs.Names.{same_spot}
 use Rattle.ccr_wiring.specs.declared.parts.Parts.{Parts}
-use Rattle.ccr_wiring.specs.Wirings.{Seat, seat, seats}
+use Rattle.ccr_wiring.specs.Wirings.{Placement, placement, placements}
 use Rattle.ccr_model.specs.declared.history.Event.{Event}
 use Rattle.ccr_model.specs.declared.history.Event.TheVariants.{Post, Fire, Admit, Put, Start, End}
 use Rattle.ccr_model.specs.declared.history.EndHow.{EndHow}
@@ -114,7 +114,7 @@ torn-set flags place k false was low same = same ∙ of_test (place == k)
     of_test true = refl
     of_test false = refl
 
-flags-branch : (w : Parts) (h : List Event) (t : TaskId) (n : ℕ) (ms : List MsgId) (cs : List TaskId) (b c : Books) (s : Seat) → seat w n ≡ Some s → flags_of c ≡ flags_of b → HasSizes w b → KeepsFlags w h b
+flags-branch : (w : Parts) (h : List Event) (t : TaskId) (n : ℕ) (ms : List MsgId) (cs : List TaskId) (b c : Books) (s : Placement) → placement w n ≡ Some s → flags_of c ≡ flags_of b → HasSizes w b → KeepsFlags w h b
     → KeepsFlags w (h ++ Fire t (Branch n) ms cs ∷ []) (after_taking w t n ms c s)
 flags-branch w h t n ms cs b c s at same sizes keeps = record {
   spent = λ m low. ap (λ (fs : Flags). flag (raised n fs.spent) m) same ∙ (flag-set b.spent n m true (omega (arith, low, sizes.spent)) ∙ (if_same (n == m) _ _ (keeps.spent m low) ∙ sym (fired_more h t (Branch n) ms cs (λ (f : Firing). same_spot f.spot (Branch m)))));
@@ -122,22 +122,22 @@ flags-branch w h t n ms cs b c s at same sizes keeps = record {
   torn = λ i low. ap (λ (fs : Flags). flag (if is_teardown s.branch.group then raised s.arbiter fs.torn else fs.torn) i) same ∙ (torn-set b.torn s.arbiter i (is_teardown s.branch.group) _ (omega (arith, low, sizes.torn)) (keeps.torn i low) ∙ sym (fired_more h t (Branch n) ms cs (λ (f : Firing). is_branch_where w (λ z. (z.arbiter == i) && is_teardown z.branch.group) f.spot) ∙ rw at refl));
 }
 
-none_past : (ss : List Seat) (n : ℕ) → slice_get ss n ≡ None → length ss ≤ n
+none_past : (ss : List Placement) (n : ℕ) → slice_get ss n ≡ None → length ss ≤ n
 none_past [] n none = omega arith
 none_past (s ∷ ss) zero none = absurd (cc)
 none_past (s ∷ ss) (suc n) none = omega (arith, none_past ss n none)
 
 -- a firing of no branch of the wiring
-flags-nowhere : (w : Parts) (h : List Event) (t : TaskId) (n : ℕ) (ms : List MsgId) (cs : List TaskId) (b : Books) → seat w n ≡ None → KeepsFlags w h b → KeepsFlags w (h ++ Fire t (Branch n) ms cs ∷ []) b
+flags-nowhere : (w : Parts) (h : List Event) (t : TaskId) (n : ℕ) (ms : List MsgId) (cs : List TaskId) (b : Books) → placement w n ≡ None → KeepsFlags w h b → KeepsFlags w (h ++ Fire t (Branch n) ms cs ∷ []) b
 flags-nowhere w h t n ms cs b none keeps = record {
   spent = λ m low. keeps.spent m low ∙ (of_test m low (n == m) refl _ ∙ sym (fired_more h t (Branch n) ms cs (λ (f : Firing). same_spot f.spot (Branch m))));
   chosen = λ i low. keeps.chosen i low ∙ sym (fired_more h t (Branch n) ms cs (λ (f : Firing). is_branch_where w (λ z. z.arbiter == i) f.spot) ∙ rw none refl);
   torn = λ i low. keeps.torn i low ∙ sym (fired_more h t (Branch n) ms cs (λ (f : Firing). is_branch_where w (λ z. (z.arbiter == i) && is_teardown z.branch.group) f.spot) ∙ rw none refl);
 }
   where
-    of_test : (m : ℕ) → m < length (seats w) → (is : Bool) → (n == m) ≡ is → (was : Bool) → was ≡ (if is then true else was)
+    of_test : (m : ℕ) → m < length (placements w) → (is : Bool) → (n == m) ≡ is → (was : Bool) → was ≡ (if is then true else was)
     of_test m low false is was = refl
-    of_test m low true is was = absurd (omega (arith, low, none_past (seats w) n none, same_number n m is))
+    of_test m low true is was = absurd (omega (arith, low, none_past (placements w) n none, same_number n m is))
 
 -- a firing at a site
 flags-site : (w : Parts) (h : List Event) (t : TaskId) (n k : ℕ) (ms : List MsgId) (cs : List TaskId) (b c : Books) → flags_of c ≡ flags_of b → KeepsFlags w h b → KeepsFlags w (h ++ Fire t (Site n k) ms cs ∷ []) c
@@ -150,11 +150,11 @@ flags-site w h t n k ms cs b c same keeps = record {
 -- each event keeps what the flags say
 pub flags-event : (w : Parts) (h : List Event) (e : Event) (b : Books) → HasSizes w b → KeepsFlags w h b → KeepsFlags w (h ++ e ∷ []) (after_event w e b)
 flags-event w h (Post m) b sizes keeps = flags-other w h (Post m) b (after_post m b) refl (same-post m.id b) keeps
-flags-event w h (Fire t (Branch n) ms cs) b sizes keeps = of_seat (seat w n) refl
+flags-event w h (Fire t (Branch n) ms cs) b sizes keeps = of_placement (placement w n) refl
   where
-    of_seat : (o : Option Seat) → seat w n ≡ o → KeepsFlags w (h ++ Fire t (Branch n) ms cs ∷ []) (option_map_or (after_taking w t n ms (after_cuts cs b)) o b)
-    of_seat None at = flags-nowhere w h t n ms cs b at keeps
-    of_seat (Some s) at = flags-branch w h t n ms cs b (after_cuts cs b) s at (same-cuts cs b) sizes keeps
+    of_placement : (o : Option Placement) → placement w n ≡ o → KeepsFlags w (h ++ Fire t (Branch n) ms cs ∷ []) (option_map_or (after_taking w t n ms (after_cuts cs b)) o b)
+    of_placement None at = flags-nowhere w h t n ms cs b at keeps
+    of_placement (Some s) at = flags-branch w h t n ms cs b (after_cuts cs b) s at (same-cuts cs b) sizes keeps
 flags-event w h (Fire t (Site n k) ms cs) b sizes keeps = flags-site w h t n k ms cs b (after_fire w t (Site n k) ms cs b) (by_card b (resumed_card b n k) _ (λ c. refl)) keeps
 flags-event w h (Admit t) b sizes keeps = flags-other w h (Admit t) b (after_event w (Admit t) b) refl (by_card b (card_at b.tasks t) _ (λ c. refl)) keeps
 flags-event w h (Put t d) b sizes keeps = flags-other w h (Put t d) b (after_event w (Put t d) b) refl (by_card b (card_at b.tasks t) _ (λ c. same-dropped d b)) keeps

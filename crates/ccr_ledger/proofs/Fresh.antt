@@ -13,28 +13,28 @@ use Rattle.ccr_model.specs.Posts.{posts, posted, taken, held}
 use Rattle.ccr_model.specs.Legal.{IsAllowed, IsLegal}
 use Rattle.ccr_model.proofs.Pushes.{posts-push}
 use Rattle.ccr_model.proofs.PostNames.{along, times, posted_once}
-use Rattle.ccr_model.proofs.TakenOnce.{named, named-append, named-choice, taken-push, times-filter, times-two, FireFacts-allowed}
+use Rattle.ccr_model.proofs.TakenOnce.{times_named, named-append, named-choice, taken-push, times-filter, times-two, FireFacts-allowed}
 use Rattle.ccr_model.proofs.LegalParts.{legal_push}
 use Rattle.ccr_model.proofs.SameNames.{same_message-self}
 use Rattle.ccr_model.proofs.Booleans.{refuted, not_false}
 
-named_some : (name : MsgId) (names : List MsgId) → has_message names name ≡ true → 0 < named name names
+named_some : (name : MsgId) (names : List MsgId) → has_message names name ≡ true → 0 < times_named name names
 named_some name [] is = absurd (cc)
 named_some name (n ∷ names) is = grind (arith, named_some name names)
 
 -- each name that was taken was posted
 abbrev IsPosted : List Event → Type 0
-IsPosted h = (name : MsgId) → 0 < named name (taken h) → 0 < times name (posts h)
+IsPosted h = (name : MsgId) → 0 < times_named name (taken h) → 0 < times name (posts h)
 
 more_posted : (h : List Event) (e : Event) (name : MsgId) → 0 < times name (posts h) → 0 < times name (posts (h ++ e ∷ []))
 more_posted h e name some = rw posts-push (grind (arith, common_steps, some))
 
 posted_kept : (w : Parts) → HasPortsApart w → (h : List Event) (e : Event) → IsPosted h → IsAllowed w h e → IsPosted (h ++ e ∷ [])
-posted_kept w apart h (Fire t s ms cs) known allowed name some = more_posted h (Fire t s ms cs) name (of_count (named name (taken h)) refl)
+posted_kept w apart h (Fire t s ms cs) known allowed name some = more_posted h (Fire t s ms cs) name (of_count (times_named name (taken h)) refl)
   where
-    of_count : (n : ℕ) → named name (taken h) ≡ n → 0 < times name (posts h)
+    of_count : (n : ℕ) → times_named name (taken h) ≡ n → 0 < times name (posts h)
     of_count zero none =
-        let now : 0 < named name (taken h ++ ms) = rw taken-push at some in
+        let now : 0 < times_named name (taken h ++ ms) = rw taken-push at some in
         let facts = FireFacts-allowed w h t s ms cs allowed in
         omega (
           arith,

@@ -8,18 +8,18 @@ use Rattle.ccr_ledger.specs.Books.{Books}
 use Rattle.ccr_ledger.specs.Events.{after_event, empty_books}
 use Rattle.ccr_ledger.specs.Kept.{Keeps}
 use Rattle.ccr_ledger.proofs.Sizes.{sizes-event}
-use Rattle.ccr_ledger.proofs.Said.{said-event}
+use Rattle.ccr_ledger.proofs.ScriptPosts.{script_posts-event}
 use Rattle.ccr_ledger.proofs.Flags.{flags-event}
 use Rattle.ccr_ledger.proofs.PortsKept.{ports-event, ports-none}
 use Rattle.ccr_ledger.proofs.CardsKept.{tasks-event, tasks-none}
 use Rattle.ccr_ledger.proofs.Places.{places-event, places-none}
 use Rattle.ccr_ledger.proofs.Counted.{counts-event, counts-none}
-use Rattle.ccr_ledger.proofs.Empty.{sizes-none, said-none, flags-none}
+use Rattle.ccr_ledger.proofs.Empty.{sizes-none, script_posts-none, flags-none}
 
 pub keeps-event : (w : Parts) → IsValid w → (h : List Event) (e : Event) (b : Books) → IsLegal w h → IsAllowed w h e → Keeps w h b → Keeps w (h ++ e ∷ []) (after_event w e b)
 keeps-event w valid h e b legal allowed keeps = record {
   sizes = sizes-event w e b keeps.sizes;
-  said = said-event w h e b keeps.sizes keeps.said;
+  script_posts = script_posts-event w h e b keeps.sizes keeps.script_posts;
   ports = ports-event w valid h e b legal allowed keeps;
   tasks = tasks-event w valid h e b legal allowed keeps;
   places = places-event w valid h e b legal allowed keeps;
@@ -30,7 +30,7 @@ keeps-event w valid h e b legal allowed keeps = record {
 pub keeps-none : (w : Parts) → Keeps w [] (empty_books w)
 keeps-none w = record {
   sizes = sizes-none w;
-  said = said-none w;
+  script_posts = script_posts-none w;
   ports = ports-none w;
   tasks = tasks-none w;
   places = places-none w;

@@ -3,7 +3,7 @@ pub mod Rest
 pub mod Sizes
 pub mod Flags
 pub mod Running
-pub mod Said
+pub mod ScriptPosts
 pub mod Empty
 pub mod Fresh
 pub mod Fitting

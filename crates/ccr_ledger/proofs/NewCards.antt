@@ -10,17 +10,17 @@ use Rattle.ccr_base.specs.declared.names.Spot.TheVariants.{Branch, Site}
 use Rattle.ccr_base.specs.declared.messages.Msg.{Msg}
 use Rattle.ccr_base.specs.Names.{same_task, has_task}
 use Rattle.ccr_wiring.specs.declared.parts.Parts.{Parts}
-use Rattle.ccr_wiring.specs.Wirings.{Seat, seat, branch_of, segment_of}
+use Rattle.ccr_wiring.specs.Wirings.{Placement, placement, branch_of, segment_of}
 use Rattle.ccr_model.specs.declared.history.Event.{Event}
 use Rattle.ccr_model.specs.declared.history.Event.TheVariants.{Fire}
 use Rattle.ccr_model.specs.Posts.{messages_named, posts_of_task}
-use Rattle.ccr_model.specs.Firings.{Firing, firings, firing_named, fired, cut, let_in, put}
+use Rattle.ccr_model.specs.Firings.{Firing, firings, firing_named, fired, cut, ever_admitted, put}
 use Rattle.ccr_model.specs.Sites.{before, resumed}
 use Rattle.ccr_model.specs.TaskData.{no_load, no_play, with_messages, messages_of, load_at, load_after, load_of, play_at, play_of}
 use Rattle.ccr_model.specs.Tasks.{is_interleave}
 use Rattle.ccr_model.specs.Rules.{needs_no_admission}
 use Rattle.ccr_model.specs.Legal.{IsAllowed, IsLegal}
-use Rattle.ccr_model.proofs.Alone.{let_in_fired}
+use Rattle.ccr_model.proofs.Alone.{ever_admitted_fired}
 use Rattle.ccr_model.proofs.Booleans.{refuted, no_both}
 use Rattle.ccr_model.proofs.FiredTasks.{AreFired, fired_has}
 use Rattle.ccr_model.proofs.FiringFacts.{FiresSo-allowed, firing_named-new, before-new}
@@ -85,7 +85,7 @@ module _ (w : Parts) (h : List Event) (t : TaskId) (at : Spot) (ms : List MsgId)
   stage-new s =
       let out = unput w h t legal (out_of (put h) (ArePlaced-legal w h legal).all_fired) in
       stage-fire w h t at ms cs t s legal allowed
-      ∙ rw (not_cut_now, out.not_ended, out.not_started, out.not_dropped, out.not_put, out_of (cut h) (cut_fired w h legal), out_of (let_in h) (let_in_fired w h legal)) (of_needs (needs_no_admission w s))
+      ∙ rw (not_cut_now, out.not_ended, out.not_started, out.not_dropped, out.not_put, out_of (cut h) (cut_fired w h legal), out_of (ever_admitted h) (ever_admitted_fired w h legal)) (of_needs (needs_no_admission w s))
     where
       of_needs : (b : Bool) → (if b || false then stages.Ready else stages.Waiting) ≡ (if b then stages.Ready else stages.Waiting)
       of_needs true = refl
@@ -136,14 +136,14 @@ module _ (w : Parts) (h : List Event) (t : TaskId) (n : ℕ) (ms : List MsgId) (
   play-branch : play_of w later t ≡ play_at w n 0 (with_messages no_load (messages_named h ms))
   play-branch = play_by w later t _ (named w h t (Branch n) ms cs legal allowed) ∙ ap (λ messages. play_at w n 0 (with_messages no_load messages)) (messages-new w h t (Branch n) ms cs legal allowed)
 
-  stage-branch : (s : Seat) → seat w n ≡ Some s → stage_of w later t (Branch n) ≡ first_stage s
+  stage-branch : (s : Placement) → placement w n ≡ Some s → stage_of w later t (Branch n) ≡ first_stage s
   stage-branch s at = stage-new w h t (Branch n) ms cs legal allowed (Branch n) ∙ rw at (of_kind (is_interleave s.kind))
     where
       of_kind : (b : Bool) → (if not b then stages.Ready else stages.Waiting) ≡ (if b then stages.Waiting else stages.Ready)
       of_kind true = refl
       of_kind false = refl
 
-  card-branch : (s : Seat) (count : ℕ) (messages : List Msg) → seat w n ≡ Some s → count ≡ length (firings h) → messages ≡ messages_named h ms
+  card-branch : (s : Placement) (count : ℕ) (messages : List Msg) → placement w n ≡ Some s → count ≡ length (firings h) → messages ≡ messages_named h ms
       → branch_card w t n s count (with_messages no_load messages) ≡ card_of w later t (record { task = t; spot = Branch n; messages = ms; cuts = cs })
   card-branch s count messages at counted found =
       rw (
@@ -159,7 +159,7 @@ module _ (w : Parts) (h : List Event) (t : TaskId) (n : ℕ) (ms : List MsgId) (
         at,
       ) refl
 
-  pub tasks-branch : (s : Seat) (b : Books) → seat w n ≡ Some s → (take_pattern s.branch.pattern ms b.ports).messages ≡ messages_named h ms → KeepsTasks w h b → KeepsTasks w later (after_taking w t n ms (after_cuts cs b) s)
+  pub tasks-branch : (s : Placement) (b : Books) → placement w n ≡ Some s → (take_pattern s.branch.pattern ms b.ports).messages ≡ messages_named h ms → KeepsTasks w h b → KeepsTasks w later (after_taking w t n ms (after_cuts cs b) s)
   tasks-branch s b at found keeps =
       let left : names (after_cuts cs b).tasks ≡ fired h = ap names (tasks-cuts cs b) ∙ (names-all_moved stages.Cut cs b.tasks ∙ keeps.names) in
       let found_left : (take_pattern s.branch.pattern ms (after_cuts cs b).ports).messages ≡ messages_named h ms = ap (λ ports. (take_pattern s.branch.pattern ms ports).messages) (ports-cuts cs b) ∙ found in

@@ -4,7 +4,7 @@ use Rattle.std.specs.Prelude.{if◌then◌else◌, nat_lt}
 use Rattle.ccr_base.specs.declared.names.TaskId.{TaskId}
 use Rattle.ccr_wiring.specs.declared.parts.Parts.{Parts}
 use Rattle.ccr_wiring.specs.Valid.{IsValid}
-use Rattle.ccr_wiring.specs.Wirings.{seats}
+use Rattle.ccr_wiring.specs.Wirings.{placements}
 use Rattle.ccr_model.specs.declared.history.Event.{Event}
 use Rattle.ccr_model.specs.Legal.{IsAllowed, IsLegal}
 use Rattle.ccr_rows.specs.Rows.{row, empty_rows}
@@ -39,7 +39,7 @@ pub places-none : (w : Parts) → KeepsPlaces w [] (empty_books w)
 places-none w = record {
   queued = λ q low. row-none (length w.queues) q;
   waiting = λ i low. row-none (length w.arbiters) i;
-  suspended = λ b k. suspended-none (length (seats w) * sites_each) b k;
+  suspended = λ b k. suspended-none (length (placements w) * sites_each) b k;
   running = refl;
   running_by = λ a. refl;
 }

@@ -10,7 +10,7 @@ use Rattle.ccr_base.specs.declared.messages.Msg.{Msg}
 use Rattle.ccr_base.specs.Names.{has_message}
 use Rattle.ccr_wiring.specs.declared.parts.Parts.{Parts}
 use Rattle.ccr_wiring.specs.Valid.{IsValid, IsSound}
-use Rattle.ccr_wiring.specs.Wirings.{Seat, seat, site_port}
+use Rattle.ccr_wiring.specs.Wirings.{Placement, placement, site_port}
 use Rattle.ccr_wiring.proofs.Soundness.{sound}
 use Rattle.ccr_model.specs.declared.history.Event.{Event}
 use Rattle.ccr_model.specs.declared.history.Event.TheVariants.{Post, Fire, Admit, Put, Start, End}
@@ -84,10 +84,10 @@ are_held w h b legal sizes keeps = record {
 ports-branch : (w : Parts) → IsSound w → (h : List Event) (t : TaskId) (n : ℕ) (ms : List MsgId) (cs : List TaskId) (b : Books) → IsLegal w h → IsAllowed w h (Fire t (Branch n) ms cs) → HasSizes w b → KeepsPorts w h b
     → KeepsPorts w (h ++ Fire t (Branch n) ms cs ∷ []) (after_fire w t (Branch n) ms cs b)
 ports-branch w sound h t n ms cs b legal allowed sizes keeps =
-    let made = some_of (λ (s : Seat). is_choice_of (held h) s.branch.pattern ms) (seat w n) (FireFacts-allowed w h t (Branch n) ms cs allowed).choice_made in
+    let made = some_of (λ (s : Placement). is_choice_of (held h) s.branch.pattern ms) (placement w n) (FireFacts-allowed w h t (Branch n) ms cs allowed).choice_made in
     rw made.1 (record { ports = λ port low. rw (ports-cuts cs b) (port_left made.0 made.1 made.2 port low ∙ sym (held-fire h t (Branch n) ms cs port)) })
   where
-    port_left : (s : Seat) → seat w n ≡ Some s → is_choice_of (held h) s.branch.pattern ms ≡ true → (port : ℕ) → port < length w.ports → row (take_pattern s.branch.pattern ms b.ports).ports port ≡ filter (λ (m : Msg). not (has_message ms m.id)) (held h port)
+    port_left : (s : Placement) → placement w n ≡ Some s → is_choice_of (held h) s.branch.pattern ms ≡ true → (port : ℕ) → port < length w.ports → row (take_pattern s.branch.pattern ms b.ports).ports port ≡ filter (λ (m : Msg). not (has_message ms m.id)) (held h port)
     port_left s at is port low =
         pattern_left s.branch.pattern ms b.ports (held h) (are_held w h b legal sizes keeps) (sound.apart n s at) (λ place p there. omega (arith, sizes.ports, sound.pattern_ports n s place p at there)) is port (omega (arith, low, sizes.ports))
 

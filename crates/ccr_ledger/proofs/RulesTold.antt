@@ -11,7 +11,7 @@ use Rattle.ccr_wiring.specs.Wirings.{branch_of}
 use Rattle.ccr_wiring.specs.Valid.{IsValid}
 use Rattle.ccr_wiring.proofs.Soundness.{sound}
 use Rattle.ccr_model.specs.declared.history.Event.{Event}
-use Rattle.ccr_model.specs.Firings.{Firing, firing_named, fired, cut, let_in, put, dropped, started, ended}
+use Rattle.ccr_model.specs.Firings.{Firing, firing_named, fired, cut, ever_admitted, put, dropped, started, ended}
 use Rattle.ccr_model.specs.Tasks.{running, running_by, has_post_left, count_unfinished}
 use Rattle.ccr_model.specs.Live.{is_none_of}
 use Rattle.ccr_model.specs.Rules.{is_first, is_oldest_waiting, needs_no_admission, may_put, is_oldest_queued}
@@ -28,7 +28,7 @@ use Rattle.ccr_ledger.specs.declared.cards.Stage.TheVariants as stages
 use Rattle.ccr_ledger.specs.Books.{Books, card_at, runners, runners_of}
 use Rattle.ccr_ledger.specs.Asked.{has_fired, waits_first, is_ready_stage, is_ready, queued_first, is_busy, runs, has_more, unfinished}
 use Rattle.ccr_ledger.specs.Kept.{Keeps, card_of}
-use Rattle.ccr_ledger.proofs.Telling.{arbiter_within, seated}
+use Rattle.ccr_ledger.proofs.Telling.{arbiter_within, with_placement}
 
 -- over plain cards: who has one stands among their names
 has_card-named : (cards : List (TaskId × Card)) (t : TaskId) → option_map_or (λ (card : Card). true) (card_at cards t) false ≡ has_task (map (λ (e : TaskId × Card). e.0) cards) t
@@ -93,7 +93,7 @@ module _ (w : Parts) (valid : IsValid w) (h : List Event) (legal : IsLegal w h) 
       of_firing : (o : Option Firing) → firing_named h t ≡ o → option_map_or (λ (card : Card). is_first (row b.waiting card.domain) t) (option_map (card_of w h t) o) false ≡ is_oldest_waiting w h t
       of_firing None at = rw at refl
       of_firing (Some f) at =
-          let place = seated w valid h legal b keeps t f at in
+          let place = with_placement w valid h legal b keeps t f at in
           rw (place.1, place.2, keeps.places.waiting place.0.arbiter (arbiter_within w valid (branch_of f.spot) place.0 place.1)) refl
 
   pub queued_first_told : (t : TaskId) → queued_first b t ≡ is_oldest_queued w h t
@@ -102,7 +102,7 @@ module _ (w : Parts) (valid : IsValid w) (h : List Event) (legal : IsLegal w h) 
       of_firing : (o : Option Firing) → firing_named h t ≡ o → option_map_or (λ (card : Card). is_first (row b.queued card.queue) t) (option_map (card_of w h t) o) false ≡ is_oldest_queued w h t
       of_firing None at = rw at refl
       of_firing (Some f) at =
-          let place = seated w valid h legal b keeps t f at in
+          let place = with_placement w valid h legal b keeps t f at in
           rw (place.1, place.2, keeps.places.queued place.0.branch.queue ((sound w valid).queues (branch_of f.spot) place.0 place.1)) refl
 
   pub is_ready_told : (t : TaskId) → is_ready b t ≡ may_put w h t
@@ -112,7 +112,7 @@ module _ (w : Parts) (valid : IsValid w) (h : List Event) (legal : IsLegal w h) 
       of_firing None at = rw at (sym (and_false (not (has_task (put h) t) && not (has_task (cut h) t))))
       of_firing (Some f) at =
           let placed = (ArePlaced-legal w h legal).lists in
-          rw at (stage-ready (has_task (ended h) t) (has_task (started h) t) (has_task (dropped h) t) (has_task (put h) t) (has_task (cut h) t) (needs_no_admission w f.spot || has_task (let_in h) t)
+          rw at (stage-ready (has_task (ended h) t) (has_task (started h) t) (has_task (dropped h) t) (has_task (put h) t) (has_task (cut h) t) (needs_no_admission w f.spot || has_task (ever_admitted h) t)
           (λ is. placed.put_started t ((AreEnded-legal w h legal).started_ended t is)) (placed.put_started t) (placed.put_dropped t))
 
   pub is_busy_told : (a : ℕ) → is_busy b a ≡ not (is_none_of (running_by h a))

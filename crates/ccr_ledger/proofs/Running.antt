@@ -10,7 +10,7 @@ use Rattle.ccr_base.specs.declared.names.Spot.{Spot}
 use Rattle.ccr_base.specs.declared.names.Spot.TheVariants.{Branch, Site}
 use Rattle.ccr_base.specs.Names.{same_task, has_task, without}
 use Rattle.ccr_wiring.specs.declared.parts.Parts.{Parts}
-use Rattle.ccr_wiring.specs.Wirings.{Seat, seat}
+use Rattle.ccr_wiring.specs.Wirings.{Placement, placement}
 use Rattle.ccr_model.specs.declared.history.Event.{Event}
 use Rattle.ccr_model.specs.declared.history.Event.TheVariants.{Post, Fire, Admit, Put, Start, End}
 use Rattle.ccr_model.specs.declared.history.EndHow.{EndHow}
@@ -20,7 +20,7 @@ use Rattle.ccr_model.specs.Legal.{IsAllowed, IsLegal}
 use Rattle.ccr_model.proofs.TaskSteps.{running-start, running-end, running-post, running-fire, running-put, running-admit}
 use Rattle.ccr_model.proofs.TaskPlaces.{StartFacts-allowed, StartFacts-queued, ArePlaced-legal}
 use Rattle.ccr_model.proofs.Ending.{RunningFacts-allowed, AreEnded-legal}
-use Rattle.ccr_model.proofs.FiredTasks.{IsFired, seat_fired}
+use Rattle.ccr_model.proofs.FiredTasks.{IsFired, placement_fired}
 use Rattle.ccr_model.proofs.Booleans.{refuted, no_both}
 use Rattle.ccr_ledger.specs.declared.cards.Card.{Card}
 use Rattle.ccr_ledger.specs.declared.cards.Runner.{Runner}
@@ -54,11 +54,11 @@ same-dropped None b = refl
 same-dropped (Some t) b = by_card b (card_at b.tasks t) _ (λ c. same-last c.root (after_discard t c.spot c.queue b))
 
 same-fire : (w : Parts) (t : TaskId) (s : Spot) (ms : List MsgId) (cs : List TaskId) (b : Books) → (after_fire w t s ms cs b).running ≡ b.running
-same-fire w t (Branch n) ms cs b = of_seat (seat w n)
+same-fire w t (Branch n) ms cs b = of_placement (placement w n)
   where
-    of_seat : (o : Option Seat) → (option_map_or (after_taking w t n ms (after_cuts cs b)) o b).running ≡ b.running
-    of_seat None = refl
-    of_seat (Some s) = same-cuts cs b
+    of_placement : (o : Option Placement) → (option_map_or (after_taking w t n ms (after_cuts cs b)) o b).running ≡ b.running
+    of_placement None = refl
+    of_placement (Some s) = same-cuts cs b
 same-fire w t (Site n k) ms cs b = by_card b (resumed_card b n k) _ (λ c. refl)
 
 pub after-end : (t : TaskId) (how : EndHow) (c : Card) (b : Books) → (after_end t how c b).running ≡ stopped t b.running
@@ -95,7 +95,7 @@ running-event w h (Admit t) b legal allowed tasks keeps = ap runners (by_card b 
 running-event w h (Put t d) b legal allowed tasks keeps = ap runners (by_card b (card_at b.tasks t) _ (λ c. same-dropped d b)) ∙ (keeps ∙ sym (running-put h t d))
 running-event w h (Start t a) b legal allowed tasks keeps =
     let facts = StartFacts-allowed w h t a allowed in
-    let card = has_card w h t b tasks (seat_fired w h t facts.place facts.is_place) in
+    let card = has_card w h t b tasks (placement_fired w h t facts.place facts.is_place) in
     rw card.1 (map-append (λ (r : Runner). r.task) b.running _ ∙ (ap (λ ts. ts ++ t ∷ []) keeps ∙ sym (running-start h t a (unended w h t a legal allowed))))
 running-event w h (End t how) b legal allowed tasks keeps =
     let placed = ArePlaced-legal w h legal in

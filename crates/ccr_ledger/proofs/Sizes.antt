@@ -12,7 +12,7 @@ use Rattle.ccr_base.specs.declared.patterns.Slot.{Slot}
 use Rattle.ccr_base.specs.declared.patterns.Pattern.{Pattern}
 use Rattle.ccr_base.specs.declared.patterns.Pattern.TheVariants.{Slots, Gather}
 use Rattle.ccr_wiring.specs.declared.parts.Parts.{Parts}
-use Rattle.ccr_wiring.specs.Wirings.{Seat, seat, site_port, branch_of, is_branch, segment_of}
+use Rattle.ccr_wiring.specs.Wirings.{Placement, placement, site_port, branch_of, is_branch, segment_of}
 use Rattle.ccr_model.specs.declared.history.Event.{Event}
 use Rattle.ccr_model.specs.declared.history.Event.TheVariants.{Post, Fire, Admit, Put, Start, End}
 use Rattle.ccr_model.specs.declared.history.EndHow.{EndHow}
@@ -33,7 +33,7 @@ record Sizes : Type 0 where
   queued : ℕ
   waiting : ℕ
   suspended : ℕ
-  said : ℕ
+  script_posts : ℕ
   spent : ℕ
   chosen : ℕ
   torn : ℕ
@@ -47,7 +47,7 @@ sizes_of b = record {
   queued = length b.queued;
   waiting = length b.waiting;
   suspended = length b.suspended;
-  said = length b.said;
+  script_posts = length b.script_posts;
   spent = length b.spent;
   chosen = length b.chosen;
   torn = length b.torn;
@@ -83,7 +83,7 @@ length-suspended rows n k ts = of_test (nat_lt k sites_each)
     of_test true = length-with_row rows (n * sites_each + k) ts
     of_test false = refl
 
-length-wait : (s : Seat) (t : TaskId) (rows : List (List TaskId)) → length (after_wait s t rows) ≡ length rows
+length-wait : (s : Placement) (t : TaskId) (rows : List (List TaskId)) → length (after_wait s t rows) ≡ length rows
 length-wait s t rows = of_tests (is_interleave s.kind) (is_teardown s.branch.group)
   where
     of_tests : (a b : Bool) → length (if a then with_row (if b then with_row rows s.arbiter [] else rows) s.arbiter (row (if b then with_row rows s.arbiter [] else rows) s.arbiter ++ t ∷ []) else rows) ≡ length rows
@@ -112,7 +112,7 @@ alike-post : (m : Msg) (b : Books) → AreAlike b (after_post m b)
 alike-post m b = of_name m.id
   where
     of_name : (name : MsgId) → AreAlike b (record (counted name b) { ports = with_row b.ports m.port (row b.ports m.port ++ m ∷ []) })
-    of_name (Script actor place) i = record (sizes_of b) { ports = length-with_row b.ports m.port (row b.ports m.port ++ m ∷ []) i; said = length-set b.said actor (number b.said actor + 1) i }
+    of_name (Script actor place) i = record (sizes_of b) { ports = length-with_row b.ports m.port (row b.ports m.port ++ m ∷ []) i; script_posts = length-set b.script_posts actor (number b.script_posts actor + 1) i }
     of_name (Task task place) i = record (sizes_of b) { ports = length-with_row b.ports m.port (row b.ports m.port ++ m ∷ []) i }
 
 alike-cut : (t : TaskId) (b : Books) → AreAlike b (after_cut t b)
@@ -122,7 +122,7 @@ alike-cuts : (ts : List TaskId) (b : Books) → AreAlike b (after_cuts ts b)
 alike-cuts [] b = refl
 alike-cuts (t ∷ ts) b = alike-cuts ts (after_cut t b) ∙ alike-cut t b
 
-alike-taking : (w : Parts) (t : TaskId) (n : ℕ) (ms : List MsgId) (b : Books) (s : Seat) → AreAlike b (after_taking w t n ms b s)
+alike-taking : (w : Parts) (t : TaskId) (n : ℕ) (ms : List MsgId) (b : Books) (s : Placement) → AreAlike b (after_taking w t n ms b s)
 alike-taking w t n ms b s i = record (sizes_of b) {
   ports = length-take_pattern s.branch.pattern ms b.ports i;
   waiting = length-wait s t b.waiting i;
@@ -133,11 +133,11 @@ alike-taking w t n ms b s i = record (sizes_of b) {
 }
 
 alike-fire : (w : Parts) (t : TaskId) (s : Spot) (ms : List MsgId) (cs : List TaskId) (b : Books) → AreAlike b (after_fire w t s ms cs b)
-alike-fire w t (Branch n) ms cs b = of_seat (seat w n)
+alike-fire w t (Branch n) ms cs b = of_placement (placement w n)
   where
-    of_seat : (o : Option Seat) → AreAlike b (option_map_or (after_taking w t n ms (after_cuts cs b)) o b)
-    of_seat None = refl
-    of_seat (Some s) = alike-taking w t n ms (after_cuts cs b) s ∙ alike-cuts cs b
+    of_placement : (o : Option Placement) → AreAlike b (option_map_or (after_taking w t n ms (after_cuts cs b)) o b)
+    of_placement None = refl
+    of_placement (Some s) = alike-taking w t n ms (after_cuts cs b) s ∙ alike-cuts cs b
 alike-fire w t (Site n k) ms cs b = by_card b (resumed_card b n k) _ (λ c i. record (sizes_of b) { ports = length-take_site (site_port w n k) b.ports i; suspended = length-suspended b.suspended n k (drop 1 (suspended_at b.suspended n k)) i })
 
 alike-last : (r : TaskId) (b : Books) → AreAlike b (after_last r b)
@@ -180,7 +180,7 @@ sizes-event w e b sizes =
       queued = ap (λ (s : Sizes). s.queued) alike ∙ sizes.queued;
       waiting = ap (λ (s : Sizes). s.waiting) alike ∙ sizes.waiting;
       suspended = ap (λ (s : Sizes). s.suspended) alike ∙ sizes.suspended;
-      said = ap (λ (s : Sizes). s.said) alike ∙ sizes.said;
+      script_posts = ap (λ (s : Sizes). s.script_posts) alike ∙ sizes.script_posts;
       spent = ap (λ (s : Sizes). s.spent) alike ∙ sizes.spent;
       chosen = ap (λ (s : Sizes). s.chosen) alike ∙ sizes.chosen;
       torn = ap (λ (s : Sizes). s.torn) alike ∙ sizes.torn;

@@ -11,7 +11,7 @@ use Rattle.ccr_wiring.specs.declared.parts.Parts.{Parts}
 use Rattle.ccr_model.specs.declared.history.Event.{Event}
 use Rattle.ccr_model.specs.declared.history.Event.TheVariants.{Post, Fire, Admit, Put, Start, End}
 use Rattle.ccr_model.specs.declared.history.EndHow.{EndHow}
-use Rattle.ccr_model.specs.Firings.{cut, let_in, admitted_by, put, put_by, dropped, dropped_by, started, started_by, ended, ended_by}
+use Rattle.ccr_model.specs.Firings.{cut, ever_admitted, admitted_by, put, put_by, dropped, dropped_by, started, started_by, ended, ended_by}
 use Rattle.ccr_model.specs.Rules.{needs_no_admission}
 use Rattle.ccr_model.specs.Legal.{IsAllowed, IsLegal}
 use Rattle.ccr_model.proofs.Allowing.{OneName-legal}
@@ -20,7 +20,7 @@ use Rattle.ccr_model.proofs.Cutting.{AdmitFacts-allowed, CutFacts-legal, waits_u
 use Rattle.ccr_model.proofs.Ending.{AreEnded-legal}
 use Rattle.ccr_model.proofs.FiringFacts.{WaitingFacts-waiting}
 use Rattle.ccr_model.proofs.LegalParts.{legal_push}
-use Rattle.ccr_model.proofs.Pushes.{put-push, started-push, dropped-push, ended-push, let_in-push, cut-push}
+use Rattle.ccr_model.proofs.Pushes.{put-push, started-push, dropped-push, ended-push, ever_admitted-push, cut-push}
 use Rattle.ccr_model.proofs.SameNames.{same_task-is, same_task-sym}
 use Rattle.ccr_model.proofs.TaskLists.{among_right, not_within}
 use Rattle.ccr_model.proofs.TaskPlaces.{ArePlaced-legal, PutFacts-allowed, new_drop}
@@ -131,19 +131,19 @@ in-put es ss ds ps cs ls more free t u out kept outs = rw (has-last ps t u, has_
     of_tests false false this is = rw (or-false (has_task ds u)) refl
 
 module _ (w : Parts) (h : List Event) where
-  stage-push : (e : Event) (u : TaskId) (s : Spot) → stage_of w (h ++ e ∷ []) u s ≡ stage_in (ended h ++ ended_by e) (started h ++ started_by e) (dropped h ++ dropped_by e) (put h ++ put_by e) (cut h ++ cut (e ∷ [])) (let_in h ++ admitted_by e) (needs_no_admission w s) u
-  stage-push e u s = rw (ended-push h e, started-push h e, dropped-push h e, put-push h e, cut-push h e, let_in-push h e) refl
+  stage-push : (e : Event) (u : TaskId) (s : Spot) → stage_of w (h ++ e ∷ []) u s ≡ stage_in (ended h ++ ended_by e) (started h ++ started_by e) (dropped h ++ dropped_by e) (put h ++ put_by e) (cut h ++ cut (e ∷ [])) (ever_admitted h ++ admitted_by e) (needs_no_admission w s) u
+  stage-push e u s = rw (ended-push h e, started-push h e, dropped-push h e, put-push h e, cut-push h e, ever_admitted-push h e) refl
 
   pub stage-post : (m : Msg) (u : TaskId) (s : Spot) → stage_of w (h ++ Post m ∷ []) u s ≡ stage_of w h u s
-  stage-post m u s = stage-push (Post m) u s ∙ rw (append-nil (ended h), append-nil (started h), append-nil (dropped h), append-nil (put h), append-nil (cut h), append-nil (let_in h)) refl
+  stage-post m u s = stage-push (Post m) u s ∙ rw (append-nil (ended h), append-nil (started h), append-nil (dropped h), append-nil (put h), append-nil (cut h), append-nil (ever_admitted h)) refl
 
   pub stage-start : (t : TaskId) (a : ℕ) (u : TaskId) (s : Spot) → IsLegal w h → IsAllowed w h (Start t a) → stage_of w (h ++ Start t a ∷ []) u s ≡ (if same_task t u then stages.Running else stage_of w h u s)
   stage-start t a u s legal allowed =
-      stage-push (Start t a) u s ∙ rw (append-nil (ended h), append-nil (dropped h), append-nil (put h), append-nil (cut h), append-nil (let_in h)) (in-start (ended h) (started h) (dropped h) (put h) (cut h) (let_in h) (needs_no_admission w s) t u (unended w h t a legal allowed))
+      stage-push (Start t a) u s ∙ rw (append-nil (ended h), append-nil (dropped h), append-nil (put h), append-nil (cut h), append-nil (ever_admitted h)) (in-start (ended h) (started h) (dropped h) (put h) (cut h) (ever_admitted h) (needs_no_admission w s) t u (unended w h t a legal allowed))
 
   pub stage-end : (t : TaskId) (how : EndHow) (u : TaskId) (s : Spot) → stage_of w (h ++ End t how ∷ []) u s ≡ (if same_task t u then stages.Ended else stage_of w h u s)
   stage-end t how u s =
-      stage-push (End t how) u s ∙ rw (append-nil (started h), append-nil (dropped h), append-nil (put h), append-nil (cut h), append-nil (let_in h)) (in-end (ended h) (started h) (dropped h) (put h) (cut h) (let_in h) (needs_no_admission w s) t u)
+      stage-push (End t how) u s ∙ rw (append-nil (started h), append-nil (dropped h), append-nil (put h), append-nil (cut h), append-nil (ever_admitted h)) (in-end (ended h) (started h) (dropped h) (put h) (cut h) (ever_admitted h) (needs_no_admission w s) t u)
 
   -- who wasn't put neither started, was dropped nor ended
   pub unput : (t : TaskId) → IsLegal w h → has_task (put h) t ≡ false → IsOut (ended h) (started h) (dropped h) (put h) t
@@ -162,21 +162,21 @@ module _ (w : Parts) (h : List Event) where
       let facts = AdmitFacts-allowed w h t allowed in
       let waits = WaitingFacts-waiting w h facts.place.arbiter t (OneName-legal w h legal) facts.waits in
       let no_put = waits_unput w h facts.place.arbiter t (CutFacts-legal w h legal) waits in
-      stage-push (Admit t) u s ∙ rw (append-nil (ended h), append-nil (started h), append-nil (dropped h), append-nil (put h), append-nil (cut h)) (in-admit (ended h) (started h) (dropped h) (put h) (cut h) (let_in h) (needs_no_admission w s) t u (unput t legal no_put) waits.not_cut)
+      stage-push (Admit t) u s ∙ rw (append-nil (ended h), append-nil (started h), append-nil (dropped h), append-nil (put h), append-nil (cut h)) (in-admit (ended h) (started h) (dropped h) (put h) (cut h) (ever_admitted h) (needs_no_admission w s) t u (unput t legal no_put) waits.not_cut)
 
   pub stage-put : (t : TaskId) (d : Option TaskId) (u : TaskId) (s : Spot) → IsLegal w h → IsAllowed w h (Put t d)
       → stage_of w (h ++ Put t d ∷ []) u s ≡ (if same_task t u then stages.Queued else if has_task (option_to_list d) u then stages.Dropped else stage_of w h u s)
   stage-put t d u s legal allowed =
       let facts = PutFacts-allowed w h t d allowed in
       let kept = not_within (option_to_list d) (put h) t (λ is. (new_drop w h (Put t d) t allowed is).1.put_so) facts.new_put in
-      stage-push (Put t d) u s ∙ rw (append-nil (ended h), append-nil (started h), append-nil (cut h), append-nil (let_in h)) (in-put (ended h) (started h) (dropped h) (put h) (cut h) (let_in h) (option_to_list d) (needs_no_admission w s) t u (unput t legal facts.new_put) kept
+      stage-push (Put t d) u s ∙ rw (append-nil (ended h), append-nil (started h), append-nil (cut h), append-nil (ever_admitted h)) (in-put (ended h) (started h) (dropped h) (put h) (cut h) (ever_admitted h) (option_to_list d) (needs_no_admission w s) t u (unput t legal facts.new_put) kept
       (λ is. let no_start = (new_drop w h (Put t d) u allowed is).1.not_started in (not_within (ended h) (started h) u ((AreEnded-legal w h legal).started_ended u) no_start, no_start)))
 
   -- who is cut wasn't put
   pub stage-fire : (t : TaskId) (at : Spot) (ms : List MsgId) (cs : List TaskId) (u : TaskId) (s : Spot) → IsLegal w h → IsAllowed w h (Fire t at ms cs)
       → stage_of w (h ++ Fire t at ms cs ∷ []) u s ≡ (if has_task cs u then stages.Cut else stage_of w h u s)
   stage-fire t at ms cs u s legal allowed =
-      stage-push (Fire t at ms cs) u s ∙ rw (append-nil (ended h), append-nil (started h), append-nil (dropped h), append-nil (put h), append-nil (let_in h), append-nil cs) (in-cut (ended h) (started h) (dropped h) (put h) (cut h) (let_in h) cs (needs_no_admission w s) u (λ is. unput u legal (no_put is)))
+      stage-push (Fire t at ms cs) u s ∙ rw (append-nil (ended h), append-nil (started h), append-nil (dropped h), append-nil (put h), append-nil (ever_admitted h), append-nil cs) (in-cut (ended h) (started h) (dropped h) (put h) (cut h) (ever_admitted h) cs (needs_no_admission w s) u (λ is. unput u legal (no_put is)))
     where
       no_put : has_task cs u ≡ true → has_task (put h) u ≡ false
       no_put is =

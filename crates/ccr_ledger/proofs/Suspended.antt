@@ -11,7 +11,7 @@ use Rattle.ccr_base.specs.Names.{same_spot, has_task}
 use Rattle.ccr_handler.specs.declared.segments.Play.{Play}
 use Rattle.ccr_wiring.specs.declared.parts.Parts.{Parts}
 use Rattle.ccr_wiring.specs.Valid.{IsValid}
-use Rattle.ccr_wiring.specs.Wirings.{seats, branch_of, segment_of, next_site}
+use Rattle.ccr_wiring.specs.Wirings.{placements, branch_of, segment_of, next_site}
 use Rattle.ccr_model.specs.declared.history.Event.{Event}
 use Rattle.ccr_model.specs.declared.history.Event.TheVariants.{Post, Fire, Admit, Put, Start, End}
 use Rattle.ccr_model.specs.declared.history.EndHow.{EndHow}
@@ -151,7 +151,7 @@ suspended-event-yield : (w : Parts) → IsValid w → (h : List Event) (t : Task
 suspended-event-yield w valid h t b legal allowed sizes tasks known c l =
     ap (λ (r : Rows). suspended_at r.suspended c l) (rows-yield w t b facts.card facts.is_card)
     ∙ (ap (λ s. suspended_at (with_suspended b.suspended (branch_of s) (segment_of s) (suspended_at b.suspended (branch_of s) (segment_of s) ++ t ∷ [])) c l) facts.spot
-    ∙ (suspended-set b.suspended n k c l (suspended_at b.suspended n k ++ t ∷ []) early (omega (arith, early, sizes.suspended, some-below (seats w) n facts.place facts.is_place))
+    ∙ (suspended-set b.suspended n k c l (suspended_at b.suspended n k ++ t ∷ []) early (omega (arith, early, sizes.suspended, some-below (placements w) n facts.place facts.is_place))
     ∙ (of_test ((n == c) && (k == l)) refl
     ∙ (ap (λ is. suspended h (Site c l) ++ (if is then t ∷ [] else [])) (sym yields_so)
     ∙ sym (suspended-other w h (End t ends.Yield) c l refl legal (end_fired w h t ends.Yield legal allowed))))))

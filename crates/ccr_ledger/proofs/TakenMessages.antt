@@ -13,7 +13,7 @@ use Rattle.ccr_base.specs.Choice.{holds, fitting, choice}
 use Rattle.ccr_base.specs.Names.{same_message, has_message, same_lists}
 use Rattle.ccr_wiring.specs.declared.parts.Parts.{Parts}
 use Rattle.ccr_wiring.specs.Valid.{IsValid, has_port, are_apart, slot_ports}
-use Rattle.ccr_wiring.specs.Wirings.{Seat, seat, site_port}
+use Rattle.ccr_wiring.specs.Wirings.{Placement, placement, site_port}
 use Rattle.ccr_wiring.proofs.Soundness.{sound}
 use Rattle.ccr_model.specs.declared.history.Event.{Event}
 use Rattle.ccr_model.specs.Posts.{posts, taken, held, messages_named}
@@ -184,13 +184,13 @@ module _ (w : Parts) (valid : IsValid w) (h : List Event) (legal : IsLegal w h) 
         | inr there ↦ held-posted second m (among-take (length names - shared (held h first) names) (held h second) m there)
       ]
 
-  of_pattern : (p : Pattern) (n : ℕ) (s : Seat) (names : List MsgId) → seat w n ≡ Some s → s.branch.pattern ≡ p → is_choice_of (held h) p names ≡ true → (take_pattern p names b.ports).messages ≡ messages_named h names
+  of_pattern : (p : Pattern) (n : ℕ) (s : Placement) (names : List MsgId) → placement w n ≡ Some s → s.branch.pattern ≡ p → is_choice_of (held h) p names ≡ true → (take_pattern p names b.ports).messages ≡ messages_named h names
   of_pattern (Slots slots) n s names at one is = of_slots slots names (λ place port there. (sound w valid).pattern_ports n s place port at (rw one there)) (rw one at ((sound w valid).apart n s at)) is
   of_pattern (Gather total first second) n s names at one is =
       of_gather total first second names ((sound w valid).pattern_ports n s 0 first at (rw one refl)) ((sound w valid).pattern_ports n s 1 second at (rw one refl)) (rw one at ((sound w valid).apart n s at)) is
 
   -- at a branch
-  pub branch-takes : (n : ℕ) (s : Seat) (names : List MsgId) → seat w n ≡ Some s → is_choice w h (Branch n) names ≡ true → (take_pattern s.branch.pattern names b.ports).messages ≡ messages_named h names
+  pub branch-takes : (n : ℕ) (s : Placement) (names : List MsgId) → placement w n ≡ Some s → is_choice w h (Branch n) names ≡ true → (take_pattern s.branch.pattern names b.ports).messages ≡ messages_named h names
   branch-takes n s names at is = of_pattern s.branch.pattern n s names at refl (rw at at is)
 
   -- at a site

@@ -1,21 +1,21 @@
--- The card of a task that fired, and the seat of its branch.
+-- The card of a task that fired, and the placement of its branch.
 use Rattle.std.proofs.Common.{◌≡◌, ℕ, inl, inr, Bool, true, false, List, [], ◌∷◌, Option, Some, refl, sym, ap, ◌∙◌}
 use Rattle.std.specs.Prelude.{◌==◌, if◌then◌else◌, find, option_map}
 use Rattle.std.specs.Option.{option_map_or}
 use Rattle.ccr_base.specs.declared.names.TaskId.{TaskId}
 use Rattle.ccr_base.specs.Names.{same_task}
 use Rattle.ccr_wiring.specs.declared.parts.Parts.{Parts}
-use Rattle.ccr_wiring.specs.Wirings.{Seat, seat, branch_of}
+use Rattle.ccr_wiring.specs.Wirings.{Placement, placement, branch_of}
 use Rattle.ccr_model.specs.declared.history.Event.{Event}
 use Rattle.ccr_model.specs.Firings.{Firing, firings, firing_named}
-use Rattle.ccr_model.specs.TaskData.{seat_of}
+use Rattle.ccr_model.specs.TaskData.{placement_of}
 use Rattle.ccr_model.specs.Sites.{root_of}
 use Rattle.ccr_model.specs.Tasks.{is_for_queue, is_concurrent}
 use Rattle.ccr_model.specs.Legal.{IsLegal}
 use Rattle.ccr_model.proofs.Members.{Among}
-use Rattle.ccr_model.proofs.Seated.{firing_seated}
+use Rattle.ccr_model.proofs.FiringPlacements.{firing_with_placement}
 use Rattle.ccr_model.proofs.FiredTasks.{IsFired}
-use Rattle.ccr_model.proofs.TaskPlaces.{seat_by}
+use Rattle.ccr_model.proofs.TaskPlaces.{placement_by}
 use Rattle.ccr_ledger.specs.declared.cards.Card.{Card}
 use Rattle.ccr_ledger.specs.declared.cards.Stage.{Stage}
 use Rattle.ccr_ledger.specs.Books.{Books, card_at, in_stage, moved}
@@ -37,9 +37,9 @@ pub record CardFacts (w : Parts) (h : List Event) (t : TaskId) (b : Books) : Typ
   pub is_card : card_at b.tasks t ≡ Some card
   pub firing : Firing
   pub is_firing : firing_named h t ≡ Some firing
-  pub place : Seat
-  pub is_place : seat w (branch_of firing.spot) ≡ Some place
-  pub is_seat : seat_of w h t ≡ Some place
+  pub place : Placement
+  pub is_place : placement w (branch_of firing.spot) ≡ Some place
+  pub is_placement : placement_of w h t ≡ Some place
   pub spot : card.spot ≡ firing.spot
   pub queue : card.queue ≡ place.branch.queue
   pub domain : card.domain ≡ place.arbiter
@@ -50,19 +50,19 @@ pub record CardFacts (w : Parts) (h : List Event) (t : TaskId) (b : Books) : Typ
 pub CardFacts-fired : (w : Parts) (h : List Event) (t : TaskId) (b : Books) → IsLegal w h → KeepsTasks w h b → IsFired h t → CardFacts w h t b
 CardFacts-fired w h t b legal tasks fired =
     let f = fired.0 in
-    let seated = firing_seated w h legal f (found_among (λ (g : Firing). same_task g.task t) (firings h) f fired.1) in
+    let with_placement = firing_with_placement w h legal f (found_among (λ (g : Firing). same_task g.task t) (firings h) f fired.1) in
     record {
       card = card_of w h t f;
       is_card = tasks.cards t ∙ ap (option_map (card_of w h t)) fired.1;
       firing = f;
       is_firing = fired.1;
-      place = seated.0;
-      is_place = seated.1;
-      is_seat = seat_by w h t f fired.1 ∙ seated.1;
+      place = with_placement.0;
+      is_place = with_placement.1;
+      is_placement = placement_by w h t f fired.1 ∙ with_placement.1;
       spot = refl;
-      queue = ap (λ o. option_map_or (λ (s : Seat). s.branch.queue) o 0) seated.1;
-      domain = ap (λ o. option_map_or (λ (s : Seat). s.arbiter) o 0) seated.1;
-      concurrent = ap (λ o. option_map_or (λ (s : Seat). is_concurrent s.branch.group) o false) seated.1;
+      queue = ap (λ o. option_map_or (λ (s : Placement). s.branch.queue) o 0) with_placement.1;
+      domain = ap (λ o. option_map_or (λ (s : Placement). s.arbiter) o 0) with_placement.1;
+      concurrent = ap (λ o. option_map_or (λ (s : Placement). is_concurrent s.branch.group) o false) with_placement.1;
       root = refl;
       admitted = refl;
     }
@@ -82,7 +82,7 @@ card_moved w h stage x b d t same facts = of_test (same_task x t) refl
       is_firing = facts.is_firing;
       place = facts.place;
       is_place = facts.is_place;
-      is_seat = facts.is_seat;
+      is_placement = facts.is_placement;
       spot = facts.spot;
       queue = facts.queue;
       domain = facts.domain;
@@ -97,7 +97,7 @@ card_moved w h stage x b d t same facts = of_test (same_task x t) refl
       is_firing = facts.is_firing;
       place = facts.place;
       is_place = facts.is_place;
-      is_seat = facts.is_seat;
+      is_placement = facts.is_placement;
       spot = facts.spot;
       queue = facts.queue;
       domain = facts.domain;
@@ -106,10 +106,10 @@ card_moved w h stage x b d t same facts = of_test (same_task x t) refl
       admitted = facts.admitted;
     }
 
--- one task has one seat
-pub same_seat : (s r : Seat) (o : Option Seat) → o ≡ Some s → o ≡ Some r → s ≡ r
-same_seat s r o one other = let same : Some s ≡ Some r = sym one ∙ other in cc
+-- one task has one placement
+pub same_placement : (s r : Placement) (o : Option Placement) → o ≡ Some s → o ≡ Some r → s ≡ r
+same_placement s r o one other = let same : Some s ≡ Some r = sym one ∙ other in cc
 
 -- whether the task is for the queue, by its card
 pub for_queue : (w : Parts) (h : List Event) (t : TaskId) (b : Books) (facts : CardFacts w h t b) (q : ℕ) → is_for_queue w h q t ≡ (facts.card.queue == q)
-for_queue w h t b facts q = ap (λ o. option_map_or (λ (s : Seat). s.branch.queue == q) o false) facts.is_seat ∙ ap (λ n. n == q) (sym facts.queue)
+for_queue w h t b facts q = ap (λ o. option_map_or (λ (s : Placement). s.branch.queue == q) o false) facts.is_placement ∙ ap (λ n. n == q) (sym facts.queue)

@@ -8,7 +8,7 @@ use Rattle.ccr_base.specs.declared.names.MsgId.TheVariants.{Script, Task}
 use Rattle.ccr_base.specs.declared.names.Spot.TheVariants.{Branch, Site}
 use Rattle.ccr_base.specs.declared.messages.Msg.{Msg}
 use Rattle.ccr_wiring.specs.declared.parts.Parts.{Parts}
-use Rattle.ccr_wiring.specs.Wirings.{Seat, seat, branch_of, segment_of}
+use Rattle.ccr_wiring.specs.Wirings.{Placement, placement, branch_of, segment_of}
 use Rattle.ccr_model.specs.declared.history.Event.TheVariants.{Fire, Admit, Put, Start, End}
 use Rattle.ccr_model.specs.declared.history.EndHow.{EndHow}
 use Rattle.ccr_model.specs.declared.history.EndHow.TheVariants.{Yield}
@@ -57,7 +57,7 @@ rows-post m b = of_name m.id
     of_name (Task task place) = refl
 
 -- a branch's task may wait
-pub rows-branch : (w : Parts) (t : TaskId) (n : ℕ) (ms : List MsgId) (cs : List TaskId) (b : Books) (s : Seat) → seat w n ≡ Some s → rows_of (after_event w (Fire t (Branch n) ms cs) b) ≡ record (rows_of b) { waiting = after_wait s t b.waiting }
+pub rows-branch : (w : Parts) (t : TaskId) (n : ℕ) (ms : List MsgId) (cs : List TaskId) (b : Books) (s : Placement) → placement w n ≡ Some s → rows_of (after_event w (Fire t (Branch n) ms cs) b) ≡ record (rows_of b) { waiting = after_wait s t b.waiting }
 rows-branch w t n ms cs b s at = rw at (ap (λ (r : Rows). record r { waiting = after_wait s t r.waiting }) (same-cuts cs b))
 
 -- a site's task resumes the first
@@ -88,11 +88,11 @@ rows-end w t how b c at not_so = rw (at, not_so) (same-last c.root (after_stop t
 
 -- the rows that an event doesn't move
 pub rest-branch : (w : Parts) (t : TaskId) (n : ℕ) (ms : List MsgId) (cs : List TaskId) (b : Books) → record (rows_of (after_event w (Fire t (Branch n) ms cs) b)) { waiting = b.waiting } ≡ rows_of b
-rest-branch w t n ms cs b = of_seat (seat w n)
+rest-branch w t n ms cs b = of_placement (placement w n)
   where
-    of_seat : (o : Option Seat) → record (rows_of (option_map_or (after_taking w t n ms (after_cuts cs b)) o b)) { waiting = b.waiting } ≡ rows_of b
-    of_seat None = refl
-    of_seat (Some s) = ap (λ (r : Rows). record r { waiting = b.waiting }) (same-cuts cs b)
+    of_placement : (o : Option Placement) → record (rows_of (option_map_or (after_taking w t n ms (after_cuts cs b)) o b)) { waiting = b.waiting } ≡ rows_of b
+    of_placement None = refl
+    of_placement (Some s) = ap (λ (r : Rows). record r { waiting = b.waiting }) (same-cuts cs b)
 
 pub rest-site : (w : Parts) (t : TaskId) (n k : ℕ) (ms : List MsgId) (cs : List TaskId) (b : Books) → record (rows_of (after_event w (Fire t (Site n k) ms cs) b)) { suspended = b.suspended } ≡ rows_of b
 rest-site w t n k ms cs b = by_cards (λ r. record r { suspended = b.suspended }) b (resumed_card b n k) _ refl (λ c. refl)

@@ -20,7 +20,7 @@ use Rattle.ccr_base.specs.Names.{same_task, same_message, same_lists, has_task}
 use Rattle.ccr_base.specs.Choice.{is_choosable}
 use Rattle.ccr_wiring.specs.declared.parts.Parts.{Parts}
 use Rattle.ccr_wiring.specs.declared.parts.ArbiterPart.{ArbiterPart}
-use Rattle.ccr_wiring.specs.Wirings.{Seat, seat, seats, policy_of, site_port, branch_of}
+use Rattle.ccr_wiring.specs.Wirings.{Placement, placement, placements, policy_of, site_port, branch_of}
 use Rattle.ccr_wiring.specs.Repeats.{slot_ports}
 use Rattle.ccr_wiring.specs.Spots.{pattern_ports}
 use Rattle.ccr_wiring.specs.Valid.{IsValid}
@@ -28,26 +28,26 @@ use Rattle.ccr_wiring.proofs.Soundness.{sound}
 use Rattle.ccr_model.specs.declared.history.Event.{Event}
 use Rattle.ccr_model.specs.Posts.{held, posts_of_task}
 use Rattle.ccr_model.specs.Firings.{Firing, firings, firing_named}
-use Rattle.ccr_model.specs.TaskData.{seat_of, play_of, no_play}
+use Rattle.ccr_model.specs.TaskData.{placement_of, play_of, no_play}
 use Rattle.ccr_model.specs.Tasks.{is_teardown, is_concurrent, waiting, running, admitted}
 use Rattle.ccr_model.specs.Live.{is_none_of, is_live, is_live_in, has_room, has_room_in}
 use Rattle.ccr_model.specs.Choice.{names_of, choice_of_slots, is_choice, is_choice_of, are_oldest, engine_choice_of, engine_choice, oldest}
 use Rattle.ccr_model.specs.Enough.{has_enough, can_take}
-use Rattle.ccr_model.specs.Rules.{cuts_at, may_enter, is_concurrent_task, drop_by, drop_at, has_budget}
+use Rattle.ccr_model.specs.Rules.{cuts_at, may_admit, is_concurrent_task, drop_by, drop_at, has_budget}
 use Rattle.ccr_model.specs.Legal.{IsLegal}
 use Rattle.ccr_model.proofs.Options.{some-below}
 use Rattle.ccr_model.proofs.Members.{Among}
 use Rattle.ccr_model.proofs.Covered.{running_started}
-use Rattle.ccr_model.proofs.TaskPlaces.{ArePlaced-legal, seat_by}
-use Rattle.ccr_model.proofs.Seated.{firing_seated}
+use Rattle.ccr_model.proofs.TaskPlaces.{ArePlaced-legal, placement_by}
+use Rattle.ccr_model.proofs.FiringPlacements.{firing_with_placement}
 use Rattle.ccr_rows.specs.Rows.{row}
 use Rattle.ccr_ledger.specs.declared.cards.Card.{Card}
 use Rattle.ccr_ledger.specs.Books.{Books, number}
-use Rattle.ccr_ledger.specs.Asked.{lives, group_lives, room, queue_has_room, can_choose, choice_at, are_choice, cuts, enters, admits, drops, play_in, made_in, budget_lasts}
+use Rattle.ccr_ledger.specs.Asked.{lives, group_lives, room, queue_has_room, can_choose, choice_at, are_choice, cuts, may_admit_task, may_admit_card, drops, play_in, made_in, budget_lasts}
 use Rattle.ccr_ledger.specs.Kept.{Keeps, card_of}
 
 -- the number of a branch's domain is one of the wiring's arbiters
-pub arbiter_within : (w : Parts) → IsValid w → (n : ℕ) (s : Seat) → seat w n ≡ Some s → s.arbiter < length w.arbiters
+pub arbiter_within : (w : Parts) → IsValid w → (n : ℕ) (s : Placement) → placement w n ≡ Some s → s.arbiter < length w.arbiters
 arbiter_within w valid n s at = of_arbiter (slice_get w.arbiters s.arbiter) refl ((sound w valid).domains n s at)
   where
     of_arbiter : (o : Option ArbiterPart) → slice_get w.arbiters s.arbiter ≡ o → IsSomeAnd o (λ (arbiter : ArbiterPart). arbiter.kind ≡ s.kind) → s.arbiter < length w.arbiters
@@ -113,9 +113,9 @@ find_member p (y ∷ xs) x is = of_test (p y) is (find_member p xs x)
     of_test false at rest = inr (rest at)
 
 module _ (w : Parts) (valid : IsValid w) (h : List Event) (legal : IsLegal w h) (b : Books) (keeps : Keeps w h b) where
-  group_told : (n : ℕ) (s : Seat) → seat w n ≡ Some s → (g : Group) → group_lives b n s.arbiter g ≡ is_live_in w h n s.arbiter g
+  group_told : (n : ℕ) (s : Placement) → placement w n ≡ Some s → (g : Group) → group_lives b n s.arbiter g ≡ is_live_in w h n s.arbiter g
   group_told n s at groups.Always = refl
-  group_told n s at groups.Once = rw (keeps.flags.spent n (some-below (seats w) n s at)) (not_not _)
+  group_told n s at groups.Once = rw (keeps.flags.spent n (some-below (placements w) n s at)) (not_not _)
   group_told n s at groups.Choice = rw (keeps.flags.chosen s.arbiter (arbiter_within w valid n s at)) (not_not _)
   group_told n s at groups.Concurrent = rw (keeps.flags.torn s.arbiter (arbiter_within w valid n s at)) (not_not _)
   group_told n s at groups.Exclusive = rw (keeps.flags.torn s.arbiter (arbiter_within w valid n s at)) (not_not _)
@@ -123,11 +123,11 @@ module _ (w : Parts) (valid : IsValid w) (h : List Event) (legal : IsLegal w h) 
 
   pub lives_told : (s : Spot) → lives w b s ≡ is_live w h s
   lives_told (Site n k) = rw (keeps.places.suspended n k) refl
-  lives_told (Branch n) = of_seat (seat w n) refl
+  lives_told (Branch n) = of_placement (placement w n) refl
     where
-      of_seat : (o : Option Seat) → seat w n ≡ o → option_map_or (λ (s : Seat). group_lives b n s.arbiter s.branch.group) o false ≡ option_map_or (λ (s : Seat). is_live_in w h n s.arbiter s.branch.group) o false
-      of_seat None at = refl
-      of_seat (Some s) at = group_told n s at s.branch.group
+      of_placement : (o : Option Placement) → placement w n ≡ o → option_map_or (λ (s : Placement). group_lives b n s.arbiter s.branch.group) o false ≡ option_map_or (λ (s : Placement). is_live_in w h n s.arbiter s.branch.group) o false
+      of_placement None at = refl
+      of_placement (Some s) at = group_told n s at s.branch.group
 
   room_policy : (q : ℕ) → q < length w.queues → (p : Policy) → queue_has_room b q p ≡ has_room_in w h q p
   room_policy q low policies.Unbounded = refl
@@ -136,25 +136,25 @@ module _ (w : Parts) (valid : IsValid w) (h : List Event) (legal : IsLegal w h) 
 
   pub room_told : (s : Spot) → room w b s ≡ has_room w h s
   room_told (Site n k) = refl
-  room_told (Branch n) = of_seat (seat w n) refl
+  room_told (Branch n) = of_placement (placement w n) refl
     where
-      of_seat : (o : Option Seat) → seat w n ≡ o → option_map_or (λ (s : Seat). queue_has_room b s.branch.queue (policy_of w s.branch.queue)) o true ≡ option_map_or (λ (s : Seat). has_room_in w h s.branch.queue (policy_of w s.branch.queue)) o true
-      of_seat None at = refl
-      of_seat (Some s) at = room_policy s.branch.queue ((sound w valid).queues n s at) (policy_of w s.branch.queue)
+      of_placement : (o : Option Placement) → placement w n ≡ o → option_map_or (λ (s : Placement). queue_has_room b s.branch.queue (policy_of w s.branch.queue)) o true ≡ option_map_or (λ (s : Placement). has_room_in w h s.branch.queue (policy_of w s.branch.queue)) o true
+      of_placement None at = refl
+      of_placement (Some s) at = room_policy s.branch.queue ((sound w valid).queues n s at) (policy_of w s.branch.queue)
 
   -- the ports of a branch's pattern, and that of a site, are the wiring's
-  ports_told : (n : ℕ) (s : Seat) → seat w n ≡ Some s → (place port : ℕ) → slice_get (pattern_ports s.branch.pattern) place ≡ Some port → row b.ports port ≡ held h port
+  ports_told : (n : ℕ) (s : Placement) → placement w n ≡ Some s → (place port : ℕ) → slice_get (pattern_ports s.branch.pattern) place ≡ Some port → row b.ports port ≡ held h port
   ports_told n s at place port there = keeps.ports.ports port ((sound w valid).pattern_ports n s place port at there)
 
   port_told : (n k port : ℕ) → site_port w n k ≡ Some port → row b.ports port ≡ held h port
   port_told n k port at = keeps.ports.ports port ((sound w valid).site_ports n k port at)
 
   pub can_choose_told : (s : Spot) → can_choose w b s ≡ can_take w h s
-  can_choose_told (Branch n) = of_seat (seat w n) refl
+  can_choose_told (Branch n) = of_placement (placement w n) refl
     where
-      of_seat : (o : Option Seat) → seat w n ≡ o → option_map_or (λ (s : Seat). has_enough (row b.ports) s.branch.pattern) o false ≡ option_map_or (λ (s : Seat). has_enough (held h) s.branch.pattern) o false
-      of_seat None at = refl
-      of_seat (Some s) at = enough_same (row b.ports) (held h) s.branch.pattern (ports_told n s at)
+      of_placement : (o : Option Placement) → placement w n ≡ o → option_map_or (λ (s : Placement). has_enough (row b.ports) s.branch.pattern) o false ≡ option_map_or (λ (s : Placement). has_enough (held h) s.branch.pattern) o false
+      of_placement None at = refl
+      of_placement (Some s) at = enough_same (row b.ports) (held h) s.branch.pattern (ports_told n s at)
   can_choose_told (Site n k) = of_port (site_port w n k) refl
     where
       of_port : (o : Option ℕ) → site_port w n k ≡ o → option_map_or (λ port. nat_lt 0 (length (row b.ports port))) o false ≡ option_map_or (λ port. nat_lt 0 (length (held h port))) o false
@@ -162,11 +162,11 @@ module _ (w : Parts) (valid : IsValid w) (h : List Event) (legal : IsLegal w h) 
       of_port (Some port) at = rw (port_told n k port at) refl
 
   pub choice_told : (s : Spot) → choice_at w b s ≡ engine_choice w h s
-  choice_told (Branch n) = of_seat (seat w n) refl
+  choice_told (Branch n) = of_placement (placement w n) refl
     where
-      of_seat : (o : Option Seat) → seat w n ≡ o → option_and_then (λ (s : Seat). engine_choice_of (row b.ports) s.branch.pattern) o ≡ option_and_then (λ (s : Seat). engine_choice_of (held h) s.branch.pattern) o
-      of_seat None at = refl
-      of_seat (Some s) at = choice_same (row b.ports) (held h) s.branch.pattern (ports_told n s at)
+      of_placement : (o : Option Placement) → placement w n ≡ o → option_and_then (λ (s : Placement). engine_choice_of (row b.ports) s.branch.pattern) o ≡ option_and_then (λ (s : Placement). engine_choice_of (held h) s.branch.pattern) o
+      of_placement None at = refl
+      of_placement (Some s) at = choice_same (row b.ports) (held h) s.branch.pattern (ports_told n s at)
   choice_told (Site n k) = of_port (site_port w n k) refl
     where
       of_port : (o : Option ℕ) → site_port w n k ≡ o → option_and_then (λ port. oldest (row b.ports port)) o ≡ option_and_then (λ port. oldest (held h port)) o
@@ -174,11 +174,11 @@ module _ (w : Parts) (valid : IsValid w) (h : List Event) (legal : IsLegal w h) 
       of_port (Some port) at = rw (port_told n k port at) refl
 
   pub are_choice_told : (s : Spot) (names : List MsgId) → are_choice w b s names ≡ is_choice w h s names
-  are_choice_told (Branch n) names = of_seat (seat w n) refl
+  are_choice_told (Branch n) names = of_placement (placement w n) refl
     where
-      of_seat : (o : Option Seat) → seat w n ≡ o → option_map_or (λ (s : Seat). is_choice_of (row b.ports) s.branch.pattern names) o false ≡ option_map_or (λ (s : Seat). is_choice_of (held h) s.branch.pattern names) o false
-      of_seat None at = refl
-      of_seat (Some s) at = names_same (row b.ports) (held h) s.branch.pattern names (ports_told n s at)
+      of_placement : (o : Option Placement) → placement w n ≡ o → option_map_or (λ (s : Placement). is_choice_of (row b.ports) s.branch.pattern names) o false ≡ option_map_or (λ (s : Placement). is_choice_of (held h) s.branch.pattern names) o false
+      of_placement None at = refl
+      of_placement (Some s) at = names_same (row b.ports) (held h) s.branch.pattern names (ports_told n s at)
   are_choice_told (Site n k) names = of_port (site_port w n k) refl
     where
       of_port : (o : Option ℕ) → site_port w n k ≡ o → option_map_or (λ port. are_oldest (row b.ports port) names) o false ≡ option_map_or (λ port. are_oldest (held h port) names) o false
@@ -187,33 +187,33 @@ module _ (w : Parts) (valid : IsValid w) (h : List Event) (legal : IsLegal w h) 
 
   pub cuts_told : (s : Spot) → cuts w b s ≡ cuts_at w h s
   cuts_told (Site n k) = refl
-  cuts_told (Branch n) = of_seat (seat w n) refl
+  cuts_told (Branch n) = of_placement (placement w n) refl
     where
-      of_seat : (o : Option Seat) → seat w n ≡ o → option_map_or (λ (s : Seat). if is_teardown s.branch.group then row b.waiting s.arbiter else []) o [] ≡ option_map_or (λ (s : Seat). if is_teardown s.branch.group then waiting w h s.arbiter else []) o []
-      of_seat None at = refl
-      of_seat (Some s) at = rw (keeps.places.waiting s.arbiter (arbiter_within w valid n s at)) refl
+      of_placement : (o : Option Placement) → placement w n ≡ o → option_map_or (λ (s : Placement). if is_teardown s.branch.group then row b.waiting s.arbiter else []) o [] ≡ option_map_or (λ (s : Placement). if is_teardown s.branch.group then waiting w h s.arbiter else []) o []
+      of_placement None at = refl
+      of_placement (Some s) at = rw (keeps.places.waiting s.arbiter (arbiter_within w valid n s at)) refl
 
-  -- the seat of a task that fired
-  pub seated : (t : TaskId) (f : Firing) → firing_named h t ≡ Some f → (s : Seat) × (seat w (branch_of f.spot) ≡ Some s) × (seat_of w h t ≡ Some s)
-  seated t f is =
-      let found = firing_seated w h legal f (find_member (λ (g : Firing). same_task g.task t) (firings h) f is) in
-      (found.0, found.1, seat_by w h t f is ∙ found.1)
+  -- the placement of a task that fired
+  pub with_placement : (t : TaskId) (f : Firing) → firing_named h t ≡ Some f → (s : Placement) × (placement w (branch_of f.spot) ≡ Some s) × (placement_of w h t ≡ Some s)
+  with_placement t f is =
+      let found = firing_with_placement w h legal f (find_member (λ (g : Firing). same_task g.task t) (firings h) f is) in
+      (found.0, found.1, placement_by w h t f is ∙ found.1)
 
-  admits_told : (t : TaskId) (f : Firing) → firing_named h t ≡ Some f → admits b (card_of w h t f) ≡ may_enter w h t
-  admits_told t f is =
-      let place = seated t f is in
+  may_admit_card_told : (t : TaskId) (f : Firing) → firing_named h t ≡ Some f → may_admit_card b (card_of w h t f) ≡ may_admit w h t
+  may_admit_card_told t f is =
+      let place = with_placement t f is in
       rw (place.1, place.2) (of_test (is_concurrent place.0.branch.group) place.0.arbiter (arbiter_within w valid (branch_of f.spot) place.0 place.1))
     where
       of_test : (c : Bool) (d : ℕ) → d < length w.arbiters → (if c then number b.alone d == 0 else number b.admitted d == 0) ≡ (if c then list_all (is_concurrent_task w h) (admitted w h d) else is_none_of (admitted w h d))
       of_test true d low = rw (keeps.counts.alone d low) (none_fail (is_concurrent_task w h) (admitted w h d))
       of_test false d low = rw (keeps.counts.admitted d low) refl
 
-  pub enters_told : (t : TaskId) → enters b t ≡ may_enter w h t
-  enters_told t = rw (keeps.tasks.cards t) (of_firing (firing_named h t) refl)
+  pub may_admit_task_told : (t : TaskId) → may_admit_task b t ≡ may_admit w h t
+  may_admit_task_told t = rw (keeps.tasks.cards t) (of_firing (firing_named h t) refl)
     where
-      of_firing : (o : Option Firing) → firing_named h t ≡ o → option_map_or (admits b) (option_map (card_of w h t) o) false ≡ may_enter w h t
+      of_firing : (o : Option Firing) → firing_named h t ≡ o → option_map_or (may_admit_card b) (option_map (card_of w h t) o) false ≡ may_admit w h t
       of_firing None at = rw at refl
-      of_firing (Some f) at = admits_told t f at
+      of_firing (Some f) at = may_admit_card_told t f at
 
   pub drops_told : (t : TaskId) → drops w b t ≡ drop_at w h t
   drops_told t = rw (keeps.tasks.cards t) (of_firing (firing_named h t) refl)
@@ -221,7 +221,7 @@ module _ (w : Parts) (valid : IsValid w) (h : List Event) (legal : IsLegal w h) 
       of_firing : (o : Option Firing) → firing_named h t ≡ o → option_and_then (λ (card : Card). drop_by (policy_of w card.queue) (row b.queued card.queue)) (option_map (card_of w h t) o) ≡ drop_at w h t
       of_firing None at = rw at refl
       of_firing (Some f) at =
-          let place = seated t f at in
+          let place = with_placement t f at in
           rw (place.1, place.2, keeps.places.queued place.0.branch.queue ((sound w valid).queues (branch_of f.spot) place.0 place.1)) refl
 
   pub play_told : (t : TaskId) → play_in b t ≡ play_of w h t
@@ -238,4 +238,4 @@ module _ (w : Parts) (valid : IsValid w) (h : List Event) (legal : IsLegal w h) 
       rw (keeps.tasks.cards t, fired_so.1) refl
 
   pub budget_told : budget_lasts w b ≡ has_budget w h
-  budget_told = rw keeps.said.task_posts refl
+  budget_told = rw keeps.script_posts.task_posts refl

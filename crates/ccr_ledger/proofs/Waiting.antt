@@ -15,26 +15,26 @@ use Rattle.ccr_wiring.specs.declared.parts.Kind.TheVariants as kinds
 use Rattle.ccr_wiring.specs.declared.parts.Parts.{Parts}
 use Rattle.ccr_wiring.specs.Groups.{may_have}
 use Rattle.ccr_wiring.specs.Valid.{IsValid}
-use Rattle.ccr_wiring.specs.Wirings.{Seat, seat}
+use Rattle.ccr_wiring.specs.Wirings.{Placement, placement}
 use Rattle.ccr_wiring.proofs.Soundness.{sound}
 use Rattle.ccr_model.specs.declared.history.Event.{Event}
 use Rattle.ccr_model.specs.declared.history.Event.TheVariants.{Post, Fire, Admit, Put, Start, End}
-use Rattle.ccr_model.specs.Firings.{Firing, cut, let_in, admitted_by}
-use Rattle.ccr_model.specs.Interleaves.{is_seat_in}
-use Rattle.ccr_model.specs.TaskData.{seat_of}
+use Rattle.ccr_model.specs.Firings.{Firing, cut, ever_admitted, admitted_by}
+use Rattle.ccr_model.specs.Interleaves.{is_placement_in}
+use Rattle.ccr_model.specs.TaskData.{placement_of}
 use Rattle.ccr_model.specs.Tasks.{is_interleave, is_teardown, is_branch_where, fired_by, waiting}
 use Rattle.ccr_model.specs.Rules.{is_first, is_oldest_waiting}
 use Rattle.ccr_model.specs.Legal.{IsAllowed, IsLegal}
 use Rattle.ccr_model.specs.Consequences.{are_distinct_tasks}
 use Rattle.ccr_model.proofs.Allowing.{OneName-legal}
-use Rattle.ccr_model.proofs.Alone.{let_in_fired}
+use Rattle.ccr_model.proofs.Alone.{ever_admitted_fired}
 use Rattle.ccr_model.proofs.Booleans.{both, refuted, no_both, or_left, or_right, same_number, eq-self}
 use Rattle.ccr_model.proofs.Cutting.{fired_by-append}
-use Rattle.ccr_model.proofs.FiredTasks.{IsFired, fired_has, seat_fired}
+use Rattle.ccr_model.proofs.FiredTasks.{IsFired, fired_has, placement_fired}
 use Rattle.ccr_model.proofs.FiringFacts.{FiresSo-allowed, WaitingFacts-waiting}
 use Rattle.ccr_model.proofs.Options.{some_of}
 use Rattle.ccr_model.proofs.PostNames.{refused_not}
-use Rattle.ccr_model.proofs.Pushes.{let_in-push, cut-push}
+use Rattle.ccr_model.proofs.Pushes.{ever_admitted-push, cut-push}
 use Rattle.ccr_model.proofs.SameNames.{same_task-self}
 use Rattle.ccr_model.proofs.TasksLeft.{distinct-filter, without_both}
 use Rattle.ccr_model.proofs.TaskLists.{first_rest, has_oldest, not_more, without-append, without_none}
@@ -46,7 +46,7 @@ use Rattle.ccr_ledger.specs.Kept.{HasSizes, KeepsTasks}
 use Rattle.ccr_ledger.proofs.Tables.{length-with_row, row-with_row}
 use Rattle.ccr_ledger.proofs.RowMoves.{left_whole, row-left, row-entered}
 use Rattle.ccr_ledger.proofs.TaskRows.{Rows, rows-post, rows-branch, rows-admit, rest-site, rest-put, rest-start, rest-end}
-use Rattle.ccr_ledger.proofs.TaskCards.{CardFacts-fired, same_seat}
+use Rattle.ccr_ledger.proofs.TaskCards.{CardFacts-fired, same_placement}
 use Rattle.ccr_ledger.proofs.FiredOnce.{fired_once, cut_fired}
 
 -- the rows say who waits
@@ -55,13 +55,13 @@ SaysWaiting w h rows = (i : ℕ) → i < length w.arbiters → row rows i ≡ wa
 
 -- who waits stands once, in one domain
 waiting_once : (w : Parts) (h : List Event) (i : ℕ) → IsLegal w h → are_distinct_tasks (waiting w h i) ≡ true
-waiting_once w h i legal = distinct-filter (λ u. _) (fired_by w (is_seat_in i) h) (fired_once w (λ f. is_branch_where w (is_seat_in i) f.spot) h legal)
+waiting_once w h i legal = distinct-filter (λ u. _) (fired_by w (is_placement_in i) h) (fired_once w (λ f. is_branch_where w (is_placement_in i) f.spot) h legal)
 
-one_domain : (w : Parts) (i j : ℕ) (s : Spot) → is_branch_where w (is_seat_in i) s ≡ true → is_branch_where w (is_seat_in j) s ≡ true → i ≡ j
+one_domain : (w : Parts) (i j : ℕ) (s : Spot) → is_branch_where w (is_placement_in i) s ≡ true → is_branch_where w (is_placement_in j) s ≡ true → i ≡ j
 one_domain w i j (Site n k) here there = absurd (cc)
 one_domain w i j (Branch n) here there =
-    let found = some_of (is_seat_in i) (seat w n) here in
-    let other : is_seat_in j found.0 ≡ true = sym (ap (λ o. option_map_or (is_seat_in j) o false) found.1) ∙ there in
+    let found = some_of (is_placement_in i) (placement w n) here in
+    let other : is_placement_in j found.0 ≡ true = sym (ap (λ o. option_map_or (is_placement_in j) o false) found.1) ∙ there in
     sym (same_number found.0.arbiter i (both (is_interleave found.0.kind) (found.0.arbiter == i) found.2).1) ∙ same_number found.0.arbiter j (both (is_interleave found.0.kind) (found.0.arbiter == j) other).1
 
 waits_in_one : (w : Parts) (h : List Event) (i j : ℕ) (t : TaskId) → IsLegal w h → has_task (waiting w h i) t ≡ true → has_task (waiting w h j) t ≡ true → i ≡ j
@@ -70,7 +70,7 @@ waits_in_one w h i j t legal here there =
     let b = WaitingFacts-waiting w h j t (OneName-legal w h legal) there in
     let found : Some a.firing ≡ Some b.firing = sym a.is_firing ∙ b.is_firing in
     let same : b.firing ≡ a.firing = cc in
-    one_domain w i j a.firing.spot a.is_branch (subst (λ (f : Firing). is_branch_where w (is_seat_in j) f.spot ≡ true) same b.is_branch)
+    one_domain w i j a.firing.spot a.is_branch (subst (λ (f : Firing). is_branch_where w (is_placement_in j) f.spot ≡ true) same b.is_branch)
 
 waits_elsewhere : (w : Parts) (h : List Event) (i j : ℕ) (t : TaskId) → IsLegal w h → has_task (waiting w h i) t ≡ true → (i == j) ≡ false → has_task (waiting w h j) t ≡ false
 waits_elsewhere w h i j t legal here other = refuted (has_task (waiting w h j) t) (λ there. no_both (subst (λ k. (i == k) ≡ true) (waits_in_one w h i j t legal here there) (eq-self i)) other)
@@ -83,9 +83,9 @@ all_gone (x ∷ ts) gone all =
     rw here (all_gone ts gone (λ u among. all u (or_right (same_task u x) (has_task ts u) among)))
 
 -- an event that neither fires at a branch, admits nor cuts leaves those that wait
-waiting-other : (w : Parts) (h : List Event) (e : Event) (i : ℕ) → fired_by w (is_seat_in i) (e ∷ []) ≡ [] → admitted_by e ≡ [] → cut (e ∷ []) ≡ [] → waiting w (h ++ e ∷ []) i ≡ waiting w h i
+waiting-other : (w : Parts) (h : List Event) (e : Event) (i : ℕ) → fired_by w (is_placement_in i) (e ∷ []) ≡ [] → admitted_by e ≡ [] → cut (e ∷ []) ≡ [] → waiting w (h ++ e ∷ []) i ≡ waiting w h i
 waiting-other w h e i no_fire no_admit no_cut =
-    rw (fired_by-append w (is_seat_in i) h (e ∷ []), let_in-push h e, cut-push h e, no_fire, no_admit, no_cut, append-nil (fired_by w (is_seat_in i) h), append-nil (let_in h), append-nil (cut h)) refl
+    rw (fired_by-append w (is_placement_in i) h (e ∷ []), ever_admitted-push h e, cut-push h e, no_fire, no_admit, no_cut, append-nil (fired_by w (is_placement_in i) h), append-nil (ever_admitted h), append-nil (cut h)) refl
 
 -- over plain lists: one goes in the middle
 without_middle : (ts front back : List TaskId) (t : TaskId) → without ts ((front ++ t ∷ []) ++ back) ≡ without (without ts (front ++ back)) (t ∷ [])
@@ -94,7 +94,7 @@ without_middle (x ∷ ts) front back t = grind (arith, common_steps, without_mid
 
 waiting-admit : (w : Parts) (h : List Event) (t : TaskId) (i : ℕ) → waiting w (h ++ Admit t ∷ []) i ≡ without (waiting w h i) (t ∷ [])
 waiting-admit w h t i =
-    rw (fired_by-append w (is_seat_in i) h (Admit t ∷ []), let_in-push h (Admit t), cut-push h (Admit t), append-nil (fired_by w (is_seat_in i) h), append-nil (cut h)) (without_middle (fired_by w (is_seat_in i) h) (let_in h) (cut h) t)
+    rw (fired_by-append w (is_placement_in i) h (Admit t ∷ []), ever_admitted-push h (Admit t), cut-push h (Admit t), append-nil (fired_by w (is_placement_in i) h), append-nil (cut h)) (without_middle (fired_by w (is_placement_in i) h) (ever_admitted h) (cut h) t)
 
 -- those that are cut leave, and a new task enters
 lists_fire : (fs news ins gone cs : List TaskId) → without news (ins ++ (gone ++ cs)) ≡ news → without (fs ++ news) (ins ++ (gone ++ cs)) ≡ without (without fs (ins ++ gone)) cs ++ news
@@ -113,37 +113,37 @@ no_teardown kinds.Choice groups.Teardown may is = absurd (cc)
 no_teardown kinds.Interleave groups.Teardown may is = absurd (cc)
 
 -- who fires anew was neither admitted nor cut, nor is he now
-module _ (w : Parts) (h : List Event) (t : TaskId) (n : ℕ) (ms : List MsgId) (cs : List TaskId) (s : Seat) (legal : IsLegal w h) (allowed : IsAllowed w h (Fire t (Branch n) ms cs)) (at : seat w n ≡ Some s) where
+module _ (w : Parts) (h : List Event) (t : TaskId) (n : ℕ) (ms : List MsgId) (cs : List TaskId) (s : Placement) (legal : IsLegal w h) (allowed : IsAllowed w h (Fire t (Branch n) ms cs)) (at : placement w n ≡ Some s) where
   unfired : IsFired h t → ⊥
   unfired fired = no_both (fired_has h t fired) (FiresSo-allowed w h t (Branch n) ms cs allowed).new_name
 
   cuts_so : cs ≡ (if is_teardown s.branch.group then waiting w h s.arbiter else [])
-  cuts_so = (FiresSo-allowed w h t (Branch n) ms cs allowed).cuts ∙ ap (λ o. option_map_or (λ (r : Seat). if is_teardown r.branch.group then waiting w h r.arbiter else []) o []) at
+  cuts_so = (FiresSo-allowed w h t (Branch n) ms cs allowed).cuts ∙ ap (λ o. option_map_or (λ (r : Placement). if is_teardown r.branch.group then waiting w h r.arbiter else []) o []) at
 
   not_cut : (is : Bool) → is_teardown s.branch.group ≡ is → has_task (if is then waiting w h s.arbiter else []) t ≡ false
   not_cut false e = refl
   not_cut true e = refuted (has_task (waiting w h s.arbiter) t) (λ waits. (let facts = WaitingFacts-waiting w h s.arbiter t (OneName-legal w h legal) waits in unfired (facts.firing, facts.is_firing)))
 
-  stays : has_task (let_in h ++ (cut h ++ cs)) t ≡ false
-  stays = not_more (let_in h) (cut h ++ cs) t
-      (refuted (has_task (let_in h) t) (λ is. unfired (let_in_fired w h legal t is)))
+  stays : has_task (ever_admitted h ++ (cut h ++ cs)) t ≡ false
+  stays = not_more (ever_admitted h) (cut h ++ cs) t
+      (refuted (has_task (ever_admitted h) t) (λ is. unfired (ever_admitted_fired w h legal t is)))
       (not_more (cut h) cs t (refuted (has_task (cut h) t) (λ is. unfired (cut_fired w h legal t is))) (ap (λ ts. has_task ts t) cuts_so ∙ not_cut (is_teardown s.branch.group) refl))
 
-  entering : (i : ℕ) → fired_by w (is_seat_in i) (Fire t (Branch n) ms cs ∷ []) ≡ (if is_seat_in i s then t ∷ [] else [])
-  entering i = rw at (of_test (is_seat_in i s))
+  entering : (i : ℕ) → fired_by w (is_placement_in i) (Fire t (Branch n) ms cs ∷ []) ≡ (if is_placement_in i s then t ∷ [] else [])
+  entering i = rw at (of_test (is_placement_in i s))
     where
       of_test : (b : Bool) → map (λ (f : Firing). f.task) (if b then record { task = t; spot = Branch n; messages = ms; cuts = cs } ∷ [] else []) ≡ (if b then t ∷ [] else [])
       of_test true = refl
       of_test false = refl
 
-  entered : (b : Bool) → without (if b then t ∷ [] else []) (let_in h ++ (cut h ++ cs)) ≡ (if b then t ∷ [] else [])
+  entered : (b : Bool) → without (if b then t ∷ [] else []) (ever_admitted h ++ (cut h ++ cs)) ≡ (if b then t ∷ [] else [])
   entered true = rw stays refl
   entered false = refl
 
-  waiting-branch : (i : ℕ) → waiting w (h ++ Fire t (Branch n) ms cs ∷ []) i ≡ without (waiting w h i) cs ++ (if is_seat_in i s then t ∷ [] else [])
+  waiting-branch : (i : ℕ) → waiting w (h ++ Fire t (Branch n) ms cs ∷ []) i ≡ without (waiting w h i) cs ++ (if is_placement_in i s then t ∷ [] else [])
   waiting-branch i =
-      rw (fired_by-append w (is_seat_in i) h (Fire t (Branch n) ms cs ∷ []), let_in-push h (Fire t (Branch n) ms cs), cut-push h (Fire t (Branch n) ms cs), append-nil (let_in h), append-nil cs, entering i)
-      (lists_fire (fired_by w (is_seat_in i) h) (if is_seat_in i s then t ∷ [] else []) (let_in h) (cut h) cs (entered (is_seat_in i s)))
+      rw (fired_by-append w (is_placement_in i) h (Fire t (Branch n) ms cs ∷ []), ever_admitted-push h (Fire t (Branch n) ms cs), cut-push h (Fire t (Branch n) ms cs), append-nil (ever_admitted h), append-nil cs, entering i)
+      (lists_fire (fired_by w (is_placement_in i) h) (if is_placement_in i s then t ∷ [] else []) (ever_admitted h) (cut h) cs (entered (is_placement_in i s)))
 
   -- the rows once those that are cut have left
   cleared : (rows : List (List TaskId)) (i : ℕ) → i < length rows → row rows i ≡ waiting w h i → row (after_clear s rows) i ≡ without (waiting w h i) cs
@@ -180,10 +180,10 @@ module _ (w : Parts) (h : List Event) (t : TaskId) (n : ℕ) (ms : List MsgId) (
 waiting-event-admit : (w : Parts) (h : List Event) (t : TaskId) (b : Books) → IsLegal w h → IsAllowed w h (Admit t) → HasSizes w b → KeepsTasks w h b → SaysWaiting w h b.waiting → SaysWaiting w (h ++ Admit t ∷ []) (after_event w (Admit t) b).waiting
 waiting-event-admit w h t b legal allowed sizes tasks known i low =
     let first = (refused_not (is_oldest_waiting w h t) 9 _ allowed).0 in
-    let found = some_of (λ (s : Seat). is_first (waiting w h s.arbiter) t) (seat_of w h t) first in
+    let found = some_of (λ (s : Placement). is_first (waiting w h s.arbiter) t) (placement_of w h t) first in
     let head = first_rest (waiting w h found.0.arbiter) t found.2 in
-    let facts = CardFacts-fired w h t b legal tasks (seat_fired w h t found.0 found.1) in
-    let own : facts.card.domain ≡ found.0.arbiter = facts.domain ∙ ap (λ (s : Seat). s.arbiter) (same_seat facts.place found.0 (seat_of w h t) facts.is_seat found.1) in
+    let facts = CardFacts-fired w h t b legal tasks (placement_fired w h t found.0 found.1) in
+    let own : facts.card.domain ≡ found.0.arbiter = facts.domain ∙ ap (λ (s : Placement). s.arbiter) (same_placement facts.place found.0 (placement_of w h t) facts.is_placement found.1) in
     let oldest : waiting w h facts.card.domain ≡ t ∷ head.0 = ap (waiting w h) own ∙ head.1 in
     ap (λ (r : Rows). row r.waiting i) (rows-admit w t b facts.card facts.is_card)
     ∙ (row-left b.waiting (waiting w h) facts.card.domain i t head.0 (omega (arith, low, sizes.waiting)) (known i low) oldest (waiting_once w h facts.card.domain legal)
@@ -196,8 +196,8 @@ site_cuts w h t n k ms cs allowed = append-nil cs ∙ (FiresSo-allowed w h t (Si
 
 pub waiting-event : (w : Parts) → IsValid w → (h : List Event) (e : Event) (b : Books) → IsLegal w h → IsAllowed w h e → HasSizes w b → KeepsTasks w h b → SaysWaiting w h b.waiting → SaysWaiting w (h ++ e ∷ []) (after_event w e b).waiting
 waiting-event w valid h (Fire t (Branch n) ms cs) b legal allowed sizes tasks known i low =
-    let seated = some_of _ (seat w n) (FiresSo-allowed w h t (Branch n) ms cs allowed).live in
-    waiting-event-branch w h t n ms cs seated.0 legal allowed seated.1 valid b sizes known i low
+    let with_placement = some_of _ (placement w n) (FiresSo-allowed w h t (Branch n) ms cs allowed).live in
+    waiting-event-branch w h t n ms cs with_placement.0 legal allowed with_placement.1 valid b sizes known i low
 waiting-event w valid h (Admit t) b legal allowed sizes tasks known i low = waiting-event-admit w h t b legal allowed sizes tasks known i low
 waiting-event w valid h (Fire t (Site n k) ms cs) b legal allowed sizes tasks known i low = ap (λ (r : Rows). row r.waiting i) (rest-site w t n k ms cs b) ∙ (known i low ∙ sym (waiting-other w h (Fire t (Site n k) ms cs) i refl refl (site_cuts w h t n k ms cs allowed)))
 waiting-event w valid h (Post m) b legal allowed sizes tasks known i low = ap (λ (r : Rows). row r.waiting i) (rows-post m b) ∙ (known i low ∙ sym (waiting-other w h (Post m) i refl refl refl))

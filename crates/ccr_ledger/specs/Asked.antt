@@ -14,7 +14,7 @@ use Rattle.ccr_base.specs.declared.policies.Policy.TheVariants.{Throttle}
 use Rattle.ccr_base.specs.Names.{same_task}
 use Rattle.ccr_handler.specs.declared.segments.Play.{Play}
 use Rattle.ccr_wiring.specs.declared.parts.Parts.{Parts}
-use Rattle.ccr_wiring.specs.Wirings.{Seat, seat, site_port, policy_of}
+use Rattle.ccr_wiring.specs.Wirings.{Placement, placement, site_port, policy_of}
 use Rattle.ccr_model.specs.TaskData.{no_play}
 use Rattle.ccr_model.specs.Tasks.{is_teardown}
 use Rattle.ccr_model.specs.Live.{is_none_of}
@@ -41,22 +41,22 @@ group_lives books branch domain _ = not (flag books.torn domain)
 
 -- whether the spot may fire once more
 abbrev pub lives : Parts → Books → Spot → Bool
-lives wiring books (Branch branch) = option_map_or (λ (s : Seat). group_lives books branch s.arbiter s.branch.group) (seat wiring branch) false
+lives wiring books (Branch branch) = option_map_or (λ (s : Placement). group_lives books branch s.arbiter s.branch.group) (placement wiring branch) false
 lives wiring books (Site branch site) = not (is_none_of (suspended_at books.suspended branch site))
 
 -- rule 6: whether the ports hold enough for the spot
 abbrev pub can_choose : Parts → Books → Spot → Bool
-can_choose wiring books (Branch branch) = option_map_or (λ (s : Seat). has_enough (row books.ports) s.branch.pattern) (seat wiring branch) false
+can_choose wiring books (Branch branch) = option_map_or (λ (s : Placement). has_enough (row books.ports) s.branch.pattern) (placement wiring branch) false
 can_choose wiring books (Site branch site) = option_map_or (λ port. nat_lt 0 (length (row books.ports port))) (site_port wiring branch site) false
 
 -- the choice that one thread makes at the spot
 abbrev pub choice_at : Parts → Books → Spot → Option (List Msg)
-choice_at wiring books (Branch branch) = option_and_then (λ (s : Seat). engine_choice_of (row books.ports) s.branch.pattern) (seat wiring branch)
+choice_at wiring books (Branch branch) = option_and_then (λ (s : Placement). engine_choice_of (row books.ports) s.branch.pattern) (placement wiring branch)
 choice_at wiring books (Site branch site) = option_and_then (λ port. oldest (row books.ports port)) (site_port wiring branch site)
 
 -- whether the names are a choice at the spot
 abbrev pub are_choice : Parts → Books → Spot → List MsgId → Bool
-are_choice wiring books (Branch branch) names = option_map_or (λ (s : Seat). is_choice_of (row books.ports) s.branch.pattern names) (seat wiring branch) false
+are_choice wiring books (Branch branch) names = option_map_or (λ (s : Placement). is_choice_of (row books.ports) s.branch.pattern names) (placement wiring branch) false
 are_choice wiring books (Site branch site) names = option_map_or (λ port. are_oldest (row books.ports port) names) (site_port wiring branch site) false
 
 -- rule 7: whether a queue of the policy lets a branch fire
@@ -66,12 +66,12 @@ queue_has_room books queue _ = true
 
 -- whether the queue lets the spot fire
 abbrev pub room : Parts → Books → Spot → Bool
-room wiring books (Branch branch) = option_map_or (λ (s : Seat). queue_has_room books s.branch.queue (policy_of wiring s.branch.queue)) (seat wiring branch) true
+room wiring books (Branch branch) = option_map_or (λ (s : Placement). queue_has_room books s.branch.queue (policy_of wiring s.branch.queue)) (placement wiring branch) true
 room wiring books (Site branch site) = true
 
 -- rule 8: the tasks that a firing at the spot cuts
 abbrev pub cuts : Parts → Books → Spot → List TaskId
-cuts wiring books (Branch branch) = option_map_or (λ (s : Seat). if is_teardown s.branch.group then row books.waiting s.arbiter else []) (seat wiring branch) []
+cuts wiring books (Branch branch) = option_map_or (λ (s : Placement). if is_teardown s.branch.group then row books.waiting s.arbiter else []) (placement wiring branch) []
 cuts wiring books (Site branch site) = []
 
 -- rule 9: whether the task is the oldest that waits in its domain
@@ -79,11 +79,11 @@ abbrev pub waits_first : Books → TaskId → Bool
 waits_first books task = option_map_or (λ (card : Card). is_first (row books.waiting card.domain) task) (card_at books.tasks task) false
 
 -- rule 10: whether the task of the card may be admitted
-abbrev pub admits : Books → Card → Bool
-admits books card = if card.concurrent then number books.alone card.domain == 0 else number books.admitted card.domain == 0
+abbrev pub may_admit_card : Books → Card → Bool
+may_admit_card books card = if card.concurrent then number books.alone card.domain == 0 else number books.admitted card.domain == 0
 
-abbrev pub enters : Books → TaskId → Bool
-enters books task = option_map_or (admits books) (card_at books.tasks task) false
+abbrev pub may_admit_task : Books → TaskId → Bool
+may_admit_task books task = option_map_or (may_admit_card books) (card_at books.tasks task) false
 
 -- rule 11: whether the task may be put
 abbrev pub is_ready_stage : Stage → Bool

@@ -26,7 +26,7 @@ pub record Books : Type 0 where
   -- the tasks that run, by their starts
   pub running : List Runner
   -- of each poster how many posts of its script it has made
-  pub said : List ℕ
+  pub script_posts : List ℕ
   -- how many posts all tasks have made
   pub task_posts : ℕ
   -- of each branch whether it fired

@@ -5,7 +5,7 @@ use Rattle.ccr_base.specs.declared.names.TaskId.{TaskId}
 use Rattle.ccr_base.specs.Names.{same_task}
 use Rattle.ccr_wiring.specs.declared.parts.Parts.{Parts}
 use Rattle.ccr_base.specs.declared.names.Spot.{Spot}
-use Rattle.ccr_wiring.specs.Wirings.{seats, branch_of, is_branch, segment_of}
+use Rattle.ccr_wiring.specs.Wirings.{placements, branch_of, is_branch, segment_of}
 use Rattle.ccr_model.specs.declared.history.Event.{Event}
 use Rattle.ccr_model.specs.declared.history.Event.TheVariants.{Post, Fire, Admit, Put, Start, End}
 use Rattle.ccr_model.specs.declared.history.EndHow.{EndHow}
@@ -25,11 +25,11 @@ empty_books wiring = record {
   tasks = [];
   queued = empty_rows (length wiring.queues);
   waiting = empty_rows (length wiring.arbiters);
-  suspended = empty_rows (length (seats wiring) * sites_each);
+  suspended = empty_rows (length (placements wiring) * sites_each);
   running = [];
-  said = replicate (length wiring.posters) 0;
+  script_posts = replicate (length wiring.posters) 0;
   task_posts = 0;
-  spent = replicate (length (seats wiring)) false;
+  spent = replicate (length (placements wiring)) false;
   chosen = replicate (length wiring.arbiters) false;
   torn = replicate (length wiring.arbiters) false;
   admitted = replicate (length wiring.arbiters) 0;
@@ -38,13 +38,13 @@ empty_books wiring = record {
 }
 
 -- the card of an admitted root that isn't over
-abbrev pub let_in : Card → Card
-let_in card = record card { stage = stages.Ready; admitted = true }
+abbrev pub admit_root : Card → Card
+admit_root card = record card { stage = stages.Ready; admitted = true }
 
 -- the task of the card is admitted
 abbrev pub after_admit : TaskId → Card → Books → Books
 after_admit task card books = record books {
-  tasks = changed let_in task books.tasks;
+  tasks = changed admit_root task books.tasks;
   waiting = with_row books.waiting card.domain (drop 1 (row books.waiting card.domain));
   admitted = more card.domain books.admitted;
   alone = if card.concurrent then books.alone else more card.domain books.alone;

@@ -9,7 +9,7 @@ use Rattle.ccr_base.specs.declared.names.Spot.{Spot}
 use Rattle.ccr_base.specs.declared.names.Spot.TheVariants.{Branch, Site}
 use Rattle.ccr_base.specs.Names.{same_task}
 use Rattle.ccr_wiring.specs.declared.parts.Parts.{Parts}
-use Rattle.ccr_wiring.specs.Wirings.{Seat, seat, site_port, is_branch}
+use Rattle.ccr_wiring.specs.Wirings.{Placement, placement, site_port, is_branch}
 use Rattle.ccr_model.specs.TaskData.{Load, no_load, play_at, with_messages}
 use Rattle.ccr_model.specs.Tasks.{is_interleave, is_teardown, is_concurrent}
 use Rattle.ccr_rows.specs.Rows.{row, with_row}
@@ -41,19 +41,19 @@ after_cuts [] books = books
 after_cuts (task ∷ tasks) books = after_cuts tasks (after_cut task books)
 
 -- the rows without those that a firing of the branch cuts
-abbrev pub after_clear : Seat → List (List TaskId) → List (List TaskId)
+abbrev pub after_clear : Placement → List (List TaskId) → List (List TaskId)
 after_clear s waiting = if is_teardown s.branch.group then with_row waiting s.arbiter [] else waiting
 
 -- a task that a branch of the Interleave fired waits; one of a teardown branch alone, as those before it are cut
-abbrev pub after_wait : Seat → TaskId → List (List TaskId) → List (List TaskId)
+abbrev pub after_wait : Placement → TaskId → List (List TaskId) → List (List TaskId)
 after_wait s task waiting = if is_interleave s.kind then with_row (after_clear s waiting) s.arbiter (row (after_clear s waiting) s.arbiter ++ task ∷ []) else waiting
 
 -- where the task of a firing at the branch stands first
-abbrev pub first_stage : Seat → Stage
+abbrev pub first_stage : Placement → Stage
 first_stage s = if is_interleave s.kind then Waiting else Ready
 
 -- the card of a task that the branch fires, which so many fired before, with what it starts with
-abbrev pub branch_card : Parts → TaskId → ℕ → Seat → ℕ → Load → Card
+abbrev pub branch_card : Parts → TaskId → ℕ → Placement → ℕ → Load → Card
 branch_card wiring task branch s fired_before load = record {
   spot = Branch branch;
   queue = s.branch.queue;
@@ -69,7 +69,7 @@ branch_card wiring task branch s fired_before load = record {
 }
 
 -- the tables of the arbiter's and the branch's firings
-abbrev pub after_choice : ℕ → Seat → Books → Books
+abbrev pub after_choice : ℕ → Placement → Books → Books
 after_choice branch s books = record books {
   spent = raised branch books.spent;
   chosen = raised s.arbiter books.chosen;
@@ -77,7 +77,7 @@ after_choice branch s books = record books {
 }
 
 -- the task of the card, which the branch fired, stands in the tables
-abbrev pub after_new : TaskId → Card → Seat → Books → Books
+abbrev pub after_new : TaskId → Card → Placement → Books → Books
 after_new task card s books = record books {
   tasks = with_card task card books.tasks;
   waiting = after_wait s task books.waiting;
@@ -85,12 +85,12 @@ after_new task card s books = record books {
 }
 
 -- the branch fires the task, which takes these messages and leaves these ports
-abbrev pub after_branch : Parts → TaskId → ℕ → Seat → Takes → Books → Books
+abbrev pub after_branch : Parts → TaskId → ℕ → Placement → Takes → Books → Books
 after_branch wiring task branch s takes books =
     after_choice branch s (after_new task (branch_card wiring task branch s (length books.tasks) (with_messages no_load takes.messages)) s (record books { ports = takes.ports }))
 
 -- the branch fires the task, which takes the messages of these names, after the cuts
-abbrev pub after_taking : Parts → TaskId → ℕ → List MsgId → Books → Seat → Books
+abbrev pub after_taking : Parts → TaskId → ℕ → List MsgId → Books → Placement → Books
 after_taking wiring task branch messages books s = after_branch wiring task branch s (take_pattern s.branch.pattern messages books.ports) books
 
 -- the card of a task that the site fires, which goes on for the task of the card
@@ -124,6 +124,6 @@ resumed_card books branch site = option_and_then (card_at books.tasks) (slice_ge
 -- after a firing at the spot
 abbrev pub after_fire : Parts → TaskId → Spot → List MsgId → List TaskId → Books → Books
 after_fire wiring task (Branch branch) messages cuts books =
-    option_map_or (after_taking wiring task branch messages (after_cuts cuts books)) (seat wiring branch) books
+    option_map_or (after_taking wiring task branch messages (after_cuts cuts books)) (placement wiring branch) books
 after_fire wiring task (Site branch site) messages cuts books =
     option_map_or (λ card. after_site wiring task branch site card (take_site (site_port wiring branch site) books.ports) books) (resumed_card books branch site) books

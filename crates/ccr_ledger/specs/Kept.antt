@@ -6,10 +6,10 @@ use Rattle.ccr_base.specs.declared.names.Spot.{Spot}
 use Rattle.ccr_base.specs.declared.names.Spot.TheVariants.{Branch, Site}
 use Rattle.ccr_base.specs.Names.{has_task}
 use Rattle.ccr_wiring.specs.declared.parts.Parts.{Parts}
-use Rattle.ccr_wiring.specs.Wirings.{Seat, seat, seats, branch_of}
+use Rattle.ccr_wiring.specs.Wirings.{Placement, placement, placements, branch_of}
 use Rattle.ccr_model.specs.declared.history.Event.{Event}
 use Rattle.ccr_model.specs.Posts.{held, posts_of_poster, posts_of_task, posts_of_tasks}
-use Rattle.ccr_model.specs.Firings.{Firing, firings, firing_named, fired, fired_at, cut, let_in, put, dropped, started, ended}
+use Rattle.ccr_model.specs.Firings.{Firing, firings, firing_named, fired, fired_at, cut, ever_admitted, put, dropped, started, ended}
 use Rattle.ccr_model.specs.Sites.{before, root_of, suspended}
 use Rattle.ccr_model.specs.TaskData.{load_of, play_of}
 use Rattle.ccr_model.specs.Tasks.{is_teardown, is_concurrent, fired_by, waiting, queued, running, running_by, is_over, admitted as admitted_to, coming as coming_to}
@@ -29,21 +29,21 @@ stage_of wiring history task spot =
     if has_task (dropped history) task then stages.Dropped else
     if has_task (put history) task then stages.Queued else
     if has_task (cut history) task then stages.Cut else
-    if needs_no_admission wiring spot || has_task (let_in history) task then stages.Ready else stages.Waiting
+    if needs_no_admission wiring spot || has_task (ever_admitted history) task then stages.Ready else stages.Waiting
 
 -- whether the task was admitted and is no root that is over
 abbrev pub is_admitted : List Event → TaskId → Bool
-is_admitted history task = has_task (let_in history) task && not (is_over history task)
+is_admitted history task = has_task (ever_admitted history) task && not (is_over history task)
 
 -- of the spot's branch the queue, the domain, and whether it is a concurrent one
 abbrev pub queue_of : Parts → Spot → ℕ
-queue_of wiring spot = option_map_or (λ (s : Seat). s.branch.queue) (seat wiring (branch_of spot)) 0
+queue_of wiring spot = option_map_or (λ (s : Placement). s.branch.queue) (placement wiring (branch_of spot)) 0
 
 abbrev pub domain_of : Parts → Spot → ℕ
-domain_of wiring spot = option_map_or (λ (s : Seat). s.arbiter) (seat wiring (branch_of spot)) 0
+domain_of wiring spot = option_map_or (λ (s : Placement). s.arbiter) (placement wiring (branch_of spot)) 0
 
 abbrev pub is_concurrent_at : Parts → Spot → Bool
-is_concurrent_at wiring spot = option_map_or (λ (s : Seat). is_concurrent s.branch.group) (seat wiring (branch_of spot)) false
+is_concurrent_at wiring spot = option_map_or (λ (s : Placement). is_concurrent s.branch.group) (placement wiring (branch_of spot)) false
 
 -- what is to be kept of a task that fired so
 abbrev pub card_of : Parts → List Event → TaskId → Firing → Card
@@ -66,9 +66,9 @@ pub record HasSizes (wiring : Parts) (books : Books) : Type 0 where
   pub ports : length books.ports ≡ length wiring.ports
   pub queued : length books.queued ≡ length wiring.queues
   pub waiting : length books.waiting ≡ length wiring.arbiters
-  pub suspended : length books.suspended ≡ length (seats wiring) * sites_each
-  pub said : length books.said ≡ length wiring.posters
-  pub spent : length books.spent ≡ length (seats wiring)
+  pub suspended : length books.suspended ≡ length (placements wiring) * sites_each
+  pub script_posts : length books.script_posts ≡ length wiring.posters
+  pub spent : length books.spent ≡ length (placements wiring)
   pub chosen : length books.chosen ≡ length wiring.arbiters
   pub torn : length books.torn ≡ length wiring.arbiters
   pub admitted : length books.admitted ≡ length wiring.arbiters
@@ -76,8 +76,8 @@ pub record HasSizes (wiring : Parts) (books : Books) : Type 0 where
   pub coming : length books.coming ≡ length wiring.queues
 
 -- how many posts of its script each poster has made, and how many tasks have made
-pub record KeepsSaid (wiring : Parts) (history : List Event) (books : Books) : Type 0 where
-  pub said : (poster : ℕ) → poster < length wiring.posters → number books.said poster ≡ posts_of_poster history poster
+pub record KeepsScriptPosts (wiring : Parts) (history : List Event) (books : Books) : Type 0 where
+  pub script_posts : (poster : ℕ) → poster < length wiring.posters → number books.script_posts poster ≡ posts_of_poster history poster
   pub task_posts : books.task_posts ≡ posts_of_tasks history
 
 -- what each port holds
@@ -99,7 +99,7 @@ pub record KeepsPlaces (wiring : Parts) (history : List Event) (books : Books) :
 
 -- which branches and domains fired
 pub record KeepsFlags (wiring : Parts) (history : List Event) (books : Books) : Type 0 where
-  pub spent : (branch : ℕ) → branch < length (seats wiring) → flag books.spent branch ≡ not (is_none_of (fired_at history (Branch branch)))
+  pub spent : (branch : ℕ) → branch < length (placements wiring) → flag books.spent branch ≡ not (is_none_of (fired_at history (Branch branch)))
   pub chosen : (domain : ℕ) → domain < length wiring.arbiters → flag books.chosen domain ≡ not (is_none_of (fired_by wiring (λ s. s.arbiter == domain) history))
   pub torn : (domain : ℕ) → domain < length wiring.arbiters → flag books.torn domain ≡ not (is_none_of (fired_by wiring (λ s. (s.arbiter == domain) && is_teardown s.branch.group) history))
 
@@ -112,7 +112,7 @@ pub record KeepsCounts (wiring : Parts) (history : List Event) (books : Books) :
 -- each table says what the model says
 pub record Keeps (wiring : Parts) (history : List Event) (books : Books) : Type 0 where
   pub sizes : HasSizes wiring books
-  pub said : KeepsSaid wiring history books
+  pub script_posts : KeepsScriptPosts wiring history books
   pub ports : KeepsPorts wiring history books
   pub tasks : KeepsTasks wiring history books
   pub places : KeepsPlaces wiring history books

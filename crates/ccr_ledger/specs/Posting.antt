@@ -17,7 +17,7 @@ with_post card = record card { made = card.made + 1 }
 
 -- one more post of the poster, or of the task
 abbrev pub counted : MsgId → Books → Books
-counted (Script actor place) books = record books { said = more actor books.said }
+counted (Script actor place) books = record books { script_posts = more actor books.script_posts }
 counted (Task task place) books = record books { tasks = changed with_post task books.tasks; task_posts = books.task_posts + 1 }
 
 -- after a post

@@ -8,15 +8,15 @@ ghost use Rattle.ccr_rows.specs.Rows.{row};
 ghost use Rattle.ccr_model.specs.Choice.{names_of};
 ghost use Rattle.ccr_ledger.specs.declared.cards.Card.{Card};
 ghost use Rattle.ccr_ledger.specs.Books.{card_at, number};
-ghost use Rattle.ccr_ledger.specs.Asked.{admits, are_choice, budget_lasts, can_choose, choice_at, cuts, drops, enters, group_lives, has_fired, has_more, is_busy, is_ready, is_ready_stage, lives, queue_has_room, queued_first, room, runs, unfinished, waits_first};
+ghost use Rattle.ccr_ledger.specs.Asked.{may_admit_card, are_choice, budget_lasts, can_choose, choice_at, cuts, drops, may_admit_task, group_lives, has_fired, has_more, is_busy, is_ready, is_ready_stage, lives, queue_has_room, queued_first, room, runs, unfinished, waits_first};
 
 use crate::choices::{count, has_enough, names_of_choice, names_of_site};
 use crate::counts::{flag, number};
-use crate::named::{are_choice_of, are_oldest};
+use crate::named_choices::{are_choice_of, are_oldest};
 use crate::tasks::first_suspended;
 use crate::{Card, Ledger, Runner, Stage};
 use ccr_base::{ActorNo, BranchNo, Group, MsgId, OutOfMemory, Policy, QueueNo, Spot, TaskId};
-use ccr_model::seats::{is_teardown, policy_of, seat, site_port};
+use ccr_model::placements::{is_teardown, placement, policy_of, site_port};
 use ccr_rows::Rows;
 use ccr_wiring::Wiring;
 use std::alloc::Global;
@@ -91,8 +91,12 @@ impl Ledger {
         ensures { result ≡ lives wiring.now self.now spot }
     {
         match spot {
-            Spot::Branch(branch) => match seat(wiring, branch) {
-                Some(seat) => self.group_lives(branch, seat.arbiter, seat.branch.group),
+            Spot::Branch(branch) => match placement(wiring, branch) {
+                Some(placement) => self.group_lives(
+                    branch,
+                    placement.arbiter,
+                    placement.branch.group,
+                ),
                 None => false,
             },
             Spot::Site(branch, site) => first_suspended(&self.suspended, branch, site).is_some(),
@@ -116,9 +120,9 @@ impl Ledger {
         let Spot::Branch(branch) = spot else {
             return true;
         };
-        match seat(wiring, branch) {
-            Some(seat) => {
-                let queue = seat.branch.queue;
+        match placement(wiring, branch) {
+            Some(placement) => {
+                let queue = placement.branch.queue;
                 self.queue_has_room(queue, policy_of(wiring, queue))
             }
             None => true,
@@ -131,8 +135,8 @@ impl Ledger {
         ensures kept { OnOk result (self.new ≡ self.old) }
     {
         match spot {
-            Spot::Branch(branch) => match seat(wiring, branch) {
-                Some(seat) => has_enough(&mut self.ports, &seat.branch.pattern),
+            Spot::Branch(branch) => match placement(wiring, branch) {
+                Some(placement) => has_enough(&mut self.ports, &placement.branch.pattern),
                 None => Ok(false),
             },
             Spot::Site(branch, site) => match site_port(wiring, branch, site) {
@@ -148,8 +152,12 @@ impl Ledger {
         ensures kept { OnOk result (self.new ≡ self.old) }
     {
         match spot {
-            Spot::Branch(branch) => match seat(wiring, branch) {
-                Some(seat) => names_of_choice(self.alloc, &mut self.ports, &seat.branch.pattern),
+            Spot::Branch(branch) => match placement(wiring, branch) {
+                Some(placement) => names_of_choice(
+                    self.alloc,
+                    &mut self.ports,
+                    &placement.branch.pattern,
+                ),
                 None => Ok(None),
             },
             Spot::Site(branch, site) => match site_port(wiring, branch, site) {
@@ -170,9 +178,14 @@ impl Ledger {
         ensures kept { OnOk result (self.new ≡ self.old) }
     {
         match spot {
-            Spot::Branch(branch) => match seat(wiring, branch) {
-                Some(seat) => {
-                    are_choice_of(self.alloc, &mut self.ports, &seat.branch.pattern, names)
+            Spot::Branch(branch) => match placement(wiring, branch) {
+                Some(placement) => {
+                    are_choice_of(
+                        self.alloc,
+                        &mut self.ports,
+                        &placement.branch.pattern,
+                        names,
+                    )
                 }
                 None => Ok(false),
             },
@@ -190,11 +203,11 @@ impl Ledger {
         let Spot::Branch(branch) = spot else {
             return Ok(Vec::new(self.alloc));
         };
-        let Some(seat) = seat(wiring, branch) else {
+        let Some(placement) = placement(wiring, branch) else {
             return Ok(Vec::new(self.alloc));
         };
-        if is_teardown(seat.branch.group) {
-            row_of(self.alloc, &self.waiting, seat.arbiter)
+        if is_teardown(placement.branch.group) {
+            row_of(self.alloc, &self.waiting, placement.arbiter)
         } else {
             Ok(Vec::new(self.alloc))
         }
@@ -218,8 +231,8 @@ impl Ledger {
     }
 
     /// Whether the task of the card may be admitted beside those that were.
-    fn admits(&self, card: &Card) -> bool
-        ensures { result ≡ admits self.now card.now }
+    fn may_admit_card(&self, card: &Card) -> bool
+        ensures { result ≡ may_admit_card self.now card.now }
     {
         if card.concurrent {
             number(&self.alone, card.domain) == 0
@@ -229,11 +242,11 @@ impl Ledger {
     }
 
     /// Whether the task may be admitted beside those that were.
-    pub fn enters(&self, task: TaskId) -> bool
-        ensures { result ≡ enters self.now task }
+    pub fn may_admit_task(&self, task: TaskId) -> bool
+        ensures { result ≡ may_admit_task self.now task }
     {
         match self.card(task) {
-            Some(card) => self.admits(card),
+            Some(card) => self.may_admit_card(card),
             None => false,
         }
     }
@@ -328,10 +341,10 @@ impl Ledger {
     }
 
     /// How many posts of its script the poster has made.
-    pub fn said(&self, poster: ActorNo) -> u32
-        ensures { result ≡ number self.now.said poster }
+    pub fn script_posts(&self, poster: ActorNo) -> u32
+        ensures { result ≡ number self.now.script_posts poster }
     {
-        number(&self.said, poster as usize)
+        number(&self.script_posts, poster as usize)
     }
 
     /// How many posts tasks have made.

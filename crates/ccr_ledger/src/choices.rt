@@ -9,11 +9,11 @@ ghost use Rattle.ccr_model.specs.Choice.{choice_of_slots, engine_choice_of, engi
 ghost use Rattle.ccr_model.specs.Enough.{has_enough};
 
 use ccr_base::{MsgId, OutOfMemory, Pattern, PortNo, Slot};
-use ccr_held::Held;
+use ccr_held::HeldMessages;
 use std::alloc::Global;
 
 /// How many messages the port holds.
-pub(crate) fn count(ports: &[Held], port: PortNo) -> usize
+pub(crate) fn count(ports: &[HeldMessages], port: PortNo) -> usize
     ensures { result ≡ length (row ports.now port) }
 {
     match ports.get(port as usize) {
@@ -23,7 +23,7 @@ pub(crate) fn count(ports: &[Held], port: PortNo) -> usize
 }
 
 /// Whether the slot's port holds enough for it.
-fn slot_has_enough(ports: &mut Vec<Held>, slot: &Slot) -> Result<bool, OutOfMemory>
+fn slot_has_enough(ports: &mut Vec<HeldMessages>, slot: &Slot) -> Result<bool, OutOfMemory>
     ensures enough { IfOk result (λ enough. enough ≡ is_choosable slot.now (row ports.old.items slot.now.port)) }
     ensures kept { OnOk result (ports.new.items ≡ ports.old.items) }
 {
@@ -37,7 +37,7 @@ fn slot_has_enough(ports: &mut Vec<Held>, slot: &Slot) -> Result<bool, OutOfMemo
 }
 
 /// Whether each slot's port holds enough for it.
-fn slots_have_enough(ports: &mut Vec<Held>, slots: &[Slot]) -> Result<bool, OutOfMemory>
+fn slots_have_enough(ports: &mut Vec<HeldMessages>, slots: &[Slot]) -> Result<bool, OutOfMemory>
     ensures enough { IfOk result (λ all. all ≡ list_all (λ slot. is_choosable slot (row ports.old.items slot.port)) slots.now) }
     ensures kept { OnOk result (ports.new.items ≡ ports.old.items) }
 {
@@ -50,7 +50,10 @@ fn slots_have_enough(ports: &mut Vec<Held>, slots: &[Slot]) -> Result<bool, OutO
 }
 
 /// Whether the ports hold enough for the pattern.
-pub(crate) fn has_enough(ports: &mut Vec<Held>, pattern: &Pattern) -> Result<bool, OutOfMemory>
+pub(crate) fn has_enough(
+    ports: &mut Vec<HeldMessages>,
+    pattern: &Pattern,
+) -> Result<bool, OutOfMemory>
     ensures enough { IfOk result (λ enough. enough ≡ has_enough (row ports.old.items) pattern.now) }
     ensures kept { OnOk result (ports.new.items ≡ ports.old.items) }
 {
@@ -69,7 +72,11 @@ pub(crate) fn has_enough(ports: &mut Vec<Held>, pattern: &Pattern) -> Result<boo
 }
 
 /// The names of the oldest messages of the slot's port that satisfy its predicate, at most as many as it takes.
-fn slot_names(alloc: Global, ports: &mut Vec<Held>, slot: &Slot) -> Result<Vec<MsgId>, OutOfMemory>
+fn slot_names(
+    alloc: Global,
+    ports: &mut Vec<HeldMessages>,
+    slot: &Slot,
+) -> Result<Vec<MsgId>, OutOfMemory>
     ensures names { IfOk result (λ names. names.items ≡ names_of (take slot.now.most (fitting slot.now.pred (row ports.old.items slot.now.port)))) }
     ensures kept { OnOk result (ports.new.items ≡ ports.old.items) }
 {
@@ -85,7 +92,7 @@ fn slot_names(alloc: Global, ports: &mut Vec<Held>, slot: &Slot) -> Result<Vec<M
 /// The names of the slot's choice, if its port holds enough.
 fn choice_names(
     alloc: Global,
-    ports: &mut Vec<Held>,
+    ports: &mut Vec<HeldMessages>,
     slot: &Slot,
 ) -> Result<Option<Vec<MsgId>>, OutOfMemory>
     ensures names { IfOk result (λ names. option_map (λ found. found.items) names ≡ option_map names_of (choice slot.now (row ports.old.items slot.now.port))) }
@@ -101,7 +108,7 @@ fn choice_names(
 /// The names of the slots' choice, slot by slot, if each port holds enough.
 pub(crate) fn names_of_slots(
     alloc: Global,
-    ports: &mut Vec<Held>,
+    ports: &mut Vec<HeldMessages>,
     slots: &[Slot],
 ) -> Result<Option<Vec<MsgId>>, OutOfMemory>
     ensures names { IfOk result (λ names. option_map (λ found. found.items) names ≡ option_map names_of (choice_of_slots (row ports.old.items) slots.now)) }
@@ -120,7 +127,7 @@ pub(crate) fn names_of_slots(
 /// The names of so many of the oldest messages of the port.
 pub(crate) fn oldest_names(
     alloc: Global,
-    ports: &mut Vec<Held>,
+    ports: &mut Vec<HeldMessages>,
     port: PortNo,
     most: usize,
 ) -> Result<Vec<MsgId>, OutOfMemory>
@@ -139,7 +146,7 @@ pub(crate) fn oldest_names(
 /// The names of what a gather takes: as many as can be had from the port of the lower number.
 fn names_of_gather(
     alloc: Global,
-    ports: &mut Vec<Held>,
+    ports: &mut Vec<HeldMessages>,
     total: usize,
     first: PortNo,
     second: PortNo,
@@ -166,7 +173,7 @@ fn names_of_gather(
 /// The names of the choice that one thread makes of the pattern.
 pub(crate) fn names_of_choice(
     alloc: Global,
-    ports: &mut Vec<Held>,
+    ports: &mut Vec<HeldMessages>,
     pattern: &Pattern,
 ) -> Result<Option<Vec<MsgId>>, OutOfMemory>
     ensures names { IfOk result (λ names. option_map (λ found. found.items) names ≡ option_map names_of (engine_choice_of (row ports.old.items) pattern.now)) }
@@ -185,7 +192,7 @@ pub(crate) fn names_of_choice(
 /// The name of the oldest message of the port, alone, if there is one.
 pub(crate) fn names_of_site(
     alloc: Global,
-    ports: &mut Vec<Held>,
+    ports: &mut Vec<HeldMessages>,
     port: PortNo,
 ) -> Result<Option<Vec<MsgId>>, OutOfMemory>
     ensures names { IfOk result (λ names. option_map (λ found. found.items) names ≡ option_map names_of (oldest (row ports.old.items port))) }

@@ -4,7 +4,7 @@ ghost use Rattle.std.specs.Prelude.{◌≡◌, OnOk, IfOk};
 ghost use Rattle.std.specs.Option.{option_map_or};
 ghost use Rattle.ccr_wiring.specs.Wirings.{site_port};
 ghost use Rattle.ccr_model.specs.TaskData.{no_load, with_messages};
-ghost use Rattle.ccr_model.specs.Views.{load_seen, seat_seen};
+ghost use Rattle.ccr_model.specs.Views.{load_seen, placement_seen};
 ghost use Rattle.ccr_ledger.specs.Taking.{take_pattern, take_site};
 ghost use Rattle.ccr_ledger.specs.Firing.{after_choice, after_clear, after_cut, after_cuts, after_fire, after_new, after_site, after_taking, after_wait, branch_card, first_stage, load_left, resumed_card, site_card};
 
@@ -15,18 +15,20 @@ use crate::ports::{take_pattern, take_site};
 use crate::tasks::{first_suspended, move_to, resume};
 use crate::{Card, Ledger, Stage};
 use ccr_base::{BranchNo, MsgId, OutOfMemory, Spot, TaskId};
-use ccr_held::Held;
+use ccr_held::HeldMessages;
 use ccr_model::data::{TaskLoad, play_at_spot};
-use ccr_model::seats::{SeatOf, is_concurrent, is_interleave, is_teardown, seat, site_port};
+use ccr_model::placements::{
+    PlacementOf, is_concurrent, is_interleave, is_teardown, placement, site_port,
+};
 use ccr_rows::Rows;
 use ccr_wiring::Wiring;
 use std::alloc::Global;
 
 /// Where the task of a firing at the branch stands first.
-fn first_stage(seat: SeatOf<'_>) -> Stage
-    ensures { result ≡ first_stage (seat_seen seat.entry) }
+fn first_stage(placement: PlacementOf<'_>) -> Stage
+    ensures { result ≡ first_stage (placement_seen placement.entry) }
 {
-    if is_interleave(seat.kind) {
+    if is_interleave(placement.kind) {
         Stage::Waiting
     } else {
         Stage::Ready
@@ -34,23 +36,27 @@ fn first_stage(seat: SeatOf<'_>) -> Stage
 }
 
 /// Those that a firing of the branch cuts wait no more.
-fn clear(waiting: &mut Rows<TaskId>, seat: SeatOf<'_>)
-    ensures { waiting.new ≡ after_clear (seat_seen seat.entry) waiting.old }
+fn clear(waiting: &mut Rows<TaskId>, placement: PlacementOf<'_>)
+    ensures { waiting.new ≡ after_clear (placement_seen placement.entry) waiting.old }
 {
-    if is_teardown(seat.branch.group) {
-        waiting.clear(seat.arbiter);
+    if is_teardown(placement.branch.group) {
+        waiting.clear(placement.arbiter);
     }
 }
 
 /// A task that a branch of the Interleave fired waits; one of a teardown branch alone, as those before it are cut.
-fn wait(waiting: &mut Rows<TaskId>, seat: SeatOf<'_>, task: TaskId) -> Result<(), OutOfMemory>
-    ensures { OnOk result (waiting.new ≡ after_wait (seat_seen seat.entry) task waiting.old) }
+fn wait(
+    waiting: &mut Rows<TaskId>,
+    placement: PlacementOf<'_>,
+    task: TaskId,
+) -> Result<(), OutOfMemory>
+    ensures { OnOk result (waiting.new ≡ after_wait (placement_seen placement.entry) task waiting.old) }
 {
-    if !is_interleave(seat.kind) {
+    if !is_interleave(placement.kind) {
         return Ok(());
     }
-    clear(waiting, seat);
-    waiting.enter(seat.arbiter, task)
+    clear(waiting, placement);
+    waiting.enter(placement.arbiter, task)
 }
 
 /// The card of a task that the branch fires, which so many fired before.
@@ -59,25 +65,25 @@ fn branch_card(
     wiring: &Wiring,
     task: TaskId,
     branch: BranchNo,
-    seat: SeatOf<'_>,
+    placement: PlacementOf<'_>,
     number: usize,
     load: TaskLoad,
 ) -> Result<Card, OutOfMemory>
-    ensures { IfOk result (λ card. card ≡ branch_card wiring.now task branch (seat_seen seat.entry) number (load_seen load)) }
+    ensures { IfOk result (λ card. card ≡ branch_card wiring.now task branch (placement_seen placement.entry) number (load_seen load)) }
 {
     let spot = Spot::Branch(branch);
     let play = play_at_spot(alloc, wiring, spot, &load)?;
     let TaskLoad { values, causes: _ } = load;
     Ok(Card {
         spot,
-        queue: seat.branch.queue,
-        domain: seat.arbiter,
-        concurrent: is_concurrent(seat.branch.group),
+        queue: placement.branch.queue,
+        domain: placement.arbiter,
+        concurrent: is_concurrent(placement.branch.group),
         root: task,
         number,
         values,
         play,
-        stage: first_stage(seat),
+        stage: first_stage(placement),
         admitted: false,
         made: 0,
     })
@@ -117,26 +123,26 @@ fn site_card(
 fn first_card(
     alloc: Global,
     wiring: &Wiring,
-    ports: &mut Vec<Held>,
+    ports: &mut Vec<HeldMessages>,
     task: TaskId,
     branch: BranchNo,
-    seat: SeatOf<'_>,
+    placement: PlacementOf<'_>,
     messages: &[MsgId],
     number: usize,
 ) -> Result<Card, OutOfMemory>
-    ensures ports { OnOk result (ports.new.items ≡ (take_pattern (seat_seen seat.entry).branch.pattern messages.now ports.old.items).ports) }
-    ensures card { IfOk result (λ card. card ≡ branch_card wiring.now task branch (seat_seen seat.entry) number (with_messages no_load (take_pattern (seat_seen seat.entry).branch.pattern messages.now ports.old.items).messages)) }
+    ensures ports { OnOk result (ports.new.items ≡ (take_pattern (placement_seen placement.entry).branch.pattern messages.now ports.old.items).ports) }
+    ensures card { IfOk result (λ card. card ≡ branch_card wiring.now task branch (placement_seen placement.entry) number (with_messages no_load (take_pattern (placement_seen placement.entry).branch.pattern messages.now ports.old.items).messages)) }
 {
-    let taken = take_pattern(alloc, ports, &seat.branch.pattern, messages)?;
+    let taken = take_pattern(alloc, ports, &placement.branch.pattern, messages)?;
     let load = with_messages(alloc, no_load(alloc), &taken)?;
-    branch_card(alloc, wiring, task, branch, seat, number, load)
+    branch_card(alloc, wiring, task, branch, placement, number, load)
 }
 
 /// Takes what the site takes, and makes the card of the task that it fires, which goes on for the task of the card before.
 fn next_card(
     alloc: Global,
     wiring: &Wiring,
-    ports: &mut Vec<Held>,
+    ports: &mut Vec<HeldMessages>,
     before: &Card,
     branch: BranchNo,
     site: u32,
@@ -174,23 +180,28 @@ impl Ledger {
     }
 
     /// The branch and its domain have fired.
-    fn choose(&mut self, branch: BranchNo, seat: SeatOf<'_>)
-        ensures { self.new ≡ after_choice branch (seat_seen seat.entry) self.old }
+    fn choose(&mut self, branch: BranchNo, placement: PlacementOf<'_>)
+        ensures { self.new ≡ after_choice branch (placement_seen placement.entry) self.old }
     {
         raise(&mut self.spent, branch as usize);
-        raise(&mut self.chosen, seat.arbiter);
-        if is_teardown(seat.branch.group) {
-            raise(&mut self.torn, seat.arbiter);
+        raise(&mut self.chosen, placement.arbiter);
+        if is_teardown(placement.branch.group) {
+            raise(&mut self.torn, placement.arbiter);
         }
     }
 
     /// The task of the card, which the branch fired, stands in the tables.
-    fn enter(&mut self, task: TaskId, card: Card, seat: SeatOf<'_>) -> Result<(), OutOfMemory>
-        ensures { OnOk result (self.new ≡ after_new task card (seat_seen seat.entry) self.old) }
+    fn enter(
+        &mut self,
+        task: TaskId,
+        card: Card,
+        placement: PlacementOf<'_>,
+    ) -> Result<(), OutOfMemory>
+        ensures { OnOk result (self.new ≡ after_new task card (placement_seen placement.entry) self.old) }
     {
         self.tasks.insert(task, card)?;
-        wait(&mut self.waiting, seat, task)?;
-        add_one(&mut self.coming, seat.branch.queue as usize)?;
+        wait(&mut self.waiting, placement, task)?;
+        add_one(&mut self.coming, placement.branch.queue as usize)?;
         Ok(())
     }
 
@@ -200,18 +211,18 @@ impl Ledger {
         wiring: &Wiring,
         task: TaskId,
         branch: BranchNo,
-        seat: SeatOf<'_>,
+        placement: PlacementOf<'_>,
         messages: &[MsgId],
     ) -> Result<(), OutOfMemory>
-        ensures { OnOk result (self.new ≡ after_taking wiring.now task branch messages.now self.old (seat_seen seat.entry)) }
+        ensures { OnOk result (self.new ≡ after_taking wiring.now task branch messages.now self.old (placement_seen placement.entry)) }
     {
         let number = self.tasks.len();
         let ports = &mut self.ports;
         let card = first_card(
-            self.alloc, wiring, ports, task, branch, seat, messages, number,
+            self.alloc, wiring, ports, task, branch, placement, messages, number,
         )?;
-        self.enter(task, card, seat)?;
-        self.choose(branch, seat);
+        self.enter(task, card, placement)?;
+        self.choose(branch, placement);
         Ok(())
     }
 
@@ -259,11 +270,11 @@ impl Ledger {
     {
         match spot {
             Spot::Branch(branch) => {
-                let Some(seat) = seat(wiring, branch) else {
+                let Some(placement) = placement(wiring, branch) else {
                     return Ok(());
                 };
                 self.cut_all(cuts);
-                self.fire_branch(wiring, task, branch, seat, messages)
+                self.fire_branch(wiring, task, branch, placement, messages)
             }
             Spot::Site(branch, site) => self.fire_site(wiring, task, branch, site),
         }

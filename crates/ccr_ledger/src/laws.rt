@@ -8,7 +8,7 @@ ghost use Rattle.ccr_model.specs.Tasks.{running};
 ghost use Rattle.ccr_model.specs.Legal.{IsAllowed, IsLegal};
 ghost use Rattle.ccr_ledger.specs.Books.{Books, runners};
 ghost use Rattle.ccr_ledger.specs.Events.{after_event, empty_books};
-ghost use Rattle.ccr_ledger.specs.Kept.{HasSizes, Keeps, KeepsCounts, KeepsFlags, KeepsPlaces, KeepsPorts, KeepsSaid, KeepsTasks};
+ghost use Rattle.ccr_ledger.specs.Kept.{HasSizes, Keeps, KeepsCounts, KeepsFlags, KeepsPlaces, KeepsPorts, KeepsScriptPosts, KeepsTasks};
 
 /// No event changes how many rows a table has.
 pub fn sizes_are_kept()
@@ -22,7 +22,7 @@ pub fn flags_are_kept()
 
 /// After each event the counts are those of the posts of each poster, and of all tasks.
 pub fn posts_are_counted()
-    ensures { (wiring : Parts) (history : List Event) (event : Event) (books : Books) → HasSizes wiring books → KeepsSaid wiring history books → KeepsSaid wiring (history ++ event ∷ []) (after_event wiring event books) }
+    ensures { (wiring : Parts) (history : List Event) (event : Event) (books : Books) → HasSizes wiring books → KeepsScriptPosts wiring history books → KeepsScriptPosts wiring (history ++ event ∷ []) (after_event wiring event books) }
 {}
 
 /// After each allowed event those that run are the running tasks, by their starts.

@@ -1,7 +1,7 @@
 //! The tables.
 
 ghost use Rattle.std.specs.Prelude.{◌≡◌, [], ◌∷◌, ◌++◌, OnOk, IfOk, length, if◌then◌else◌};
-ghost use Rattle.ccr_wiring.specs.Wirings.{branch_of, is_branch, seats_from, segment_of};
+ghost use Rattle.ccr_wiring.specs.Wirings.{branch_of, is_branch, placements_from, segment_of};
 ghost use Rattle.std.specs.Option.{option_map_or};
 ghost use Rattle.ccr_ledger.specs.Books.{card_at, less, suspended_at, with_suspended};
 ghost use Rattle.ccr_ledger.specs.Posting.{after_post, counted};
@@ -9,10 +9,10 @@ ghost use Rattle.ccr_ledger.specs.Events.{after_admit, after_discard, after_drop
 
 use crate::counts::{add_one, take_one};
 use crate::ports::{empty_ports, post_to};
-use crate::tasks::{count_post, end_root, let_in, move_to, stop, suspend};
+use crate::tasks::{admit_root, count_post, end_root, move_to, stop, suspend};
 use crate::{Card, Runner, Stage};
 use ccr_base::{ActorNo, Msg, MsgId, OutOfMemory, QueueNo, Spot, TaskId};
-use ccr_held::Held;
+use ccr_held::HeldMessages;
 use ccr_model::{EndHow, Event};
 use ccr_rows::Rows;
 use ccr_wiring::{ArbiterPart, Wiring};
@@ -26,7 +26,7 @@ use std::marker::Model;
 pub struct Ledger {
     pub(crate) alloc: Global,
     /// What each port holds.
-    pub(crate) ports: Vec<Held>,
+    pub(crate) ports: Vec<HeldMessages>,
     /// By the names of the tasks that fired, in the order of their firings.
     pub(crate) tasks: IndexMap<TaskId, Card>,
     /// The queued tasks of each queue.
@@ -38,7 +38,7 @@ pub struct Ledger {
     /// By their starts.
     pub(crate) running: Vec<Runner>,
     /// The posts that each poster has made.
-    pub(crate) said: Vec<u32>,
+    pub(crate) script_posts: Vec<u32>,
     /// The posts that tasks have made.
     pub(crate) task_posts: u32,
     /// Whether each branch has fired.
@@ -60,7 +60,7 @@ impl Model for Ledger {
 
     ghost Value = { Books };
 
-    ghost view = { λ l. record { ports = l.ports.items; tasks = l.tasks.entries; queued = l.queued; waiting = l.waiting; suspended = l.suspended; running = l.running.items; said = l.said.items; task_posts = l.task_posts; spent = l.spent.items; chosen = l.chosen.items; torn = l.torn.items; admitted = l.admitted.items; alone = l.alone.items; coming = l.coming.items } };
+    ghost view = { λ l. record { ports = l.ports.items; tasks = l.tasks.entries; queued = l.queued; waiting = l.waiting; suspended = l.suspended; running = l.running.items; script_posts = l.script_posts.items; task_posts = l.task_posts; spent = l.spent.items; chosen = l.chosen.items; torn = l.torn.items; admitted = l.admitted.items; alone = l.alone.items; coming = l.coming.items } };
 }
 
 /// One less on the way to the queue, where a branch fired the task.
@@ -96,7 +96,7 @@ fn is_yield(how: EndHow) -> bool
 
 /// How many branches the arbiters have.
 fn count_branches(arbiters: &[ArbiterPart]) -> Result<usize, OutOfMemory>
-    ensures { IfOk result (λ count. count ≡ length (seats_from 0 arbiters.now)) }
+    ensures { IfOk result (λ count. count ≡ length (placements_from 0 arbiters.now)) }
 {
     let mut count: usize = 0;
     for arbiter in arbiters {
@@ -128,7 +128,7 @@ impl Ledger {
             waiting: Rows::new(alloc, domains)?,
             suspended: Rows::new(alloc, sites)?,
             running: Vec::new(alloc),
-            said: vec![in alloc; 0; parts.posters.as_slice().len()]?,
+            script_posts: vec![in alloc; 0; parts.posters.as_slice().len()]?,
             task_posts: 0,
             spent: vec![in alloc; false; branches]?,
             chosen: vec![in alloc; false; domains]?,
@@ -144,7 +144,7 @@ impl Ledger {
         ensures { OnOk result (self.new ≡ counted name self.old) }
     {
         match name {
-            MsgId::Script { actor, .. } => add_one(&mut self.said, actor as usize),
+            MsgId::Script { actor, .. } => add_one(&mut self.script_posts, actor as usize),
             MsgId::Task { task, .. } => {
                 count_post(&mut self.tasks, task)?;
                 let Some(posts) = self.task_posts.checked_add(1) else {
@@ -173,7 +173,7 @@ impl Ledger {
         };
         let domain = card.domain;
         let concurrent = card.concurrent;
-        let_in(&mut self.tasks, task);
+        admit_root(&mut self.tasks, task);
         self.waiting.leave(domain);
         add_one(&mut self.admitted, domain)?;
         if !concurrent {

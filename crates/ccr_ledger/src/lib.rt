@@ -9,7 +9,7 @@ mod fires;
 mod laws;
 mod ledger;
 mod loads;
-mod named;
+mod named_choices;
 mod ports;
 mod tasks;
 

@@ -7,22 +7,22 @@ ghost use Rattle.ccr_held.specs.Taken.{shared};
 ghost use Rattle.ccr_ledger.specs.Taking.{take_gather, take_oldest, take_pattern, take_site, take_slot, take_slots};
 
 use ccr_base::{Msg, MsgId, OutOfMemory, Pattern, PortNo, Slot};
-use ccr_held::Held;
+use ccr_held::HeldMessages;
 use std::alloc::Global;
 
 /// So many empty ports.
-pub(crate) fn empty_ports(alloc: Global, count: usize) -> Result<Vec<Held>, OutOfMemory>
+pub(crate) fn empty_ports(alloc: Global, count: usize) -> Result<Vec<HeldMessages>, OutOfMemory>
     ensures { IfOk result (λ ports. ports.items ≡ empty_rows count) }
 {
     let mut ports = Vec::new(alloc);
     for _ in 0..count {
-        ports.push(Held::new(alloc))?;
+        ports.push(HeldMessages::new(alloc))?;
     }
     Ok(ports)
 }
 
 /// The message comes to its port.
-pub(crate) fn post_to(ports: &mut Vec<Held>, message: Msg) -> Result<(), OutOfMemory>
+pub(crate) fn post_to(ports: &mut Vec<HeldMessages>, message: Msg) -> Result<(), OutOfMemory>
     ensures { OnOk result (ports.new.items ≡ posted_to message ports.old.items) }
 {
     let number = message.port as usize;
@@ -34,7 +34,11 @@ pub(crate) fn post_to(ports: &mut Vec<Held>, message: Msg) -> Result<(), OutOfMe
 }
 
 /// Takes what the slot takes out of its port.
-fn take_slot(ports: &mut Vec<Held>, slot: Slot, taken: &mut Vec<Msg>) -> Result<(), OutOfMemory>
+fn take_slot(
+    ports: &mut Vec<HeldMessages>,
+    slot: Slot,
+    taken: &mut Vec<Msg>,
+) -> Result<(), OutOfMemory>
     ensures ports { OnOk result (ports.new.items ≡ (take_slot slot ports.old.items).ports) }
     ensures taken { OnOk result (taken.new.items ≡ taken.old.items ++ (take_slot slot ports.old.items).messages) }
 {
@@ -47,7 +51,11 @@ fn take_slot(ports: &mut Vec<Held>, slot: Slot, taken: &mut Vec<Msg>) -> Result<
 }
 
 /// Takes what the slots take, slot by slot.
-fn take_slots(alloc: Global, ports: &mut Vec<Held>, slots: &[Slot]) -> Result<Vec<Msg>, OutOfMemory>
+fn take_slots(
+    alloc: Global,
+    ports: &mut Vec<HeldMessages>,
+    slots: &[Slot],
+) -> Result<Vec<Msg>, OutOfMemory>
     ensures ports { OnOk result (ports.new.items ≡ (take_slots slots.now ports.old.items).ports) }
     ensures taken { IfOk result (λ taken. taken.items ≡ (take_slots slots.now ports.old.items).messages) }
 {
@@ -60,7 +68,7 @@ fn take_slots(alloc: Global, ports: &mut Vec<Held>, slots: &[Slot]) -> Result<Ve
 
 /// Takes so many of the oldest messages of the port.
 fn take_oldest(
-    ports: &mut Vec<Held>,
+    ports: &mut Vec<HeldMessages>,
     port: PortNo,
     count: usize,
     taken: &mut Vec<Msg>,
@@ -77,7 +85,11 @@ fn take_oldest(
 }
 
 /// How many of the names, from the first on, are those of the port's oldest messages.
-fn shared_with(ports: &mut Vec<Held>, port: PortNo, names: &[MsgId]) -> Result<usize, OutOfMemory>
+fn shared_with(
+    ports: &mut Vec<HeldMessages>,
+    port: PortNo,
+    names: &[MsgId],
+) -> Result<usize, OutOfMemory>
     ensures shared { IfOk result (λ count. count ≡ shared (row ports.old.items port) names.now) }
     ensures kept { OnOk result (ports.new.items ≡ ports.old.items) }
 {
@@ -93,7 +105,7 @@ fn shared_with(ports: &mut Vec<Held>, port: PortNo, names: &[MsgId]) -> Result<u
 /// Takes what the gather takes by the names.
 fn take_gather(
     alloc: Global,
-    ports: &mut Vec<Held>,
+    ports: &mut Vec<HeldMessages>,
     first: PortNo,
     second: PortNo,
     names: &[MsgId],
@@ -112,7 +124,7 @@ fn take_gather(
 /// Takes what the pattern takes, where a firing takes the messages of these names.
 pub(crate) fn take_pattern(
     alloc: Global,
-    ports: &mut Vec<Held>,
+    ports: &mut Vec<HeldMessages>,
     pattern: &Pattern,
     names: &[MsgId],
 ) -> Result<Vec<Msg>, OutOfMemory>
@@ -128,7 +140,7 @@ pub(crate) fn take_pattern(
 /// Takes the oldest message of the port that a site awaits.
 pub(crate) fn take_site(
     alloc: Global,
-    ports: &mut Vec<Held>,
+    ports: &mut Vec<HeldMessages>,
     port: Option<PortNo>,
 ) -> Result<Vec<Msg>, OutOfMemory>
     ensures ports { OnOk result (ports.new.items ≡ (take_site port ports.old.items).ports) }

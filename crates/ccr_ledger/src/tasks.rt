@@ -4,7 +4,7 @@ ghost use Rattle.std.specs.Prelude.{◌≡◌, ◌<◌, [], ◌∷◌, ◌++◌,
 ghost use Rattle.std.specs.List.{slice_get};
 ghost use Rattle.ccr_ledger.specs.Books.{changed, moved, suspended_at, with_suspended};
 ghost use Rattle.ccr_ledger.specs.Posting.{with_post};
-ghost use Rattle.ccr_ledger.specs.Events.{let_in, not_admitted, stopped};
+ghost use Rattle.ccr_ledger.specs.Events.{admit_root, not_admitted, stopped};
 
 use crate::{Card, Runner, Stage};
 use ccr_base::{BranchNo, OutOfMemory, TaskId};
@@ -21,8 +21,8 @@ pub(crate) fn move_to(tasks: &mut IndexMap<TaskId, Card>, task: TaskId, stage: S
 }
 
 /// The task is a root that was admitted.
-pub(crate) fn let_in(tasks: &mut IndexMap<TaskId, Card>, task: TaskId)
-    ensures { tasks.new.entries ≡ changed let_in task tasks.old.entries }
+pub(crate) fn admit_root(tasks: &mut IndexMap<TaskId, Card>, task: TaskId)
+    ensures { tasks.new.entries ≡ changed admit_root task tasks.old.entries }
 {
     if let Some(card) = tasks.get_mut(&task) {
         card.stage = Stage::Ready;

@@ -24,13 +24,13 @@ use Rattle.ccr_model.specs.declared.history.Event.TheVariants.{Post, Fire, Admit
 use Rattle.ccr_model.specs.declared.history.EndHow.TheVariants as ends
 use Rattle.ccr_base.specs.Names.{same_task, has_task, same_lists, same_options, same_message, without}
 use Rattle.ccr_model.specs.Posts.{posts_of_poster, posts_of_task, posts_of_tasks, held}
-use Rattle.ccr_wiring.specs.Wirings.{Seat, seat, spots, site_port, branch_of}
+use Rattle.ccr_wiring.specs.Wirings.{Placement, placement, spots, site_port, branch_of}
 use Rattle.ccr_model.specs.Firings.{Firing, firings, firing_of, firing_named, fired, started, ended}
-use Rattle.ccr_model.specs.TaskData.{seat_of, play_of}
+use Rattle.ccr_model.specs.TaskData.{placement_of, play_of}
 use Rattle.ccr_model.specs.Tasks.{is_interleave, is_branch_where, waiting, queued, is_for_queue, running, running_by, started_as, has_post_left, count_unfinished}
 use Rattle.ccr_model.specs.Live.{is_live, has_room}
 use Rattle.ccr_model.specs.Choice.{is_choice, is_choice_of, engine_choice, engine_choice_of, engine_gather, are_first, are_split, are_oldest, oldest, names_of}
-use Rattle.ccr_model.specs.Rules.{refused, is_post, is_new, may_put, drop_at, cuts_at, has_budget, ends_so, is_shed, may_enter, may_start}
+use Rattle.ccr_model.specs.Rules.{refused, is_post, is_new, may_put, drop_at, cuts_at, has_budget, ends_so, is_shed, may_admit, may_start}
 use Rattle.ccr_model.specs.Legal.{IsAllowed, IsLegal}
 use Rattle.ccr_model.specs.Order.{post_from, script_post, fire_at, fire_from, next_attempt, put_first, run_task, run_with, task_post, how_of, admit_first, admit_from, start_from, first}
 use Rattle.ccr_model.proofs.PostNames.{along, refused_not}
@@ -114,9 +114,9 @@ oldest_choice [] ms is = absurd (cc)
 oldest_choice (x ∷ xs) ms is = let same : ms ≡ x ∷ [] = cc in rw same (rw (same_message-self x.id) refl)
 
 choice_allowed : (w : Parts) (h : List Event) (s : Spot) (ms : List Msg) → engine_choice w h s ≡ Some ms → is_choice w h s (names_of ms) ≡ true
-choice_allowed w h (Branch b) ms is = of_option (seat w b) is
+choice_allowed w h (Branch b) ms is = of_option (placement w b) is
   where
-    of_option : (o : Option Seat) → option_and_then (λ (s : Seat). engine_choice_of (held h) s.branch.pattern) o ≡ Some ms → option_map_or (λ (s : Seat). is_choice_of (held h) s.branch.pattern (names_of ms)) o false ≡ true
+    of_option : (o : Option Placement) → option_and_then (λ (s : Placement). engine_choice_of (held h) s.branch.pattern) o ≡ Some ms → option_map_or (λ (s : Placement). is_choice_of (held h) s.branch.pattern (names_of ms)) o false ≡ true
     of_option None e = absurd (cc)
     of_option (Some s) e = choice_allowed_of (held h) s.branch.pattern ms e
 choice_allowed w h (Site b k) ms is = of_option (site_port w b k) is
@@ -237,16 +237,16 @@ fired_where_some p (g ∷ fs) t among = of_test (p g) refl among (fired_where_so
     of_test true e (inr more) rest = let r = rest more in (r.0, inr r.1, r.2, r.3)
     of_test false e more rest = let r = rest more in (r.0, inr r.1, r.2, r.3)
 
--- the oldest waiting task has its seat there
-waiting_seat : (w : Parts) (h : List Event) (n : ℕ) (t : TaskId) (ts : List TaskId) → OneName h → waiting w h n ≡ t ∷ ts → (s : Seat) × (seat_of w h t ≡ Some s) × (s.arbiter ≡ n)
-waiting_seat w h n t ts one is =
+-- the oldest waiting task has its placement there
+waiting_placement : (w : Parts) (h : List Event) (n : ℕ) (t : TaskId) (ts : List TaskId) → OneName h → waiting w h n ≡ t ∷ ts → (s : Placement) × (placement_of w h t ≡ Some s) × (s.arbiter ≡ n)
+waiting_placement w h n t ts one is =
     let found = fired_where_some (λ f. is_branch_where w (λ s. is_interleave s.kind && (s.arbiter == n)) f.spot) (firings h) t (filter_head _ _ t ts is) in
     let named : firing_named h t ≡ Some found.0 = subst (λ u. firing_named h u ≡ Some found.0) found.3 (one found.0 found.1) in
     rw named (of_spot found.0.spot found.2)
   where
-    of_spot : (sp : Spot) → is_branch_where w (λ s. is_interleave s.kind && (s.arbiter == n)) sp ≡ true → (s : Seat) × (seat w (branch_of sp) ≡ Some s) × (s.arbiter ≡ n)
+    of_spot : (sp : Spot) → is_branch_where w (λ s. is_interleave s.kind && (s.arbiter == n)) sp ≡ true → (s : Placement) × (placement w (branch_of sp) ≡ Some s) × (s.arbiter ≡ n)
     of_spot (Branch b) passes =
-        let r = some_of (λ (s : Seat). is_interleave s.kind && (s.arbiter == n)) (seat w b) passes in
+        let r = some_of (λ (s : Placement). is_interleave s.kind && (s.arbiter == n)) (placement w b) passes in
         (r.0, r.1, grind (arith, nat_tests, (both (is_interleave r.0.kind) (r.0.arbiter == n) r.2).1))
     of_spot (Site b k) passes = absurd (cc)
 
@@ -255,12 +255,12 @@ admit_allowed w h n one = of_list (waiting w h n) refl
   where
     of_list : (ts : List TaskId) → waiting w h n ≡ ts → IfSome (admit_first w h ts) (IsAllowed w h)
     of_list [] is = tt
-    of_list (t ∷ ts) is = of_test (may_enter w h t) refl
+    of_list (t ∷ ts) is = of_test (may_admit w h t) refl
       where
-        of_test : (b : Bool) → may_enter w h t ≡ b → IfSome (if b then Some (Admit t) else None) (IsAllowed w h)
+        of_test : (b : Bool) → may_admit w h t ≡ b → IfSome (if b then Some (Admit t) else None) (IsAllowed w h)
         of_test false e = tt
         of_test true e =
-            let found = waiting_seat w h n t ts one is in
+            let found = waiting_placement w h n t ts one is in
             passed _ 9 _ (rw (found.1, found.2, is) (same_task-self t)) (passed _ 10 None e refl)
 
 admits_allowed : (w : Parts) (h : List Event) (n : ℕ) (xs : List ArbiterPart) → OneName h → IfSome (admit_from w h n xs) (IsAllowed w h)
@@ -293,7 +293,7 @@ start_allowed w c h n high low run = of_list (queued w h n) refl
     of_list [] is = tt
     of_list (t ∷ ts) is =
         let for_queue = head_passes (is_for_queue w h n) _ t ts is in
-        let found = some_of (λ (s : Seat). s.branch.queue == n) (seat_of w h t) for_queue in
+        let found = some_of (λ (s : Placement). s.branch.queue == n) (placement_of w h t) for_queue in
         let number : found.0.branch.queue ≡ n = grind (arith, nat_tests, found.2) in
         let idle : running_by h c ≡ [] = none_by c h (ended h) run in
         let ready : may_start w h c ≡ true = rw idle (grind (arith, nat_tests)) in

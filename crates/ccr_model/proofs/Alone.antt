@@ -14,23 +14,23 @@ use Rattle.ccr_model.specs.declared.history.Event.TheVariants.{Post, Fire, Admit
 use Rattle.ccr_model.specs.declared.history.EndHow.{EndHow}
 use Rattle.ccr_model.specs.declared.history.EndHow.TheVariants as ends
 use Rattle.ccr_base.specs.Names.{same_task, same_options, has_task, without}
-use Rattle.ccr_wiring.specs.Wirings.{Seat, policy_of}
-use Rattle.ccr_model.specs.Firings.{let_in, admitted_by, last_segments, last_by, started, put, dropped}
+use Rattle.ccr_wiring.specs.Wirings.{Placement, policy_of}
+use Rattle.ccr_model.specs.Firings.{ever_admitted, admitted_by, last_segments, last_by, started, put, dropped}
 use Rattle.ccr_model.specs.Sites.{root_of}
-use Rattle.ccr_model.specs.TaskData.{seat_of}
+use Rattle.ccr_model.specs.TaskData.{placement_of}
 use Rattle.ccr_model.specs.Tasks.{waiting, queued, is_for_queue, running, is_over, is_in_arbiter, admitted, is_concurrent}
 use Rattle.ccr_model.specs.Live.{is_none_of}
-use Rattle.ccr_model.specs.Rules.{is_oldest_waiting, is_first, may_enter, may_put, drop_at, drop_by, is_concurrent_task}
+use Rattle.ccr_model.specs.Rules.{is_oldest_waiting, is_first, may_admit, may_put, drop_at, drop_by, is_concurrent_task}
 use Rattle.ccr_model.specs.Legal.{IsAllowed, IsLegal}
-use Rattle.ccr_model.specs.Consequences.{is_alone}
+use Rattle.ccr_model.specs.Consequences.{keeps_exclusion}
 use Rattle.ccr_model.proofs.PostNames.{along, refused_not}
 use Rattle.ccr_model.proofs.Allowing.{head_passes}
 use Rattle.ccr_model.proofs.Covered.{AreStarted, AreStarted_kept, running_started}
-use Rattle.ccr_model.proofs.Pushes.{last-push, let_in-push}
+use Rattle.ccr_model.proofs.Pushes.{last-push, ever_admitted-push}
 use Rattle.ccr_model.proofs.Options.{some_of, some_then, head_rest}
 use Rattle.ccr_model.proofs.SameNames.{same_task-is, same_task-self}
 use Rattle.ccr_model.proofs.Booleans.{both, or_left, or_right}
-use Rattle.ccr_model.proofs.FiredTasks.{IsFired, AreFired, IsFired-append, none_fired, seat_fired, seat_stays, root_stays}
+use Rattle.ccr_model.proofs.FiredTasks.{IsFired, AreFired, IsFired-append, none_fired, placement_fired, placement_stays, root_stays}
 
 AreFired-append : (h es : List Event) (ts : List TaskId) → AreFired h ts → AreFired (h ++ es) ts
 AreFired-append h es ts all t is = IsFired-append h es t (all t is)
@@ -63,12 +63,12 @@ drop_fired w h t (Some x) is = of_option (drop_at w h t) refl is
     of_option : (o : Option TaskId) → drop_at w h t ≡ o → same_options same_task (Some x) o ≡ true → AreFired h (x ∷ [])
     of_option None e same = absurd (cc)
     of_option (Some y) e same =
-        let found = some_then (λ (s : Seat). drop_by (policy_of w s.branch.queue) (queued w h s.branch.queue)) (seat_of w h t) y e in
+        let found = some_then (λ (s : Placement). drop_by (policy_of w s.branch.queue) (queued w h s.branch.queue)) (placement_of w h t) y e in
         let head = head_rest (queued w h found.0.branch.queue) y (drop_first (policy_of w found.0.branch.queue) (queued w h found.0.branch.queue) y found.2) in
         let passes = head_passes (is_for_queue w h found.0.branch.queue) (without (put h) (started h ++ dropped h)) y head.0 head.1 in
-        let placed = some_of (λ (s : Seat). s.branch.queue == found.0.branch.queue) (seat_of w h y) passes in
+        let placed = some_of (λ (s : Placement). s.branch.queue == found.0.branch.queue) (placement_of w h y) passes in
         let one : y ≡ x = sym (same_task-is x y same) in
-        AreFired-one h x (subst (IsFired h) one (seat_fired w h y placed.0 placed.1))
+        AreFired-one h x (subst (IsFired h) one (placement_fired w h y placed.0 placed.1))
 
 end_fired : (h : List Event) (t : TaskId) (how : EndHow) → IsFired h t → AreFired h (last_by (End t how))
 end_fired h t ends.Done fired = AreFired-one h t fired
@@ -87,8 +87,8 @@ last_fired w h (Start t a) known allowed = none_fired h
 let_fired : (w : Parts) (h : List Event) (e : Event) → IsAllowed w h e → AreFired h (admitted_by e)
 let_fired w h (Admit t) allowed =
     let a = refused_not (is_oldest_waiting w h t) 9 _ allowed in
-    let found = some_of (λ (s : Seat). is_first (waiting w h s.arbiter) t) (seat_of w h t) a.0 in
-    AreFired-one h t (seat_fired w h t found.0 found.1)
+    let found = some_of (λ (s : Placement). is_first (waiting w h s.arbiter) t) (placement_of w h t) a.0 in
+    AreFired-one h t (placement_fired w h t found.0 found.1)
 let_fired w h (Post m) allowed = none_fired h
 let_fired w h (Fire t s ms cs) allowed = none_fired h
 let_fired w h (Put t d) allowed = none_fired h
@@ -139,15 +139,15 @@ alone_narrower c c' p p' ts narrow same is = of_test (list_all c (filter p ts)) 
 record Known (w : Parts) (h : List Event) : Type 0 where
   starts : AreStarted h
   lasts : AreFired h (last_segments h)
-  lets : AreFired h (let_in h)
-  alone : (i : ℕ) → is_alone w h i ≡ true
+  lets : AreFired h (ever_admitted h)
+  alone : (i : ℕ) → keeps_exclusion w h i ≡ true
 
 -- the test of admitted roots narrows
 stays_narrow : (w : Parts) (h : List Event) (e : Event) (i : ℕ) (t : TaskId) → AreFired h (last_segments h) → IsFired h t → is_in_arbiter w (h ++ e ∷ []) i t && not (is_over (h ++ e ∷ []) t) ≡ true → is_in_arbiter w h i t && not (is_over h t) ≡ true
 stays_narrow w h e i t lasts fired is =
-    let seat_so = seat_stays w h (e ∷ []) t fired in
+    let placement_so = placement_stays w h (e ∷ []) t fired in
     let parts = both (is_in_arbiter w (h ++ e ∷ []) i t) (not (is_over (h ++ e ∷ []) t)) is in
-    let within : is_in_arbiter w h i t ≡ true = rw seat_so at parts.0 in
+    let within : is_in_arbiter w h i t ≡ true = rw placement_so at parts.0 in
     of_test (is_over h t) refl within (λ over. over_stays h e t lasts over) parts.1
   where
     of_test : (b : Bool) → is_over h t ≡ b → is_in_arbiter w h i t ≡ true → (is_over h t ≡ true → is_over (h ++ e ∷ []) t ≡ true) → not (is_over (h ++ e ∷ []) t) ≡ true → is_in_arbiter w h i t && not (is_over h t) ≡ true
@@ -155,16 +155,16 @@ stays_narrow w h e i t lasts fired is =
     of_test true e' within stays live = let over = stays e' in absurd (cc (rw over at live))
 
 concurrent_stays : (w : Parts) (h es : List Event) (t : TaskId) → IsFired h t → is_concurrent_task w (h ++ es) t ≡ is_concurrent_task w h t
-concurrent_stays w h es t fired = rw (seat_stays w h es t fired) refl
+concurrent_stays w h es t fired = rw (placement_stays w h es t fired) refl
 
-alone_other : (w : Parts) (h : List Event) (e : Event) → let_in (h ++ e ∷ []) ≡ let_in h → Known w h → (i : ℕ) → is_alone w (h ++ e ∷ []) i ≡ true
+alone_other : (w : Parts) (h : List Event) (e : Event) → ever_admitted (h ++ e ∷ []) ≡ ever_admitted h → Known w h → (i : ℕ) → keeps_exclusion w (h ++ e ∷ []) i ≡ true
 alone_other w h e same known i =
-    rw same (alone_narrower (is_concurrent_task w h) (is_concurrent_task w (h ++ e ∷ [])) (λ t. is_in_arbiter w h i t && not (is_over h t)) (λ t. is_in_arbiter w (h ++ e ∷ []) i t && not (is_over (h ++ e ∷ []) t)) (let_in h)
+    rw same (alone_narrower (is_concurrent_task w h) (is_concurrent_task w (h ++ e ∷ [])) (λ t. is_in_arbiter w h i t && not (is_over h t)) (λ t. is_in_arbiter w (h ++ e ∷ []) i t && not (is_over (h ++ e ∷ []) t)) (ever_admitted h)
     (λ t among. stays_narrow w h e i t known.lasts (known.lets t among)) (λ t among. concurrent_stays w h (e ∷ []) t (known.lets t among)) (known.alone i))
 
 -- over plain lists: one more is let in
 one_more : (c : TaskId → Bool) (p : TaskId → Bool) (ts : List TaskId) (t : TaskId) → (p t ≡ true → ((c t ≡ true) × (list_all c (filter p ts) ≡ true)) ⊎ (length (filter p ts) ≡ 0)) → list_all c (filter p ts) || nat_le (length (filter p ts)) 1 ≡ true → list_all c (filter p (ts ++ t ∷ [])) || nat_le (length (filter p (ts ++ t ∷ []))) 1 ≡ true
-one_more c p ts t enters is = of_test (p t) refl enters
+one_more c p ts t may_be_admitted is = of_test (p t) refl may_be_admitted
   where
     of_test : (b : Bool) → p t ≡ b → (p t ≡ true → ((c t ≡ true) × (list_all c (filter p ts) ≡ true)) ⊎ (length (filter p ts) ≡ 0)) → list_all c (filter p (ts ++ t ∷ [])) || nat_le (length (filter p (ts ++ t ∷ []))) 1 ≡ true
     of_test false e enters' = grind (arith, common_steps, e, is)
@@ -175,33 +175,33 @@ one_more c p ts t enters is = of_test (p t) refl enters
         by_case (inr none) = let one : length (filter p (ts ++ t ∷ [])) ≡ 1 = grind (arith, common_steps, e, none) in or_right (list_all c (filter p (ts ++ t ∷ []))) _ (rw one refl)
 
 -- what an allowed admission says of those in its Interleave
-enters : (w : Parts) (h : List Event) (t : TaskId) (i : ℕ) → may_enter w h t ≡ true → is_in_arbiter w h i t ≡ true → ((is_concurrent_task w h t ≡ true) × (list_all (is_concurrent_task w h) (admitted w h i) ≡ true)) ⊎ (length (admitted w h i) ≡ 0)
-enters w h t i may within =
-    let test : Seat → Bool = λ s. (if is_concurrent s.branch.group then list_all (is_concurrent_task w h) (admitted w h s.arbiter) else is_none_of (admitted w h s.arbiter)) in
-    let found = some_of test (seat_of w h t) may in
+may_be_admitted : (w : Parts) (h : List Event) (t : TaskId) (i : ℕ) → may_admit w h t ≡ true → is_in_arbiter w h i t ≡ true → ((is_concurrent_task w h t ≡ true) × (list_all (is_concurrent_task w h) (admitted w h i) ≡ true)) ⊎ (length (admitted w h i) ≡ 0)
+may_be_admitted w h t i may within =
+    let test : Placement → Bool = λ s. (if is_concurrent s.branch.group then list_all (is_concurrent_task w h) (admitted w h s.arbiter) else is_none_of (admitted w h s.arbiter)) in
+    let found = some_of test (placement_of w h t) may in
     let there : (found.0.arbiter == i) ≡ true = rw found.1 at within in
     let number : found.0.arbiter ≡ i = grind (arith, nat_tests, there) in
-    let group : is_concurrent_task w h t ≡ is_concurrent found.0.branch.group = ap (λ o. option_map_or (λ (s : Seat). is_concurrent s.branch.group) o false) found.1 in
+    let group : is_concurrent_task w h t ≡ is_concurrent found.0.branch.group = ap (λ o. option_map_or (λ (s : Placement). is_concurrent s.branch.group) o false) found.1 in
     by_group (is_concurrent found.0.branch.group) group (subst (λ n. (if is_concurrent found.0.branch.group then list_all (is_concurrent_task w h) (admitted w h n) else is_none_of (admitted w h n)) ≡ true) number found.2)
   where
     by_group : (b : Bool) → is_concurrent_task w h t ≡ b → (if b then list_all (is_concurrent_task w h) (admitted w h i) else is_none_of (admitted w h i)) ≡ true → ((is_concurrent_task w h t ≡ true) × (list_all (is_concurrent_task w h) (admitted w h i) ≡ true)) ⊎ (length (admitted w h i) ≡ 0)
     by_group true e all = inl (e, all)
     by_group false e none = inr (grind (arith, nat_tests, none))
 
-alone_admit : (w : Parts) (h : List Event) (t : TaskId) → IsAllowed w h (Admit t) → Known w h → (i : ℕ) → is_alone w (h ++ Admit t ∷ []) i ≡ true
+alone_admit : (w : Parts) (h : List Event) (t : TaskId) → IsAllowed w h (Admit t) → Known w h → (i : ℕ) → keeps_exclusion w (h ++ Admit t ∷ []) i ≡ true
 alone_admit w h t allowed known i =
     let a = refused_not (is_oldest_waiting w h t) 9 _ allowed in
-    let may = (refused_not (may_enter w h t) 10 None a.1).0 in
-    let seat_at = some_of (λ (s : Seat). is_first (waiting w h s.arbiter) t) (seat_of w h t) a.0 in
-    let fired = seat_fired w h t seat_at.0 seat_at.1 in
+    let may = (refused_not (may_admit w h t) 10 None a.1).0 in
+    let placement_at = some_of (λ (s : Placement). is_first (waiting w h s.arbiter) t) (placement_of w h t) a.0 in
+    let fired = placement_fired w h t placement_at.0 placement_at.1 in
     let g = h ++ Admit t ∷ [] in
     let now : TaskId → Bool = λ u. is_in_arbiter w g i u && not (is_over g u) in
     let was : TaskId → Bool = λ u. is_in_arbiter w h i u && not (is_over h u) in
-    let narrow : (u : TaskId) → has_task (let_in h) u ≡ true → now u ≡ true → was u ≡ true = λ u among. stays_narrow w h (Admit t) i u known.lasts (known.lets u among) in
-    let same : (u : TaskId) → has_task (let_in h) u ≡ true → is_concurrent_task w g u ≡ is_concurrent_task w h u = λ u among. concurrent_stays w h (Admit t ∷ []) u (known.lets u among) in
-    rw let_in-push (one_more (is_concurrent_task w g) now (let_in h) t
-    (λ passes. by_case (enters w h t i may (both (is_in_arbiter w h i t) (not (is_over h t)) (stays_narrow w h (Admit t) i t known.lasts fired passes)).0) (concurrent_stays w h (Admit t ∷ []) t fired) (all_narrower (is_concurrent_task w h) (is_concurrent_task w g) was now (let_in h) narrow same) (few_narrower was now (let_in h) narrow))
-    (alone_narrower (is_concurrent_task w h) (is_concurrent_task w g) was now (let_in h) narrow same (known.alone i)))
+    let narrow : (u : TaskId) → has_task (ever_admitted h) u ≡ true → now u ≡ true → was u ≡ true = λ u among. stays_narrow w h (Admit t) i u known.lasts (known.lets u among) in
+    let same : (u : TaskId) → has_task (ever_admitted h) u ≡ true → is_concurrent_task w g u ≡ is_concurrent_task w h u = λ u among. concurrent_stays w h (Admit t ∷ []) u (known.lets u among) in
+    rw ever_admitted-push (one_more (is_concurrent_task w g) now (ever_admitted h) t
+    (λ passes. by_case (may_be_admitted w h t i may (both (is_in_arbiter w h i t) (not (is_over h t)) (stays_narrow w h (Admit t) i t known.lasts fired passes)).0) (concurrent_stays w h (Admit t ∷ []) t fired) (all_narrower (is_concurrent_task w h) (is_concurrent_task w g) was now (ever_admitted h) narrow same) (few_narrower was now (ever_admitted h) narrow))
+    (alone_narrower (is_concurrent_task w h) (is_concurrent_task w g) was now (ever_admitted h) narrow same (known.alone i)))
   where
     by_case : {A B C D : Bool} {n m : ℕ} → ((A ≡ true) × (B ≡ true)) ⊎ (n ≡ 0) → C ≡ A → (B ≡ true → D ≡ true) → m ≤ n → ((C ≡ true) × (D ≡ true)) ⊎ (m ≡ 0)
     by_case (inl all) is rest few = inl (is ∙ all.0, rest all.1)
@@ -211,14 +211,14 @@ Known_kept : (w : Parts) (h : List Event) (e : Event) → Known w h → IsAllowe
 Known_kept w h e known allowed = record {
   starts = AreStarted_kept w h e known.starts allowed;
   lasts = rw last-push (AreFired-append h (e ∷ []) (last_segments h ++ last_by e) (AreFired-more h (last_segments h) (last_by e) known.lasts (last_fired w h e known.starts allowed)));
-  lets = rw let_in-push (AreFired-append h (e ∷ []) (let_in h ++ admitted_by e) (AreFired-more h (let_in h) (admitted_by e) known.lets (let_fired w h e allowed)));
+  lets = rw ever_admitted-push (AreFired-append h (e ∷ []) (ever_admitted h ++ admitted_by e) (AreFired-more h (ever_admitted h) (admitted_by e) known.lets (let_fired w h e allowed)));
   alone = alone_kept w h e known allowed;
 }
   where
-    other : (h : List Event) (e : Event) → admitted_by e ≡ [] → let_in (h ++ e ∷ []) ≡ let_in h
-    other h e none = rw (let_in-push, none, append-nil) refl
+    other : (h : List Event) (e : Event) → admitted_by e ≡ [] → ever_admitted (h ++ e ∷ []) ≡ ever_admitted h
+    other h e none = rw (ever_admitted-push, none, append-nil) refl
 
-    alone_kept : (w : Parts) (h : List Event) (e : Event) → Known w h → IsAllowed w h e → (i : ℕ) → is_alone w (h ++ e ∷ []) i ≡ true
+    alone_kept : (w : Parts) (h : List Event) (e : Event) → Known w h → IsAllowed w h e → (i : ℕ) → keeps_exclusion w (h ++ e ∷ []) i ≡ true
     alone_kept w h (Admit t) known allowed = alone_admit w h t allowed known
     alone_kept w h (Post m) known allowed = alone_other w h (Post m) (other h (Post m) refl) known
     alone_kept w h (Fire t s ms cs) known allowed = alone_other w h (Fire t s ms cs) (other h (Fire t s ms cs) refl) known
@@ -234,9 +234,9 @@ pub lasts_fired : (w : Parts) (h : List Event) → IsLegal w h → AreFired h (l
 lasts_fired w h legal = (Known-legal w h legal).lasts
 
 -- who was admitted fired
-pub let_in_fired : (w : Parts) (h : List Event) → IsLegal w h → AreFired h (let_in h)
-let_in_fired w h legal = (Known-legal w h legal).lets
+pub ever_admitted_fired : (w : Parts) (h : List Event) → IsLegal w h → AreFired h (ever_admitted h)
+ever_admitted_fired w h legal = (Known-legal w h legal).lets
 
 -- exclusion, first part
-pub is_alone-legal : (w : Parts) (h : List Event) → IsLegal w h → (i : ℕ) → is_alone w h i ≡ true
+pub is_alone-legal : (w : Parts) (h : List Event) → IsLegal w h → (i : ℕ) → keeps_exclusion w h i ≡ true
 is_alone-legal w h legal = (Known-legal w h legal).alone

@@ -12,7 +12,7 @@ use Rattle.ccr_base.specs.declared.names.Spot.{Spot}
 use Rattle.ccr_base.specs.declared.names.Spot.TheVariants.{Branch, Site}
 use Rattle.ccr_base.specs.Choice.{choice, is_choosable}
 use Rattle.ccr_wiring.specs.declared.parts.Parts.{Parts}
-use Rattle.ccr_wiring.specs.Wirings.{Seat, seat, site_port}
+use Rattle.ccr_wiring.specs.Wirings.{Placement, placement, site_port}
 use Rattle.ccr_model.specs.declared.history.Event.{Event}
 use Rattle.ccr_model.specs.Posts.{held}
 use Rattle.ccr_model.specs.Choice.{joined, choice_of_slots, engine_gather, engine_choice_of, oldest, engine_choice}
@@ -64,11 +64,11 @@ some_oldest [] = refl
 some_oldest (m ∷ ms) = grind (arith, nat_tests)
 
 some_choice_at : (w : Parts) (h : List Event) (s : Spot) → is_some (engine_choice w h s) ≡ can_take w h s
-some_choice_at w h (Branch b) = of_seat (seat w b)
+some_choice_at w h (Branch b) = of_placement (placement w b)
   where
-    of_seat : (o : Option Seat) → is_some (option_and_then (λ (s : Seat). engine_choice_of (held h) s.branch.pattern) o) ≡ option_map_or (λ (s : Seat). has_enough (held h) s.branch.pattern) o false
-    of_seat None = refl
-    of_seat (Some s) = some_choice_of (held h) s.branch.pattern
+    of_placement : (o : Option Placement) → is_some (option_and_then (λ (s : Placement). engine_choice_of (held h) s.branch.pattern) o) ≡ option_map_or (λ (s : Placement). has_enough (held h) s.branch.pattern) o false
+    of_placement None = refl
+    of_placement (Some s) = some_choice_of (held h) s.branch.pattern
 some_choice_at w h (Site b k) = of_port (site_port w b k)
   where
     of_port : (o : Option ℕ) → is_some (option_and_then (λ port. oldest (held h port)) o) ≡ option_map_or (λ port. nat_lt 0 (length (held h port))) o false

@@ -13,9 +13,9 @@ use Rattle.ccr_model.specs.declared.history.EndHow.{EndHow}
 use Rattle.ccr_model.specs.declared.history.EndHow.TheVariants as ends
 use Rattle.ccr_base.specs.Names.{same_task, has_task, without}
 use Rattle.ccr_model.specs.Posts.{posts, posts_of_task, posts_of_tasks}
-use Rattle.ccr_wiring.specs.Wirings.{Seat}
+use Rattle.ccr_wiring.specs.Wirings.{Placement}
 use Rattle.ccr_model.specs.Firings.{started, started_by, ended, put, dropped}
-use Rattle.ccr_model.specs.TaskData.{seat_of}
+use Rattle.ccr_model.specs.TaskData.{placement_of}
 use Rattle.ccr_model.specs.Tasks.{queued, is_for_queue, running, has_post_left, unfinished, count_unfinished}
 use Rattle.ccr_model.specs.Rules.{is_first, is_oldest_queued, may_end, may_shed, is_shed}
 use Rattle.ccr_model.specs.Consequences.{are_distinct_tasks}
@@ -30,7 +30,7 @@ use Rattle.ccr_model.proofs.Options.{some_of, head_rest}
 use Rattle.ccr_model.proofs.SameNames.{same_task-is, same_task-self, same_task-sym}
 use Rattle.ccr_model.proofs.TasksLeft.{of_without, filter_on, distinct-filter, distinct-push}
 use Rattle.ccr_model.proofs.Booleans.{not_true, both, or_left, or_right}
-use Rattle.ccr_model.proofs.FiredTasks.{IsFired, AreFired, IsFired-append, seat_fired}
+use Rattle.ccr_model.proofs.FiredTasks.{IsFired, AreFired, IsFired-append, placement_fired}
 
 -- what is known of the tasks that started
 pub record AreStarted (h : List Event) : Type 0 where
@@ -78,13 +78,13 @@ none_goes p t (x ∷ ts) fails = of_test (same_task x t) refl (none_goes p t ts 
 -- who started, by one more event
 queued_head : (w : Parts) (h : List Event) (t : TaskId) → is_oldest_queued w h t ≡ true → IsFired h t × (has_task (started h) t ≡ false)
 queued_head w h t is =
-    let found = some_of (λ (s : Seat). is_first (queued w h s.branch.queue) t) (seat_of w h t) is in
+    let found = some_of (λ (s : Placement). is_first (queued w h s.branch.queue) t) (placement_of w h t) is in
     let q = found.0.branch.queue in
     let head = head_rest (queued w h q) t (first_is (queued w h q) t found.2) in
     let test : TaskId → Bool = λ u. not (has_task (started h ++ dropped h) u) && is_for_queue w h q u in
     let passes = head_passes test (put h) t head.0 (sym (filter_twice (is_for_queue w h q) (λ u. not (has_task (started h ++ dropped h) u)) (put h)) ∙ head.1) in
     let parts = both (not (has_task (started h ++ dropped h) t)) (is_for_queue w h q t) passes in
-    (seat_fired w h t found.0 found.1, grind (arith, common_steps, parts.0))
+    (placement_fired w h t found.0 found.1, grind (arith, common_steps, parts.0))
 
 AreStarted_other : (h : List Event) (e : Event) → started_by e ≡ [] → AreStarted h → AreStarted (h ++ e ∷ [])
 AreStarted_other h e none known =

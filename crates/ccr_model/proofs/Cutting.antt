@@ -16,30 +16,30 @@ use Rattle.ccr_wiring.specs.declared.parts.Kind.TheVariants as kinds
 use Rattle.ccr_wiring.specs.declared.parts.Parts.{Parts}
 use Rattle.ccr_wiring.specs.Groups.{may_have}
 use Rattle.ccr_wiring.specs.Valid.{HasGroups}
-use Rattle.ccr_wiring.specs.Wirings.{Seat, seat}
+use Rattle.ccr_wiring.specs.Wirings.{Placement, placement}
 use Rattle.ccr_model.specs.declared.history.Event.{Event}
 use Rattle.ccr_model.specs.declared.history.Event.TheVariants.{Post, Fire, Admit, Put, Start, End}
-use Rattle.ccr_model.specs.Firings.{Firing, firing_named, cut, let_in, admitted_by, put, put_by, started}
-use Rattle.ccr_model.specs.TaskData.{seat_of}
+use Rattle.ccr_model.specs.Firings.{Firing, firing_named, cut, ever_admitted, admitted_by, put, put_by, started}
+use Rattle.ccr_model.specs.TaskData.{placement_of}
 use Rattle.ccr_model.specs.Tasks.{is_interleave, is_teardown, is_branch_where, fired_by, waiting}
 use Rattle.ccr_model.specs.Live.{is_live, is_live_in, is_none_of}
-use Rattle.ccr_model.specs.Rules.{is_first, is_oldest_waiting, may_enter, needs_no_admission, cuts_at}
+use Rattle.ccr_model.specs.Rules.{is_first, is_oldest_waiting, may_admit, needs_no_admission, cuts_at}
 use Rattle.ccr_model.specs.Legal.{IsAllowed, IsLegal}
 use Rattle.ccr_model.proofs.PostNames.{refused_not}
 use Rattle.ccr_model.proofs.Stable.{firing_named-append}
 use Rattle.ccr_model.proofs.Allowing.{OneName, OneName-legal}
-use Rattle.ccr_model.proofs.Pushes.{put-push, let_in-push, cut-push}
+use Rattle.ccr_model.proofs.Pushes.{put-push, ever_admitted-push, cut-push}
 use Rattle.ccr_model.proofs.LegalParts.{along_legal, onward, Parted-legal}
 use Rattle.ccr_model.proofs.Options.{some_of}
 use Rattle.ccr_model.proofs.Booleans.{both, refuted, no_both, same_number}
 use Rattle.ccr_model.proofs.FiredTasks.{IsFired}
-use Rattle.ccr_model.specs.Interleaves.{is_seat_in, is_teardown_in, tears_down, fired_in}
+use Rattle.ccr_model.specs.Interleaves.{is_placement_in, is_teardown_in, tears_down, fired_in}
 use Rattle.ccr_model.proofs.TaskLists.{first_rest, has_oldest, of_more, among_left, not_more, of_one, not_one, not_within}
 use Rattle.ccr_model.proofs.TaskPlaces.{ArePlaced, ArePlaced-legal, PutFacts, PutFacts-allowed}
 use Rattle.ccr_model.proofs.FiringFacts.{FiresSo-allowed, BranchFacts-where, WaitingFacts, WaitingFacts-waiting, fired_by_has, firing_named-new, waits_outside, live_at}
 
 -- an event later, a list longer
-pub fired_by-append : (w : Parts) (test : Seat → Bool) (h es : List Event) → fired_by w test (h ++ es) ≡ fired_by w test h ++ fired_by w test es
+pub fired_by-append : (w : Parts) (test : Placement → Bool) (h es : List Event) → fired_by w test (h ++ es) ≡ fired_by w test h ++ fired_by w test es
 fired_by-append w test h es = grind (arith, common_steps)
 
 -- a branch of an Interleave may fire while no teardown of it fired
@@ -59,12 +59,12 @@ none_has [] t is none = cc
 none_has (x ∷ ts) t is none = grind (arith, nat_tests, none)
 
 -- once a teardown fired, no branch of its Interleave is live
-pub dead : (w : Parts) → HasGroups w → (i : ℕ) (h : List Event) (t : TaskId) (f : Firing) (s : Spot) → firing_named h t ≡ Some f → tears_down w i f.spot ≡ true → is_live w h s ≡ true → is_branch_where w (is_seat_in i) s ≡ true → ⊥
+pub dead : (w : Parts) → HasGroups w → (i : ℕ) (h : List Event) (t : TaskId) (f : Firing) (s : Spot) → firing_named h t ≡ Some f → tears_down w i f.spot ≡ true → is_live w h s ≡ true → is_branch_where w (is_placement_in i) s ≡ true → ⊥
 dead w groups_fit i h t f s is tears live branch =
-    let facts = BranchFacts-where w (is_seat_in i) s branch in
+    let facts = BranchFacts-where w (is_placement_in i) s branch in
     let parts = both (is_interleave facts.place.kind) (facts.place.arbiter == i) facts.passes in
     let number = same_number facts.place.arbiter i parts.1 in
-    let live_here : is_live_in w h facts.number facts.place.arbiter facts.place.branch.group ≡ true = live_at w h (is_seat_in i) s facts live in
+    let live_here : is_live_in w h facts.number facts.place.arbiter facts.place.branch.group ≡ true = live_at w h (is_placement_in i) s facts live in
     let none = ends_live w h facts.number facts.place.arbiter facts.place.kind facts.place.branch.group (groups_fit facts.number facts.place facts.is_place) parts.0 live_here in
     let tore = BranchFacts-where w (is_teardown_in i) f.spot tears in
     let tore_parts = both (is_interleave tore.place.kind && (tore.place.arbiter == i)) (is_teardown tore.place.branch.group) tore.passes in
@@ -82,12 +82,12 @@ fired_then w before t s ms cs done allowed =
 pub no_branch_fires : (w : Parts) → HasGroups w → (i : ℕ) (before after : List Event) (t : TaskId) (s : Spot) (ms : List MsgId) (cs : List TaskId) → IsLegal w (before ++ Fire t s ms cs ∷ after) → tears_down w i s ≡ true → fired_in w after i ≡ []
 no_branch_fires w groups_fit i before after t s ms cs legal tears =
     let parts = Parted-legal w before (Fire t s ms cs) after legal in
-    onward w (before ++ Fire t s ms cs ∷ []) (λ done. fired_in w done i ≡ []) (λ done e so_far allowed none. rw (fired_by-append w (is_seat_in i) done (e ∷ []), none) (of_event parts.allowed done e allowed)) refl after parts.legal_then parts.legal_after
+    onward w (before ++ Fire t s ms cs ∷ []) (λ done. fired_in w done i ≡ []) (λ done e so_far allowed none. rw (fired_by-append w (is_placement_in i) done (e ∷ []), none) (of_event parts.allowed done e allowed)) refl after parts.legal_then parts.legal_after
   where
     of_event : IsAllowed w before (Fire t s ms cs) → (done : List Event) (e : Event) → IsAllowed w ((before ++ Fire t s ms cs ∷ []) ++ done) e → fired_in w (e ∷ []) i ≡ []
-    of_event first done (Fire u r ns bs) allowed = of_test (is_branch_where w (is_seat_in i) r) refl
+    of_event first done (Fire u r ns bs) allowed = of_test (is_branch_where w (is_placement_in i) r) refl
       where
-        of_test : (b : Bool) → is_branch_where w (is_seat_in i) r ≡ b → map (λ (f : Firing). f.task) (if b then record { task = u; spot = r; messages = ns; cuts = bs } ∷ [] else []) ≡ []
+        of_test : (b : Bool) → is_branch_where w (is_placement_in i) r ≡ b → map (λ (f : Firing). f.task) (if b then record { task = u; spot = r; messages = ns; cuts = bs } ∷ [] else []) ≡ []
         of_test false e = refl
         of_test true e = absurd (dead w groups_fit i ((before ++ Fire t s ms cs ∷ []) ++ done) t (record { task = t; spot = s; messages = ms; cuts = cs }) r (fired_then w before t s ms cs done first) tears (FiresSo-allowed w ((before ++ Fire t s ms cs ∷ []) ++ done) u r ns bs allowed).live e)
     of_event first done (Post m) allowed = refl
@@ -98,31 +98,31 @@ no_branch_fires w groups_fit i before after t s ms cs legal tears =
 
 -- what an allowed admission says
 pub record AdmitFacts (w : Parts) (h : List Event) (t : TaskId) : Type 0 where
-  pub place : Seat
-  pub is_place : seat_of w h t ≡ Some place
+  pub place : Placement
+  pub is_place : placement_of w h t ≡ Some place
   pub waits : has_task (waiting w h place.arbiter) t ≡ true
-  pub enters : may_enter w h t ≡ true
+  pub may_be_admitted : may_admit w h t ≡ true
 
 pub AdmitFacts-allowed : (w : Parts) (h : List Event) (t : TaskId) → IsAllowed w h (Admit t) → AdmitFacts w h t
 AdmitFacts-allowed w h t allowed =
     let a = refused_not (is_oldest_waiting w h t) 9 _ allowed in
-    let b = refused_not (may_enter w h t) 10 None a.1 in
-    let found = some_of (λ (s : Seat). is_first (waiting w h s.arbiter) t) (seat_of w h t) a.0 in
+    let b = refused_not (may_admit w h t) 10 None a.1 in
+    let found = some_of (λ (s : Placement). is_first (waiting w h s.arbiter) t) (placement_of w h t) a.0 in
     let head = first_rest (waiting w h found.0.arbiter) t found.2 in
-    record { place = found.0; is_place = found.1; waits = has_oldest (waiting w h found.0.arbiter) head.0 t head.1; enters = b.0 }
+    record { place = found.0; is_place = found.1; waits = has_oldest (waiting w h found.0.arbiter) head.0 t head.1; may_be_admitted = b.0 }
 
 -- a cut task is neither admitted nor put; a branch's task of an Interleave was admitted before it was put
 pub record CutFacts (w : Parts) (h : List Event) : Type 0 where
-  pub not_let_in : (t : TaskId) → has_task (cut h) t ≡ true → has_task (let_in h) t ≡ false
+  pub not_ever_admitted : (t : TaskId) → has_task (cut h) t ≡ true → has_task (ever_admitted h) t ≡ false
   pub not_put : (t : TaskId) → has_task (cut h) t ≡ true → has_task (put h) t ≡ false
-  pub entered : (t : TaskId) (f : Firing) → has_task (put h) t ≡ true → firing_named h t ≡ Some f → needs_no_admission w f.spot || has_task (let_in h) t ≡ true
+  pub entered : (t : TaskId) (f : Firing) → has_task (put h) t ≡ true → firing_named h t ≡ Some f → needs_no_admission w f.spot || has_task (ever_admitted h) t ≡ true
 
 -- who is cut waited
 cuts_wait : (w : Parts) (h : List Event) (s : Spot) (t : TaskId) → has_task (cuts_at w h s) t ≡ true → (i : ℕ) × (has_task (waiting w h i) t ≡ true)
 cuts_wait w h (Site b k) t among = absurd (cc)
-cuts_wait w h (Branch b) t among = of_option (seat w b) among
+cuts_wait w h (Branch b) t among = of_option (placement w b) among
   where
-    of_option : (o : Option Seat) → has_task (option_map_or (λ (z : Seat). if is_teardown z.branch.group then waiting w h z.arbiter else []) o []) t ≡ true → (i : ℕ) × (has_task (waiting w h i) t ≡ true)
+    of_option : (o : Option Placement) → has_task (option_map_or (λ (z : Placement). if is_teardown z.branch.group then waiting w h z.arbiter else []) o []) t ≡ true → (i : ℕ) × (has_task (waiting w h i) t ≡ true)
     of_option None is = absurd (cc)
     of_option (Some z) is = of_test (is_teardown z.branch.group) is
       where
@@ -150,9 +150,9 @@ cut_by w h t s ms cs one allowed u among =
 
 CutFacts-fire : (w : Parts) (h : List Event) (t : TaskId) (s : Spot) (ms : List MsgId) (cs : List TaskId) → OneName h → ArePlaced h → IsAllowed w h (Fire t s ms cs) → CutFacts w h → CutFacts w (h ++ Fire t s ms cs ∷ [])
 CutFacts-fire w h t s ms cs one placed allowed known = record {
-  not_let_in = λ u among. rw (let_in-push h (Fire t s ms cs), append-nil (let_in h)) (of_more (cut h) (cs ++ []) u (has_task (let_in h) u ≡ false) (cut_more u among) (known.not_let_in u) (λ new. (cut_by w h t s ms cs one allowed u new).1.not_let_in));
+  not_ever_admitted = λ u among. rw (ever_admitted-push h (Fire t s ms cs), append-nil (ever_admitted h)) (of_more (cut h) (cs ++ []) u (has_task (ever_admitted h) u ≡ false) (cut_more u among) (known.not_ever_admitted u) (λ new. (cut_by w h t s ms cs one allowed u new).1.not_ever_admitted));
   not_put = λ u among. rw (put-push h (Fire t s ms cs), append-nil (put h)) (of_more (cut h) (cs ++ []) u (has_task (put h) u ≡ false) (cut_more u among) (known.not_put u) (λ new. (let waits = cut_by w h t s ms cs one allowed u new in waits_unput w h waits.0 u known waits.1)));
-  entered = λ u f among is. rw (let_in-push h (Fire t s ms cs), append-nil (let_in h)) (let there = rw (put-push h (Fire t s ms cs), append-nil (put h)) at among in known.entered u f there (firing_back h (Fire t s ms cs ∷ []) u f (placed.all_fired u there) is));
+  entered = λ u f among is. rw (ever_admitted-push h (Fire t s ms cs), append-nil (ever_admitted h)) (let there = rw (put-push h (Fire t s ms cs), append-nil (put h)) at among in known.entered u f there (firing_back h (Fire t s ms cs ∷ []) u f (placed.all_fired u there) is));
 }
   where
     cut_more : (u : TaskId) → has_task (cut (h ++ Fire t s ms cs ∷ [])) u ≡ true → has_task (cut h ++ (cs ++ [])) u ≡ true
@@ -171,21 +171,21 @@ CutFacts-admit w h t one placed allowed known =
     let facts = AdmitFacts-allowed w h t allowed in
     let waits = WaitingFacts-waiting w h facts.place.arbiter t one facts.waits in
     record {
-      not_let_in = λ u among. rw (let_in-push h (Admit t)) (let there = subst (λ ts. has_task ts u ≡ true) (same_cut h (Admit t) refl) among in not_more (let_in h) (t ∷ []) u (known.not_let_in u there) (not_one t u (cut h) waits.not_cut there));
+      not_ever_admitted = λ u among. rw (ever_admitted-push h (Admit t)) (let there = subst (λ ts. has_task ts u ≡ true) (same_cut h (Admit t) refl) among in not_more (ever_admitted h) (t ∷ []) u (known.not_ever_admitted u there) (not_one t u (cut h) waits.not_cut there));
       not_put = λ u among. rw (put-push h (Admit t), append-nil (put h)) (known.not_put u (subst (λ ts. has_task ts u ≡ true) (same_cut h (Admit t) refl) among));
-      entered = λ u f among is. rw (let_in-push h (Admit t)) (let there = rw (put-push h (Admit t), append-nil (put h)) at among in entered_more (needs_no_admission w f.spot) (let_in h) (t ∷ []) u (known.entered u f there (firing_back h (Admit t ∷ []) u f (placed.all_fired u there) is)));
+      entered = λ u f among is. rw (ever_admitted-push h (Admit t)) (let there = rw (put-push h (Admit t), append-nil (put h)) at among in entered_more (needs_no_admission w f.spot) (ever_admitted h) (t ∷ []) u (known.entered u f there (firing_back h (Admit t ∷ []) u f (placed.all_fired u there) is)));
     }
 
 CutFacts-put : (w : Parts) (h : List Event) (t : TaskId) (d : Option TaskId) → ArePlaced h → IsAllowed w h (Put t d) → CutFacts w h → CutFacts w (h ++ Put t d ∷ [])
 CutFacts-put w h t d placed allowed known =
     let facts = PutFacts-allowed w h t d allowed in
     record {
-      not_let_in = λ u among. rw (let_in-push h (Put t d), append-nil (let_in h)) (known.not_let_in u (subst (λ ts. has_task ts u ≡ true) (same_cut h (Put t d) refl) among));
+      not_ever_admitted = λ u among. rw (ever_admitted-push h (Put t d), append-nil (ever_admitted h)) (known.not_ever_admitted u (subst (λ ts. has_task ts u ≡ true) (same_cut h (Put t d) refl) among));
       not_put = λ u among. rw (put-push h (Put t d)) (let there = subst (λ ts. has_task ts u ≡ true) (same_cut h (Put t d) refl) among in not_more (put h) (t ∷ []) u (known.not_put u there) (not_one t u (cut h) facts.not_cut there));
-      entered = λ u f among is. rw (let_in-push h (Put t d), append-nil (let_in h)) (of_more (put h) (t ∷ []) u (needs_no_admission w f.spot || has_task (let_in h) u ≡ true) (subst (λ ts. has_task ts u ≡ true) (put-push h (Put t d)) among) (λ old. known.entered u f old (firing_back h (Put t d ∷ []) u f (placed.all_fired u old) is)) (λ new. this facts u f new is));
+      entered = λ u f among is. rw (ever_admitted-push h (Put t d), append-nil (ever_admitted h)) (of_more (put h) (t ∷ []) u (needs_no_admission w f.spot || has_task (ever_admitted h) u ≡ true) (subst (λ ts. has_task ts u ≡ true) (put-push h (Put t d)) among) (λ old. known.entered u f old (firing_back h (Put t d ∷ []) u f (placed.all_fired u old) is)) (λ new. this facts u f new is));
     }
   where
-    this : PutFacts w h t → (u : TaskId) (f : Firing) → has_task (t ∷ []) u ≡ true → firing_named (h ++ Put t d ∷ []) u ≡ Some f → needs_no_admission w f.spot || has_task (let_in h) u ≡ true
+    this : PutFacts w h t → (u : TaskId) (f : Firing) → has_task (t ∷ []) u ≡ true → firing_named (h ++ Put t d ∷ []) u ≡ Some f → needs_no_admission w f.spot || has_task (ever_admitted h) u ≡ true
     this facts u f new is =
         let one : u ≡ t = of_one t u new in
         let found : firing_named h t ≡ Some f = firing_back h (Put t d ∷ []) t f (facts.firing, facts.is_firing) (subst (λ x. firing_named (h ++ Put t d ∷ []) x ≡ Some f) one is) in
@@ -195,13 +195,13 @@ CutFacts-put w h t d placed allowed known =
 
 CutFacts-other : (w : Parts) (h : List Event) (e : Event) → cut (e ∷ []) ≡ [] → admitted_by e ≡ [] → put_by e ≡ [] → ArePlaced h → CutFacts w h → CutFacts w (h ++ e ∷ [])
 CutFacts-other w h e no_cut no_admit no_put placed known = record {
-  not_let_in = λ u among. subst (λ ts. has_task ts u ≡ false) (sym same_let_in) (known.not_let_in u (subst (λ ts. has_task ts u ≡ true) (same_cut h e no_cut) among));
+  not_ever_admitted = λ u among. subst (λ ts. has_task ts u ≡ false) (sym same_ever_admitted) (known.not_ever_admitted u (subst (λ ts. has_task ts u ≡ true) (same_cut h e no_cut) among));
   not_put = λ u among. subst (λ ts. has_task ts u ≡ false) (sym same_put) (known.not_put u (subst (λ ts. has_task ts u ≡ true) (same_cut h e no_cut) among));
-  entered = λ u f among is. subst (λ ts. needs_no_admission w f.spot || has_task ts u ≡ true) (sym same_let_in) (let there = subst (λ ts. has_task ts u ≡ true) same_put among in known.entered u f there (firing_back h (e ∷ []) u f (placed.all_fired u there) is));
+  entered = λ u f among is. subst (λ ts. needs_no_admission w f.spot || has_task ts u ≡ true) (sym same_ever_admitted) (let there = subst (λ ts. has_task ts u ≡ true) same_put among in known.entered u f there (firing_back h (e ∷ []) u f (placed.all_fired u there) is));
 }
   where
-    same_let_in : let_in (h ++ e ∷ []) ≡ let_in h
-    same_let_in = let_in-push h e ∙ (ap (λ ts. let_in h ++ ts) no_admit ∙ append-nil (let_in h))
+    same_ever_admitted : ever_admitted (h ++ e ∷ []) ≡ ever_admitted h
+    same_ever_admitted = ever_admitted-push h e ∙ (ap (λ ts. ever_admitted h ++ ts) no_admit ∙ append-nil (ever_admitted h))
 
     same_put : put (h ++ e ∷ []) ≡ put h
     same_put = put-push h e ∙ (ap (λ ts. put h ++ ts) no_put ∙ append-nil (put h))
@@ -215,11 +215,11 @@ CutFacts_kept w h (Start t a) legal allowed known = CutFacts-other w h (Start t 
 CutFacts_kept w h (End t how) legal allowed known = CutFacts-other w h (End t how) refl refl refl (ArePlaced-legal w h legal) known
 
 pub CutFacts-legal : (w : Parts) (h : List Event) → IsLegal w h → CutFacts w h
-CutFacts-legal w h legal = along_legal w (CutFacts w) (CutFacts_kept w) (record { not_let_in = λ t is. absurd (cc); not_put = λ t is. absurd (cc); entered = λ t f is found. absurd (cc) }) h legal
+CutFacts-legal w h legal = along_legal w (CutFacts w) (CutFacts_kept w) (record { not_ever_admitted = λ t is. absurd (cc); not_put = λ t is. absurd (cc); entered = λ t f is found. absurd (cc) }) h legal
 
 -- after teardown, second part: who was cut is neither admitted nor put, and never starts
-pub cut_not_let_in : (w : Parts) (h : List Event) → IsLegal w h → (t : TaskId) → has_task (cut h) t ≡ true → has_task (let_in h) t ≡ false
-cut_not_let_in w h legal = (CutFacts-legal w h legal).not_let_in
+pub cut_not_ever_admitted : (w : Parts) (h : List Event) → IsLegal w h → (t : TaskId) → has_task (cut h) t ≡ true → has_task (ever_admitted h) t ≡ false
+cut_not_ever_admitted w h legal = (CutFacts-legal w h legal).not_ever_admitted
 
 pub cut_not_put : (w : Parts) (h : List Event) → IsLegal w h → (t : TaskId) → has_task (cut h) t ≡ true → has_task (put h) t ≡ false
 cut_not_put w h legal = (CutFacts-legal w h legal).not_put

@@ -10,8 +10,8 @@ use Rattle.ccr_wiring.specs.declared.parts.Parts.{Parts}
 use Rattle.ccr_model.specs.declared.history.Event.{Event}
 use Rattle.ccr_model.specs.declared.history.Event.TheVariants.{Put}
 use Rattle.ccr_base.specs.Names.{same_task, same_options}
-use Rattle.ccr_wiring.specs.Wirings.{Seat, policy_of}
-use Rattle.ccr_model.specs.TaskData.{seat_of}
+use Rattle.ccr_wiring.specs.Wirings.{Placement, policy_of}
+use Rattle.ccr_model.specs.TaskData.{placement_of}
 use Rattle.ccr_model.specs.Tasks.{queued}
 use Rattle.ccr_model.specs.Rules.{may_put, drop_by, drop_at}
 use Rattle.ccr_model.specs.Legal.{IsAllowed}
@@ -21,25 +21,25 @@ use Rattle.ccr_model.proofs.SameNames.{same_task-is}
 
 -- what an allowed drop says
 pub record DropFacts (w : Parts) (h : List Event) (t x : TaskId) : Type 0 where
-  pub its : Seat
-  pub seated : seat_of w h t ≡ Some its
+  pub its : Placement
+  pub with_placement : placement_of w h t ≡ Some its
   pub most : ℕ
   pub policy : policy_of w its.branch.queue ≡ Discard most
   pub full : most ≤ length (queued w h its.branch.queue)
   pub oldest : slice_get (queued w h its.branch.queue) 0 ≡ Some x
 
-drop_facts_by : (w : Parts) (h : List Event) (t x : TaskId) (its : Seat) → seat_of w h t ≡ Some its → (p : Policy) → policy_of w its.branch.queue ≡ p → drop_by p (queued w h its.branch.queue) ≡ Some x → DropFacts w h t x
-drop_facts_by w h t x its seated Unbounded at is = absurd (cc)
-drop_facts_by w h t x its seated (Throttle n) at is = absurd (cc)
-drop_facts_by w h t x its seated (Discard n) at is = of_test (nat_le n (length (queued w h its.branch.queue))) refl is
+drop_facts_by : (w : Parts) (h : List Event) (t x : TaskId) (its : Placement) → placement_of w h t ≡ Some its → (p : Policy) → policy_of w its.branch.queue ≡ p → drop_by p (queued w h its.branch.queue) ≡ Some x → DropFacts w h t x
+drop_facts_by w h t x its with_placement Unbounded at is = absurd (cc)
+drop_facts_by w h t x its with_placement (Throttle n) at is = absurd (cc)
+drop_facts_by w h t x its with_placement (Discard n) at is = of_test (nat_le n (length (queued w h its.branch.queue))) refl is
   where
     of_test : (b : Bool) → nat_le n (length (queued w h its.branch.queue)) ≡ b → (if b then slice_get (queued w h its.branch.queue) 0 else None) ≡ Some x → DropFacts w h t x
     of_test false e same = absurd (cc)
-    of_test true e same = let enough : n ≤ length (queued w h its.branch.queue) = grind (arith, nat_tests, e) in record { its = its; seated = seated; most = n; policy = at; full = enough; oldest = same }
+    of_test true e same = let enough : n ≤ length (queued w h its.branch.queue) = grind (arith, nat_tests, e) in record { its = its; with_placement = with_placement; most = n; policy = at; full = enough; oldest = same }
 
 drop_at_facts : (w : Parts) (h : List Event) (t x : TaskId) → drop_at w h t ≡ Some x → DropFacts w h t x
 drop_at_facts w h t x is =
-    let found = some_then (λ (s : Seat). drop_by (policy_of w s.branch.queue) (queued w h s.branch.queue)) (seat_of w h t) x is in
+    let found = some_then (λ (s : Placement). drop_by (policy_of w s.branch.queue) (queued w h s.branch.queue)) (placement_of w h t) x is in
     drop_facts_by w h t x found.0 found.1 (policy_of w found.0.branch.queue) refl found.2
 
 same_drop : (d o : Option TaskId) → same_options same_task d o ≡ true → d ≡ o

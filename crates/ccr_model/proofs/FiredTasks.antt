@@ -5,11 +5,11 @@ use Rattle.std.proofs.lemmas.Bool.Decides.{nat_tests}
 use Rattle.ccr_base.specs.declared.names.TaskId.{TaskId}
 use Rattle.ccr_base.specs.Names.{same_task, has_task}
 use Rattle.ccr_wiring.specs.declared.parts.Parts.{Parts}
-use Rattle.ccr_wiring.specs.Wirings.{Seat, seat, branch_of, segment_of}
+use Rattle.ccr_wiring.specs.Wirings.{Placement, placement, branch_of, segment_of}
 use Rattle.ccr_model.specs.declared.history.Event.{Event}
 use Rattle.ccr_model.specs.Firings.{Firing, firings, fired, firing_named, spot_of}
 use Rattle.ccr_model.specs.Sites.{root_of}
-use Rattle.ccr_model.specs.TaskData.{seat_of}
+use Rattle.ccr_model.specs.TaskData.{placement_of}
 use Rattle.ccr_model.proofs.Stable.{firing_named-append, root_at-append}
 use Rattle.ccr_model.proofs.Options.{some_then, some_map}
 use Rattle.ccr_model.proofs.SameNames.{same_task-is, same_task-self}
@@ -46,15 +46,15 @@ found_member (g ∷ fs) t f is = of_test (same_task g.task t) refl is (found_mem
 pub fired_has : (h : List Event) (t : TaskId) → IsFired h t → has_task (fired h) t ≡ true
 fired_has h t found = found_member (firings h) t found.0 found.1
 
--- a task with a seat fired
-pub seat_fired : (w : Parts) (h : List Event) (t : TaskId) (s : Seat) → seat_of w h t ≡ Some s → IsFired h t
-seat_fired w h t s is =
-    let placed = some_then (λ spot. seat w (branch_of spot)) (spot_of h t) s is in
+-- a task with a placement fired
+pub placement_fired : (w : Parts) (h : List Event) (t : TaskId) (s : Placement) → placement_of w h t ≡ Some s → IsFired h t
+placement_fired w h t s is =
+    let placed = some_then (λ spot. placement w (branch_of spot)) (spot_of h t) s is in
     some_map (λ (f : Firing). f.spot) (firing_named h t) placed.0 placed.1
 
--- its seat stays
-pub seat_stays : (w : Parts) (h es : List Event) (t : TaskId) → IsFired h t → seat_of w (h ++ es) t ≡ seat_of w h t
-seat_stays w h es t fired = rw (firing_named-append h es t fired.0 fired.1, fired.1) refl
+-- its placement stays
+pub placement_stays : (w : Parts) (h es : List Event) (t : TaskId) → IsFired h t → placement_of w (h ++ es) t ≡ placement_of w h t
+placement_stays w h es t fired = rw (firing_named-append h es t fired.0 fired.1, fired.1) refl
 
 -- the root of a task that fired stays
 pub root_stays : (h es : List Event) (t : TaskId) → IsFired h t → root_of (h ++ es) t ≡ root_of h t

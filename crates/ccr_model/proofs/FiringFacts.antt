@@ -7,10 +7,10 @@ use Rattle.ccr_base.specs.declared.names.Spot.{Spot}
 use Rattle.ccr_base.specs.declared.names.Spot.TheVariants.{Branch, Site}
 use Rattle.ccr_base.specs.Names.{same_task, same_lists, has_task}
 use Rattle.ccr_wiring.specs.declared.parts.Parts.{Parts}
-use Rattle.ccr_wiring.specs.Wirings.{Seat, seat}
+use Rattle.ccr_wiring.specs.Wirings.{Placement, placement}
 use Rattle.ccr_model.specs.declared.history.Event.{Event}
 use Rattle.ccr_model.specs.declared.history.Event.TheVariants.{Post, Fire, Admit, Put, Start, End}
-use Rattle.ccr_model.specs.Firings.{Firing, firing_of, firings, fired, firing_named, cut, let_in}
+use Rattle.ccr_model.specs.Firings.{Firing, firing_of, firings, fired, firing_named, cut, ever_admitted}
 use Rattle.ccr_model.specs.Sites.{before}
 use Rattle.ccr_model.specs.Tasks.{is_interleave, is_branch_where, fired_by, waiting}
 use Rattle.ccr_model.specs.Live.{is_live, is_live_in, has_room}
@@ -26,7 +26,7 @@ use Rattle.ccr_model.proofs.SameNames.{same_task-is, same_task-self, same_task-s
 use Rattle.ccr_model.proofs.TasksLeft.{of_without, out_left}
 use Rattle.ccr_model.proofs.Booleans.{not_true, both, neither, or_left, or_right, refuted, no_both}
 use Rattle.ccr_model.proofs.FiredTasks.{IsFired, find_last, fired_has}
-use Rattle.ccr_model.specs.Interleaves.{is_seat_in}
+use Rattle.ccr_model.specs.Interleaves.{is_placement_in}
 use Rattle.ccr_model.proofs.TaskLists.{to_without, not_more, out_right}
 
 same_tasks-is : (ts us : List TaskId) → same_lists same_task ts us ≡ true → ts ≡ us
@@ -116,59 +116,59 @@ named_one test (g ∷ fs) t among = of_test (test g) refl among (named_one test 
         of_name true e' at' = (g, inl refl, e, sym (same_task-is t g.task e'))
         of_name false e' at' = of_rest (rest at')
 
-pub fired_by_named : (w : Parts) (test : Seat → Bool) (h : List Event) (t : TaskId) → OneName h → has_task (fired_by w test h) t ≡ true → (f : Firing) × (firing_named h t ≡ Some f) × (is_branch_where w test f.spot ≡ true)
+pub fired_by_named : (w : Parts) (test : Placement → Bool) (h : List Event) (t : TaskId) → OneName h → has_task (fired_by w test h) t ≡ true → (f : Firing) × (firing_named h t ≡ Some f) × (is_branch_where w test f.spot ≡ true)
 fired_by_named w test h t one among =
     let found = named_one (λ f. is_branch_where w test f.spot) (firings h) t among in
     (found.0, subst (λ u. firing_named h u ≡ Some found.0) found.3 (one found.0 found.1), found.2)
 
-pub fired_by_has : (w : Parts) (test : Seat → Bool) (h : List Event) (t : TaskId) (f : Firing) → firing_named h t ≡ Some f → is_branch_where w test f.spot ≡ true → has_task (fired_by w test h) t ≡ true
+pub fired_by_has : (w : Parts) (test : Placement → Bool) (h : List Event) (t : TaskId) (f : Firing) → firing_named h t ≡ Some f → is_branch_where w test f.spot ≡ true → has_task (fired_by w test h) t ≡ true
 fired_by_has w test h t f is passes = found_named (firings h) t f (λ g. is_branch_where w test g.spot) is passes
 
 -- a branch of this kind
-pub record BranchFacts (w : Parts) (test : Seat → Bool) (s : Spot) : Type 0 where
+pub record BranchFacts (w : Parts) (test : Placement → Bool) (s : Spot) : Type 0 where
   pub number : ℕ
   pub is_branch : s ≡ Branch number
-  pub place : Seat
-  pub is_place : seat w number ≡ Some place
+  pub place : Placement
+  pub is_place : placement w number ≡ Some place
   pub passes : test place ≡ true
 
-pub BranchFacts-where : (w : Parts) (test : Seat → Bool) (s : Spot) → is_branch_where w test s ≡ true → BranchFacts w test s
+pub BranchFacts-where : (w : Parts) (test : Placement → Bool) (s : Spot) → is_branch_where w test s ≡ true → BranchFacts w test s
 BranchFacts-where w test (Branch b) is =
-    let found = some_of test (seat w b) is in
+    let found = some_of test (placement w b) is in
     record { number = b; is_branch = refl; place = found.0; is_place = found.1; passes = found.2 }
 BranchFacts-where w test (Site b k) is = absurd (cc)
 
 -- it is live where the spot is
-pub live_at : (w : Parts) (h : List Event) (test : Seat → Bool) (s : Spot) → (facts : BranchFacts w test s) → is_live w h s ≡ true → is_live_in w h facts.number facts.place.arbiter facts.place.branch.group ≡ true
+pub live_at : (w : Parts) (h : List Event) (test : Placement → Bool) (s : Spot) → (facts : BranchFacts w test s) → is_live w h s ≡ true → is_live_in w h facts.number facts.place.arbiter facts.place.branch.group ≡ true
 live_at w h test s facts live = rw (facts.is_branch, facts.is_place) at live
 
 -- a waiting task is one that fired there, neither admitted nor cut
-pub waits_parts : (w : Parts) (h : List Event) (i : ℕ) (t : TaskId) → has_task (waiting w h i) t ≡ true → (has_task (fired_by w (is_seat_in i) h) t ≡ true) × (has_task (let_in h) t ≡ false) × (has_task (cut h) t ≡ false)
+pub waits_parts : (w : Parts) (h : List Event) (i : ℕ) (t : TaskId) → has_task (waiting w h i) t ≡ true → (has_task (fired_by w (is_placement_in i) h) t ≡ true) × (has_task (ever_admitted h) t ≡ false) × (has_task (cut h) t ≡ false)
 waits_parts w h i t is =
-    let parts = of_without (fired_by w (is_seat_in i) h) (let_in h ++ cut h) t is in
-    (parts.0, out_left (let_in h) (cut h) t parts.1, out_right (let_in h) (cut h) t parts.1)
+    let parts = of_without (fired_by w (is_placement_in i) h) (ever_admitted h ++ cut h) t is in
+    (parts.0, out_left (ever_admitted h) (cut h) t parts.1, out_right (ever_admitted h) (cut h) t parts.1)
 
-pub waits_whole : (w : Parts) (h : List Event) (i : ℕ) (t : TaskId) → has_task (fired_by w (is_seat_in i) h) t ≡ true → has_task (let_in h) t ≡ false → has_task (cut h) t ≡ false → has_task (waiting w h i) t ≡ true
-waits_whole w h i t fired_so not_let_in not_cut = to_without (fired_by w (is_seat_in i) h) (let_in h ++ cut h) t fired_so (not_more (let_in h) (cut h) t not_let_in not_cut)
+pub waits_whole : (w : Parts) (h : List Event) (i : ℕ) (t : TaskId) → has_task (fired_by w (is_placement_in i) h) t ≡ true → has_task (ever_admitted h) t ≡ false → has_task (cut h) t ≡ false → has_task (waiting w h i) t ≡ true
+waits_whole w h i t fired_so not_ever_admitted not_cut = to_without (fired_by w (is_placement_in i) h) (ever_admitted h ++ cut h) t fired_so (not_more (ever_admitted h) (cut h) t not_ever_admitted not_cut)
 
 -- a waiting task: a branch of the Interleave fired it, and it was neither admitted nor cut
 pub record WaitingFacts (w : Parts) (h : List Event) (i : ℕ) (t : TaskId) : Type 0 where
   pub firing : Firing
   pub is_firing : firing_named h t ≡ Some firing
-  pub is_branch : is_branch_where w (is_seat_in i) firing.spot ≡ true
-  pub not_let_in : has_task (let_in h) t ≡ false
+  pub is_branch : is_branch_where w (is_placement_in i) firing.spot ≡ true
+  pub not_ever_admitted : has_task (ever_admitted h) t ≡ false
   pub not_cut : has_task (cut h) t ≡ false
 
 pub WaitingFacts-waiting : (w : Parts) (h : List Event) (i : ℕ) (t : TaskId) → OneName h → has_task (waiting w h i) t ≡ true → WaitingFacts w h i t
 WaitingFacts-waiting w h i t one is =
     let parts = waits_parts w h i t is in
-    let found = fired_by_named w (is_seat_in i) h t one parts.0 in
-    record { firing = found.0; is_firing = found.1; is_branch = found.2; not_let_in = parts.1; not_cut = parts.2 }
+    let found = fired_by_named w (is_placement_in i) h t one parts.0 in
+    record { firing = found.0; is_firing = found.1; is_branch = found.2; not_ever_admitted = parts.1; not_cut = parts.2 }
 
 -- a waiting task needs an admission, and has none
-pub waits_outside : (w : Parts) (h : List Event) (i : ℕ) (t : TaskId) → (waits : WaitingFacts w h i t) → needs_no_admission w waits.firing.spot || has_task (let_in h) t ≡ false
+pub waits_outside : (w : Parts) (h : List Event) (i : ℕ) (t : TaskId) → (waits : WaitingFacts w h i t) → needs_no_admission w waits.firing.spot || has_task (ever_admitted h) t ≡ false
 waits_outside w h i t waits =
-    let branch = BranchFacts-where w (is_seat_in i) waits.firing.spot waits.is_branch in
+    let branch = BranchFacts-where w (is_placement_in i) waits.firing.spot waits.is_branch in
     let parts = both (is_interleave branch.place.kind) (branch.place.arbiter == i) branch.passes in
     let needs : needs_no_admission w waits.firing.spot ≡ false = rw (branch.is_branch, branch.is_place, parts.0) refl in
-    rw (needs, waits.not_let_in) refl
+    rw (needs, waits.not_ever_admitted) refl

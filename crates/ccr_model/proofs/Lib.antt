@@ -18,7 +18,7 @@ pub mod TaskSteps
 pub mod Stable
 pub mod FiredTasks
 pub mod Quiet
-pub mod SeatDomains
+pub mod PlacementDomains
 pub mod Allowing
 pub mod Covered
 pub mod Alone
@@ -31,7 +31,7 @@ pub mod TaskLists
 pub mod DropFacts
 pub mod TaskPlaces
 pub mod FiringFacts
-pub mod Seated
+pub mod FiringPlacements
 pub mod Ending
 pub mod Cutting
 pub mod Suspending

@@ -7,7 +7,7 @@ use Rattle.ccr_handler.specs.Playing.{actions_from, play}
 use Rattle.ccr_wiring.specs.declared.parts.Parts.{Parts}
 use Rattle.ccr_wiring.specs.declared.parts.HandlerPart.{HandlerPart}
 use Rattle.ccr_wiring.specs.Valid.{IsValid}
-use Rattle.ccr_wiring.specs.Wirings.{Seat, seat, actions_of, exception_port}
+use Rattle.ccr_wiring.specs.Wirings.{Placement, placement, actions_of, exception_port}
 use Rattle.ccr_model.specs.TaskData.{Load, play_at}
 use Rattle.ccr_model.proofs.Segments.{actions_from-past, actions_from-none}
 use Rattle.ccr_model.proofs.ValidHandlers.{handlers_are_short}
@@ -20,10 +20,10 @@ actions_are_few wiring valid handler = of_part (slice_get wiring.handlers handle
     of_part (Some part) is = handlers_are_short wiring valid handler part is
 
 pub play_at-past : (wiring : Parts) → IsValid wiring → (branch segment : ℕ) (load : Load) → 16 ≤ segment → play_at wiring branch segment load ≡ record { posts = []; end = Done; causes = load.causes }
-play_at-past wiring valid branch segment load past = of_seat (seat wiring branch)
+play_at-past wiring valid branch segment load past = of_placement (placement wiring branch)
   where
-    of_seat : (o : Option Seat) → play (exception_port wiring) load.values segment load.causes (actions_from segment (option_map_or (λ (s : Seat). actions_of wiring s.branch.handler) o [])) ≡ record { posts = []; end = Done; causes = load.causes }
-    of_seat None = rw (actions_from-none segment) refl
-    of_seat (Some s) =
+    of_placement : (o : Option Placement) → play (exception_port wiring) load.values segment load.causes (actions_from segment (option_map_or (λ (s : Placement). actions_of wiring s.branch.handler) o [])) ≡ record { posts = []; end = Done; causes = load.causes }
+    of_placement None = rw (actions_from-none segment) refl
+    of_placement (Some s) =
         let few = actions_are_few wiring valid s.branch.handler in
         rw (actions_from-past segment (actions_of wiring s.branch.handler) (omega arith)) refl

@@ -7,7 +7,7 @@ use Rattle.ccr_base.specs.declared.names.Spot.{Spot}
 use Rattle.ccr_model.specs.declared.history.Event.{Event}
 use Rattle.ccr_model.specs.declared.history.Event.TheVariants.{Fire}
 use Rattle.ccr_model.specs.Posts.{posts, post_of}
-use Rattle.ccr_model.specs.Firings.{firings, firing_of, fired, cut, let_in, admitted_by, put, put_by, dropped, dropped_by, started, started_by, ended, ended_by, yielded, yielded_by, last_segments, last_by}
+use Rattle.ccr_model.specs.Firings.{firings, firing_of, fired, cut, ever_admitted, admitted_by, put, put_by, dropped, dropped_by, started, started_by, ended, ended_by, yielded, yielded_by, last_segments, last_by}
 
 pub posts-push : (h : List Event) (e : Event) → posts (h ++ e ∷ []) ≡ posts h ++ post_of e
 posts-push h e = grind (arith, common_steps)
@@ -36,8 +36,8 @@ yielded-push h e = grind (arith, common_steps)
 pub last-push : (h : List Event) (e : Event) → last_segments (h ++ e ∷ []) ≡ last_segments h ++ last_by e
 last-push h e = grind (arith, common_steps)
 
-pub let_in-push : (h : List Event) (e : Event) → let_in (h ++ e ∷ []) ≡ let_in h ++ admitted_by e
-let_in-push h e = grind (arith, common_steps)
+pub ever_admitted-push : (h : List Event) (e : Event) → ever_admitted (h ++ e ∷ []) ≡ ever_admitted h ++ admitted_by e
+ever_admitted-push h e = grind (arith, common_steps)
 
 pub cut-push : (h : List Event) (e : Event) → cut (h ++ e ∷ []) ≡ cut h ++ cut (e ∷ [])
 cut-push h e = grind (arith, common_steps)

@@ -20,18 +20,18 @@ use Rattle.ccr_model.specs.declared.history.Event.{Event}
 use Rattle.ccr_model.specs.declared.history.Event.TheVariants.{Post, Fire, Admit, Put, Start, End}
 use Rattle.ccr_base.specs.Names.{same_task, has_task, same_lists, same_message}
 use Rattle.ccr_model.specs.Posts.{posts_of_poster, held}
-use Rattle.ccr_wiring.specs.Wirings.{Seat, seat, seats, spots, spots_from, sites_from, awaited, actions_of, site_port, branch_of}
+use Rattle.ccr_wiring.specs.Wirings.{Placement, placement, placements, spots, spots_from, sites_from, awaited, actions_of, site_port, branch_of}
 use Rattle.ccr_model.specs.Firings.{Firing, firings, fired, firing_named, spot_of, put, cut}
-use Rattle.ccr_model.specs.TaskData.{seat_of}
+use Rattle.ccr_model.specs.TaskData.{placement_of}
 use Rattle.ccr_model.specs.Tasks.{waiting, queued, running}
 use Rattle.ccr_model.specs.Live.{is_live, has_room}
 use Rattle.ccr_model.specs.Choice.{is_choice, is_choice_of, engine_choice, engine_choice_of, engine_gather, choice_of_slots, are_first, are_split, are_oldest, oldest, names_of}
-use Rattle.ccr_model.specs.Rules.{refusal_of_post, is_post, is_script_line, is_new, is_first, is_oldest_waiting, may_enter, may_put, drop_at, is_oldest_queued, is_play_post}
+use Rattle.ccr_model.specs.Rules.{refusal_of_post, is_post, is_script_line, is_new, is_first, is_oldest_waiting, may_admit, may_put, drop_at, is_oldest_queued, is_play_post}
 use Rattle.ccr_model.specs.Legal.{IsAllowed, IsQuiet}
 use Rattle.ccr_model.specs.Order.{first, post_from, script_post, fire_at, fire_from, admit_first, admit_from, put_first, run_task, start_from}
 use Rattle.ccr_wiring.specs.Valid.{HasQueues}
 use Rattle.ccr_model.proofs.PostNames.{refused_not}
-use Rattle.ccr_model.proofs.SeatDomains.{seat-within}
+use Rattle.ccr_model.proofs.PlacementDomains.{placement-within}
 use Rattle.ccr_model.proofs.Options.{some_of, some_then, some_map, none_or, none_map, no_head}
 use Rattle.ccr_model.proofs.Members.{Among, Among-left, Among-right}
 use Rattle.ccr_model.proofs.SameNames.{same_task-is}
@@ -69,12 +69,12 @@ sites_among b n k i [] port e is = absurd (cc)
 sites_among b n zero i (p ∷ ports) port e is = let same : i ≡ n = omega arith in inl (ap (λ j. Site b j) same)
 sites_among b n (suc k) i (p ∷ ports) port e is = inr (sites_among b (n + 1) k i ports port (omega arith) is)
 
-branch_among : (w : Parts) (n k i : ℕ) (ss : List Seat) (s : Seat) → n + k ≡ i → slice_get ss k ≡ Some s → Among (Branch i) (spots_from w n ss)
+branch_among : (w : Parts) (n k i : ℕ) (ss : List Placement) (s : Placement) → n + k ≡ i → slice_get ss k ≡ Some s → Among (Branch i) (spots_from w n ss)
 branch_among w n k i [] s e is = absurd (cc)
 branch_among w n zero i (r ∷ ss) s e is = let same : i ≡ n = omega arith in inl (ap (λ j. Branch j) same)
 branch_among w n (suc k) i (r ∷ ss) s e is = inr (Among-right (Branch i) (sites_from n 0 (awaited (actions_of w r.branch.handler))) (spots_from w (n + 1) ss) (branch_among w (n + 1) k i ss s (omega arith) is))
 
-site_among : (w : Parts) (n k i j port : ℕ) (ss : List Seat) (s : Seat) → n + k ≡ i → slice_get ss k ≡ Some s → slice_get (awaited (actions_of w s.branch.handler)) j ≡ Some port → Among (Site i j) (spots_from w n ss)
+site_among : (w : Parts) (n k i j port : ℕ) (ss : List Placement) (s : Placement) → n + k ≡ i → slice_get ss k ≡ Some s → slice_get (awaited (actions_of w s.branch.handler)) j ≡ Some port → Among (Site i j) (spots_from w n ss)
 site_among w n k i j port [] s e is at = absurd (cc)
 site_among w n zero i j port (r ∷ ss) s e is at =
     let same : r ≡ s = cc in
@@ -124,14 +124,14 @@ oldest_some (m ∷ ms) names is = (m ∷ [], refl)
 -- the spot of a choice is one of the wiring, and the engine has a choice there
 choice_some : (w : Parts) (h : List Event) (s : Spot) (names : List MsgId) → is_choice w h s names ≡ true → Among s (spots w) × HasChoice (engine_choice w h s)
 choice_some w h (Branch b) names is =
-    let found = some_of (λ (s : Seat). is_choice_of (held h) s.branch.pattern names) (seat w b) is in
-    (branch_among w 0 b b (seats w) found.0 (omega arith) found.1, rw found.1 (choice_of_some (held h) found.0.branch.pattern names found.2))
+    let found = some_of (λ (s : Placement). is_choice_of (held h) s.branch.pattern names) (placement w b) is in
+    (branch_among w 0 b b (placements w) found.0 (omega arith) found.1, rw found.1 (choice_of_some (held h) found.0.branch.pattern names found.2))
 choice_some w h (Site b k) names is =
     let found = some_of (λ port. are_oldest (held h port) names) (site_port w b k) is in
-    let there = some_site (seat w b) refl found.0 found.1 in
-    (site_among w 0 b b k found.0 (seats w) there.0 (omega arith) there.1 there.2, rw found.1 (oldest_some (held h found.0) names found.2))
+    let there = some_site (placement w b) refl found.0 found.1 in
+    (site_among w 0 b b k found.0 (placements w) there.0 (omega arith) there.1 there.2, rw found.1 (oldest_some (held h found.0) names found.2))
   where
-    some_site : (o : Option Seat) → seat w b ≡ o → (port : ℕ) → option_map_or (λ (s : Seat). slice_get (awaited (actions_of w s.branch.handler)) k) o None ≡ Some port → (s : Seat) × (seat w b ≡ Some s) × (slice_get (awaited (actions_of w s.branch.handler)) k ≡ Some port)
+    some_site : (o : Option Placement) → placement w b ≡ o → (port : ℕ) → option_map_or (λ (s : Placement). slice_get (awaited (actions_of w s.branch.handler)) k) o None ≡ Some port → (s : Placement) × (placement w b ≡ Some s) × (slice_get (awaited (actions_of w s.branch.handler)) k ≡ Some port)
     some_site None at port is = absurd (cc)
     some_site (Some s) at port is = (s, at, is)
 
@@ -160,21 +160,21 @@ admit_none w h n (suc k) (a ∷ as') none lt =
 pub first_is : (ts : List TaskId) (t : TaskId) → is_first ts t ≡ true → slice_get ts 0 ≡ Some t
 first_is ts t is = let found = some_of (same_task t) (slice_get ts 0) is in rw found.1 (ap (λ u. Some u) (sym (same_task-is t found.0 found.2)))
 
-admit_head : (w : Parts) (h : List Event) (ts : List TaskId) (t : TaskId) → slice_get ts 0 ≡ Some t → admit_first w h ts ≡ None → may_enter w h t ≡ false
+admit_head : (w : Parts) (h : List Event) (ts : List TaskId) (t : TaskId) → slice_get ts 0 ≡ Some t → admit_first w h ts ≡ None → may_admit w h t ≡ false
 admit_head w h [] t is none = absurd (cc)
-admit_head w h (u ∷ ts) t is none = of_test (may_enter w h u) refl none
+admit_head w h (u ∷ ts) t is none = of_test (may_admit w h u) refl none
   where
-    of_test : (b : Bool) → may_enter w h u ≡ b → (if b then Some (Admit u) else None) ≡ None → may_enter w h t ≡ false
+    of_test : (b : Bool) → may_admit w h u ≡ b → (if b then Some (Admit u) else None) ≡ None → may_admit w h t ≡ false
     of_test true e gone = absurd (cc)
     of_test false e gone = let same : u ≡ t = cc in rw (← same) e
 
 no_admit : (w : Parts) (h : List Event) (t : TaskId) → admit_from w h 0 w.arbiters ≡ None → IsAllowed w h (Admit t) → ⊥
 no_admit w h t none allowed =
     let a = refused_not (is_oldest_waiting w h t) 9 _ allowed in
-    let b = refused_not (may_enter w h t) 10 None a.1 in
-    let found = some_of (λ (s : Seat). is_first (waiting w h s.arbiter) t) (seat_of w h t) a.0 in
-    let placed = some_then (λ spot. seat w (branch_of spot)) (spot_of h t) found.0 found.1 in
-    let inside : found.0.arbiter < length w.arbiters = seat-within w (branch_of placed.0) found.0 placed.2 in
+    let b = refused_not (may_admit w h t) 10 None a.1 in
+    let found = some_of (λ (s : Placement). is_first (waiting w h s.arbiter) t) (placement_of w h t) a.0 in
+    let placed = some_then (λ spot. placement w (branch_of spot)) (spot_of h t) found.0 found.1 in
+    let inside : found.0.arbiter < length w.arbiters = placement-within w (branch_of placed.0) found.0 placed.2 in
     let e : 0 + found.0.arbiter ≡ found.0.arbiter = omega arith in
     let nothing = subst (λ i. admit_first w h (waiting w h i) ≡ None) e (admit_none w h 0 found.0.arbiter w.arbiters none inside) in
     let no = admit_head w h (waiting w h found.0.arbiter) t (first_is (waiting w h found.0.arbiter) t found.2) nothing in
@@ -221,8 +221,8 @@ start_none w c h n (suc k) (q ∷ qs) none lt =
 no_start : (w : Parts) (c : ℕ) (h : List Event) (t : TaskId) (a : ℕ) → HasQueues w → start_from w c h 0 w.queues ≡ None → IsAllowed w h (Start t a) → ⊥
 no_start w c h t a queues none allowed =
     let r = refused_not (is_oldest_queued w h t) 13 _ allowed in
-    let found = some_of (λ (s : Seat). is_first (queued w h s.branch.queue) t) (seat_of w h t) r.0 in
-    let placed = some_then (λ spot. seat w (branch_of spot)) (spot_of h t) found.0 found.1 in
+    let found = some_of (λ (s : Placement). is_first (queued w h s.branch.queue) t) (placement_of w h t) r.0 in
+    let placed = some_then (λ spot. placement w (branch_of spot)) (spot_of h t) found.0 found.1 in
     let nothing = start_none w c h 0 found.0.branch.queue w.queues none (queues (branch_of placed.0) found.0 placed.2) in
     let e : 0 + found.0.branch.queue ≡ found.0.branch.queue = omega arith in
     let nothing_there = subst (λ i. slice_get (queued w h i) 0 ≡ None) e nothing in

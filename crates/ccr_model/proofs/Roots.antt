@@ -8,18 +8,18 @@ use Rattle.ccr_base.specs.declared.names.Spot.{Spot}
 use Rattle.ccr_base.specs.declared.names.Spot.TheVariants.{Branch, Site}
 use Rattle.ccr_base.specs.Names.{same_task, has_task}
 use Rattle.ccr_wiring.specs.declared.parts.Parts.{Parts}
-use Rattle.ccr_wiring.specs.Wirings.{Seat, seat, branch_of}
+use Rattle.ccr_wiring.specs.Wirings.{Placement, placement, branch_of}
 use Rattle.ccr_model.specs.declared.history.Event.{Event}
 use Rattle.ccr_model.specs.declared.history.Event.TheVariants.{Post, Fire, Admit, Put, Start, End}
-use Rattle.ccr_model.specs.Firings.{Firing, firing_of, fired, firing_named, let_in, admitted_by, put, started, dropped, ended, yielded, last_segments}
+use Rattle.ccr_model.specs.Firings.{Firing, firing_of, fired, firing_named, ever_admitted, admitted_by, put, started, dropped, ended, yielded, last_segments}
 use Rattle.ccr_model.specs.Sites.{root_at, root_of, resumed}
-use Rattle.ccr_model.specs.TaskData.{seat_of}
+use Rattle.ccr_model.specs.TaskData.{placement_of}
 use Rattle.ccr_model.specs.Tasks.{is_interleave, is_in_arbiter, is_over, admitted, queued, running}
 use Rattle.ccr_model.specs.Rules.{needs_no_admission}
 use Rattle.ccr_model.specs.Legal.{IsAllowed, IsLegal}
 use Rattle.ccr_model.proofs.TaskSteps.{firing_named-fire}
 use Rattle.ccr_model.proofs.Stable.{firing_named-append, root_at-append}
-use Rattle.ccr_model.proofs.Pushes.{let_in-push}
+use Rattle.ccr_model.proofs.Pushes.{ever_admitted-push}
 use Rattle.ccr_model.proofs.LegalParts.{along_legal}
 use Rattle.ccr_model.proofs.Options.{some_of}
 use Rattle.ccr_model.proofs.SameNames.{same_task-is, same_task-self}
@@ -28,9 +28,9 @@ use Rattle.ccr_model.proofs.Booleans.{not_true, both, and_not, and_false, refute
 use Rattle.ccr_model.proofs.FiredTasks.{IsFired, root_stays}
 use Rattle.ccr_model.proofs.Alone.{lasts_fired}
 use Rattle.ccr_model.specs.AtWork.{is_queued, is_suspended, is_at_work}
-use Rattle.ccr_model.specs.Interleaves.{is_seat_in, is_of_interleave}
+use Rattle.ccr_model.specs.Interleaves.{is_placement_in, is_of_interleave}
 use Rattle.ccr_model.proofs.TaskLists.{to_filter, among_left, not_within, any_named}
-use Rattle.ccr_model.proofs.TaskPlaces.{ArePlaced-legal, QueuedFacts-queued, seat_by}
+use Rattle.ccr_model.proofs.TaskPlaces.{ArePlaced-legal, QueuedFacts-queued, placement_by}
 use Rattle.ccr_model.proofs.FiringFacts.{FiresSo-allowed, not_new, firing_named-new, before-new, firings-other}
 use Rattle.ccr_model.proofs.Cutting.{CutFacts-legal}
 use Rattle.ccr_model.proofs.Ending.{AreEnded-legal, RunningFacts-running}
@@ -196,87 +196,87 @@ not_over w h legal t work = refuted (is_over h (root_of h t)) over
         no_both (subst (λ u. has_task (last_segments h) u ≡ true) one last.1) work.not_last
 
 -- a task of a site has a root that was admitted, where its branch is one of an Interleave
-abbrev AreLetIn : Parts → List Event → Type 0
-AreLetIn w h = (t : TaskId) (f : Firing) (b k : ℕ) (z : Seat) → firing_named h t ≡ Some f → f.spot ≡ Site b k → seat w b ≡ Some z → is_interleave z.kind ≡ true → has_task (let_in h) (root_of h t) ≡ true
+abbrev AreEverAdmitted : Parts → List Event → Type 0
+AreEverAdmitted w h = (t : TaskId) (f : Firing) (b k : ℕ) (z : Placement) → firing_named h t ≡ Some f → f.spot ≡ Site b k → placement w b ≡ Some z → is_interleave z.kind ≡ true → has_task (ever_admitted h) (root_of h t) ≡ true
 
 -- and so has one that was put
-put_let_in : (w : Parts) (h : List Event) → IsLegal w h → AreLetIn w h → (t : TaskId) (f : Firing) (s : Spot) (z : Seat) → has_task (put h) t ≡ true → firing_named h t ≡ Some f → f.spot ≡ s → seat w (branch_of s) ≡ Some z → is_interleave z.kind ≡ true → has_task (let_in h) (root_of h t) ≡ true
-put_let_in w h legal known t f (Site b k) z there is at place kind = known t f b k z is at place kind
-put_let_in w h legal known t f (Branch b) z there is at place kind =
+put_ever_admitted : (w : Parts) (h : List Event) → IsLegal w h → AreEverAdmitted w h → (t : TaskId) (f : Firing) (s : Spot) (z : Placement) → has_task (put h) t ≡ true → firing_named h t ≡ Some f → f.spot ≡ s → placement w (branch_of s) ≡ Some z → is_interleave z.kind ≡ true → has_task (ever_admitted h) (root_of h t) ≡ true
+put_ever_admitted w h legal known t f (Site b k) z there is at place kind = known t f b k z is at place kind
+put_ever_admitted w h legal known t f (Branch b) z there is at place kind =
     let entered = (CutFacts-legal w h legal).entered t f there is in
     let needs : needs_no_admission w f.spot ≡ false = rw (at, place, kind) refl in
-    let let_in_so : has_task (let_in h) t ≡ true = rw needs at entered in
-    rw (root_own h t f b is at) let_in_so
+    let ever_admitted_so : has_task (ever_admitted h) t ≡ true = rw needs at entered in
+    rw (root_own h t f b is at) ever_admitted_so
 
-let_in_stays : (h : List Event) (e : Event) (t : TaskId) → has_task (let_in h) t ≡ true → has_task (let_in (h ++ e ∷ [])) t ≡ true
-let_in_stays h e t is = rw (let_in-push h e) (among_left (let_in h) (admitted_by e) t is)
+ever_admitted_stays : (h : List Event) (e : Event) (t : TaskId) → has_task (ever_admitted h) t ≡ true → has_task (ever_admitted (h ++ e ∷ [])) t ≡ true
+ever_admitted_stays h e t is = rw (ever_admitted-push h e) (among_left (ever_admitted h) (admitted_by e) t is)
 
-let_in_old : (w : Parts) (h : List Event) (e : Event) → AreLetIn w h → (t : TaskId) (f : Firing) (b k : ℕ) (z : Seat) → firing_named h t ≡ Some f → f.spot ≡ Site b k → seat w b ≡ Some z → is_interleave z.kind ≡ true → has_task (let_in (h ++ e ∷ [])) (root_of (h ++ e ∷ []) t) ≡ true
-let_in_old w h e known t f b k z is at place kind = rw (root_stays h (e ∷ []) t (f, is)) (let_in_stays h e (root_of h t) (known t f b k z is at place kind))
+ever_admitted_old : (w : Parts) (h : List Event) (e : Event) → AreEverAdmitted w h → (t : TaskId) (f : Firing) (b k : ℕ) (z : Placement) → firing_named h t ≡ Some f → f.spot ≡ Site b k → placement w b ≡ Some z → is_interleave z.kind ≡ true → has_task (ever_admitted (h ++ e ∷ [])) (root_of (h ++ e ∷ []) t) ≡ true
+ever_admitted_old w h e known t f b k z is at place kind = rw (root_stays h (e ∷ []) t (f, is)) (ever_admitted_stays h e (root_of h t) (known t f b k z is at place kind))
 
-AreLetIn-fire : (w : Parts) (h : List Event) (x : TaskId) (s : Spot) (ms : List MsgId) (cs : List TaskId) → IsLegal w h → IsAllowed w h (Fire x s ms cs) → AreLetIn w h → AreLetIn w (h ++ Fire x s ms cs ∷ [])
-AreLetIn-fire w h x s ms cs legal allowed known t f b k z is at place kind = of_case (of_firing h x s ms cs t f (FiresSo-allowed w h x s ms cs allowed).new_name is)
+AreEverAdmitted-fire : (w : Parts) (h : List Event) (x : TaskId) (s : Spot) (ms : List MsgId) (cs : List TaskId) → IsLegal w h → IsAllowed w h (Fire x s ms cs) → AreEverAdmitted w h → AreEverAdmitted w (h ++ Fire x s ms cs ∷ [])
+AreEverAdmitted-fire w h x s ms cs legal allowed known t f b k z is at place kind = of_case (of_firing h x s ms cs t f (FiresSo-allowed w h x s ms cs allowed).new_name is)
   where
-    this : (r : Spot) → s ≡ r → r ≡ Site b k → has_task (let_in (h ++ Fire x s ms cs ∷ [])) (root_of (h ++ Fire x s ms cs ∷ []) x) ≡ true
+    this : (r : Spot) → s ≡ r → r ≡ Site b k → has_task (ever_admitted (h ++ Fire x s ms cs ∷ [])) (root_of (h ++ Fire x s ms cs ∷ []) x) ≡ true
     this r e site =
         let here : s ≡ Site b k = e ∙ site in
         let allowed_here : IsAllowed w h (Fire x (Site b k) ms cs) = subst (λ p. IsAllowed w h (Fire x p ms cs)) here allowed in
         let facts = ResumeFacts-allowed w h x b k ms cs allowed_here in
         let ends_so = AreEnded-legal w h legal in
         let was_put = (ArePlaced-legal w h legal).lists.put_started facts.resumes (ends_so.started_ended facts.resumes (ends_so.ended_yielded facts.resumes facts.yielded_so)) in
-        let place_was : seat w (branch_of facts.firing.spot) ≡ Some z = rw facts.same_branch place in
-        let entered = put_let_in w h legal known facts.resumes facts.firing facts.firing.spot z was_put facts.is_firing refl place_was kind in
-        subst (λ p. has_task (let_in (h ++ Fire x p ms cs ∷ [])) (root_of (h ++ Fire x p ms cs ∷ []) x) ≡ true) (sym here) (rw (root_resumed w h x b k ms cs allowed_here facts) (let_in_stays h (Fire x (Site b k) ms cs) (root_of h facts.resumes) entered))
+        let place_was : placement w (branch_of facts.firing.spot) ≡ Some z = rw facts.same_branch place in
+        let entered = put_ever_admitted w h legal known facts.resumes facts.firing facts.firing.spot z was_put facts.is_firing refl place_was kind in
+        subst (λ p. has_task (ever_admitted (h ++ Fire x p ms cs ∷ [])) (root_of (h ++ Fire x p ms cs ∷ []) x) ≡ true) (sym here) (rw (root_resumed w h x b k ms cs allowed_here facts) (ever_admitted_stays h (Fire x (Site b k) ms cs) (root_of h facts.resumes) entered))
 
-    of_case : (firing_named h t ≡ Some f) ⊎ ((t ≡ x) × (f ≡ record { task = x; spot = s; messages = ms; cuts = cs })) → has_task (let_in (h ++ Fire x s ms cs ∷ [])) (root_of (h ++ Fire x s ms cs ∷ []) t) ≡ true
-    of_case (inl old) = let_in_old w h (Fire x s ms cs) known t f b k z old at place kind
+    of_case : (firing_named h t ≡ Some f) ⊎ ((t ≡ x) × (f ≡ record { task = x; spot = s; messages = ms; cuts = cs })) → has_task (ever_admitted (h ++ Fire x s ms cs ∷ [])) (root_of (h ++ Fire x s ms cs ∷ []) t) ≡ true
+    of_case (inl old) = ever_admitted_old w h (Fire x s ms cs) known t f b k z old at place kind
     of_case (inr new) = rw new.0 (this s refl (sym (ap (λ (g : Firing). g.spot) new.1) ∙ at))
 
-AreLetIn-other : (w : Parts) (h : List Event) (e : Event) → firing_of e ≡ [] → AreLetIn w h → AreLetIn w (h ++ e ∷ [])
-AreLetIn-other w h e none known t f b k z is at place kind = let_in_old w h e known t f b k z (other_firing h e t f none is) at place kind
+AreEverAdmitted-other : (w : Parts) (h : List Event) (e : Event) → firing_of e ≡ [] → AreEverAdmitted w h → AreEverAdmitted w (h ++ e ∷ [])
+AreEverAdmitted-other w h e none known t f b k z is at place kind = ever_admitted_old w h e known t f b k z (other_firing h e t f none is) at place kind
 
-AreLetIn_kept : (w : Parts) (h : List Event) (e : Event) → IsLegal w h → IsAllowed w h e → AreLetIn w h → AreLetIn w (h ++ e ∷ [])
-AreLetIn_kept w h (Fire x s ms cs) legal allowed known = AreLetIn-fire w h x s ms cs legal allowed known
-AreLetIn_kept w h (Post m) legal allowed known = AreLetIn-other w h (Post m) refl known
-AreLetIn_kept w h (Admit x) legal allowed known = AreLetIn-other w h (Admit x) refl known
-AreLetIn_kept w h (Put x d) legal allowed known = AreLetIn-other w h (Put x d) refl known
-AreLetIn_kept w h (Start x a) legal allowed known = AreLetIn-other w h (Start x a) refl known
-AreLetIn_kept w h (End x how) legal allowed known = AreLetIn-other w h (End x how) refl known
+AreEverAdmitted_kept : (w : Parts) (h : List Event) (e : Event) → IsLegal w h → IsAllowed w h e → AreEverAdmitted w h → AreEverAdmitted w (h ++ e ∷ [])
+AreEverAdmitted_kept w h (Fire x s ms cs) legal allowed known = AreEverAdmitted-fire w h x s ms cs legal allowed known
+AreEverAdmitted_kept w h (Post m) legal allowed known = AreEverAdmitted-other w h (Post m) refl known
+AreEverAdmitted_kept w h (Admit x) legal allowed known = AreEverAdmitted-other w h (Admit x) refl known
+AreEverAdmitted_kept w h (Put x d) legal allowed known = AreEverAdmitted-other w h (Put x d) refl known
+AreEverAdmitted_kept w h (Start x a) legal allowed known = AreEverAdmitted-other w h (Start x a) refl known
+AreEverAdmitted_kept w h (End x how) legal allowed known = AreEverAdmitted-other w h (End x how) refl known
 
-AreLetIn-legal : (w : Parts) (h : List Event) → IsLegal w h → AreLetIn w h
-AreLetIn-legal w h legal = along_legal w (AreLetIn w) (AreLetIn_kept w) (λ t f b k z is at place kind. absurd (cc)) h legal
+AreEverAdmitted-legal : (w : Parts) (h : List Event) → IsLegal w h → AreEverAdmitted w h
+AreEverAdmitted-legal w h legal = along_legal w (AreEverAdmitted w) (AreEverAdmitted_kept w) (λ t f b k z is at place kind. absurd (cc)) h legal
 
--- a segment has its root's seat
-pub seat_of_root : (w : Parts) (h : List Event) → IsLegal w h → (t : TaskId) → IsFired h t → seat_of w h (root_of h t) ≡ seat_of w h t
-seat_of_root w h legal t fired =
+-- a segment has its root's placement
+pub placement_of_root : (w : Parts) (h : List Event) → IsLegal w h → (t : TaskId) → IsFired h t → placement_of w h (root_of h t) ≡ placement_of w h t
+placement_of_root w h legal t fired =
     let root = AreRooted-legal w h legal t fired.0 fired.1 in
-    let of_root : seat_of w h (root_of h t) ≡ seat w (branch_of fired.0.spot) = seat_by w h (root_of h t) root.0 root.1 ∙ ap (λ s. seat w (branch_of s)) root.2 in
-    of_root ∙ sym (seat_by w h t fired.0 fired.1)
+    let of_root : placement_of w h (root_of h t) ≡ placement w (branch_of fired.0.spot) = placement_by w h (root_of h t) root.0 root.1 ∙ ap (λ s. placement w (branch_of s)) root.2 in
+    of_root ∙ sym (placement_by w h t fired.0 fired.1)
 
 -- an admitted root that isn't over
 pub record AdmittedFacts (w : Parts) (h : List Event) (i : ℕ) (t : TaskId) : Type 0 where
-  pub entered : has_task (let_in h) t ≡ true
+  pub entered : has_task (ever_admitted h) t ≡ true
   pub within : is_in_arbiter w h i t ≡ true
   pub lasts : is_over h t ≡ false
 
 pub AdmittedFacts-admitted : (w : Parts) (h : List Event) (i : ℕ) (t : TaskId) → has_task (admitted w h i) t ≡ true → AdmittedFacts w h i t
 AdmittedFacts-admitted w h i t is =
-    let parts = of_filter (λ u. is_in_arbiter w h i u && not (is_over h u)) (let_in h) t is in
+    let parts = of_filter (λ u. is_in_arbiter w h i u && not (is_over h u)) (ever_admitted h) t is in
     let tests = both (is_in_arbiter w h i t) (not (is_over h t)) parts.1 in
     record { entered = parts.0; within = tests.0; lasts = not_true (is_over h t) tests.1 }
 
-pub admitted_whole : (w : Parts) (h : List Event) (i : ℕ) (t : TaskId) → has_task (let_in h) t ≡ true → is_in_arbiter w h i t ≡ true → is_over h t ≡ false → has_task (admitted w h i) t ≡ true
-admitted_whole w h i t entered within lasts = to_filter (λ u. is_in_arbiter w h i u && not (is_over h u)) (let_in h) t entered (and_not (is_in_arbiter w h i t) (is_over h t) within lasts)
+pub admitted_whole : (w : Parts) (h : List Event) (i : ℕ) (t : TaskId) → has_task (ever_admitted h) t ≡ true → is_in_arbiter w h i t ≡ true → is_over h t ≡ false → has_task (admitted w h i) t ≡ true
+admitted_whole w h i t entered within lasts = to_filter (λ u. is_in_arbiter w h i u && not (is_over h u)) (ever_admitted h) t entered (and_not (is_in_arbiter w h i t) (is_over h t) within lasts)
 
 -- who of an Interleave is at work has a root that was admitted and isn't over
 pub at_work_admitted : (w : Parts) (h : List Event) → IsLegal w h → (i : ℕ) (t : TaskId) → is_of_interleave w h i t ≡ true → IsAtWork h t → has_task (admitted w h i) (root_of h t) ≡ true
 at_work_admitted w h legal i t within work =
     let fired = (ArePlaced-legal w h legal).all_fired t work.put_so in
-    let found = some_of (is_seat_in i) (seat_of w h t) within in
+    let found = some_of (is_placement_in i) (placement_of w h t) within in
     let parts = both (is_interleave found.0.kind) (found.0.arbiter == i) found.2 in
-    let place : seat w (branch_of fired.0.spot) ≡ Some found.0 = sym (seat_by w h t fired.0 fired.1) ∙ found.1 in
-    let entered = put_let_in w h legal (AreLetIn-legal w h legal) t fired.0 fired.0.spot found.0 work.put_so fired.1 refl place parts.0 in
-    let there : is_in_arbiter w h i (root_of h t) ≡ true = ap (λ o. option_map_or (λ (s : Seat). s.arbiter == i) o false) (seat_of_root w h legal t fired ∙ found.1) ∙ parts.1 in
+    let place : placement w (branch_of fired.0.spot) ≡ Some found.0 = sym (placement_by w h t fired.0 fired.1) ∙ found.1 in
+    let entered = put_ever_admitted w h legal (AreEverAdmitted-legal w h legal) t fired.0 fired.0.spot found.0 work.put_so fired.1 refl place parts.0 in
+    let there : is_in_arbiter w h i (root_of h t) ≡ true = ap (λ o. option_map_or (λ (s : Placement). s.arbiter == i) o false) (placement_of_root w h legal t fired ∙ found.1) ∙ parts.1 in
     admitted_whole w h i (root_of h t) entered there (not_over w h legal t work)
 
 unfinished_last : (w : Parts) (h : List Event) → IsLegal w h → (t : TaskId) → has_task (ended h) t ≡ false → has_task (dropped h) t ≡ false → has_task (last_segments h) t ≡ false
@@ -320,5 +320,5 @@ work_so w h legal t is = of_test (is_queued w h t) refl is
     later false e at = suspended_works w h legal t at
 
     of_test : (b : Bool) → is_queued w h t ≡ b → (b || has_task (running h) t) || is_suspended h t ≡ true → IsAtWork h t
-    of_test true e at = let found = some_of (λ (s : Seat). has_task (queued w h s.branch.queue) t) (seat_of w h t) e in queued_works w h legal found.0.branch.queue t found.2
+    of_test true e at = let found = some_of (λ (s : Placement). has_task (queued w h s.branch.queue) t) (placement_of w h t) e in queued_works w h legal found.0.branch.queue t found.2
     of_test false e at = later (has_task (running h) t) refl at

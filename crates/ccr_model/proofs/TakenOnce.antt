@@ -17,7 +17,7 @@ use Rattle.ccr_model.specs.declared.history.Event.{Event}
 use Rattle.ccr_model.specs.declared.history.Event.TheVariants.{Post, Fire, Admit, Put, Start, End}
 use Rattle.ccr_base.specs.Names.{same_message, same_lists, has_message}
 use Rattle.ccr_model.specs.Posts.{posts, held, taken, taken_by}
-use Rattle.ccr_wiring.specs.Wirings.{Seat, seat, site_port}
+use Rattle.ccr_wiring.specs.Wirings.{Placement, placement, site_port}
 use Rattle.ccr_base.specs.Choice.{holds, choice}
 use Rattle.ccr_model.specs.Choice.{names_of, joined, choice_of_slots, are_first, are_split, is_choice_of, are_oldest, is_choice}
 use Rattle.ccr_model.specs.Live.{is_live, has_room}
@@ -29,8 +29,8 @@ use Rattle.ccr_model.proofs.SameNames.{same_message-is}
 use Rattle.ccr_model.proofs.Booleans.{both}
 
 -- how often the name stands in the list of names
-abbrev pub named : MsgId → List MsgId → ℕ
-named name names = length (filter (same_message name) names)
+abbrev pub times_named : MsgId → List MsgId → ℕ
+times_named name names = length (filter (same_message name) names)
 
 -- how often it stands among the messages of these ports
 abbrev times_at : MsgId → List ℕ → List Msg → ℕ
@@ -83,7 +83,7 @@ times-slots name t ms (slot ∷ slots) xs apart is =
     subst (λ ys. times name ys ≤ times_at name (slot.port ∷ slot_ports slots) (filter t ms)) parts.4 (omega (arith, times-append name parts.0 parts.1, here, there, times_at-apart name t slot.port (slot_ports slots) other ms))
 
 -- names that are those of messages stand as often
-named-first : (name : MsgId) (ms : List Msg) (names : List MsgId) → are_first ms names ≡ true → named name names ≤ times name ms
+named-first : (name : MsgId) (ms : List Msg) (names : List MsgId) → are_first ms names ≡ true → times_named name names ≤ times name ms
 named-first name ms [] is = grind arith
 named-first name [] (n ∷ names) is = absurd (cc)
 named-first name (m ∷ ms) (n ∷ names) is =
@@ -91,19 +91,19 @@ named-first name (m ∷ ms) (n ∷ names) is =
     let same : m.id ≡ n = same_message-is m.id n parts.0 in
     grind (arith, same, named-first name ms names parts.1)
 
-named-split : (name : MsgId) (a b : List Msg) (names : List MsgId) → are_split a b names ≡ true → named name names ≤ times name a + times name b
+named-split : (name : MsgId) (a b : List Msg) (names : List MsgId) → are_split a b names ≡ true → times_named name names ≤ times name a + times name b
 named-split name a b [] is = grind arith
 named-split name [] b (n ∷ names) is = omega (arith, named-first name b (n ∷ names) is)
 named-split name (m ∷ a) b (n ∷ names) is = split_or_first (are_first b (n ∷ names)) refl is (named-split name a b names)
   where
-    split_or_first : (first : Bool) → are_first b (n ∷ names) ≡ first → first || (same_message m.id n && are_split a b names) ≡ true → (are_split a b names ≡ true → named name names ≤ times name a + times name b) → named name (n ∷ names) ≤ times name (m ∷ a) + times name b
+    split_or_first : (first : Bool) → are_first b (n ∷ names) ≡ first → first || (same_message m.id n && are_split a b names) ≡ true → (are_split a b names ≡ true → times_named name names ≤ times name a + times name b) → times_named name (n ∷ names) ≤ times name (m ∷ a) + times name b
     split_or_first true one is rest = omega (arith, named-first name b (n ∷ names) one)
     split_or_first false one is rest =
         let parts = both (same_message m.id n) (are_split a b names) is in
         let same : m.id ≡ n = same_message-is m.id n parts.0 in
         grind (arith, same, rest parts.1)
 
-named-same : (name : MsgId) (ms : List Msg) (names : List MsgId) → same_lists same_message (names_of ms) names ≡ true → named name names ≤ times name ms
+named-same : (name : MsgId) (ms : List Msg) (names : List MsgId) → same_lists same_message (names_of ms) names ≡ true → times_named name names ≤ times name ms
 named-same name [] [] is = grind arith
 named-same name [] (n ∷ names) is = absurd (cc)
 named-same name (m ∷ ms) [] is = absurd (cc)
@@ -122,10 +122,10 @@ times-one name t p [] = grind arith
 times-one name t p (m ∷ ms) = grind (arith, times-one name t p ms)
 
 -- the names of a choice stand among the messages that no firing took
-named-choice_of : (name : MsgId) (t : Msg → Bool) (ms : List Msg) (p : Pattern) (names : List MsgId) → names_ports_once p ≡ true → is_choice_of (at t ms) p names ≡ true → named name names ≤ times name (filter t ms)
+named-choice_of : (name : MsgId) (t : Msg → Bool) (ms : List Msg) (p : Pattern) (names : List MsgId) → names_ports_once p ≡ true → is_choice_of (at t ms) p names ≡ true → times_named name names ≤ times name (filter t ms)
 named-choice_of name t ms (Slots slots) names apart is = some_choice (choice_of_slots (at t ms) slots) refl is
   where
-    some_choice : (o : Option (List Msg)) → choice_of_slots (at t ms) slots ≡ o → option_map_or (λ messages. same_lists same_message (names_of messages) names) o false ≡ true → named name names ≤ times name (filter t ms)
+    some_choice : (o : Option (List Msg)) → choice_of_slots (at t ms) slots ≡ o → option_map_or (λ messages. same_lists same_message (names_of messages) names) o false ≡ true → times_named name names ≤ times name (filter t ms)
     some_choice None e is = absurd (cc)
     some_choice (Some xs) e is = omega (arith, named-same name xs names is, times-slots name t ms slots xs apart e, times_at-all name (slot_ports slots) (filter t ms))
 named-choice_of name t ms (Gather total first second) names apart is =
@@ -136,15 +136,15 @@ named-choice_of name t ms (Gather total first second) names apart is =
 abbrev pub untaken : List Event → List Msg
 untaken h = filter (λ (m : Msg). not (has_message (taken h) m.id)) (posts h)
 
-pub named-choice : (w : Parts) (h : List Event) (s : Spot) (name : MsgId) (names : List MsgId) → HasPortsApart w → is_choice w h s names ≡ true → named name names ≤ times name (untaken h)
-named-choice w h (Branch b) name names apart is = some_seat (seat w b) refl is
+pub named-choice : (w : Parts) (h : List Event) (s : Spot) (name : MsgId) (names : List MsgId) → HasPortsApart w → is_choice w h s names ≡ true → times_named name names ≤ times name (untaken h)
+named-choice w h (Branch b) name names apart is = some_placement (placement w b) refl is
   where
-    some_seat : (o : Option Seat) → seat w b ≡ o → option_map_or (λ (s : Seat). is_choice_of (held h) s.branch.pattern names) o false ≡ true → named name names ≤ times name (untaken h)
-    some_seat None e is = absurd (cc)
-    some_seat (Some s) e is = named-choice_of name (λ m. not (has_message (taken h) m.id)) (posts h) s.branch.pattern names (apart b s e) is
+    some_placement : (o : Option Placement) → placement w b ≡ o → option_map_or (λ (s : Placement). is_choice_of (held h) s.branch.pattern names) o false ≡ true → times_named name names ≤ times name (untaken h)
+    some_placement None e is = absurd (cc)
+    some_placement (Some s) e is = named-choice_of name (λ m. not (has_message (taken h) m.id)) (posts h) s.branch.pattern names (apart b s e) is
 named-choice w h (Site b k) name names apart is = some_port (site_port w b k) is
   where
-    some_port : (o : Option ℕ) → option_map_or (λ port. are_oldest (held h port) names) o false ≡ true → named name names ≤ times name (untaken h)
+    some_port : (o : Option ℕ) → option_map_or (λ port. are_oldest (held h port) names) o false ≡ true → times_named name names ≤ times name (untaken h)
     some_port None is = absurd (cc)
     some_port (Some port) is =
         let parts = both (length names == 1) (are_first (held h port) names) is in
@@ -160,11 +160,11 @@ taken_none name gone (m ∷ ms) some = one_more (has_message gone m.id) (same_me
     one_more false true is same rest = let e : m.id ≡ name = same_message-is m.id name same in rw (← e) is
     one_more false false is same rest = rest (grind (arith, is, same, some))
 
-pub named_none : (name : MsgId) (gone : List MsgId) → has_message gone name ≡ false → named name gone ≡ 0
+pub named_none : (name : MsgId) (gone : List MsgId) → has_message gone name ≡ false → times_named name gone ≡ 0
 named_none name [] is = grind arith
 named_none name (n ∷ gone) is = grind (arith, named_none name gone)
 
-pub named-append : (name : MsgId) (xs ys : List MsgId) → named name (xs ++ ys) ≡ named name xs + named name ys
+pub named-append : (name : MsgId) (xs ys : List MsgId) → times_named name (xs ++ ys) ≡ times_named name xs + times_named name ys
 named-append name [] ys = grind arith
 named-append name (x ∷ xs) ys = grind (arith, named-append name xs ys)
 
@@ -188,15 +188,15 @@ taken-push h e = grind (arith, common_steps)
 
 -- each name is taken once at most
 abbrev IsTakenOnce : List Event → Type 0
-IsTakenOnce h = (name : MsgId) → named name (taken h) ≤ 1
+IsTakenOnce h = (name : MsgId) → times_named name (taken h) ≤ 1
 
-taken_fire : (w : Parts) → HasPortsApart w → (h : List Event) (t : TaskId) (s : Spot) (ms : List MsgId) (cs : List TaskId) → ((name : MsgId) → times name (posts h) ≤ 1) → IsTakenOnce h → IsAllowed w h (Fire t s ms cs) → (name : MsgId) → named name (taken h ++ ms) ≤ 1
+taken_fire : (w : Parts) → HasPortsApart w → (h : List Event) (t : TaskId) (s : Spot) (ms : List MsgId) (cs : List TaskId) → ((name : MsgId) → times name (posts h) ≤ 1) → IsTakenOnce h → IsAllowed w h (Fire t s ms cs) → (name : MsgId) → times_named name (taken h ++ ms) ≤ 1
 taken_fire w apart h t s ms cs posted_one once allowed name =
     let among = named-choice w h s name ms apart (FireFacts-allowed w h t s ms cs allowed).choice_made in
     let all = times-filter name (λ (m : Msg). not (has_message (taken h) m.id)) (posts h) in
     new_or_not (has_message (taken h) name) refl among all
   where
-    new_or_not : (b : Bool) → has_message (taken h) name ≡ b → named name ms ≤ times name (untaken h) → times name (untaken h) ≤ times name (posts h) → named name (taken h ++ ms) ≤ 1
+    new_or_not : (b : Bool) → has_message (taken h) name ≡ b → times_named name ms ≤ times name (untaken h) → times name (untaken h) ≤ times name (posts h) → times_named name (taken h ++ ms) ≤ 1
     new_or_not false is among all = omega (arith, named-append name (taken h) ms, named_none name (taken h) is, posted_one name)
     new_or_not true is among all = grind (arith, named-append name (taken h) ms, once name, taken_none name (taken h) (posts h))
 
@@ -209,6 +209,6 @@ taken_kept w apart h (Start t a) posted once allowed = λ name. rw (taken-push, 
 taken_kept w apart h (End t how) posted once allowed = λ name. rw (taken-push, append-nil) (once name)
 
 -- one fate, second part: at most one firing names a message, and it names it once
-pub taken_once : (w : Parts) → HasPortsApart w → (h : List Event) → IsLegal w h → (name : MsgId) → named name (taken h) ≤ 1
+pub taken_once : (w : Parts) → HasPortsApart w → (h : List Event) → IsLegal w h → (name : MsgId) → times_named name (taken h) ≤ 1
 taken_once w apart h legal =
     (along w (λ g. AreNamed (posts g) × IsTakenOnce g) (λ g e p allowed. (named_kept w g e p.0 allowed, taken_kept w apart g e p.0 p.1 allowed)) (record { below = λ name. λ some. omega arith; once = λ name. omega arith }, λ name. omega arith) h legal).1

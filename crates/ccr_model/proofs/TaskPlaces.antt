@@ -7,9 +7,9 @@ use Rattle.ccr_wiring.specs.declared.parts.Parts.{Parts}
 use Rattle.ccr_model.specs.declared.history.Event.{Event}
 use Rattle.ccr_model.specs.declared.history.Event.TheVariants.{Post, Fire, Admit, Put, Start, End}
 use Rattle.ccr_base.specs.Names.{has_task, without}
-use Rattle.ccr_wiring.specs.Wirings.{Seat, seat, branch_of}
-use Rattle.ccr_model.specs.Firings.{Firing, firing_named, spot_of, cut, let_in, put, put_by, started, started_by, dropped, dropped_by}
-use Rattle.ccr_model.specs.TaskData.{seat_of}
+use Rattle.ccr_wiring.specs.Wirings.{Placement, placement, branch_of}
+use Rattle.ccr_model.specs.Firings.{Firing, firing_named, spot_of, cut, ever_admitted, put, put_by, started, started_by, dropped, dropped_by}
+use Rattle.ccr_model.specs.TaskData.{placement_of}
 use Rattle.ccr_model.specs.Tasks.{is_for_queue, queued}
 use Rattle.ccr_model.specs.Rules.{is_first, needs_no_admission, may_put, is_oldest_queued}
 use Rattle.ccr_model.specs.Legal.{IsAllowed, IsLegal}
@@ -23,9 +23,9 @@ use Rattle.ccr_model.proofs.FiredTasks.{IsFired, AreFired, IsFired-append}
 use Rattle.ccr_model.proofs.DropFacts.{put_allowed, drop_allowed}
 use Rattle.ccr_model.proofs.TaskLists.{first_rest, has_oldest, of_more, among_left, not_more, of_one, out_right}
 
--- the seat of a task that fired
-pub seat_by : (w : Parts) (h : List Event) (t : TaskId) (f : Firing) → firing_named h t ≡ Some f → seat_of w h t ≡ seat w (branch_of f.spot)
-seat_by w h t f is = rw is refl
+-- the placement of a task that fired
+pub placement_by : (w : Parts) (h : List Event) (t : TaskId) (f : Firing) → firing_named h t ≡ Some f → placement_of w h t ≡ placement w (branch_of f.spot)
+placement_by w h t f is = rw is refl
 
 -- a queued task was put, and neither started nor dropped
 pub record QueuedFacts (w : Parts) (h : List Event) (q : ℕ) (t : TaskId) : Type 0 where
@@ -42,15 +42,15 @@ QueuedFacts-queued w h q t is =
 
 -- what an allowed start says
 pub record StartFacts (w : Parts) (h : List Event) (t : TaskId) : Type 0 where
-  pub place : Seat
-  pub is_place : seat_of w h t ≡ Some place
+  pub place : Placement
+  pub is_place : placement_of w h t ≡ Some place
   pub others : List TaskId
   pub is_oldest : queued w h place.branch.queue ≡ t ∷ others
 
 pub StartFacts-allowed : (w : Parts) (h : List Event) (t : TaskId) (a : ℕ) → IsAllowed w h (Start t a) → StartFacts w h t
 StartFacts-allowed w h t a allowed =
     let first = (refused_not (is_oldest_queued w h t) 13 _ allowed).0 in
-    let found = some_of (λ (s : Seat). is_first (queued w h s.branch.queue) t) (seat_of w h t) first in
+    let found = some_of (λ (s : Placement). is_first (queued w h s.branch.queue) t) (placement_of w h t) first in
     let head = first_rest (queued w h found.0.branch.queue) t found.2 in
     record { place = found.0; is_place = found.1; others = head.0; is_oldest = head.1 }
 
@@ -63,14 +63,14 @@ pub record PutFacts (w : Parts) (h : List Event) (t : TaskId) : Type 0 where
   pub not_cut : has_task (cut h) t ≡ false
   pub firing : Firing
   pub is_firing : firing_named h t ≡ Some firing
-  pub entered : needs_no_admission w firing.spot || has_task (let_in h) t ≡ true
+  pub entered : needs_no_admission w firing.spot || has_task (ever_admitted h) t ≡ true
 
 pub PutFacts-may : (w : Parts) (h : List Event) (t : TaskId) → may_put w h t ≡ true → PutFacts w h t
 PutFacts-may w h t may =
-    let enters = option_map_or (λ spot. needs_no_admission w spot || has_task (let_in h) t) (spot_of h t) false in
-    let parts = both (not (has_task (put h) t) && not (has_task (cut h) t)) enters may in
+    let may_be_admitted = option_map_or (λ spot. needs_no_admission w spot || has_task (ever_admitted h) t) (spot_of h t) false in
+    let parts = both (not (has_task (put h) t) && not (has_task (cut h) t)) may_be_admitted may in
     let outs = both (not (has_task (put h) t)) (not (has_task (cut h) t)) parts.0 in
-    let at = some_of (λ spot. needs_no_admission w spot || has_task (let_in h) t) (spot_of h t) parts.1 in
+    let at = some_of (λ spot. needs_no_admission w spot || has_task (ever_admitted h) t) (spot_of h t) parts.1 in
     let fired = some_map (λ (f : Firing). f.spot) (firing_named h t) at.0 at.1 in
     let there : Some fired.0.spot ≡ Some at.0 = sym (ap (λ o. option_map (λ (f : Firing). f.spot) o) fired.1) ∙ at.1 in
     let same : fired.0.spot ≡ at.0 = cc in

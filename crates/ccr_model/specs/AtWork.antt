@@ -4,16 +4,16 @@ use Rattle.std.specs.Option.{option_map_or}
 use Rattle.ccr_base.specs.declared.names.TaskId.{TaskId}
 use Rattle.ccr_base.specs.Names.{has_task}
 use Rattle.ccr_wiring.specs.declared.parts.Parts.{Parts}
-use Rattle.ccr_wiring.specs.Wirings.{Seat, next_site}
+use Rattle.ccr_wiring.specs.Wirings.{Placement, next_site}
 use Rattle.ccr_model.specs.declared.history.Event.{Event}
 use Rattle.ccr_model.specs.Firings.{spot_of}
 use Rattle.ccr_model.specs.Sites.{suspended}
-use Rattle.ccr_model.specs.TaskData.{seat_of}
+use Rattle.ccr_model.specs.TaskData.{placement_of}
 use Rattle.ccr_model.specs.Tasks.{queued, running}
 
 -- whether the task is queued, in the queue of its branch
 abbrev pub is_queued : Parts → List Event → TaskId → Bool
-is_queued wiring history task = option_map_or (λ (s : Seat). has_task (queued wiring history s.branch.queue) task) (seat_of wiring history task) false
+is_queued wiring history task = option_map_or (λ (s : Placement). has_task (queued wiring history s.branch.queue) task) (placement_of wiring history task) false
 
 -- whether the task is suspended, at the site behind its segment
 abbrev pub is_suspended : List Event → TaskId → Bool

@@ -13,7 +13,7 @@ use Rattle.ccr_model.specs.declared.history.Event.{Event}
 use Rattle.ccr_base.specs.Choice.{choice}
 use Rattle.ccr_base.specs.Names.{same_message, same_lists}
 use Rattle.ccr_model.specs.Posts.{held}
-use Rattle.ccr_wiring.specs.Wirings.{Seat, seat, site_port}
+use Rattle.ccr_wiring.specs.Wirings.{Placement, placement, site_port}
 
 -- the names of the messages
 abbrev pub names_of : List Msg → List MsgId
@@ -52,7 +52,7 @@ are_oldest messages names = (length names == 1) && are_first messages names
 
 -- whether a firing at the spot may take the messages of these names: of a branch a choice of its pattern, of a site the one oldest message of the awaited port
 abbrev pub is_choice : Parts → List Event → Spot → List MsgId → Bool
-is_choice wiring history (Branch branch) names = option_map_or (λ (s : Seat). is_choice_of (held history) s.branch.pattern names) (seat wiring branch) false
+is_choice wiring history (Branch branch) names = option_map_or (λ (s : Placement). is_choice_of (held history) s.branch.pattern names) (placement wiring branch) false
 is_choice wiring history (Site branch site) names = option_map_or (λ port. are_oldest (held history port) names) (site_port wiring branch site) false
 
 -- of a gather as many as can be had from the lower-numbered port
@@ -73,5 +73,5 @@ oldest (m ∷ messages) = Some (m ∷ [])
 
 -- the choice that one thread makes at the spot
 abbrev pub engine_choice : Parts → List Event → Spot → Option (List Msg)
-engine_choice wiring history (Branch branch) = option_and_then (λ (s : Seat). engine_choice_of (held history) s.branch.pattern) (seat wiring branch)
+engine_choice wiring history (Branch branch) = option_and_then (λ (s : Placement). engine_choice_of (held history) s.branch.pattern) (placement wiring branch)
 engine_choice wiring history (Site branch site) = option_and_then (λ port. oldest (held history port)) (site_port wiring branch site)

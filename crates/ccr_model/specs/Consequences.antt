@@ -44,8 +44,8 @@ has_one_firing wiring history arbiter kinds.Choice = nat_le (length (fired_by wi
 has_one_firing wiring history arbiter kinds.Interleave = nat_le (length (fired_by wiring (λ s. (s.arbiter == arbiter) && is_teardown s.branch.group) history)) 1
 
 -- exclusion: of the admitted roots that aren't over, all are concurrent or there is one
-abbrev pub is_alone : Parts → List Event → ℕ → Bool
-is_alone wiring history arbiter = list_all (is_concurrent_task wiring history) (admitted wiring history arbiter) || nat_le (length (admitted wiring history arbiter)) 1
+abbrev pub keeps_exclusion : Parts → List Event → ℕ → Bool
+keeps_exclusion wiring history arbiter = list_all (is_concurrent_task wiring history) (admitted wiring history arbiter) || nat_le (length (admitted wiring history arbiter)) 1
 
 -- exclusion: who runs is a segment of such a root
 abbrev pub run_admitted : Parts → List Event → ℕ → Bool
@@ -67,7 +67,7 @@ ends_by_teardown wiring history arbiter = stay_last (is_teardown_task wiring his
 -- the domains, by the numbers of the arbiters, of which the first has this one, fire and admit as they should
 abbrev pub are_kept_from : Parts → List Event → ℕ → List ArbiterPart → Bool
 are_kept_from wiring history number [] = true
-are_kept_from wiring history number (arbiter ∷ arbiters) = has_one_firing wiring history number arbiter.kind && is_alone wiring history number && are_kept_from wiring history (number + 1) arbiters
+are_kept_from wiring history number (arbiter ∷ arbiters) = has_one_firing wiring history number arbiter.kind && keeps_exclusion wiring history number && are_kept_from wiring history (number + 1) arbiters
 
 -- in each of the domains of Interleaves only admitted roots run, and a teardown ends it
 abbrev pub are_interleaved_from : Parts → List Event → ℕ → List ArbiterPart → Bool

@@ -10,7 +10,7 @@ use Rattle.ccr_base.specs.declared.names.Spot.{Spot}
 use Rattle.ccr_base.specs.declared.names.Spot.TheVariants.{Branch, Site}
 use Rattle.ccr_base.specs.Choice.{is_choosable}
 use Rattle.ccr_wiring.specs.declared.parts.Parts.{Parts}
-use Rattle.ccr_wiring.specs.Wirings.{Seat, seat, site_port}
+use Rattle.ccr_wiring.specs.Wirings.{Placement, placement, site_port}
 use Rattle.ccr_model.specs.declared.history.Event.{Event}
 use Rattle.ccr_model.specs.Posts.{held}
 use Rattle.ccr_model.specs.Live.{is_live, has_room}
@@ -22,7 +22,7 @@ has_enough held_at (Gather total first second) = nat_le total (length (held_at f
 
 -- whether there is something for the spot to take: of a branch enough for its pattern, of a site a message of the awaited port
 abbrev pub can_take : Parts → List Event → Spot → Bool
-can_take wiring history (Branch branch) = option_map_or (λ (s : Seat). has_enough (held history) s.branch.pattern) (seat wiring branch) false
+can_take wiring history (Branch branch) = option_map_or (λ (s : Placement). has_enough (held history) s.branch.pattern) (placement wiring branch) false
 can_take wiring history (Site branch site) = option_map_or (λ port. nat_lt 0 (length (held history port))) (site_port wiring branch site) false
 
 -- whether the spot can fire

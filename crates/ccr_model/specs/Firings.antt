@@ -54,8 +54,8 @@ admitted_by (Admit task) = task ∷ []
 admitted_by _ = []
 
 -- the tasks that were admitted, over or not
-abbrev pub let_in : List Event → List TaskId
-let_in history = flat_map admitted_by history
+abbrev pub ever_admitted : List Event → List TaskId
+ever_admitted history = flat_map admitted_by history
 
 -- the task that the event puts
 abbrev pub put_by : Event → List TaskId

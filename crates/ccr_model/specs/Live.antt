@@ -10,7 +10,7 @@ use Rattle.ccr_base.specs.declared.policies.Group.TheVariants.{Once, Always, Cho
 use Rattle.ccr_base.specs.declared.policies.Policy.{Policy}
 use Rattle.ccr_base.specs.declared.policies.Policy.TheVariants.{Throttle}
 use Rattle.ccr_model.specs.declared.history.Event.{Event}
-use Rattle.ccr_wiring.specs.Wirings.{Seat, seat, policy_of}
+use Rattle.ccr_wiring.specs.Wirings.{Placement, placement, policy_of}
 use Rattle.ccr_model.specs.Firings.{fired_at}
 use Rattle.ccr_model.specs.Sites.{suspended}
 use Rattle.ccr_model.specs.Tasks.{fired_by, is_teardown, coming}
@@ -28,7 +28,7 @@ is_live_in wiring history branch arbiter _ = is_none_of (fired_by wiring (λ s. 
 
 -- whether the spot may fire once more: a branch by its group, a site while a task is suspended there
 abbrev pub is_live : Parts → List Event → Spot → Bool
-is_live wiring history (Branch branch) = option_map_or (λ (s : Seat). is_live_in wiring history branch s.arbiter s.branch.group) (seat wiring branch) false
+is_live wiring history (Branch branch) = option_map_or (λ (s : Placement). is_live_in wiring history branch s.arbiter s.branch.group) (placement wiring branch) false
 is_live wiring history (Site branch site) = not (is_none_of (suspended history (Site branch site)))
 
 -- on a throttle queue: while fewer of its tasks than its number are on their way or queued
@@ -38,5 +38,5 @@ has_room_in wiring history queue _ = true
 
 -- whether the queue lets the spot fire
 abbrev pub has_room : Parts → List Event → Spot → Bool
-has_room wiring history (Branch branch) = option_map_or (λ (s : Seat). has_room_in wiring history s.branch.queue (policy_of wiring s.branch.queue)) (seat wiring branch) true
+has_room wiring history (Branch branch) = option_map_or (λ (s : Placement). has_room_in wiring history s.branch.queue (policy_of wiring s.branch.queue)) (placement wiring branch) true
 has_room wiring history (Site branch site) = true

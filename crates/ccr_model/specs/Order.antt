@@ -24,7 +24,7 @@ use Rattle.ccr_model.specs.TaskData.{play_of}
 use Rattle.ccr_model.specs.Tasks.{waiting, queued, running}
 use Rattle.ccr_model.specs.Live.{is_live, has_room}
 use Rattle.ccr_model.specs.Choice.{engine_choice, names_of}
-use Rattle.ccr_model.specs.Rules.{cuts_at, may_enter, may_put, drop_at, has_budget}
+use Rattle.ccr_model.specs.Rules.{cuts_at, may_admit, may_put, drop_at, has_budget}
 
 -- the post of this place of the poster's script
 abbrev pub script_post : ℕ → ℕ → Sent → Event
@@ -55,7 +55,7 @@ fire_from wiring closer history (spot ∷ more) = option_or (fire_at wiring clos
 -- the admission of the first task, where it may enter
 abbrev pub admit_first : Parts → List Event → List TaskId → Option Event
 admit_first wiring history [] = None
-admit_first wiring history (task ∷ tasks) = if may_enter wiring history task then Some (Admit task) else None
+admit_first wiring history (task ∷ tasks) = if may_admit wiring history task then Some (Admit task) else None
 
 -- of the domains, by the numbers of the arbiters, of which the first has this one, the first that has a task to admit; for a number that is no domain's none waits
 abbrev pub admit_from : Parts → List Event → ℕ → List ArbiterPart → Option Event

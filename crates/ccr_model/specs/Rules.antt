@@ -22,9 +22,9 @@ use Rattle.ccr_model.specs.declared.history.EndHow.TheVariants as ends
 use Rattle.ccr_base.specs.Names.{same_task, has_task, same_lists, same_options}
 use Rattle.ccr_base.specs.Values.{same_value}
 use Rattle.ccr_model.specs.Posts.{posts_of_poster, posts_of_task, posts_of_tasks}
-use Rattle.ccr_wiring.specs.Wirings.{Seat, seat, policy_of}
-use Rattle.ccr_model.specs.Firings.{fired, cut, let_in, put, spot_of}
-use Rattle.ccr_model.specs.TaskData.{seat_of, play_of}
+use Rattle.ccr_wiring.specs.Wirings.{Placement, placement, policy_of}
+use Rattle.ccr_model.specs.Firings.{fired, cut, ever_admitted, put, spot_of}
+use Rattle.ccr_model.specs.TaskData.{placement_of, play_of}
 use Rattle.ccr_model.specs.Tasks.{is_interleave, is_teardown, is_concurrent, waiting, queued, running, running_by, admitted, has_post_left, count_unfinished}
 use Rattle.ccr_model.specs.Live.{is_live, has_room, is_none_of}
 use Rattle.ccr_model.specs.Choice.{is_choice}
@@ -51,7 +51,7 @@ is_new history task = not (has_task (fired history) task) && nat_le task.actor 3
 
 -- rule 8: the tasks that a firing at the spot cuts
 abbrev pub cuts_at : Parts → List Event → Spot → List TaskId
-cuts_at wiring history (Branch branch) = option_map_or (λ (s : Seat). if is_teardown s.branch.group then waiting wiring history s.arbiter else []) (seat wiring branch) []
+cuts_at wiring history (Branch branch) = option_map_or (λ (s : Placement). if is_teardown s.branch.group then waiting wiring history s.arbiter else []) (placement wiring branch) []
 cuts_at wiring history (Site branch site) = []
 
 -- whether the task is the first of the list
@@ -60,24 +60,24 @@ is_first tasks task = option_map_or (same_task task) (slice_get tasks 0) false
 
 -- rule 9: it is the oldest waiting task of its domain of Interleaves
 abbrev pub is_oldest_waiting : Parts → List Event → TaskId → Bool
-is_oldest_waiting wiring history task = option_map_or (λ (s : Seat). is_first (waiting wiring history s.arbiter) task) (seat_of wiring history task) false
+is_oldest_waiting wiring history task = option_map_or (λ (s : Placement). is_first (waiting wiring history s.arbiter) task) (placement_of wiring history task) false
 
 -- whether a concurrent branch fired the task
 abbrev pub is_concurrent_task : Parts → List Event → TaskId → Bool
-is_concurrent_task wiring history task = option_map_or (λ (s : Seat). is_concurrent s.branch.group) (seat_of wiring history task) false
+is_concurrent_task wiring history task = option_map_or (λ (s : Placement). is_concurrent s.branch.group) (placement_of wiring history task) false
 
--- rule 10: a concurrent task enters beside concurrent ones alone, any other where no admitted root is left that is not over
-abbrev pub may_enter : Parts → List Event → TaskId → Bool
-may_enter wiring history task = option_map_or (λ (s : Seat). (if is_concurrent s.branch.group then list_all (is_concurrent_task wiring history) (admitted wiring history s.arbiter) else is_none_of (admitted wiring history s.arbiter))) (seat_of wiring history task) false
+-- rule 10: a concurrent task is admitted beside concurrent ones alone, any other where no admitted root is left that is not over
+abbrev pub may_admit : Parts → List Event → TaskId → Bool
+may_admit wiring history task = option_map_or (λ (s : Placement). (if is_concurrent s.branch.group then list_all (is_concurrent_task wiring history) (admitted wiring history s.arbiter) else is_none_of (admitted wiring history s.arbiter))) (placement_of wiring history task) false
 
 -- whether tasks of the spot are put without an admission: those of sites, and of branches outside Interleaves
 abbrev pub needs_no_admission : Parts → Spot → Bool
-needs_no_admission wiring (Branch branch) = option_map_or (λ (s : Seat). not (is_interleave s.kind)) (seat wiring branch) false
+needs_no_admission wiring (Branch branch) = option_map_or (λ (s : Placement). not (is_interleave s.kind)) (placement wiring branch) false
 needs_no_admission wiring (Site branch site) = true
 
 -- rule 11: it fired, was neither put nor cut, and was admitted where it needs to be
 abbrev pub may_put : Parts → List Event → TaskId → Bool
-may_put wiring history task = not (has_task (put history) task) && not (has_task (cut history) task) && option_map_or (λ spot. needs_no_admission wiring spot || has_task (let_in history) task) (spot_of history task) false
+may_put wiring history task = not (has_task (put history) task) && not (has_task (cut history) task) && option_map_or (λ spot. needs_no_admission wiring spot || has_task (ever_admitted history) task) (spot_of history task) false
 
 -- the oldest of the queued tasks, where a discard queue holds as many as its number or more
 abbrev pub drop_by : Policy → List TaskId → Option TaskId
@@ -86,11 +86,11 @@ drop_by _ tasks = None
 
 -- rule 12: the task that this put drops
 abbrev pub drop_at : Parts → List Event → TaskId → Option TaskId
-drop_at wiring history task = option_and_then (λ (s : Seat). drop_by (policy_of wiring s.branch.queue) (queued wiring history s.branch.queue)) (seat_of wiring history task)
+drop_at wiring history task = option_and_then (λ (s : Placement). drop_by (policy_of wiring s.branch.queue) (queued wiring history s.branch.queue)) (placement_of wiring history task)
 
 -- rule 13: it is the oldest task of its queue
 abbrev pub is_oldest_queued : Parts → List Event → TaskId → Bool
-is_oldest_queued wiring history task = option_map_or (λ (s : Seat). is_first (queued wiring history s.branch.queue) task) (seat_of wiring history task) false
+is_oldest_queued wiring history task = option_map_or (λ (s : Placement). is_first (queued wiring history s.branch.queue) task) (placement_of wiring history task) false
 
 -- rule 14: the actor is no poster, is at most 32, and runs no task that it started
 abbrev pub may_start : Parts → List Event → ℕ → Bool
@@ -135,7 +135,7 @@ refusal wiring history (Fire task spot messages cuts) =
     (refused (is_choice wiring history spot messages) 6
     (refused (has_room wiring history spot) 7
     (refused (same_lists same_task cuts (cuts_at wiring history spot)) 8 None))))
-refusal wiring history (Admit task) = refused (is_oldest_waiting wiring history task) 9 (refused (may_enter wiring history task) 10 None)
+refusal wiring history (Admit task) = refused (is_oldest_waiting wiring history task) 9 (refused (may_admit wiring history task) 10 None)
 refusal wiring history (Put task dropped) = refused (may_put wiring history task) 11 (refused (same_options same_task dropped (drop_at wiring history task)) 12 None)
 refusal wiring history (Start task actor) = refused (is_oldest_queued wiring history task) 13 (refused (may_start wiring history actor) 14 None)
 refusal wiring history (End task how) = refused (has_task (running history) task) 15 (refused (may_end wiring history task how) 16 None)

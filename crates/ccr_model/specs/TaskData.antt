@@ -10,7 +10,7 @@ use Rattle.ccr_handler.specs.declared.segments.PlayEnd.TheVariants.{Done}
 use Rattle.ccr_wiring.specs.declared.parts.Parts.{Parts}
 use Rattle.ccr_model.specs.declared.history.Event.{Event}
 use Rattle.ccr_model.specs.Posts.{messages_named}
-use Rattle.ccr_wiring.specs.Wirings.{Seat, seat, branch_of, segment_of, actions_of, exception_port}
+use Rattle.ccr_wiring.specs.Wirings.{Placement, placement, branch_of, segment_of, actions_of, exception_port}
 use Rattle.ccr_model.specs.Firings.{Firing, firing_named, spot_of}
 use Rattle.ccr_cause.specs.Causes.{union}
 use Rattle.ccr_handler.specs.Playing.{play, actions_from}
@@ -26,12 +26,12 @@ abbrev pub messages_of : List Event → TaskId → List Msg
 messages_of history task = option_map_or (λ (f : Firing). messages_named (before task history) f.messages) (firing_named history task) []
 
 -- the branch at which, or at whose site, the task fired
-abbrev pub seat_of : Parts → List Event → TaskId → Option Seat
-seat_of wiring history task = option_and_then (λ spot. seat wiring (branch_of spot)) (spot_of history task)
+abbrev pub placement_of : Parts → List Event → TaskId → Option Placement
+placement_of wiring history task = option_and_then (λ spot. placement wiring (branch_of spot)) (spot_of history task)
 
 -- the actions of the branch's handler
 abbrev pub actions_at : Parts → ℕ → List Action
-actions_at wiring branch = option_map_or (λ (s : Seat). actions_of wiring s.branch.handler) (seat wiring branch) []
+actions_at wiring branch = option_map_or (λ (s : Placement). actions_of wiring s.branch.handler) (placement wiring branch) []
 
 -- the play of a segment of the branch with this load
 abbrev pub play_at : Parts → ℕ → ℕ → Load → Play

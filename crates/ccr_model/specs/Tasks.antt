@@ -14,10 +14,10 @@ use Rattle.ccr_model.specs.declared.history.Event.{Event}
 use Rattle.ccr_model.specs.declared.history.Event.TheVariants.{Start}
 use Rattle.ccr_base.specs.Names.{same_task, without}
 use Rattle.ccr_model.specs.Posts.{posts_of_task}
-use Rattle.ccr_wiring.specs.Wirings.{Seat, seat}
-use Rattle.ccr_model.specs.Firings.{fired_where, cut, let_in, put, dropped, started, ended, last_segments}
+use Rattle.ccr_wiring.specs.Wirings.{Placement, placement}
+use Rattle.ccr_model.specs.Firings.{fired_where, cut, ever_admitted, put, dropped, started, ended, last_segments}
 use Rattle.ccr_model.specs.Sites.{root_of}
-use Rattle.ccr_model.specs.TaskData.{seat_of, play_of}
+use Rattle.ccr_model.specs.TaskData.{placement_of, play_of}
 
 -- an Interleave
 abbrev pub is_interleave : Kind → Bool
@@ -34,22 +34,22 @@ abbrev pub is_concurrent : Group → Bool
 is_concurrent groups.Concurrent = true
 is_concurrent _ = false
 
--- whether the spot is a branch whose seat passes the test
-abbrev pub is_branch_where : Parts → (Seat → Bool) → Spot → Bool
-is_branch_where wiring test (Branch branch) = option_map_or test (seat wiring branch) false
+-- whether the spot is a branch whose placement passes the test
+abbrev pub is_branch_where : Parts → (Placement → Bool) → Spot → Bool
+is_branch_where wiring test (Branch branch) = option_map_or test (placement wiring branch) false
 is_branch_where wiring test (Site branch site) = false
 
 -- the tasks that such branches fired, in order
-abbrev pub fired_by : Parts → (Seat → Bool) → List Event → List TaskId
+abbrev pub fired_by : Parts → (Placement → Bool) → List Event → List TaskId
 fired_by wiring test history = fired_where (λ f. is_branch_where wiring test f.spot) history
 
 -- the tasks that branches of this domain of Interleaves fired, neither admitted nor cut
 abbrev pub waiting : Parts → List Event → ℕ → List TaskId
-waiting wiring history domain = without (fired_by wiring (λ s. is_interleave s.kind && (s.arbiter == domain)) history) (let_in history ++ cut history)
+waiting wiring history domain = without (fired_by wiring (λ s. is_interleave s.kind && (s.arbiter == domain)) history) (ever_admitted history ++ cut history)
 
 -- whether the task's branch is on the queue
 abbrev pub is_for_queue : Parts → List Event → ℕ → TaskId → Bool
-is_for_queue wiring history queue task = option_map_or (λ (s : Seat). s.branch.queue == queue) (seat_of wiring history task) false
+is_for_queue wiring history queue task = option_map_or (λ (s : Placement). s.branch.queue == queue) (placement_of wiring history task) false
 
 -- the tasks put into the queue, neither started nor dropped
 abbrev pub queued : Parts → List Event → ℕ → List TaskId
@@ -74,11 +74,11 @@ is_over history root = list_any (λ task. same_task (root_of history task) root)
 
 -- whether the task's branch is of an arbiter of the domain
 abbrev pub is_in_arbiter : Parts → List Event → ℕ → TaskId → Bool
-is_in_arbiter wiring history domain task = option_map_or (λ (s : Seat). s.arbiter == domain) (seat_of wiring history task) false
+is_in_arbiter wiring history domain task = option_map_or (λ (s : Placement). s.arbiter == domain) (placement_of wiring history task) false
 
 -- the roots of the domain that were admitted and aren't over
 abbrev pub admitted : Parts → List Event → ℕ → List TaskId
-admitted wiring history domain = filter (λ task. is_in_arbiter wiring history domain task && not (is_over history task)) (let_in history)
+admitted wiring history domain = filter (λ task. is_in_arbiter wiring history domain task && not (is_over history task)) (ever_admitted history)
 
 -- the tasks that branches fired for the queue, neither started, dropped nor cut
 abbrev pub coming : Parts → List Event → ℕ → List TaskId

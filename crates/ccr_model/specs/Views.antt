@@ -2,13 +2,13 @@
 use Rattle.std.specs.Prelude.{Bool, ◌==◌, ◌&&◌, List, map}
 use Rattle.std.specs.Borrow.{Bor}
 use Rattle.ccr_base.specs.declared.messages.Msg.{Msg}
-use Rattle.ccr_wiring.specs.Wirings.{Seat}
+use Rattle.ccr_wiring.specs.Wirings.{Placement}
 use Rattle.ccr_model.specs.declared.data.TaskLoad.{TaskLoad}
 use Rattle.ccr_model.specs.declared.tasks.Branches.{Branches}
 use Rattle.ccr_model.specs.declared.tasks.Branches.TheVariants.{OfInterleave, OfArbiter, TeardownsOf, OfQueue}
 use Rattle.ccr_model.specs.TaskData.{Load}
 use Rattle.ccr_model.specs.Tasks.{is_interleave, is_teardown}
-pub use Rattle.ccr_wiring.specs.Seats.{seat_seen}
+pub use Rattle.ccr_wiring.specs.Placements.{placement_seen}
 
 -- the messages behind the references
 abbrev pub seen : List (Bor Msg) → List Msg
@@ -19,7 +19,7 @@ abbrev pub load_seen : TaskLoad → Load
 load_seen l = record { values = l.values; causes = l.causes }
 
 -- whether the branch is one of those that are meant
-abbrev pub means : Branches → Seat → Bool
+abbrev pub means : Branches → Placement → Bool
 means (OfInterleave number) s = is_interleave s.kind && (s.arbiter == number)
 means (OfArbiter number) s = s.arbiter == number
 means (TeardownsOf number) s = (s.arbiter == number) && is_teardown s.branch.group

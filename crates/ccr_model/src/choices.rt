@@ -9,8 +9,8 @@ ghost use Rattle.ccr_model.specs.Choice.{names_of, choice_of_slots, are_first, a
 ghost use Rattle.ccr_model.specs.Views.{seen};
 
 use crate::Event;
+use crate::placements::{placement, site_port};
 use crate::posts::held;
-use crate::seats::{seat, site_port};
 use ccr_base::{List, Msg, MsgId, OutOfMemory, Pattern, PortNo, Slot, Spot};
 use ccr_wiring::Wiring;
 use std::alloc::Global;
@@ -162,8 +162,8 @@ pub fn is_choice(
     ensures { IfOk result (λ is. is ≡ is_choice wiring.now events.now spot names.now) }
 {
     match spot {
-        Spot::Branch(branch) => match seat(wiring, branch) {
-            Some(seat) => is_choice_of(alloc, events, &seat.branch.pattern, names),
+        Spot::Branch(branch) => match placement(wiring, branch) {
+            Some(placement) => is_choice_of(alloc, events, &placement.branch.pattern, names),
             None => Ok(false),
         },
         Spot::Site(branch, site) => match site_port(wiring, branch, site) {

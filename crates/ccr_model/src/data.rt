@@ -10,8 +10,8 @@ ghost use Rattle.ccr_model.specs.Views.{seen, load_seen};
 
 use crate::Event;
 use crate::firings::{before, messages_of, spot_of};
+use crate::placements::placement;
 use crate::posts::message_named;
-use crate::seats::seat;
 use crate::sites::{branch_of, resumed, spot_before};
 use ccr_base::{BranchNo, CauseNo, Handler, List, Msg, OutOfMemory, PortNo, Spot, TaskId, Value};
 use ccr_cause::union;
@@ -110,12 +110,12 @@ fn play_with(
 fn handler_of(wiring: &Wiring, branch: BranchNo) -> Option<&Handler>
     ensures { option_map_or (λ handler. handler.now.actions) result [] ≡ actions_at wiring.now branch }
 {
-    let seat = seat(wiring, branch)?;
+    let placement = placement(wiring, branch)?;
     let part = wiring
         .parts()
         .handlers
         .as_slice()
-        .get(seat.branch.handler as usize)?;
+        .get(placement.branch.handler as usize)?;
     Some(&part.handler)
 }
 

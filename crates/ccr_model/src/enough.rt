@@ -8,8 +8,8 @@ ghost use Rattle.ccr_model.specs.Enough.{can_fire, can_take, has_enough};
 
 use crate::Event;
 use crate::live::{has_room, is_live};
+use crate::placements::{placement, site_port};
 use crate::posts::held;
-use crate::seats::{seat, site_port};
 use ccr_base::{OutOfMemory, Pattern, Slot, Spot, can_choose};
 use ccr_wiring::Wiring;
 use std::alloc::Global;
@@ -62,8 +62,8 @@ fn can_take(
     ensures { IfOk result (λ can. can ≡ can_take wiring.now events.now spot) }
 {
     match spot {
-        Spot::Branch(branch) => match seat(wiring, branch) {
-            Some(seat) => has_enough(alloc, events, &seat.branch.pattern),
+        Spot::Branch(branch) => match placement(wiring, branch) {
+            Some(placement) => has_enough(alloc, events, &placement.branch.pattern),
             None => Ok(false),
         },
         Spot::Site(branch, site) => match site_port(wiring, branch, site) {

@@ -3,7 +3,7 @@
 ghost use Rattle.std.specs.Prelude.{◌≡◌, [], IfOk, flat_map, option_to_list};
 ghost use Rattle.std.specs.Option.{option_map_or};
 ghost use Rattle.ccr_base.specs.Names.{has_task, without};
-ghost use Rattle.ccr_model.specs.Firings.{fired, cut, let_in, put, dropped, started, ended, yielded, last_segments, last_by, fired_at, spot_of, firing_named};
+ghost use Rattle.ccr_model.specs.Firings.{fired, cut, ever_admitted, put, dropped, started, ended, yielded, last_segments, last_by, fired_at, spot_of, firing_named};
 ghost use Rattle.ccr_model.specs.Legal.{has_shed, is_shed_end};
 ghost use Rattle.ccr_model.specs.Sites.{before, is_firing_of};
 ghost use Rattle.ccr_model.specs.Tasks.{started_as};
@@ -91,8 +91,8 @@ pub fn cut(alloc: Global, events: &[Event]) -> Result<Vec<TaskId>, OutOfMemory>
 }
 
 /// The tasks that were admitted, over or not, in order.
-pub(crate) fn let_in(alloc: Global, events: &[Event]) -> Result<Vec<TaskId>, OutOfMemory>
-    ensures { IfOk result (λ tasks. tasks.items ≡ let_in events.now) }
+pub(crate) fn ever_admitted(alloc: Global, events: &[Event]) -> Result<Vec<TaskId>, OutOfMemory>
+    ensures { IfOk result (λ tasks. tasks.items ≡ ever_admitted events.now) }
 {
     let mut tasks = Vec::new(alloc);
     for event in events {

@@ -9,7 +9,7 @@ ghost use Rattle.ccr_model.specs.Legal.{IsAllowed, IsQuiet, has_shed};
 ghost use Rattle.ccr_model.specs.Order.{first};
 ghost use Rattle.ccr_model.specs.Posts.{posts_of_tasks};
 ghost use Rattle.ccr_model.specs.Tasks.{count_unfinished};
-ghost use Rattle.ccr_model.specs.Consequences.{is_alone};
+ghost use Rattle.ccr_model.specs.Consequences.{keeps_exclusion};
 ghost use Rattle.ccr_wiring.specs.Valid.{HasPortsApart, HasQueues};
 ghost use Rattle.ccr_model.specs.Laws.{times_posted, times_taken};
 
@@ -40,5 +40,5 @@ pub fn legal_is_covered()
 
 /// The admitted roots of a domain that are not over are all concurrent, or one.
 pub fn exclusive_roots_are_alone()
-    ensures { (wiring : Parts) (history : List Event) → IsLegal wiring history → (domain : ℕ) → is_alone wiring history domain ≡ true }
+    ensures { (wiring : Parts) (history : List Event) → IsLegal wiring history → (domain : ℕ) → keeps_exclusion wiring history domain ≡ true }
 {}

@@ -8,10 +8,10 @@ pub mod firings;
 mod history;
 mod laws;
 pub mod live;
+pub mod placements;
 pub mod posts;
 mod refusal;
 pub mod rules;
-pub mod seats;
 mod sites;
 pub mod tasks;
 

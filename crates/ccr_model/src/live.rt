@@ -5,7 +5,7 @@ ghost use Rattle.ccr_model.specs.Live.{is_live_in, is_live, has_room_in, has_roo
 
 use crate::Event;
 use crate::firings::fired_at;
-use crate::seats::{policy_of, seat};
+use crate::placements::{placement, policy_of};
 use crate::sites::suspended;
 use crate::tasks::{Branches, coming, fired_by};
 use ccr_base::{BranchNo, Group, OutOfMemory, Policy, QueueNo, Spot};
@@ -46,14 +46,14 @@ pub fn is_live(
     let Spot::Branch(branch) = spot else {
         return Ok(!suspended(alloc, events, spot)?.is_empty());
     };
-    match seat(wiring, branch) {
-        Some(seat) => is_live_in(
+    match placement(wiring, branch) {
+        Some(placement) => is_live_in(
             alloc,
             wiring,
             events,
             branch,
-            seat.arbiter,
-            seat.branch.group,
+            placement.arbiter,
+            placement.branch.group,
         ),
         None => Ok(false),
     }
@@ -89,9 +89,9 @@ pub fn has_room(
     let Spot::Branch(branch) = spot else {
         return Ok(true);
     };
-    match seat(wiring, branch) {
-        Some(seat) => {
-            let queue = seat.branch.queue;
+    match placement(wiring, branch) {
+        Some(placement) => {
+            let queue = placement.branch.queue;
             has_room_in(alloc, wiring, events, queue, policy_of(wiring, queue))
         }
         None => Ok(true),

@@ -9,7 +9,7 @@ use crate::firings::has_task;
 use crate::live::{has_room, is_live};
 use crate::rules::{
     are_same_tasks, cuts_at, drop_at, has_budget, is_new, is_oldest_queued, is_oldest_waiting,
-    is_play_post, is_script_line, may_end, may_enter, may_put, may_start,
+    is_play_post, is_script_line, may_admit, may_end, may_put, may_start,
 };
 use crate::tasks::running;
 use crate::{EndHow, Event, History};
@@ -84,7 +84,7 @@ fn refusal_of_admit(
     if !is_oldest_waiting(alloc, wiring, events, task)? {
         return Ok(Some(9));
     }
-    if !may_enter(alloc, wiring, events, task)? {
+    if !may_admit(alloc, wiring, events, task)? {
         return Ok(Some(10));
     }
     Ok(None)

@@ -3,14 +3,14 @@
 ghost use Rattle.std.specs.Prelude.{◌≡◌, ◌==◌, IfOk};
 ghost use Rattle.std.specs.List.{list_all};
 ghost use Rattle.ccr_base.specs.Names.{same_task, same_lists};
-ghost use Rattle.ccr_model.specs.Rules.{is_post, is_script_line, is_play_post, has_budget, is_new, cuts_at, is_first, is_oldest_waiting, is_concurrent_task, may_enter, needs_no_admission, may_put, drop_by, drop_at, is_oldest_queued, may_start, ends_so, is_shed, may_shed, may_end, refusal_of_post, refusal};
+ghost use Rattle.ccr_model.specs.Rules.{is_post, is_script_line, is_play_post, has_budget, is_new, cuts_at, is_first, is_oldest_waiting, is_concurrent_task, may_admit, needs_no_admission, may_put, drop_by, drop_at, is_oldest_queued, may_start, ends_so, is_shed, may_shed, may_end, refusal_of_post, refusal};
 
 use crate::data::play_of;
-use crate::firings::{cut, fired, has_task, let_in, put, spot_of};
+use crate::firings::{cut, ever_admitted, fired, has_task, put, spot_of};
+use crate::placements::{is_concurrent, is_interleave, is_teardown, placement, policy_of};
 use crate::posts::{posts_of_poster, posts_of_task, posts_of_tasks};
-use crate::seats::{is_concurrent, is_interleave, is_teardown, policy_of, seat};
 use crate::tasks::{
-    admitted, count_unfinished, has_post_left, queued, running, running_by, seat_of, waiting,
+    admitted, count_unfinished, has_post_left, placement_of, queued, running, running_by, waiting,
 };
 use crate::{EndHow, Event};
 use ccr_base::{ActorNo, CauseNo, Msg, MsgId, OutOfMemory, Policy, Sent, Spot, TaskId};
@@ -108,9 +108,9 @@ pub fn cuts_at(
     ensures { IfOk result (λ tasks. tasks.items ≡ cuts_at wiring.now events.now spot) }
 {
     if let Spot::Branch(branch) = spot {
-        if let Some(seat) = seat(wiring, branch) {
-            if is_teardown(seat.branch.group) {
-                return waiting(alloc, wiring, events, seat.arbiter);
+        if let Some(placement) = placement(wiring, branch) {
+            if is_teardown(placement.branch.group) {
+                return waiting(alloc, wiring, events, placement.arbiter);
             }
         }
     }
@@ -146,9 +146,9 @@ pub(crate) fn is_oldest_waiting(
 ) -> Result<bool, OutOfMemory>
     ensures { IfOk result (λ is. is ≡ is_oldest_waiting wiring.now events.now task) }
 {
-    match seat_of(wiring, events, task) {
-        Some(seat) => {
-            let waiting = waiting(alloc, wiring, events, seat.arbiter)?;
+    match placement_of(wiring, events, task) {
+        Some(placement) => {
+            let waiting = waiting(alloc, wiring, events, placement.arbiter)?;
             Ok(is_first(&waiting, task))
         }
         None => Ok(false),
@@ -158,8 +158,8 @@ pub(crate) fn is_oldest_waiting(
 fn is_concurrent_task(wiring: &Wiring, events: &[Event], task: TaskId) -> bool
     ensures { result ≡ is_concurrent_task wiring.now events.now task }
 {
-    match seat_of(wiring, events, task) {
-        Some(seat) => is_concurrent(seat.branch.group),
+    match placement_of(wiring, events, task) {
+        Some(placement) => is_concurrent(placement.branch.group),
         None => false,
     }
 }
@@ -173,19 +173,19 @@ fn are_concurrent(wiring: &Wiring, events: &[Event], tasks: &[TaskId]) -> bool
 }
 
 /// Whether the waiting task may be admitted beside the admitted roots that are not over.
-pub fn may_enter(
+pub fn may_admit(
     alloc: Global,
     wiring: &Wiring,
     events: &[Event],
     task: TaskId,
 ) -> Result<bool, OutOfMemory>
-    ensures { IfOk result (λ may. may ≡ may_enter wiring.now events.now task) }
+    ensures { IfOk result (λ may. may ≡ may_admit wiring.now events.now task) }
 {
-    let Some(seat) = seat_of(wiring, events, task) else {
+    let Some(placement) = placement_of(wiring, events, task) else {
         return Ok(false);
     };
-    let admitted = admitted(alloc, wiring, events, seat.arbiter)?;
-    if is_concurrent(seat.branch.group) {
+    let admitted = admitted(alloc, wiring, events, placement.arbiter)?;
+    if is_concurrent(placement.branch.group) {
         Ok(are_concurrent(wiring, events, &admitted))
     } else {
         Ok(admitted.is_empty())
@@ -198,8 +198,8 @@ fn needs_no_admission(wiring: &Wiring, spot: Spot) -> bool
     let Spot::Branch(branch) = spot else {
         return true;
     };
-    match seat(wiring, branch) {
-        Some(seat) => !is_interleave(seat.kind),
+    match placement(wiring, branch) {
+        Some(placement) => !is_interleave(placement.kind),
         None => false,
     }
 }
@@ -218,7 +218,7 @@ pub fn may_put(
     }
     match spot_of(events, task) {
         Some(spot) => {
-            let was_admitted = has_task(&let_in(alloc, events)?, task);
+            let was_admitted = has_task(&ever_admitted(alloc, events)?, task);
             Ok(needs_no_admission(wiring, spot) || was_admitted)
         }
         None => Ok(false),
@@ -249,9 +249,9 @@ pub fn drop_at(
 ) -> Result<Option<TaskId>, OutOfMemory>
     ensures { IfOk result (λ dropped. dropped ≡ drop_at wiring.now events.now task) }
 {
-    match seat_of(wiring, events, task) {
-        Some(seat) => {
-            let queue = seat.branch.queue;
+    match placement_of(wiring, events, task) {
+        Some(placement) => {
+            let queue = placement.branch.queue;
             let queued = queued(alloc, wiring, events, queue)?;
             Ok(drop_by(policy_of(wiring, queue), &queued))
         }
@@ -267,9 +267,9 @@ pub(crate) fn is_oldest_queued(
 ) -> Result<bool, OutOfMemory>
     ensures { IfOk result (λ is. is ≡ is_oldest_queued wiring.now events.now task) }
 {
-    match seat_of(wiring, events, task) {
-        Some(seat) => {
-            let queued = queued(alloc, wiring, events, seat.branch.queue)?;
+    match placement_of(wiring, events, task) {
+        Some(placement) => {
+            let queued = queued(alloc, wiring, events, placement.branch.queue)?;
             Ok(is_first(&queued, task))
         }
         None => Ok(false),

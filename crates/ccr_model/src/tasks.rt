@@ -3,17 +3,18 @@
 ghost use Rattle.std.specs.Prelude.{◌≡◌, IfOk};
 ghost use Rattle.std.specs.Option.{option_map};
 ghost use Rattle.ccr_base.specs.Names.{same_task};
-ghost use Rattle.ccr_model.specs.TaskData.{seat_of};
+ghost use Rattle.ccr_model.specs.TaskData.{placement_of};
 ghost use Rattle.ccr_model.specs.Tasks.{is_branch_where, fired_by, waiting, is_for_queue, queued, running, running_by, is_over, is_in_arbiter, admitted, coming, has_post_left, count_unfinished};
-ghost use Rattle.ccr_model.specs.Views.{seat_seen, means};
+ghost use Rattle.ccr_model.specs.Views.{placement_seen, means};
 
 use crate::Event;
 use crate::data::play_of;
 use crate::firings::{
-    cut, dropped, ended, last_segments, let_in, put, remove_all, spot_of, started, started_as,
+    cut, dropped, ended, ever_admitted, last_segments, put, remove_all, spot_of, started,
+    started_as,
 };
+use crate::placements::{PlacementOf, is_interleave, is_teardown, placement};
 use crate::posts::posts_of_task;
-use crate::seats::{SeatOf, is_interleave, is_teardown, seat};
 use crate::sites::{branch_of, root_of};
 use ccr_base::{ActorNo, OutOfMemory, QueueNo, Spot, TaskId};
 use ccr_wiring::Wiring;
@@ -28,16 +29,17 @@ pub(crate) enum Branches {
     OfQueue(QueueNo),
 }
 
-fn means(which: Branches, seat: &SeatOf<'_>) -> bool
-    ensures { result ≡ means which (seat_seen seat.now) }
+fn means(which: Branches, placement: &PlacementOf<'_>) -> bool
+    ensures { result ≡ means which (placement_seen placement.now) }
 {
     match which {
-        Branches::OfInterleave(number) => is_interleave(seat.kind) && seat.arbiter == number,
-        Branches::OfArbiter(number) => seat.arbiter == number,
+        Branches::OfInterleave(number) => is_interleave(placement.kind)
+            && placement.arbiter == number,
+        Branches::OfArbiter(number) => placement.arbiter == number,
         Branches::TeardownsOf(number) => {
-            seat.arbiter == number && is_teardown(seat.branch.group)
+            placement.arbiter == number && is_teardown(placement.branch.group)
         }
-        Branches::OfQueue(queue) => seat.branch.queue == queue,
+        Branches::OfQueue(queue) => placement.branch.queue == queue,
     }
 }
 
@@ -47,7 +49,7 @@ fn is_meant(wiring: &Wiring, which: Branches, spot: Spot) -> bool
     let Spot::Branch(branch) = spot else {
         return false;
     };
-    match seat(wiring, branch) {
+    match placement(wiring, branch) {
         Some(found) => means(which, &found),
         None => false,
     }
@@ -74,11 +76,15 @@ pub(crate) fn fired_by(
 }
 
 /// The branch, with its domain, that the task belongs to.
-pub(crate) fn seat_of<'w>(wiring: &'w Wiring, events: &[Event], task: TaskId) -> Option<SeatOf<'w>>
-    ensures { option_map seat_seen result ≡ seat_of wiring.now events.now task }
+pub(crate) fn placement_of<'w>(
+    wiring: &'w Wiring,
+    events: &[Event],
+    task: TaskId,
+) -> Option<PlacementOf<'w>>
+    ensures { option_map placement_seen result ≡ placement_of wiring.now events.now task }
 {
     let spot = spot_of(events, task)?;
-    seat(wiring, branch_of(spot))
+    placement(wiring, branch_of(spot))
 }
 
 /// The tasks that branches of this domain of Interleaves fired, neither admitted nor cut, by firing.
@@ -91,7 +97,7 @@ pub fn waiting(
     ensures { IfOk result (λ tasks. tasks.items ≡ waiting wiring.now events.now domain) }
 {
     let mut tasks = fired_by(alloc, wiring, events, Branches::OfInterleave(domain))?;
-    let mut gone = let_in(alloc, events)?;
+    let mut gone = ever_admitted(alloc, events)?;
     gone.extend_from_slice(&cut(alloc, events)?)?;
     remove_all(&mut tasks, &gone);
     Ok(tasks)
@@ -100,8 +106,8 @@ pub fn waiting(
 fn is_for_queue(wiring: &Wiring, events: &[Event], queue: QueueNo, task: TaskId) -> bool
     ensures { result ≡ is_for_queue wiring.now events.now queue task }
 {
-    match seat_of(wiring, events, task) {
-        Some(seat) => seat.branch.queue == queue,
+    match placement_of(wiring, events, task) {
+        Some(placement) => placement.branch.queue == queue,
         None => false,
     }
 }
@@ -160,8 +166,8 @@ fn is_over(alloc: Global, events: &[Event], root: TaskId) -> Result<bool, OutOfM
 fn is_in_arbiter(wiring: &Wiring, events: &[Event], arbiter: usize, task: TaskId) -> bool
     ensures { result ≡ is_in_arbiter wiring.now events.now arbiter task }
 {
-    match seat_of(wiring, events, task) {
-        Some(seat) => seat.arbiter == arbiter,
+    match placement_of(wiring, events, task) {
+        Some(placement) => placement.arbiter == arbiter,
         None => false,
     }
 }
@@ -175,9 +181,9 @@ pub(crate) fn admitted(
 ) -> Result<Vec<TaskId>, OutOfMemory>
     ensures { IfOk result (λ tasks. tasks.items ≡ admitted wiring.now events.now domain) }
 {
-    let let_in = let_in(alloc, events)?;
+    let ever_admitted = ever_admitted(alloc, events)?;
     let mut tasks = Vec::new(alloc);
-    for task in &let_in {
+    for task in &ever_admitted {
         if is_in_arbiter(wiring, events, domain, *task) && !is_over(alloc, events, *task)? {
             tasks.push(*task)?;
         }

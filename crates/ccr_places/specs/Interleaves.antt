@@ -93,16 +93,16 @@ abbrev pub cut_note : InterleaveState → Spot → List TaskId
 cut_note place spot = if is_teardown (group_at place spot) then map (λ (waiting : Waiting). waiting.task) place.waiting else []
 
 -- whether a waiting task of the spot may be admitted beside the kept roots: a concurrent one beside concurrent ones, another beside none
-abbrev pub lets_in : InterleaveState → Spot → Bool
-lets_in place spot = (set.len place.alone == 0) && (is_concurrent (group_at place spot) || (set.len place.shared == 0))
+abbrev pub may_admit : InterleaveState → Spot → Bool
+may_admit place spot = (set.len place.alone == 0) && (is_concurrent (group_at place spot) || (set.len place.shared == 0))
 
 -- the oldest waiting task, where it may be admitted
-abbrev pub admissible : InterleaveState → Option Waiting
-admissible place = option_and_then (λ (waiting : Waiting). if lets_in place waiting.spot then Some waiting else None) (slice_get place.waiting 0)
+abbrev pub next_admitted : InterleaveState → Option Waiting
+next_admitted place = option_and_then (λ (waiting : Waiting). if may_admit place waiting.spot then Some waiting else None) (slice_get place.waiting 0)
 
 -- the task that is admitted next
 abbrev pub admit_note : InterleaveState → Option TaskId
-admit_note place = option_map (λ (waiting : Waiting). waiting.task) (admissible place)
+admit_note place = option_map (λ (waiting : Waiting). waiting.task) (next_admitted place)
 
 -- the task waits last, and a teardown has cut all that waited
 abbrev pub after_firing : InterleaveState → TaskId → Spot → InterleaveState

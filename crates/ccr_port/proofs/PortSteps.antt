@@ -18,7 +18,7 @@ use Rattle.ccr_places.specs.declared.notes.ClaimNote.TheVariants.{Got as GotNote
 use Rattle.ccr_places.specs.Ports.{PortState, may_post, claim_note, after_claim, without_first}
 use Rattle.ccr_port.specs.declared.claims.Claimed.{Claimed}
 use Rattle.ccr_port.specs.declared.claims.Claimed.TheVariants.{Got, Short}
-use Rattle.ccr_port.specs.declared.claims.Mark.{Mark}
+use Rattle.ccr_port.specs.declared.claims.MarkedClaim.{MarkedClaim}
 use Rattle.ccr_port.specs.Chains.{has_key, are_apart, without_key}
 use Rattle.ccr_port.specs.Entries.{keys_of, messages_of, message_under, messages_under, are_under, can_take, without_entry, without_entries}
 use Rattle.ccr_port.specs.Lanes.{LaneState, fitting_keys, AreLanes, AreSame, HasLane, can_enter, entered, have_room}
@@ -52,7 +52,7 @@ few_posted es port message are may =
     below : (a b : ℕ) → nat_lt a b ≡ true → a < b
     below a b is = grind (arith, nat_tests, is)
 
-marked-more : (es : List (ℕ × Msg)) (key : ℕ) (message : Msg) (claim : Option Mark) → IsMarked es claim → IsMarked (es ++ (key, message) ∷ []) claim
+marked-more : (es : List (ℕ × Msg)) (key : ℕ) (message : Msg) (claim : Option MarkedClaim) → IsMarked es claim → IsMarked (es ++ (key, message) ∷ []) claim
 marked-more es key message None is = tt
 marked-more es key message (Some mark) is = of_test (holds mark.standing.pred message.value) (fitting_keys-more key message mark.standing.pred es)
   where
@@ -72,7 +72,7 @@ length-more : (es : List (ℕ × Msg)) (e : ℕ × Msg) → length (es ++ e ∷ 
 length-more [] e = refl
 length-more (x ∷ es) e = omega (arith, length-more es e)
 
-module _ (es now : List (ℕ × Msg)) (lanes lanes2 : List LaneState) (claim : Option Mark) (key : ℕ) (message : Msg)
+module _ (es now : List (ℕ × Msg)) (lanes lanes2 : List LaneState) (claim : Option MarkedClaim) (key : ℕ) (message : Msg)
     (is : IsPort es lanes claim) (same : AreSame lanes lanes2) (out : has_key key (keys_of es) ≡ false) where
   pub posted : length es + 1 < 2 ^ 32 → now ≡ es ++ (key, message) ∷ [] → IsPort now (map (entered key message.value) lanes2) claim
   posted few come = rw come (record {
@@ -159,7 +159,7 @@ module _ (number : ℕ) (es : List (ℕ × Msg)) (task : TaskId) (slot : Slot) (
       pub got-after : state_of number es (Some (record { task = task; pred = slot.pred; count = count })) ≡ after_claim (state_of number es None) task slot (GotNote (length copies))
       got-after = ap (λ k. state_of number es (Some (record { task = task; pred = slot.pred; count = k }))) (sym (ap length copies-are ∙ long))
 
-    pub claimed : (lanes : List LaneState) (mark : Mark) → IsPort es lanes None → mark.standing.pred ≡ slot.pred → mark.standing.count ≡ count → mark.keys.items ≡ take count (fitting_keys slot.pred es) → IsPort es lanes (Some mark)
+    pub claimed : (lanes : List LaneState) (mark : MarkedClaim) → IsPort es lanes None → mark.standing.pred ≡ slot.pred → mark.standing.count ≡ count → mark.keys.items ≡ take count (fitting_keys slot.pred es) → IsPort es lanes (Some mark)
     claimed lanes mark is pred_is count_is keys_are =
         record { few = is.few; apart = is.apart; lanes = is.lanes; marked = rw (pred_is, count_is) (keys_are, bound) }
       where
@@ -192,7 +192,7 @@ fewer-rest : (ks : List ℕ) (es : List (ℕ × Msg)) → length (without_entrie
 fewer-rest [] es = omega arith
 fewer-rest (k ∷ ks) es = omega (arith, fewer-rest ks (without_entry k es), fewer-without k es)
 
-module _ (es : List (ℕ × Msg)) (lanes : List LaneState) (mark : Mark) (is : IsPort es lanes (Some mark)) where
+module _ (es : List (ℕ × Msg)) (lanes : List LaneState) (mark : MarkedClaim) (is : IsPort es lanes (Some mark)) where
   pub marks-can_go : can_take mark.keys.items es ≡ true
   marks-can_go = ap (λ ks. can_take ks es) is.marked.0 ∙ (is_choice mark.standing.pred mark.standing.count es is.apart).can_go
 

@@ -2,23 +2,23 @@
 use Rattle.std.specs.Prelude.{◌≡◌, true, ⊤, ℕ, ◌^◌, ◌<◌, ◌≤◌, List, length, take, Option, Some, None, option_map}
 use Rattle.ccr_base.specs.declared.messages.Msg.{Msg}
 use Rattle.ccr_places.specs.declared.claims.StandingClaim.{StandingClaim}
-use Rattle.ccr_port.specs.declared.claims.Mark.{Mark}
+use Rattle.ccr_port.specs.declared.claims.MarkedClaim.{MarkedClaim}
 use Rattle.ccr_port.specs.Chains.{are_apart}
 use Rattle.ccr_port.specs.Entries.{keys_of}
 use Rattle.ccr_port.specs.Lanes.{LaneState, fitting_keys, AreLanes}
 
 -- the claim that stands
-abbrev pub standing_claim : Option Mark → Option StandingClaim
-standing_claim claim = option_map (λ (mark : Mark). mark.standing) claim
+abbrev pub standing_claim : Option MarkedClaim → Option StandingClaim
+standing_claim claim = option_map (λ (mark : MarkedClaim). mark.standing) claim
 
 -- the keys of a claim are those of the first messages that satisfy its predicate, as many as it marks
-abbrev pub IsMarked : List (ℕ × Msg) → Option Mark → Type 0
+abbrev pub IsMarked : List (ℕ × Msg) → Option MarkedClaim → Type 0
 IsMarked entries None = ⊤
 IsMarked entries (Some mark) = (mark.keys.items ≡ take mark.standing.count (fitting_keys mark.standing.pred entries)) × (mark.standing.count ≤ length (fitting_keys mark.standing.pred entries))
 
 -- a port has fewer than 2^32 messages, under different keys; each of its lanes has the keys that it should, and its claim
 -- its marks
-pub record IsPort (entries : List (ℕ × Msg)) (kept : List LaneState) (claim : Option Mark) : Type 0 where
+pub record IsPort (entries : List (ℕ × Msg)) (kept : List LaneState) (claim : Option MarkedClaim) : Type 0 where
   pub few : length entries < 2 ^ 32
   pub apart : are_apart (keys_of entries) ≡ true
   pub lanes : AreLanes entries kept

@@ -22,7 +22,7 @@ pub enum Claimed {
 
 /// The claim that stands, with the keys of the messages that it marks.
 #[derive(Debug, Drop)]
-pub(crate) struct Mark {
+pub(crate) struct MarkedClaim {
     pub standing: StandingClaim,
     pub keys: Vec<usize>,
 }

@@ -5,7 +5,7 @@ ghost use Rattle.ccr_places.specs.Ports.{start, claimant, may_post as can_post, 
 ghost use Rattle.ccr_places.specs.declared.notes.Note.TheVariants.{Post, Claim, Consume, Free};
 ghost use Rattle.ccr_port.specs.Replies.{claim_reply, reply_note};
 
-use crate::claims::{Claimed, Mark, copies_of, first_keys, item_at, take_marked};
+use crate::claims::{Claimed, MarkedClaim, copies_of, first_keys, item_at, take_marked};
 use crate::items::Items;
 use crate::lane::Lane;
 use crate::lanes::{enter_all, lane_for, make_room};
@@ -21,7 +21,7 @@ pub struct PortObject {
     number: PortNo,
     items: Items,
     lanes: Vec<Lane>,
-    claim: Option<Mark>,
+    claim: Option<MarkedClaim>,
 }
 
 impl Model for PortObject {
@@ -110,7 +110,7 @@ impl PortObject {
         let count = fitting.min(slot.most);
         let keys = first_keys(self.alloc, lane, count)?;
         let copies = copies_of(self.alloc, &self.items, keys.as_slice())?;
-        self.claim = Some(Mark {
+        self.claim = Some(MarkedClaim {
             standing: StandingClaim {
                 task,
                 pred: slot.pred,

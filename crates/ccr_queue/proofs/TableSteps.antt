@@ -13,17 +13,17 @@ use Rattle.ccr_base.specs.Names.{same_task}
 use Rattle.ccr_places.specs.Queues.{Queued}
 use Rattle.ccr_places.specs.TaskSets.{task_cmp, len-there, same_task-true, same_task_equiv}
 use Rattle.ccr_places.specs.TaskTables.{tasks_where, kept_of, contains-tasks_where, tasks_where-put, tasks_where-gone, tasks_where-same, len-tasks_where}
-use Rattle.ccr_queue.specs.declared.standing.Standing.{Standing}
-use Rattle.ccr_queue.specs.declared.standing.Standing.TheVariants.{Fresh, Resuming, Queued as StandsQueued}
-use Rattle.ccr_queue.specs.Standings.{Tied, is_fresh, is_resuming, is_queued}
+use Rattle.ccr_queue.specs.declared.stage.QueueStage.{QueueStage}
+use Rattle.ccr_queue.specs.declared.stage.QueueStage.TheVariants.{Fresh, Resuming, Queued as StandsQueued}
+use Rattle.ccr_queue.specs.QueueStages.{Tied, is_fresh, is_resuming, is_queued}
 
-kinds : (kept : Option Standing) → is_some kept ≡ ((option_map_or is_fresh kept false || option_map_or is_resuming kept false) || option_map_or is_queued kept false)
+kinds : (kept : Option QueueStage) → is_some kept ≡ ((option_map_or is_fresh kept false || option_map_or is_resuming kept false) || option_map_or is_queued kept false)
 kinds None = refl
 kinds (Some Fresh) = refl
 kinds (Some Resuming) = refl
 kinds (Some StandsQueued) = refl
 
-module _ (table : List (TaskId × Standing)) (queued : List Queued) (fresh room : ℕ) (tied : Tied table queued fresh room) (task : TaskId) where
+module _ (table : List (TaskId × QueueStage)) (queued : List Queued) (fresh room : ℕ) (tied : Tied table queued fresh room) (task : TaskId) where
   -- the table has exactly the booked and the queued tasks
   pub is_some-known : is_some (kept_of table task)
       ≡ ((set.contains (tasks_where is_fresh table) task || set.contains (tasks_where is_resuming table) task) || list_any (λ (q : Queued). same_task task q.task) queued)
@@ -41,19 +41,19 @@ none-tied room = record {
   fits = omega arith;
 }
 
--- ---- a step: the table keeps this standing of one task, and of each other what it kept
+-- ---- a step: the table keeps this stage of one task, and of each other what it kept
 
 one : Bool → ℕ
 one b = cond b 1 0
 
-kinds_one : (kept : Option Standing) → cond (is_some kept) 1 0
+kinds_one : (kept : Option QueueStage) → cond (is_some kept) 1 0
     ≡ cond (option_map_or is_fresh kept false) 1 0 + cond (option_map_or is_resuming kept false) 1 0 + cond (option_map_or is_queued kept false) 1 0
 kinds_one None = refl
 kinds_one (Some Fresh) = refl
 kinds_one (Some Resuming) = refl
 kinds_one (Some StandsQueued) = refl
 
-module _ (old new : List (TaskId × Standing)) (task : TaskId) (kept : Option Standing)
+module _ (old new : List (TaskId × QueueStage)) (task : TaskId) (kept : Option QueueStage)
     (updates : (other : TaskId) → kept_of new other ≡ cond (same_task task other) kept (kept_of old other)) where
   -- the queued tasks of the table stay, where the one task stays queued or not queued
   stays : option_map_or is_queued kept false ≡ option_map_or is_queued (kept_of old task) false
@@ -86,27 +86,27 @@ module _ (old new : List (TaskId × Standing)) (task : TaskId) (kept : Option St
 
 -- ---- a booking
 
-to_none : (kept : Option Standing) → not (is_some kept) ≡ true → kept ≡ None
+to_none : (kept : Option QueueStage) → not (is_some kept) ≡ true → kept ≡ None
 to_none None e = refl
-to_none (Some standing) e = absurd (true≢false (sym e))
+to_none (Some stage) e = absurd (true≢false (sym e))
 
 -- a task that may be booked isn't in the table
-pub absent : (table : List (TaskId × Standing)) (queued : List Queued) (fresh room : ℕ) → Tied table queued fresh room → (task : TaskId)
+pub absent : (table : List (TaskId × QueueStage)) (queued : List Queued) (fresh room : ℕ) → Tied table queued fresh room → (task : TaskId)
     → not ((set.contains (tasks_where is_fresh table) task || set.contains (tasks_where is_resuming table) task) || list_any (λ (q : Queued). same_task task q.task) queued) ≡ true
     → kept_of table task ≡ None
 absent table queued fresh room tied task free = to_none (kept_of table task) (ap not (is_some-known table queued fresh room tied task) ∙ free)
 
-module _ (old new : List (TaskId × Standing)) (queued : List Queued) (fresh room space : ℕ) (tied : Tied old queued fresh room) (task : TaskId)
+module _ (old new : List (TaskId × QueueStage)) (queued : List Queued) (fresh room space : ℕ) (tied : Tied old queued fresh room) (task : TaskId)
     (none : kept_of old task ≡ None) (distinct : IsDistinct same_task (keys_of new)) where
-  pub booked : (standing : Standing) → ((other : TaskId) → kept_of new other ≡ cond (same_task task other) (Some standing) (kept_of old other))
-      → is_queued standing ≡ false → length new ≡ length old + 1 → length new ≤ space
-      → (count : ℕ) → count ≡ fresh + cond (is_fresh standing) 1 0 → Tied new queued count space
-  booked standing updates waits len fits count counts =
-      let before : (test : Standing → Bool) → option_map_or test (kept_of old task) false ≡ false = λ test. ap (λ k. option_map_or test k false) none in
+  pub booked : (stage : QueueStage) → ((other : TaskId) → kept_of new other ≡ cond (same_task task other) (Some stage) (kept_of old other))
+      → is_queued stage ≡ false → length new ≡ length old + 1 → length new ≤ space
+      → (count : ℕ) → count ≡ fresh + cond (is_fresh stage) 1 0 → Tied new queued count space
+  booked stage updates waits len fits count counts =
+      let before : (test : QueueStage → Bool) → option_map_or test (kept_of old task) false ≡ false = λ test. ap (λ k. option_map_or test k false) none in
       let known : is_some (kept_of old task) ≡ false = ap is_some none in
-      stepped old new task (Some standing) updates queued queued fresh count room space tied distinct
+      stepped old new task (Some stage) updates queued queued fresh count room space tied distinct
       tied.queued_distinct
-      (λ other. stays old new task (Some standing) updates (waits ∙ sym (before is_queued)) other ∙ tied.same_queued other)
+      (λ other. stays old new task (Some stage) updates (waits ∙ sym (before is_queued)) other ∙ tied.same_queued other)
       (rw (before is_fresh) (omega arith))
       (rw (before is_queued, waits) refl)
       (rw known (omega arith))
@@ -126,14 +126,14 @@ module _ (old new : List (TaskId × Standing)) (queued : List Queued) (fresh roo
     tasks_where-put is_resuming old new task (Some Resuming) tied.distinct distinct updates refl,
   )
 
--- ---- what a booked task's standing says
+-- ---- what a booked task's stage says
 
-pub record IsBooked (kept : Option Standing) : Type 0 where
+pub record IsBooked (kept : Option QueueStage) : Type 0 where
   pub apart : option_map_or is_queued kept false ≡ false
   pub there : is_some kept ≡ true
   pub either : option_map_or is_fresh kept false ≡ not (option_map_or is_resuming kept false)
 
-booked_kind : (kept : Option Standing) → (option_map_or is_fresh kept false || option_map_or is_resuming kept false) ≡ true → IsBooked kept
+booked_kind : (kept : Option QueueStage) → (option_map_or is_fresh kept false || option_map_or is_resuming kept false) ≡ true → IsBooked kept
 booked_kind None e = absurd (true≢false (sym e))
 booked_kind (Some Fresh) e = record { apart = refl; there = refl; either = refl }
 booked_kind (Some Resuming) e = record { apart = refl; there = refl; either = refl }
@@ -148,7 +148,7 @@ one_below : (b : Bool) (m n : ℕ) → (b ≡ true → 1 ≤ m) → cond b 1 0 �
 one_below true m n f = let h = f refl in omega arith
 one_below false m n f = omega arith
 
-module _ (table : List (TaskId × Standing)) (queued : List Queued) (fresh room : ℕ) (tied : Tied table queued fresh room) (task : TaskId) where
+module _ (table : List (TaskId × QueueStage)) (queued : List Queued) (fresh room : ℕ) (tied : Tied table queued fresh room) (task : TaskId) where
   pub booked-known : (set.contains (tasks_where is_fresh table) task || set.contains (tasks_where is_resuming table) task)
       ≡ (option_map_or is_fresh (kept_of table task) false || option_map_or is_resuming (kept_of table task) false)
   booked-known = λ i. contains-tasks_where is_fresh table tied.distinct task i || contains-tasks_where is_resuming table tied.distinct task i
@@ -159,8 +159,8 @@ module _ (table : List (TaskId × Standing)) (queued : List Queued) (fresh room 
       (λ e. len-there (tasks_where is_fresh table) task (contains-tasks_where is_fresh table tied.distinct task ∙ e)))
 
   module _ (booking : (set.contains (tasks_where is_fresh table) task || set.contains (tasks_where is_resuming table) task) ≡ true) where
-    pub booked-standing : IsBooked (kept_of table task)
-    booked-standing = booked_kind (kept_of table task) (sym booked-known ∙ booking)
+    pub booked-stage : IsBooked (kept_of table task)
+    booked-stage = booked_kind (kept_of table task) (sym booked-known ∙ booking)
 
     -- the queue has a place for a booked task
     pub place-left : length queued + 1 ≤ room
@@ -170,7 +170,7 @@ module _ (table : List (TaskId × Standing)) (queued : List Queued) (fresh room 
 
 -- ---- the end of a booking
 
-module _ (old new : List (TaskId × Standing)) (queued : List Queued) (fresh room : ℕ) (tied : Tied old queued fresh room) (task : TaskId)
+module _ (old new : List (TaskId × QueueStage)) (queued : List Queued) (fresh room : ℕ) (tied : Tied old queued fresh room) (task : TaskId)
     (booking : IsBooked (kept_of old task)) (distinct : IsDistinct same_task (keys_of new)) where
   pub unbooked : ((other : TaskId) → kept_of new other ≡ cond (same_task task other) None (kept_of old other))
       → length new + 1 ≡ length old
@@ -204,7 +204,7 @@ last_apart : (a : Bool) → a ≡ (a || (false || false))
 last_apart true = refl
 last_apart false = refl
 
-module _ (old new : List (TaskId × Standing)) (queued : List Queued) (fresh room : ℕ) (tied : Tied old queued fresh room) (task : TaskId)
+module _ (old new : List (TaskId × QueueStage)) (queued : List Queued) (fresh room : ℕ) (tied : Tied old queued fresh room) (task : TaskId)
     (booking : IsBooked (kept_of old task)) (distinct : IsDistinct same_task (keys_of new))
     (updates : (other : TaskId) → kept_of new other ≡ cond (same_task task other) (Some StandsQueued) (kept_of old other)) where
   free : list_any (λ (q : Queued). same_task task q.task) queued ≡ false
@@ -247,13 +247,13 @@ none_later : (task : TaskId) (later : List Queued) → AllByRecursion (λ y. sam
 none_later task [] h = refl
 none_later task (q ∷ later) h = λ i. h.0 i || none_later task later h.1 i
 
-only_queued : (kept : Option Standing) → option_map_or is_queued kept false ≡ true → kept ≡ Some StandsQueued
+only_queued : (kept : Option QueueStage) → option_map_or is_queued kept false ≡ true → kept ≡ Some StandsQueued
 only_queued None e = absurd (true≢false (sym e))
 only_queued (Some Fresh) e = absurd (true≢false (sym e))
 only_queued (Some Resuming) e = absurd (true≢false (sym e))
 only_queued (Some StandsQueued) e = refl
 
-module _ (old new : List (TaskId × Standing)) (oldest : Queued) (later : List Queued) (fresh room : ℕ) (tied : Tied old (oldest ∷ later) fresh room)
+module _ (old new : List (TaskId × QueueStage)) (oldest : Queued) (later : List Queued) (fresh room : ℕ) (tied : Tied old (oldest ∷ later) fresh room)
     (distinct : IsDistinct same_task (keys_of new))
     (updates : (other : TaskId) → kept_of new other ≡ cond (same_task oldest.task other) None (kept_of old other)) where
   stands : kept_of old oldest.task ≡ Some StandsQueued

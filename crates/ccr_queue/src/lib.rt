@@ -3,7 +3,7 @@
 
 mod meter;
 mod queue;
-mod standing;
+mod stage;
 
 pub use meter::Meter;
 pub use queue::{Booked, QueueObject};

@@ -1,7 +1,7 @@
 //! The meter: one for a whole run, shared by all its actors.
 
 ghost use Rattle.std.specs.Prelude.{◌≡◌, IsTrue};
-ghost use Rattle.ccr_places.specs.Meters.{start, may_leave as is_leave_allowed, draw_note, after_draw, after_leave, after, IsGiven};
+ghost use Rattle.ccr_places.specs.Meters.{start, may_leave as can_leave, draw_note, after_draw, after_leave, after, IsGiven};
 ghost use Rattle.ccr_places.specs.declared.notes.Note.TheVariants.{Draw, Leave, Left};
 
 use std::marker::Model;
@@ -57,14 +57,14 @@ impl Meter {
 
     /// Whether fewer than 16 posters have left.
     pub fn may_leave(&self) -> bool
-        ensures { result ≡ is_leave_allowed self.now }
+        ensures { result ≡ can_leave self.now }
     {
         self.left < MOST_POSTERS
     }
 
     /// Counts one more poster that is through with its script.
     pub fn leave(&mut self)
-        requires { IsTrue (is_leave_allowed self.old) }
+        requires { IsTrue (can_leave self.old) }
         ensures state { self.new ≡ after_leave self.old }
         ensures given { IsGiven self.old Leave }
         ensures step { self.new ≡ after self.old Leave }

@@ -2,11 +2,11 @@
 
 ghost use Rattle.std.specs.Prelude.{◌≡◌, ◌+◌, ◌-◌, ◌∷◌, [], ◌++◌, drop, length, slice_get, IsTrue, IfOk, OnErr, Option, Some, None, if◌then◌else◌, nat_le};
 ghost use Rattle.std.specs.Option.{option_map};
-ghost use Rattle.ccr_places.specs.Queues.{start, may_book as is_bookable, is_booked, fullness as fullness_at, fresh_count, drop_count, book_note, put_note, take_note, after_book, after_unbook, with_newest, without_dropped, after_put, after_take, after, IsGiven};
+ghost use Rattle.ccr_places.specs.Queues.{start, may_book as can_book, is_booked, fullness as fullness_at, fresh_count, drop_count, book_note, put_note, take_note, after_book, after_unbook, with_newest, without_dropped, after_put, after_take, after, IsGiven};
 ghost use Rattle.ccr_places.specs.declared.notes.Note.TheVariants.{Book, Unbook, Put, Take};
 ghost use Rattle.ccr_queue.specs.Answers.{full_of};
 
-use crate::standing::{self, QueuedTask, Standing};
+use crate::stage::{self, QueueStage, QueuedTask};
 use ccr_base::{OutOfMemory, Policy, QueueNo, Task, TaskId};
 use std::alloc::Global;
 use std::collections::{HashMap, VecDeque};
@@ -25,7 +25,7 @@ pub struct QueueObject {
     number: QueueNo,
     policy: Policy,
     /// The booked and the queued tasks.
-    standings: HashMap<TaskId, Standing>,
+    stages: HashMap<TaskId, QueueStage>,
     /// The oldest first, with room for all tasks of the table.
     queued: VecDeque<QueuedTask>,
     /// How many of the booked and queued tasks don't resume a suspended one.
@@ -37,7 +37,7 @@ impl Model for QueueObject {
     ghost use Rattle.std.specs.VecDeque.{deque_capacity};
     ghost use Rattle.ccr_places.specs.Queues.{QueueTasks, queue_tasks_code};
     ghost use Rattle.ccr_places.specs.TaskTables.{tasks_where};
-    ghost use Rattle.ccr_queue.specs.Standings.{Tied, is_fresh, is_resuming, named};
+    ghost use Rattle.ccr_queue.specs.QueueStages.{Tied, is_fresh, is_resuming, queued_of};
 
     ghost Value = { QueueTasks };
 
@@ -47,14 +47,14 @@ impl Model for QueueObject {
       state = record {
         number = queue.number;
         policy = queue.policy;
-        fresh = tasks_where is_fresh queue.standings.entries;
-        resuming = tasks_where is_resuming queue.standings.entries;
-        queued = map named queue.queued.items;
+        fresh = tasks_where is_fresh queue.stages.entries;
+        resuming = tasks_where is_resuming queue.stages.entries;
+        queued = map queued_of queue.queued.items;
       };
       tasks = map (λ queued. queued.task) queue.queued.items;
     } };
 
-    ghost invariant = { λ queue. Tied queue.standings.entries (map named queue.queued.items) queue.fresh (deque_capacity queue.queued) };
+    ghost invariant = { λ queue. Tied queue.stages.entries (map queued_of queue.queued.items) queue.fresh (deque_capacity queue.queued) };
 }
 
 impl QueueObject {
@@ -65,7 +65,7 @@ impl QueueObject {
         QueueObject {
             number,
             policy,
-            standings: HashMap::new(alloc),
+            stages: HashMap::new(alloc),
             queued: VecDeque::new(alloc),
             fresh: 0,
         }
@@ -80,14 +80,14 @@ impl QueueObject {
 
     /// Whether the task is neither booked nor queued.
     pub fn may_book(&self, t: TaskId, _resumes: bool) -> bool
-        ensures { result ≡ is_bookable self.now.state t }
+        ensures { result ≡ can_book self.now.state t }
     {
-        !self.standings.contains_key(&t)
+        !self.stages.contains_key(&t)
     }
 
     /// Books the task, which takes the memory for its put. A task that resumes a suspended one needs no room.
     pub fn book(&mut self, t: TaskId, resumes: bool) -> Result<Booked, OutOfMemory>
-        requires { IsTrue (is_bookable self.old.state t) }
+        requires { IsTrue (can_book self.old.state t) }
         ensures note { IfOk result (λ booked. full_of booked ≡ book_note self.old.state resumes) }
         ensures state { IfOk result (λ booked. self.new ≡ record self.old { state = after_book self.old.state t resumes (full_of booked) }) }
         ensures given { IfOk result (λ booked. IsGiven self.old.state (Book t resumes (full_of booked))) }
@@ -100,11 +100,11 @@ impl QueueObject {
             }
         }
         self.queued
-            .reserve(self.standings.len() - self.queued.len() + 1)?;
+            .reserve(self.stages.len() - self.queued.len() + 1)?;
         if resumes {
-            self.standings.insert(t, Standing::Resuming)?;
+            self.stages.insert(t, QueueStage::Resuming)?;
         } else {
-            self.standings.insert(t, Standing::Fresh)?;
+            self.stages.insert(t, QueueStage::Fresh)?;
             self.fresh += 1;
         }
         Ok(Booked::Yes)
@@ -124,7 +124,7 @@ impl QueueObject {
     pub fn may_unbook(&self, t: TaskId) -> bool
         ensures { result ≡ is_booked self.now.state t }
     {
-        standing::is_booked(self.standings.get(&t).copied())
+        stage::is_booked(self.stages.get(&t).copied())
     }
 
     /// Ends the booking. It takes no memory.
@@ -134,8 +134,8 @@ impl QueueObject {
         ensures given { IsGiven self.old.state (Unbook t) }
         ensures step { self.new.state ≡ after self.old.state (Unbook t) }
     {
-        let standing = self.standings.remove(&t);
-        self.fresh -= standing::fresh_count(standing);
+        let stage = self.stages.remove(&t);
+        self.fresh -= stage::fresh_count(stage);
     }
 
     /// Whether the task is booked.
@@ -185,10 +185,10 @@ impl QueueObject {
           tasks = self.old.tasks ++ task ∷ [];
         } }
     {
-        let Ok(standing) = self.standings.insert(task.id, Standing::Queued) else {
+        let Ok(stage) = self.stages.insert(task.id, QueueStage::Queued) else {
             unreachable!();
         };
-        let resumes = standing::is_resuming(standing);
+        let resumes = stage::is_resuming(stage);
         self.queued.push_back_reserved(QueuedTask { task, resumes });
     }
 
@@ -204,7 +204,7 @@ impl QueueObject {
         ensures step { self.new.state ≡ after self.old.state (Take (option_map (λ t. t.id) result)) }
     {
         let QueuedTask { task, resumes } = self.queued.pop_front()?;
-        self.standings.remove(&task.id);
+        self.stages.remove(&task.id);
         self.fresh -= usize::from(!resumes);
         Some(task)
     }

@@ -13,7 +13,7 @@ use Rattle.ccr_wiring.specs.declared.parts.Parts.{Parts}
 use Rattle.ccr_wiring.specs.declared.parts.ArbiterPart.{ArbiterPart}
 use Rattle.ccr_wiring.specs.declared.parts.BranchPart.{BranchPart}
 use Rattle.ccr_wiring.specs.declared.parts.DomainPart.{DomainPart}
-use Rattle.ccr_wiring.specs.Wirings.{Seat, seat, seats, seats_of, seats_from, in_domain, branch_of}
+use Rattle.ccr_wiring.specs.Wirings.{Placement, placement, placements, placements_of, placements_from, in_domain, branch_of}
 use Rattle.ccr_model.specs.declared.history.Event.{Event}
 use Rattle.ccr_model.specs.Posts.{posts, posted, taken, held}
 use Rattle.ccr_model.specs.Firings.{spot_of}
@@ -51,24 +51,24 @@ times-some f test k says (x ∷ xs) = of_number (f x) (test x) (says x) (times-s
         of_test true h = ap suc h
         of_test false h = h
 
-pub seats_queues : (number : ℕ) (arbiter : ArbiterPart) (branches : List BranchPart) → map (λ (part : BranchPart). part.queue) branches ≡ map (λ (s : Seat). s.branch.queue) (map (λ branch. record { arbiter = number; kind = arbiter.kind; branch = branch }) branches)
-seats_queues number arbiter [] = refl
-seats_queues number arbiter (branch ∷ branches) = ap (λ (queues : List ℕ). branch.queue ∷ queues) (seats_queues number arbiter branches)
+pub placements_queues : (number : ℕ) (arbiter : ArbiterPart) (branches : List BranchPart) → map (λ (part : BranchPart). part.queue) branches ≡ map (λ (s : Placement). s.branch.queue) (map (λ branch. record { arbiter = number; kind = arbiter.kind; branch = branch }) branches)
+placements_queues number arbiter [] = refl
+placements_queues number arbiter (branch ∷ branches) = ap (λ (queues : List ℕ). branch.queue ∷ queues) (placements_queues number arbiter branches)
 
 pub map-both : {X Y : Type 0} (f : X → Y) (xs ys : List X) → map f (xs ++ ys) ≡ map f xs ++ map f ys
 map-both f [] ys = refl
 map-both f (x ∷ xs) ys = ap (λ zs. f x ∷ zs) (map-both f xs ys)
 
--- the branches' queues, by their seats
-pub branch_queues_seats : (number : ℕ) (arbiters : List ArbiterPart) → flat_map queues_in arbiters ≡ map (λ (s : Seat). s.branch.queue) (seats_from number arbiters)
-branch_queues_seats number [] = refl
-branch_queues_seats number (arbiter ∷ arbiters) =
-    ap (λ (queues : List ℕ). queues ++ flat_map queues_in arbiters) (seats_queues number arbiter arbiter.branches)
-    ∙ ap (λ (queues : List ℕ). map (λ (s : Seat). s.branch.queue) (seats_of number arbiter) ++ queues) (branch_queues_seats (number + 1) arbiters)
-    ∙ sym (map-both (λ (s : Seat). s.branch.queue) (seats_of number arbiter) (seats_from (number + 1) arbiters))
+-- the branches' queues, by their placements
+pub branch_queues_placements : (number : ℕ) (arbiters : List ArbiterPart) → flat_map queues_in arbiters ≡ map (λ (s : Placement). s.branch.queue) (placements_from number arbiters)
+branch_queues_placements number [] = refl
+branch_queues_placements number (arbiter ∷ arbiters) =
+    ap (λ (queues : List ℕ). queues ++ flat_map queues_in arbiters) (placements_queues number arbiter arbiter.branches)
+    ∙ ap (λ (queues : List ℕ). map (λ (s : Placement). s.branch.queue) (placements_of number arbiter) ++ queues) (branch_queues_placements (number + 1) arbiters)
+    ∙ sym (map-both (λ (s : Placement). s.branch.queue) (placements_of number arbiter) (placements_from (number + 1) arbiters))
 
 -- a domain changes no queue
-domain_queues : (domains : List DomainPart) (ss : List Seat) → map (λ (s : Seat). s.branch.queue) (map (in_domain domains) ss) ≡ map (λ (s : Seat). s.branch.queue) ss
+domain_queues : (domains : List DomainPart) (ss : List Placement) → map (λ (s : Placement). s.branch.queue) (map (in_domain domains) ss) ≡ map (λ (s : Placement). s.branch.queue) ss
 domain_queues domains [] = refl
 domain_queues domains (s ∷ ss) = ap (λ (queues : List ℕ). s.branch.queue ∷ queues) (domain_queues domains ss)
 
@@ -82,13 +82,13 @@ slice_get-mapped f (x ∷ xs) zero = refl
 slice_get-mapped f (x ∷ xs) (suc k) = grind (arith, common_steps, slice_get-mapped f xs k)
 
 -- whether a task that fired at this spot, if any, belongs to the queue
-pub for_queue : (wiring : Parts) (k : ℕ) (fired : Option Spot) → option_map_or (λ (s : Seat). s.branch.queue == k) (option_and_then (λ spot. seat wiring (branch_of spot)) fired) false ≡ option_map_or (λ n. n == k) (option_and_then (λ spot. slice_get (branch_queues wiring) (branch_of spot)) fired) false
+pub for_queue : (wiring : Parts) (k : ℕ) (fired : Option Spot) → option_map_or (λ (s : Placement). s.branch.queue == k) (option_and_then (λ spot. placement wiring (branch_of spot)) fired) false ≡ option_map_or (λ n. n == k) (option_and_then (λ spot. slice_get (branch_queues wiring) (branch_of spot)) fired) false
 for_queue wiring k None = refl
 for_queue wiring k (Some spot) =
-    sym (map_or-map (λ (s : Seat). s.branch.queue) (λ n. n == k) (seat wiring (branch_of spot)))
+    sym (map_or-map (λ (s : Placement). s.branch.queue) (λ n. n == k) (placement wiring (branch_of spot)))
     ∙ ap (λ (o : Option ℕ). option_map_or (λ n. n == k) o false)
-    (sym (slice_get-mapped (λ (s : Seat). s.branch.queue) (seats wiring) (branch_of spot))
-    ∙ ap (λ (queues : List ℕ). slice_get queues (branch_of spot)) (domain_queues wiring.domains (seats_from 0 wiring.arbiters) ∙ sym (branch_queues_seats 0 wiring.arbiters)))
+    (sym (slice_get-mapped (λ (s : Placement). s.branch.queue) (placements wiring) (branch_of spot))
+    ∙ ap (λ (queues : List ℕ). slice_get queues (branch_of spot)) (domain_queues wiring.domains (placements_from 0 wiring.arbiters) ∙ sym (branch_queues_placements 0 wiring.arbiters)))
 
 -- the tasks of a queue, by the spots at which they fired
 pub times-queue : (wiring : Parts) (history : List Event) (k : ℕ) (fired : TaskId → Option Spot) → ((task : TaskId) → fired task ≡ spot_of history task) → (tasks : List TaskId) → times k (flat_map (λ task. option_to_list (option_and_then (λ spot. slice_get (branch_queues wiring) (branch_of spot)) (fired task))) tasks) ≡ length (filter (is_for_queue wiring history k) tasks)

@@ -6,11 +6,11 @@ use Rattle.ccr_base.specs.Names.{has_message}
 use Rattle.ccr_wiring.specs.declared.parts.Parts.{Parts}
 use Rattle.ccr_wiring.specs.declared.parts.ArbiterPart.{ArbiterPart}
 use Rattle.ccr_wiring.specs.declared.parts.BranchPart.{BranchPart}
-use Rattle.ccr_wiring.specs.Wirings.{Seat}
+use Rattle.ccr_wiring.specs.Wirings.{Placement}
 use Rattle.ccr_model.specs.declared.history.Event.{Event}
 use Rattle.ccr_model.specs.Posts.{posted, taken}
 use Rattle.ccr_model.specs.Firings.{put, dropped}
-use Rattle.ccr_model.specs.TaskData.{seat_of}
+use Rattle.ccr_model.specs.TaskData.{placement_of}
 use Rattle.ccr_model.specs.Tasks.{is_for_queue}
 
 -- how often a number stands in a list
@@ -35,7 +35,7 @@ ports_of messages = map (λ (message : Msg). message.port) messages
 
 -- the task's queue
 abbrev pub queue_of : Parts → List Event → TaskId → Option ℕ
-queue_of wiring history task = option_map (λ (s : Seat). s.branch.queue) (seat_of wiring history task)
+queue_of wiring history task = option_map (λ (s : Placement). s.branch.queue) (placement_of wiring history task)
 
 -- the queues of tasks
 abbrev pub queues_of : Parts → List Event → List TaskId → List ℕ

@@ -15,14 +15,14 @@ use Rattle.ccr_model.proofs.LegalParts.{Parted-legal}
 use Rattle.ccr_model.proofs.Stable.{firings-append}
 use Rattle.ccr_ledger.specs.Events.{empty_books}
 use Rattle.ccr_ledger.proofs.Keeping.{keeps-none, keeps-event}
-use Rattle.ccr_serial.specs.Desk.{Desk, Stands, AreTold, Follows, IsAhead, IsIdle, after_attempt, first_in}
+use Rattle.ccr_serial.specs.Desk.{Desk, Stands, TablesTell, Follows, IsAhead, IsIdle, after_attempt, first_in}
 use Rattle.ccr_serial.specs.Engine.{next_event}
 use Rattle.ccr_serial.proofs.DeskSteps.{attempt_kept, stands-event}
 use Rattle.ccr_serial.proofs.Firsts.{first_told, idle_stands, stands_ahead}
-use Rattle.ccr_serial.proofs.Telling.{AreTold-keeps}
+use Rattle.ccr_serial.proofs.Telling.{TablesTell-keeps}
 
-told_by : (w : Parts) → IsValid w → (c : ℕ) (h : List Event) (d : Desk) → IsLegal w h → Stands w c h d → AreTold w h d.books
-told_by w valid c h d legal stands = AreTold-keeps w valid h legal d.books stands.books
+told_by : (w : Parts) → IsValid w → (c : ℕ) (h : List Event) (d : Desk) → IsLegal w h → Stands w c h d → TablesTell w h d.books
+told_by w valid c h d legal stands = TablesTell-keeps w valid h legal d.books stands.books
 
 pub stands_next : (w : Parts) → IsValid w → (c : ℕ) (h : List Event) (e : Event) (old new : Desk) → IsLegal w h → IsAllowed w h e → Stands w c h old → Follows w c e old new → Stands w c (h ++ e ∷ []) new
 stands_next w valid c h e old new legal allowed stands follows = stands-event w c h e old new legal allowed (told_by w valid c h old legal stands) (keeps-event w valid h e old.books legal allowed stands.books) stands follows

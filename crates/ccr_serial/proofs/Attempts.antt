@@ -21,7 +21,7 @@ use Rattle.ccr_model.specs.TaskData.{play_of}
 use Rattle.ccr_model.specs.Tasks.{waiting, queued, running}
 use Rattle.ccr_model.specs.Live.{is_live, has_room}
 use Rattle.ccr_model.specs.Choice.{engine_choice, names_of}
-use Rattle.ccr_model.specs.Rules.{cuts_at, may_enter, may_put, drop_at, has_budget}
+use Rattle.ccr_model.specs.Rules.{cuts_at, may_admit, may_put, drop_at, has_budget}
 use Rattle.ccr_model.specs.Order.{first, post_from, script_post, next_attempt, fire_at, fire_from, admit_first, admit_from, put_first, run_task, run_with, task_post, start_from}
 use Rattle.ccr_model.proofs.Pushes.{firings-push, fired-fire}
 use Rattle.ccr_model.proofs.Options.{IfSome-or}
@@ -67,7 +67,7 @@ one_more_admit w c h n (x ∷ xs) = IfSome-or (OneMore c h) _ _ (of_list (waitin
 
     of_list : (ts : List TaskId) → IfSome (admit_first w h ts) (OneMore c h)
     of_list [] = tt
-    of_list (t ∷ ts) = of_test t (may_enter w h t)
+    of_list (t ∷ ts) = of_test t (may_admit w h t)
 
 one_more_put : (w : Parts) (c : ℕ) (h : List Event) → IfSome (put_first w h) (OneMore c h)
 one_more_put w c h = of_option (find (may_put w h) (fired h))

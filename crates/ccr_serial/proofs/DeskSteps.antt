@@ -16,7 +16,7 @@ use Rattle.ccr_model.specs.Order.{next_attempt}
 use Rattle.ccr_model.specs.Rules.{needs_no_admission}
 use Rattle.ccr_model.proofs.Pushes.{fired-fire}
 use Rattle.ccr_model.proofs.SameNames.{same_task-is}
-use Rattle.ccr_model.proofs.FiredTasks.{seat_fired}
+use Rattle.ccr_model.proofs.FiredTasks.{placement_fired}
 use Rattle.ccr_model.proofs.TaskPlaces.{PutFacts-allowed}
 use Rattle.ccr_model.proofs.FiringFacts.{firings-other}
 use Rattle.ccr_model.proofs.Cutting.{AdmitFacts-allowed}
@@ -25,7 +25,7 @@ use Rattle.ccr_ledger.specs.Books.{Books}
 use Rattle.ccr_ledger.specs.Events.{after_event}
 use Rattle.ccr_ledger.specs.Kept.{Keeps}
 use Rattle.ccr_serial.specs.Ready.{has_number, AreReady}
-use Rattle.ccr_serial.specs.Desk.{Desk, Stands, AreTold, Follows, after_attempt, after_ready, is_number_of}
+use Rattle.ccr_serial.specs.Desk.{Desk, Stands, TablesTell, Follows, after_attempt, after_ready, is_number_of}
 use Rattle.ccr_serial.proofs.Posters.{done-event}
 use Rattle.ccr_serial.proofs.ReadyNumbers.{ready-fire, ready-admit, ready-put, ready-other}
 use Rattle.ccr_serial.proofs.Told.{place_kept}
@@ -73,7 +73,7 @@ module _ (w : Parts) (h : List Event) (b : Books) (keeps : Keeps w h b) where
   ready_kept (Fire t s ms cs) old new legal allowed known changed = ready-fire w h t s ms cs old new legal allowed known (λ place. subst (λ n. has_number new place ≡ ((place == n) && needs_no_admission w s) || has_number old place) tasks_counted (changed place ∙ where_needed (needs_no_admission w s) (place == length b.tasks) (has_number old place)))
   ready_kept (Admit t) old new legal allowed known changed =
       let facts = AdmitFacts-allowed w h t allowed in
-      let fired_so = seat_fired w h t facts.place facts.is_place in
+      let fired_so = placement_fired w h t facts.place facts.is_place in
       ready-admit w h t (length (firings (before t h))) old new legal allowed (fired_at_number h t fired_so.0 fired_so.1) known (λ place. rw (← number_known t fired_so.0 place fired_so.1) (changed place))
   ready_kept (Put t d) old new legal allowed known changed =
       let facts = PutFacts-allowed w h t d allowed in
@@ -82,7 +82,7 @@ module _ (w : Parts) (h : List Event) (b : Books) (keeps : Keeps w h b) where
   ready_kept (Start t a) old new legal allowed known changed = λ place. changed place ∙ ready-other w h (Start t a) old refl refl refl known place
   ready_kept (End t how) old new legal allowed known changed = λ place. changed place ∙ ready-other w h (End t how) old refl refl refl known place
 
-pub stands-event : (w : Parts) (c : ℕ) (h : List Event) (e : Event) (old new : Desk) → IsLegal w h → IsAllowed w h e → AreTold w h old.books → Keeps w (h ++ e ∷ []) (after_event w e old.books) → Stands w c h old → Follows w c e old new → Stands w c (h ++ e ∷ []) new
+pub stands-event : (w : Parts) (c : ℕ) (h : List Event) (e : Event) (old new : Desk) → IsLegal w h → IsAllowed w h e → TablesTell w h old.books → Keeps w (h ++ e ∷ []) (after_event w e old.books) → Stands w c h old → Follows w c e old new → Stands w c (h ++ e ∷ []) new
 stands-event w c h e old new legal allowed told keeps stands follows = record {
   books = rw follows.books keeps;
   attempt = follows.attempt ∙ attempt_kept c h e old.attempt stands.attempt;

@@ -14,7 +14,7 @@ use Rattle.ccr_model.proofs.CanFire.{some_fire_at}
 use Rattle.ccr_serial.specs.Cursor.{are_done}
 use Rattle.ccr_serial.specs.Ready.{AreReady, IsLeastFirst}
 use Rattle.ccr_serial.specs.Parts.{fire_in, first_fire_in, put_in, are_done_in, some_fires_in}
-use Rattle.ccr_serial.specs.Desk.{Desk, Stands, AreTold, IsIdle, IsAhead, first_in}
+use Rattle.ccr_serial.specs.Desk.{Desk, Stands, TablesTell, IsIdle, IsAhead, first_in}
 use Rattle.ccr_serial.proofs.Told.{post_told, fire_told, first_fire_told, first_admit_told, put_told, none_put_told, first_run_told, start_told}
 
 any_same : {X : Type 0} (p q : X → Bool) (xs : List X) → ((x : X) → p x ≡ q x) → list_any p xs ≡ list_any q xs
@@ -27,10 +27,10 @@ length-take zero (x ∷ xs) = omega arith
 length-take (suc n) [] = omega arith
 length-take (suc n) (x ∷ xs) = omega (arith, length-take n xs)
 
-module _ (w : Parts) (c : ℕ) (h : List Event) (d : Desk) (told : AreTold w h d.books) where
+module _ (w : Parts) (c : ℕ) (h : List Event) (d : Desk) (told : TablesTell w h d.books) where
   done_told : (n : ℕ) (ps : List PosterPart) → n + length ps ≤ length w.posters → are_done_in d.books n ps ≡ are_done h n ps
   done_told n [] low = refl
-  done_told n (p ∷ ps) low = rw (told.said n (omega (arith, low)), done_told (n + 1) ps (omega (arith, low))) refl
+  done_told n (p ∷ ps) low = rw (told.script_posts n (omega (arith, low)), done_told (n + 1) ps (omega (arith, low))) refl
 
   done_so : (k : ℕ) → are_done_in d.books 0 (take k w.posters) ≡ are_done h 0 (take k w.posters)
   done_so k = done_told 0 (take k w.posters) (omega (arith, length-take k w.posters))
@@ -53,9 +53,9 @@ module _ (w : Parts) (c : ℕ) (h : List Event) (d : Desk) (told : AreTold w h d
       let fires : first_fire_in w (record { actor = c; attempt = d.attempt }) d.books (spots w) ≡ fire_from w c h (spots w) = rw stands.attempt (first_fire_told w c h d.books told (spots w)) in
       rw (post_told w c h d.books told 0 w.posters (omega arith), fires, first_admit_told w c h d.books told 0 w.arbiters (omega arith), put_so d.ready stands.ready stands.least, first_run_told w c h d.books told _ told.runs_so, start_told w c h d.books told 0 w.queues (omega arith)) refl
 
-pub stands_ahead : (w : Parts) (c : ℕ) (h : List Event) (old new : Desk) → AreTold w h old.books → Stands w c h old → IsAhead w c old new → Stands w c h new
+pub stands_ahead : (w : Parts) (c : ℕ) (h : List Event) (old new : Desk) → TablesTell w h old.books → Stands w c h old → IsAhead w c old new → Stands w c h new
 stands_ahead w c h old new told stands ahead =
-    let told_now : AreTold w h new.books = rw ahead.books told in
+    let told_now : TablesTell w h new.books = rw ahead.books told in
     let attempt : new.attempt ≡ next_attempt c (fired h) = ahead.attempt ∙ stands.attempt in
     record {
       books = rw ahead.books stands.books;

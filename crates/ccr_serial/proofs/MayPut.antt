@@ -9,21 +9,21 @@ use Rattle.ccr_base.specs.declared.names.Spot.{Spot}
 use Rattle.ccr_base.specs.declared.names.Spot.TheVariants.{Branch, Site}
 use Rattle.ccr_base.specs.Names.{same_task, has_task}
 use Rattle.ccr_wiring.specs.declared.parts.Parts.{Parts}
-use Rattle.ccr_wiring.specs.Wirings.{Seat, seat}
+use Rattle.ccr_wiring.specs.Wirings.{Placement, placement}
 use Rattle.ccr_model.specs.declared.history.Event.{Event}
 use Rattle.ccr_model.specs.declared.history.Event.TheVariants.{Post, Fire, Admit, Put, Start, End}
-use Rattle.ccr_model.specs.Firings.{firing_of, fired, cut, put, put_by, let_in, admitted_by, spot_of}
+use Rattle.ccr_model.specs.Firings.{firing_of, fired, cut, put, put_by, ever_admitted, admitted_by, spot_of}
 use Rattle.ccr_model.specs.Rules.{may_put, cuts_at, needs_no_admission}
 use Rattle.ccr_model.specs.Tasks.{waiting, is_teardown}
 use Rattle.ccr_model.specs.Legal.{IsAllowed, IsLegal}
-use Rattle.ccr_model.proofs.Pushes.{put-push, cut-push, let_in-push, fired-fire}
+use Rattle.ccr_model.proofs.Pushes.{put-push, cut-push, ever_admitted-push, fired-fire}
 use Rattle.ccr_model.proofs.TasksLeft.{has_task-append}
 use Rattle.ccr_model.proofs.TaskSteps.{firing_named-fire}
 use Rattle.ccr_model.proofs.Booleans.{refuted, no_both, and_false}
 use Rattle.ccr_model.proofs.SameNames.{same_task-is, same_task-self}
 use Rattle.ccr_model.proofs.FiredTasks.{fired_has}
 use Rattle.ccr_model.proofs.LegalParts.{along_legal}
-use Rattle.ccr_model.proofs.Alone.{let_in_fired}
+use Rattle.ccr_model.proofs.Alone.{ever_admitted_fired}
 use Rattle.ccr_model.proofs.TaskLists.{of_more, among_left}
 use Rattle.ccr_model.proofs.Allowing.{OneName-legal}
 use Rattle.ccr_model.proofs.TaskPlaces.{ArePlaced-legal}
@@ -41,13 +41,13 @@ waits_not w h i u waits = rw (waits.is_firing, waits_outside w h i u waits) (and
 -- who is cut waited
 cuts_wait : (w : Parts) (h : List Event) (s : Spot) (u : TaskId) → has_task (cuts_at w h s) u ≡ true → (i : ℕ) × (has_task (waiting w h i) u ≡ true)
 cuts_wait w h (Site b k) u among = absurd (cc)
-cuts_wait w h (Branch b) u among = of_option (seat w b) among
+cuts_wait w h (Branch b) u among = of_option (placement w b) among
   where
-    of_test : (z : Seat) (c : Bool) → has_task (if c then waiting w h z.arbiter else []) u ≡ true → (i : ℕ) × (has_task (waiting w h i) u ≡ true)
+    of_test : (z : Placement) (c : Bool) → has_task (if c then waiting w h z.arbiter else []) u ≡ true → (i : ℕ) × (has_task (waiting w h i) u ≡ true)
     of_test z true is = (z.arbiter, is)
     of_test z false is = absurd (cc)
 
-    of_option : (o : Option Seat) → has_task (option_map_or (λ (z : Seat). if is_teardown z.branch.group then waiting w h z.arbiter else []) o []) u ≡ true → (i : ℕ) × (has_task (waiting w h i) u ≡ true)
+    of_option : (o : Option Placement) → has_task (option_map_or (λ (z : Placement). if is_teardown z.branch.group then waiting w h z.arbiter else []) o []) u ≡ true → (i : ℕ) × (has_task (waiting w h i) u ≡ true)
     of_option None is = absurd (cc)
     of_option (Some z) is = of_test z (is_teardown z.branch.group) is
 
@@ -75,8 +75,8 @@ cut_more a b true d none = rw (none refl) (of_b b)
 -- a firing changes nothing for those that fired before
 pub may_put-fire : (w : Parts) (h : List Event) (t : TaskId) (s : Spot) (ms : List MsgId) (cs : List TaskId) (u : TaskId) → IsLegal w h → IsAllowed w h (Fire t s ms cs) → has_task (fired h) u ≡ true → may_put w (h ++ Fire t s ms cs ∷ []) u ≡ may_put w h u
 may_put-fire w h t s ms cs u legal allowed among =
-    rw (put-push, let_in-push, cut-push, append-nil (put h), append-nil (let_in h), firing_named-fire h t u s ms cs (other_task h t u facts.new_name among), has_task-append (cut h) (cs ++ []) u, append-nil cs)
-    (cut_more (not (has_task (put h) u)) (has_task (cut h) u) (has_task cs u) (option_map_or (λ spot. needs_no_admission w spot || has_task (let_in h) u) (spot_of h u) false) none)
+    rw (put-push, ever_admitted-push, cut-push, append-nil (put h), append-nil (ever_admitted h), firing_named-fire h t u s ms cs (other_task h t u facts.new_name among), has_task-append (cut h) (cs ++ []) u, append-nil cs)
+    (cut_more (not (has_task (put h) u)) (has_task (cut h) u) (has_task cs u) (option_map_or (λ spot. needs_no_admission w spot || has_task (ever_admitted h) u) (spot_of h u) false) none)
   where
     facts : FiresSo w h t s ms cs
     facts = FiresSo-allowed w h t s ms cs allowed
@@ -116,8 +116,8 @@ only_needs false b none = none
 -- the new task may be put where it needs no admission
 pub may_put-new : (w : Parts) (h : List Event) (t : TaskId) (s : Spot) (ms : List MsgId) (cs : List TaskId) → IsLegal w h → IsAllowed w h (Fire t s ms cs) → may_put w (h ++ Fire t s ms cs ∷ []) t ≡ needs_no_admission w s
 may_put-new w h t s ms cs legal allowed =
-    rw (firing_named-new h t s ms cs new, put-push, let_in-push, cut-push, append-nil (put h), append-nil (let_in h), not_put, has_task-append (cut h) (cs ++ []) t, not_cut, append-nil cs, not_now)
-    (only_needs (needs_no_admission w s) (has_task (let_in h) t) not_let_in)
+    rw (firing_named-new h t s ms cs new, put-push, ever_admitted-push, cut-push, append-nil (put h), append-nil (ever_admitted h), not_put, has_task-append (cut h) (cs ++ []) t, not_cut, append-nil cs, not_now)
+    (only_needs (needs_no_admission w s) (has_task (ever_admitted h) t) not_ever_admitted)
   where
     facts : FiresSo w h t s ms cs
     facts = FiresSo-allowed w h t s ms cs allowed
@@ -131,8 +131,8 @@ may_put-new w h t s ms cs legal allowed =
     not_cut : has_task (cut h) t ≡ false
     not_cut = unused (cut h) h t new (cut_fired w h legal t)
 
-    not_let_in : has_task (let_in h) t ≡ false
-    not_let_in = unused (let_in h) h t new (λ is. fired_has h t (let_in_fired w h legal t is))
+    not_ever_admitted : has_task (ever_admitted h) t ≡ false
+    not_ever_admitted = unused (ever_admitted h) h t new (λ is. fired_has h t (ever_admitted_fired w h legal t is))
 
     not_now : has_task cs t ≡ false
     not_now = unused cs h t new (λ is. (let waits = cuts_wait w h s t (subst (λ ts. has_task ts t ≡ true) facts.cuts is) in let so = WaitingFacts-waiting w h waits.0 t (OneName-legal w h legal) waits.1 in fired_has h t (so.firing, so.is_firing)))
@@ -153,11 +153,11 @@ may_put-admit w h t u legal allowed = of_test (same_task u t) refl
     or_right_true false false = refl
 
     admitted : may_put w (h ++ Admit t ∷ []) t ≡ true
-    admitted = rw (put-push, let_in-push, firings-other h (Admit t) refl, append-nil (put h), waits.is_firing, waits_unput w h facts.place.arbiter t (CutFacts-legal w h legal) waits, waits.not_cut, has_task-append (let_in h) (t ∷ []) t, same_task-self t) (or_right_true (needs_no_admission w waits.firing.spot) (has_task (let_in h) t))
+    admitted = rw (put-push, ever_admitted-push, firings-other h (Admit t) refl, append-nil (put h), waits.is_firing, waits_unput w h facts.place.arbiter t (CutFacts-legal w h legal) waits, waits.not_cut, has_task-append (ever_admitted h) (t ∷ []) t, same_task-self t) (or_right_true (needs_no_admission w waits.firing.spot) (has_task (ever_admitted h) t))
 
     of_test : (b : Bool) → same_task u t ≡ b → may_put w (h ++ Admit t ∷ []) u ≡ b || may_put w h u
     of_test true is = let one : u ≡ t = same_task-is u t is in subst (λ v. may_put w (h ++ Admit t ∷ []) v ≡ true) (sym one) admitted
-    of_test false is = rw (put-push, let_in-push, firings-other h (Admit t) refl, append-nil (put h), has_task-append (let_in h) (t ∷ []) u, is, or_nothing (has_task (let_in h) u)) refl
+    of_test false is = rw (put-push, ever_admitted-push, firings-other h (Admit t) refl, append-nil (put h), has_task-append (ever_admitted h) (t ∷ []) u, is, or_nothing (has_task (ever_admitted h) u)) refl
       where
         or_nothing : (a : Bool) → a || (false || false) ≡ a
         or_nothing true = refl
@@ -165,11 +165,11 @@ may_put-admit w h t u legal allowed = of_test (same_task u t) refl
 
 -- a put takes its task out
 pub may_put-put : (w : Parts) (h : List Event) (t u : TaskId) (d : Option TaskId) → may_put w (h ++ Put t d ∷ []) u ≡ not (same_task u t) && may_put w h u
-may_put-put w h t u d = rw (put-push, let_in-push, firings-other h (Put t d) refl, append-nil (let_in h)) (over (put h))
+may_put-put w h t u d = rw (put-push, ever_admitted-push, firings-other h (Put t d) refl, append-nil (ever_admitted h)) (over (put h))
   where
-    over : (ps : List TaskId) → not (has_task (ps ++ t ∷ []) u) && not (has_task (cut h) u) && option_map_or (λ spot. needs_no_admission w spot || has_task (let_in h) u) (spot_of h u) false ≡ not (same_task u t) && (not (has_task ps u) && not (has_task (cut h) u) && option_map_or (λ spot. needs_no_admission w spot || has_task (let_in h) u) (spot_of h u) false)
+    over : (ps : List TaskId) → not (has_task (ps ++ t ∷ []) u) && not (has_task (cut h) u) && option_map_or (λ spot. needs_no_admission w spot || has_task (ever_admitted h) u) (spot_of h u) false ≡ not (same_task u t) && (not (has_task ps u) && not (has_task (cut h) u) && option_map_or (λ spot. needs_no_admission w spot || has_task (ever_admitted h) u) (spot_of h u) false)
     over ps = grind (arith, common_steps)
 
 -- other events change nothing
 pub may_put-other : (w : Parts) (h : List Event) (e : Event) (u : TaskId) → firing_of e ≡ [] → put_by e ≡ [] → admitted_by e ≡ [] → may_put w (h ++ e ∷ []) u ≡ may_put w h u
-may_put-other w h e u no_fire no_put no_admit = rw (put-push, let_in-push, firings-other h e no_fire, no_put, no_admit, append-nil (put h), append-nil (let_in h)) refl
+may_put-other w h e u no_fire no_put no_admit = rw (put-push, ever_admitted-push, firings-other h e no_fire, no_put, no_admit, append-nil (put h), append-nil (ever_admitted h)) refl

@@ -23,12 +23,12 @@ use Rattle.ccr_ledger.specs.Books.{Books, number}
 use Rattle.ccr_serial.specs.Parts.{admit_in, are_done_in, fire_in, first_admit_in, first_fire_in, line_in, post_in, some_fires_in, start_in}
 
 -- a poster is done where it has no next line
-no_line : (b : Books) (n : ℕ) (p : PosterPart) → nat_le (length p.posts) (number b.said n) ≡ true → line_in b n p ≡ None
-no_line b n p full = let none : slice_get p.posts (number b.said n) ≡ None = slice_get_past p.posts (number b.said n) (grind (arith, nat_tests, full)) in rw none refl
+no_line : (b : Books) (n : ℕ) (p : PosterPart) → nat_le (length p.posts) (number b.script_posts n) ≡ true → line_in b n p ≡ None
+no_line b n p full = let none : slice_get p.posts (number b.script_posts n) ≡ None = slice_get_past p.posts (number b.script_posts n) (grind (arith, nat_tests, full)) in rw none refl
 
-line_none : (b : Books) (n : ℕ) (p : PosterPart) → line_in b n p ≡ None → nat_le (length p.posts) (number b.said n) ≡ true
+line_none : (b : Books) (n : ℕ) (p : PosterPart) → line_in b n p ≡ None → nat_le (length p.posts) (number b.script_posts n) ≡ true
 line_none b n p none =
-    let out = none-above p.posts (number b.said n) (none_map (script_post n (number b.said n)) (slice_get p.posts (number b.said n)) none) in
+    let out = none-above p.posts (number b.script_posts n) (none_map (script_post n (number b.script_posts n)) (slice_get p.posts (number b.script_posts n)) none) in
     grind (arith, nat_tests, out)
 
 not_some : {X : Type 0} (o : Option X) → is_some o ≡ false → o ≡ None
@@ -60,7 +60,7 @@ post_at b n zero (q ∷ ps) p e done at line =
     let first : line_in b n q ≡ Some e = rw one (subst (λ m. line_in b m p ≡ Some e) here line) in
     rw first refl
 post_at b n (suc k) (q ∷ ps) p e done at line =
-    let parts = both (nat_le (length q.posts) (number b.said n)) (are_done_in b (n + 1) (take k ps)) done in
+    let parts = both (nat_le (length q.posts) (number b.script_posts n)) (are_done_in b (n + 1) (take k ps)) done in
     let none : line_in b n q ≡ None = no_line b n q parts.0 in
     let here : n + suc k ≡ (n + 1) + k = omega arith in
     rw none (post_at b (n + 1) k ps p e parts.1 at (subst (λ m. line_in b m p ≡ Some e) here line))
@@ -71,14 +71,14 @@ done_on b n k [] p done at line = absurd (cc)
 done_on b n zero (q ∷ ps) p done at line =
     let one : q ≡ p = cc in
     let here : n + 0 ≡ n = omega arith in
-    let full : nat_le (length q.posts) (number b.said n) ≡ true = line_none b n q (rw one (subst (λ m. line_in b m p ≡ None) here line)) in
+    let full : nat_le (length q.posts) (number b.script_posts n) ≡ true = line_none b n q (rw one (subst (λ m. line_in b m p ≡ None) here line)) in
     rw full (no_more ps)
   where
     no_more : (ps : List PosterPart) → are_done_in b (n + 1) (take 0 ps) ≡ true
     no_more [] = refl
     no_more (x ∷ ps) = refl
 done_on b n (suc k) (q ∷ ps) p done at line =
-    let parts = both (nat_le (length q.posts) (number b.said n)) (are_done_in b (n + 1) (take k ps)) done in
+    let parts = both (nat_le (length q.posts) (number b.script_posts n)) (are_done_in b (n + 1) (take k ps)) done in
     let here : n + suc k ≡ (n + 1) + k = omega arith in
     let more : suc k + 1 ≡ suc (k + 1) = omega arith in
     rw (more, parts.0) (done_on b (n + 1) k ps p parts.1 at (subst (λ m. line_in b m p ≡ None) here line))
@@ -88,7 +88,7 @@ post_none : (b : Books) (n k : ℕ) (ps : List PosterPart) → are_done_in b n (
 post_none b n k [] done all = refl
 post_none b n zero (q ∷ ps) done all = absurd (omega (arith, all))
 post_none b n (suc k) (q ∷ ps) done all =
-    let parts = both (nat_le (length q.posts) (number b.said n)) (are_done_in b (n + 1) (take k ps)) done in
+    let parts = both (nat_le (length q.posts) (number b.script_posts n)) (are_done_in b (n + 1) (take k ps)) done in
     rw (no_line b n q parts.0) (post_none b (n + 1) k ps parts.1 (omega (arith, all)))
 
 pub post_stops : (b : Books) (ss xs : List PosterPart) (i : ℕ) (d p : PosterPart) (r : Option Event) (e : Event) → ss ≡ xs → i < length ss → are_done_in b 0 (take i xs) ≡ true → p ≡ get_or ss i d → r ≡ line_in b i p → r ≡ Some e → Some e ≡ post_in b 0 xs

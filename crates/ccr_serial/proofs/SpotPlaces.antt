@@ -15,7 +15,7 @@ use Rattle.ccr_base.specs.declared.patterns.Pattern.{Pattern}
 use Rattle.ccr_base.specs.declared.patterns.Pattern.TheVariants.{Slots, Gather}
 use Rattle.ccr_base.specs.Names.{same_spot}
 use Rattle.ccr_wiring.specs.declared.parts.Parts.{Parts}
-use Rattle.ccr_wiring.specs.Wirings.{Seat, seat, seats, policy_of, site_port, branch_of, awaited, actions_of, sites_from, spots, spots_from}
+use Rattle.ccr_wiring.specs.Wirings.{Placement, placement, placements, policy_of, site_port, branch_of, awaited, actions_of, sites_from, spots, spots_from}
 use Rattle.ccr_wiring.specs.Repeats.{slot_ports}
 use Rattle.ccr_wiring.specs.Spots.{pattern_ports}
 use Rattle.ccr_wiring.specs.Valid.{IsValid}
@@ -50,11 +50,11 @@ pattern_low n (Gather total a b) low =
     rw (one, two) refl
 
 no_port : (w : Parts) → IsValid w → (n : ℕ) → length w.ports ≤ n → (s : Spot) → is_keyed w keys.Port n s ≡ false
-no_port w valid n past (Branch b) = of_seat (seat w b) refl
+no_port w valid n past (Branch b) = of_placement (placement w b) refl
   where
-    of_seat : (o : Option Seat) → seat w b ≡ o → option_map_or (λ (s : Seat). names_any (λ port. n == port) s.branch.pattern) o false ≡ false
-    of_seat None at = refl
-    of_seat (Some s) at = pattern_low n s.branch.pattern (λ place port there. omega (arith, past, (sound w valid).pattern_ports b s place port at there))
+    of_placement : (o : Option Placement) → placement w b ≡ o → option_map_or (λ (s : Placement). names_any (λ port. n == port) s.branch.pattern) o false ≡ false
+    of_placement None at = refl
+    of_placement (Some s) at = pattern_low n s.branch.pattern (λ place port there. omega (arith, past, (sound w valid).pattern_ports b s place port at there))
 no_port w valid n past (Site b k) = of_port (site_port w b k) refl
   where
     of_port : (o : Option ℕ) → site_port w b k ≡ o → option_map_or (λ port. n == port) o false ≡ false
@@ -63,11 +63,11 @@ no_port w valid n past (Site b k) = of_port (site_port w b k) refl
 
 no_queue : (w : Parts) → IsValid w → (n : ℕ) → length w.queues ≤ n → (s : Spot) → is_keyed w keys.Queue n s ≡ false
 no_queue w valid n past (Site b k) = refl
-no_queue w valid n past (Branch b) = of_seat (seat w b) refl
+no_queue w valid n past (Branch b) = of_placement (placement w b) refl
   where
-    of_seat : (o : Option Seat) → seat w b ≡ o → option_map_or (λ (s : Seat). is_throttle (policy_of w s.branch.queue) && (n == s.branch.queue)) o false ≡ false
-    of_seat None at = refl
-    of_seat (Some s) at = rw (other n s.branch.queue (omega (arith, past, (sound w valid).queues b s at))) (and_false (is_throttle (policy_of w s.branch.queue)))
+    of_placement : (o : Option Placement) → placement w b ≡ o → option_map_or (λ (s : Placement). is_throttle (policy_of w s.branch.queue) && (n == s.branch.queue)) o false ≡ false
+    of_placement None at = refl
+    of_placement (Some s) at = rw (other n s.branch.queue (omega (arith, past, (sound w valid).queues b s at))) (and_false (is_throttle (policy_of w s.branch.queue)))
 
 -- among the sites of a branch none passes that passes at no site of it
 sites_never : (test : Spot → Bool) (b j : ℕ) (ports : List ℕ) → ((k : ℕ) → test (Site b k) ≡ false) → list_any test (sites_from b j ports) ≡ false
@@ -75,7 +75,7 @@ sites_never test b j [] never = refl
 sites_never test b j (port ∷ ports) never = rw (never j) (sites_never test b (j + 1) ports never)
 
 -- among the spots of other branches none passes that passes at the spots of one alone
-others_never : (w : Parts) (n : ℕ) (test : Spot → Bool) → ((s : Spot) → (n == branch_of s) ≡ false → test s ≡ false) → (m : ℕ) (ss : List Seat) → (n < m) ⊎ (m + length ss ≤ n) → list_any test (spots_from w m ss) ≡ false
+others_never : (w : Parts) (n : ℕ) (test : Spot → Bool) → ((s : Spot) → (n == branch_of s) ≡ false → test s ≡ false) → (m : ℕ) (ss : List Placement) → (n < m) ⊎ (m + length ss ≤ n) → list_any test (spots_from w m ss) ≡ false
 others_never w n test alone m [] past = refl
 others_never w n test alone m (s ∷ ss) past =
     let differs = not_here past in
@@ -102,7 +102,7 @@ site_alone n k (Site b j) differs = rw differs refl
 pub none_keyed : (w : Parts) → IsValid w → (key : Key) (n : ℕ) → count_of w key ≤ n → first_keyed w key n ≡ None
 none_keyed w valid keys.Port n past = first_never (is_keyed w keys.Port n) (spots w) (nowhere (is_keyed w keys.Port n) (spots w) (no_port w valid n past))
 none_keyed w valid keys.Queue n past = first_never (is_keyed w keys.Queue n) (spots w) (nowhere (is_keyed w keys.Queue n) (spots w) (no_queue w valid n past))
-none_keyed w valid keys.Branch n past = first_never (is_keyed w keys.Branch n) (spots w) (others_never w n (is_keyed w keys.Branch n) (branch_alone w n) 0 (seats w) (inr (omega (arith, past))))
+none_keyed w valid keys.Branch n past = first_never (is_keyed w keys.Branch n) (spots w) (others_never w n (is_keyed w keys.Branch n) (branch_alone w n) 0 (placements w) (inr (omega (arith, past))))
 
 -- among a branch's own sites
 own_site : (n k j i : ℕ) (ports : List ℕ) (rest : List Spot) → k ≡ j + i → first_place (same_spot (Site n k)) rest ≡ None → first_place (same_spot (Site n k)) (sites_from n j ports ++ rest) ≡ option_map (λ port. i) (slice_get ports i)
@@ -119,14 +119,14 @@ own_site n k j (suc i) (port ∷ ports) rest is none =
     of_option (Some port) = refl
 
 -- the port that the branch awaits at the site
-abbrev port_at : Parts → ℕ → Seat → Option ℕ
+abbrev port_at : Parts → ℕ → Placement → Option ℕ
 port_at w k s = slice_get (awaited (actions_of w s.branch.handler)) k
 
 -- so far behind the place of the branch
 abbrev behind : ℕ → Option ℕ → Option ℕ → Option ℕ
 behind k place port = option_and_then (λ p. option_map (λ i. i + 1 + k) place) port
 
-site_from : (w : Parts) (n k m : ℕ) (ss : List Seat) (d : ℕ) → n ≡ m + d → first_place (same_spot (Site n k)) (spots_from w m ss) ≡ option_and_then (λ (s : Seat). behind k (first_place (is_keyed w keys.Branch n) (spots_from w m ss)) (port_at w k s)) (slice_get ss d)
+site_from : (w : Parts) (n k m : ℕ) (ss : List Placement) (d : ℕ) → n ≡ m + d → first_place (same_spot (Site n k)) (spots_from w m ss) ≡ option_and_then (λ (s : Placement). behind k (first_place (is_keyed w keys.Branch n) (spots_from w m ss)) (port_at w k s)) (slice_get ss d)
 site_from w n k m [] d is = refl
 site_from w n k m (s ∷ ss) zero is =
     let same : m ≡ n = omega (arith, is) in
@@ -142,24 +142,24 @@ site_from w n k m (s ∷ ss) (suc d) is =
     let ports = awaited (actions_of w s.branch.handler) in
     let site = first_behind (same_spot (Site n k)) (sites_from m 0 ports) (spots_from w (m + 1) ss) (sites_never (same_spot (Site n k)) m 0 ports (λ j. site_alone n k (Site m j) differs)) in
     let branch = first_behind (is_keyed w keys.Branch n) (sites_from m 0 ports) (spots_from w (m + 1) ss) (sites_never (is_keyed w keys.Branch n) m 0 ports (λ j. refl)) in
-    rw (differs, site, branch, site_from w n k (m + 1) ss d (omega (arith, is))) (of_seat (slice_get ss d) (first_place (is_keyed w keys.Branch n) (spots_from w (m + 1) ss)) (length (sites_from m 0 ports)))
+    rw (differs, site, branch, site_from w n k (m + 1) ss d (omega (arith, is))) (of_placement (slice_get ss d) (first_place (is_keyed w keys.Branch n) (spots_from w (m + 1) ss)) (length (sites_from m 0 ports)))
   where
     of_place : (o p : Option ℕ) (l : ℕ) → option_map suc (option_map (λ i. l + i) (behind k p o)) ≡ behind k (option_map suc (option_map (λ i. l + i) p)) o
     of_place None p l = refl
     of_place (Some port) None l = refl
     of_place (Some port) (Some i) l = let e : suc (l + (i + 1 + k)) ≡ suc (l + i) + 1 + k = omega arith in ap Some e
 
-    of_seat : (o : Option Seat) (p : Option ℕ) (l : ℕ) → option_map suc (option_map (λ i. l + i) (option_and_then (λ (s : Seat). behind k p (port_at w k s)) o)) ≡ option_and_then (λ (s : Seat). behind k (option_map suc (option_map (λ i. l + i) p)) (port_at w k s)) o
-    of_seat None p l = refl
-    of_seat (Some s) p l = of_place (port_at w k s) p l
+    of_placement : (o : Option Placement) (p : Option ℕ) (l : ℕ) → option_map suc (option_map (λ i. l + i) (option_and_then (λ (s : Placement). behind k p (port_at w k s)) o)) ≡ option_and_then (λ (s : Placement). behind k (option_map suc (option_map (λ i. l + i) p)) (port_at w k s)) o
+    of_placement None p l = refl
+    of_placement (Some s) p l = of_place (port_at w k s) p l
 
 -- a site stands behind its branch, by its number
 pub site_place : (w : Parts) (n k : ℕ) → first_place (same_spot (Site n k)) (spots w) ≡ option_and_then (λ port. option_map (λ i. i + 1 + k) (first_keyed w keys.Branch n)) (site_port w n k)
-site_place w n k = site_from w n k 0 (seats w) n (omega arith) ∙ of_seat (seat w n)
+site_place w n k = site_from w n k 0 (placements w) n (omega arith) ∙ of_placement (placement w n)
   where
-    of_seat : (o : Option Seat) → option_and_then (λ (s : Seat). behind k (first_keyed w keys.Branch n) (port_at w k s)) o ≡ option_and_then (λ port. option_map (λ i. i + 1 + k) (first_keyed w keys.Branch n)) (option_map_or (λ (s : Seat). slice_get (awaited (actions_of w s.branch.handler)) k) o None)
-    of_seat None = refl
-    of_seat (Some s) = refl
+    of_placement : (o : Option Placement) → option_and_then (λ (s : Placement). behind k (first_keyed w keys.Branch n) (port_at w k s)) o ≡ option_and_then (λ port. option_map (λ i. i + 1 + k) (first_keyed w keys.Branch n)) (option_map_or (λ (s : Placement). slice_get (awaited (actions_of w s.branch.handler)) k) o None)
+    of_placement None = refl
+    of_placement (Some s) = refl
 
 -- what is awaited is no more than the actions
 few_awaited : (actions : List Action) → length (awaited actions) ≤ length actions
@@ -172,11 +172,11 @@ few_awaited (Fail expr ∷ actions) = omega (arith, few_awaited actions)
 
 -- no handler has so many sites
 pub no_site : (w : Parts) → IsValid w → (n k : ℕ) → 2 ^ 32 ≤ k → first_place (same_spot (Site n k)) (spots w) ≡ None
-no_site w valid n k far = site_place w n k ∙ rw (of_seat (seat w n)) refl
+no_site w valid n k far = site_place w n k ∙ rw (of_placement (placement w n)) refl
   where
-    of_seat : (o : Option Seat) → option_map_or (λ (s : Seat). slice_get (awaited (actions_of w s.branch.handler)) k) o None ≡ None
-    of_seat None = refl
-    of_seat (Some s) = slice_get_past (awaited (actions_of w s.branch.handler)) k (omega (arith, far, few_awaited (actions_of w s.branch.handler), (sound w valid).few_actions s.branch.handler))
+    of_placement : (o : Option Placement) → option_map_or (λ (s : Placement). slice_get (awaited (actions_of w s.branch.handler)) k) o None ≡ None
+    of_placement None = refl
+    of_placement (Some s) = slice_get_past (awaited (actions_of w s.branch.handler)) k (omega (arith, far, few_awaited (actions_of w s.branch.handler), (sound w valid).few_actions s.branch.handler))
 
 -- what the list of first places says of a number
 pub listed : (w : Parts) → IsValid w → (key : Key) (n : ℕ) (firsts : List (Option ℕ)) → AreFirst w key (count_of w key) firsts → option_and_then (λ first. first) (slice_get firsts n) ≡ first_keyed w key n

@@ -17,7 +17,7 @@ use Rattle.ccr_model.specs.declared.history.Event.{Event}
 use Rattle.ccr_model.specs.declared.history.Event.TheVariants.{Post, Fire}
 use Rattle.ccr_base.specs.Names.{same_message, same_lists, has_message}
 use Rattle.ccr_base.specs.Choice.{fitting, is_choosable, choice}
-use Rattle.ccr_wiring.specs.Wirings.{Seat, seat, site_port}
+use Rattle.ccr_wiring.specs.Wirings.{Placement, placement, site_port}
 use Rattle.ccr_model.specs.Posts.{posts, taken, held}
 use Rattle.ccr_model.specs.Choice.{names_of, choice_of_slots, are_first, are_split, is_choice_of, are_oldest, is_choice}
 use Rattle.ccr_model.proofs.Allowing.{filter_head}
@@ -107,9 +107,9 @@ oldest_named at port (n ∷ names) is =
 
 -- a choice names a message that its port holds
 pub choice_named : (w : Parts) → TakesSome w → (h : List Event) (s : Spot) (names : List MsgId) → is_choice w h s names ≡ true → NamesOne (held h) names
-choice_named w some h (Branch b) names is = of_option (seat w b) refl is
+choice_named w some h (Branch b) names is = of_option (placement w b) refl is
   where
-    of_option : (o : Option Seat) → seat w b ≡ o → option_map_or (λ (s : Seat). is_choice_of (held h) s.branch.pattern names) o false ≡ true → NamesOne (held h) names
+    of_option : (o : Option Placement) → placement w b ≡ o → option_map_or (λ (s : Placement). is_choice_of (held h) s.branch.pattern names) o false ≡ true → NamesOne (held h) names
     of_option None e chosen = absurd (cc)
     of_option (Some s) e chosen = pattern_named (held h) s.branch.pattern names (some b s e) chosen
 choice_named w some h (Site b k) names is = of_option (site_port w b k) is

@@ -21,9 +21,9 @@ use Rattle.ccr_model.proofs.FiringFacts.{fired_by_named, BranchFacts-where}
 use Rattle.ccr_ledger.specs.declared.cards.Card.{Card}
 use Rattle.ccr_ledger.specs.Books.{Books}
 use Rattle.ccr_ledger.specs.Kept.{Keeps, card_of}
-use Rattle.ccr_ledger.proofs.Telling.{lives_told, room_told, choice_told, cuts_told, enters_told, drops_told, play_told, made_told, budget_told}
+use Rattle.ccr_ledger.proofs.Telling.{lives_told, room_told, choice_told, cuts_told, may_admit_task_told, drops_told, play_told, made_told, budget_told}
 use Rattle.ccr_serial.specs.Parts.{comes_to, yields_in}
-use Rattle.ccr_serial.specs.Desk.{AreTold}
+use Rattle.ccr_serial.specs.Desk.{TablesTell}
 
 module _ (w : Parts) (valid : IsValid w) (h : List Event) (legal : IsLegal w h) (b : Books) (keeps : Keeps w h b) where
   comes_told : (q : ℕ) (t : TaskId) → has_task (fired_by w (λ s. s.branch.queue == q) h) t ≡ true → comes_to b q t ≡ true
@@ -39,15 +39,15 @@ module _ (w : Parts) (valid : IsValid w) (h : List Event) (legal : IsLegal w h) 
       of_firing None at = rw at refl
       of_firing (Some f) at = rw at refl
 
-  pub AreTold-keeps : AreTold w h b
-  AreTold-keeps = record {
-    said = keeps.said.said;
+  pub TablesTell-keeps : TablesTell w h b
+  TablesTell-keeps = record {
+    script_posts = keeps.script_posts.script_posts;
     lives_so = lives_told w valid h legal b keeps;
     room_so = room_told w valid h legal b keeps;
     choice_so = choice_told w valid h legal b keeps;
     cuts_so = cuts_told w valid h legal b keeps;
     waits_so = keeps.places.waiting;
-    enters_so = enters_told w valid h legal b keeps;
+    may_admit_task_so = may_admit_task_told w valid h legal b keeps;
     names = λ place. sym (slice_get-map (λ (entry : TaskId × Card). entry.0) b.tasks place) ∙ ap (λ ts. slice_get ts place) keeps.tasks.names;
     drops_so = drops_told w valid h legal b keeps;
     runs_so = keeps.places.running;

@@ -13,7 +13,7 @@ use Rattle.ccr_wiring.specs.declared.parts.Parts.{Parts}
 use Rattle.ccr_wiring.specs.declared.parts.PosterPart.{PosterPart}
 use Rattle.ccr_wiring.specs.declared.parts.ArbiterPart.{ArbiterPart}
 use Rattle.ccr_wiring.specs.declared.parts.QueuePart.{QueuePart}
-use Rattle.ccr_wiring.specs.Wirings.{Seat, seat, spots, policy_of, site_port}
+use Rattle.ccr_wiring.specs.Wirings.{Placement, placement, spots, policy_of, site_port}
 use Rattle.ccr_model.specs.declared.history.Event.{Event}
 use Rattle.ccr_model.specs.declared.history.Event.TheVariants.{Put}
 use Rattle.ccr_model.specs.Firings.{fired, yielded_by}
@@ -33,7 +33,7 @@ use Rattle.ccr_serial.specs.Touched.{posts_to, freed_by, names_any, frees, is_th
 use Rattle.ccr_serial.specs.Cursor.{IsStill}
 use Rattle.ccr_serial.specs.Ready.{AreReady, IsLeast}
 use Rattle.ccr_serial.specs.Parts.{post_in, fire_in, first_fire_in, admit_in, first_admit_in, put_in, run_in, run_with_in, start_in, comes_to, yields_in, touches_branch_in, touches_in}
-use Rattle.ccr_serial.specs.Desk.{AreTold, after_place}
+use Rattle.ccr_serial.specs.Desk.{TablesTell, after_place}
 use Rattle.ccr_serial.proofs.Touching.{still}
 use Rattle.ccr_serial.proofs.Lowering.{lowered-none}
 use Rattle.ccr_serial.proofs.ReadyNumbers.{first_ready, none_ready}
@@ -46,10 +46,10 @@ none_narrower narrow wide (x ∷ xs) within none =
     let here : narrow x ≡ false = refuted (narrow x) (λ is. no_both (within x is) outs.0) in
     rw here (none_narrower narrow wide xs within outs.1)
 
-module _ (w : Parts) (c : ℕ) (h : List Event) (b : Books) (told : AreTold w h b) where
+module _ (w : Parts) (c : ℕ) (h : List Event) (b : Books) (told : TablesTell w h b) where
   pub post_told : (n : ℕ) (ps : List PosterPart) → n + length ps ≤ length w.posters → post_in b n ps ≡ post_from h n ps
   post_told n [] low = refl
-  post_told n (p ∷ ps) low = rw (told.said n (omega (arith, low)), post_told (n + 1) ps (omega (arith, low))) refl
+  post_told n (p ∷ ps) low = rw (told.script_posts n (omega (arith, low)), post_told (n + 1) ps (omega (arith, low))) refl
 
   pub fire_told : (s : Spot) → fire_in w (record { actor = c; attempt = next_attempt c (fired h) }) b s ≡ fire_at w c h s
   fire_told s = rw (told.lives_so s, told.room_so s, told.choice_so s, told.cuts_so s) refl
@@ -60,7 +60,7 @@ module _ (w : Parts) (c : ℕ) (h : List Event) (b : Books) (told : AreTold w h 
 
   pub admit_told : (ts : List TaskId) → admit_in b (slice_get ts 0) ≡ admit_first w h ts
   admit_told [] = refl
-  admit_told (t ∷ ts) = rw (told.enters_so t) refl
+  admit_told (t ∷ ts) = rw (told.may_admit_task_so t) refl
 
   pub first_admit_told : (n : ℕ) (xs : List ArbiterPart) → n + length xs ≤ length w.arbiters → first_admit_in b n xs ≡ admit_from w h n xs
   first_admit_told n [] low = refl
@@ -95,7 +95,7 @@ module _ (w : Parts) (c : ℕ) (h : List Event) (b : Books) (told : AreTold w h 
   start_told n (q ∷ qs) low = rw (told.queued_so n (omega (arith, low)), start_told (n + 1) qs (omega (arith, low))) refl
 
   -- what does not touch by the tables doesn't by the model
-  untouched_branch : (e : Event) (s : Seat) → touches_branch_in w b e s ≡ false → touches_branch w h e s ≡ false
+  untouched_branch : (e : Event) (s : Placement) → touches_branch_in w b e s ≡ false → touches_branch w h e s ≡ false
   untouched_branch e s none =
       let outs = neither (names_any (posts_to e) s.branch.pattern) (is_throttle (policy_of w s.branch.queue) && list_any (comes_to b s.branch.queue) (freed_by e)) none in
       rw outs.0 (of_test (is_throttle (policy_of w s.branch.queue)) outs.1)
@@ -105,11 +105,11 @@ module _ (w : Parts) (c : ℕ) (h : List Event) (b : Books) (told : AreTold w h 
       of_test true out = none_narrower (has_task (fired_by w (λ r. r.branch.queue == s.branch.queue) h)) (comes_to b s.branch.queue) (freed_by e) (told.comes_so s.branch.queue) out
 
   pub untouched : (e : Event) (s : Spot) → touches_in w b e s ≡ false → touches w h e s ≡ false
-  untouched e (Branch n) none = of_seat (seat w n) none
+  untouched e (Branch n) none = of_placement (placement w n) none
     where
-      of_seat : (o : Option Seat) → option_map_or (touches_branch_in w b e) o false ≡ false → option_map_or (touches_branch w h e) o false ≡ false
-      of_seat None out = refl
-      of_seat (Some s) out = untouched_branch e s out
+      of_placement : (o : Option Placement) → option_map_or (touches_branch_in w b e) o false ≡ false → option_map_or (touches_branch w h e) o false ≡ false
+      of_placement None out = refl
+      of_placement (Some s) out = untouched_branch e s out
   untouched e (Site n k) none =
       let outs = neither (option_map_or (posts_to e) (site_port w n k) false) (list_any (yields_in b (Site n k)) (yielded_by e)) none in
       rw outs.0 (none_narrower (yields_at h (Site n k)) (yields_in b (Site n k)) (yielded_by e) (λ t is. told.yields_so (Site n k) t ∙ is) outs.1)

@@ -13,7 +13,7 @@ use Rattle.ccr_base.specs.declared.patterns.Pattern.{Pattern}
 use Rattle.ccr_base.specs.declared.patterns.Pattern.TheVariants.{Slots, Gather}
 use Rattle.ccr_base.specs.Names.{same_spot}
 use Rattle.ccr_wiring.specs.declared.parts.Parts.{Parts}
-use Rattle.ccr_wiring.specs.Wirings.{Seat, seat, site_port, policy_of, spots, is_branch, next_site}
+use Rattle.ccr_wiring.specs.Wirings.{Placement, placement, site_port, policy_of, spots, is_branch, next_site}
 use Rattle.ccr_model.specs.declared.history.Event.{Event}
 use Rattle.ccr_model.specs.declared.history.Event.TheVariants.{Post, End}
 use Rattle.ccr_model.specs.declared.history.EndHow.{EndHow}
@@ -56,20 +56,20 @@ any_none (u ∷ ts) = any_none ts
 module _ (w : Parts) (b : Books) where
   -- a post touches the spots that take from its port
   posted : (m : Msg) (s : Spot) → touches_in w b (Post m) s ≡ is_keyed w keys.Port m.port s
-  posted m (Branch n) = of_seat (seat w n)
+  posted m (Branch n) = of_placement (placement w n)
     where
-      of_seat : (o : Option Seat) → option_map_or (touches_branch_in w b (Post m)) o false ≡ option_map_or (λ (s : Seat). names_any (λ port. m.port == port) s.branch.pattern) o false
-      of_seat None = refl
-      of_seat (Some s) = rw (and_false (is_throttle (policy_of w s.branch.queue))) (or_nothing _)
+      of_placement : (o : Option Placement) → option_map_or (touches_branch_in w b (Post m)) o false ≡ option_map_or (λ (s : Placement). names_any (λ port. m.port == port) s.branch.pattern) o false
+      of_placement None = refl
+      of_placement (Some s) = rw (and_false (is_throttle (policy_of w s.branch.queue))) (or_nothing _)
   posted m (Site n k) = or_nothing _
 
   -- any other event but a yield touches the branches that wait for a place of the tasks that it frees
   freed : (e : Event) → ((port : ℕ) → posts_to e port ≡ false) → yielded_by e ≡ [] → (s : Spot) → touches_in w b e s ≡ list_any (λ t. frees_in w b t s) (freed_by e)
-  freed e silent stays (Branch n) = of_seat (seat w n)
+  freed e silent stays (Branch n) = of_placement (placement w n)
     where
-      of_seat : (o : Option Seat) → option_map_or (touches_branch_in w b e) o false ≡ list_any (λ t. option_map_or (λ (s : Seat). is_throttle (policy_of w s.branch.queue) && comes_to b s.branch.queue t) o false) (freed_by e)
-      of_seat None = any_none (freed_by e)
-      of_seat (Some s) = rw (pattern_silent e silent s.branch.pattern) (any_both (is_throttle (policy_of w s.branch.queue)) (comes_to b s.branch.queue) (freed_by e))
+      of_placement : (o : Option Placement) → option_map_or (touches_branch_in w b e) o false ≡ list_any (λ t. option_map_or (λ (s : Placement). is_throttle (policy_of w s.branch.queue) && comes_to b s.branch.queue t) o false) (freed_by e)
+      of_placement None = any_none (freed_by e)
+      of_placement (Some s) = rw (pattern_silent e silent s.branch.pattern) (any_both (is_throttle (policy_of w s.branch.queue)) (comes_to b s.branch.queue) (freed_by e))
   freed e silent stays (Site n k) = rw (of_port (site_port w n k), stays) (any_none (freed_by e))
     where
       of_port : (o : Option ℕ) → option_map_or (posts_to e) o false ≡ false
@@ -83,11 +83,11 @@ module _ (w : Parts) (b : Books) where
       of_port : (o : Option ℕ) → option_map_or (posts_to (End t Yield)) o false ≡ false
       of_port None = refl
       of_port (Some port) = refl
-  yielded t (Branch n) = of_seat (seat w n) ∙ of_card (card_at b.tasks t)
+  yielded t (Branch n) = of_placement (placement w n) ∙ of_card (card_at b.tasks t)
     where
-      of_seat : (o : Option Seat) → option_map_or (touches_branch_in w b (End t Yield)) o false ≡ false
-      of_seat None = refl
-      of_seat (Some s) = rw (pattern_silent (End t Yield) (λ port. refl) s.branch.pattern) (and_false (is_throttle (policy_of w s.branch.queue)))
+      of_placement : (o : Option Placement) → option_map_or (touches_branch_in w b (End t Yield)) o false ≡ false
+      of_placement None = refl
+      of_placement (Some s) = rw (pattern_silent (End t Yield) (λ port. refl) s.branch.pattern) (and_false (is_throttle (policy_of w s.branch.queue)))
 
       of_card : (o : Option Card) → false ≡ option_map_or (λ (card : Card). same_spot (next_site card.spot) (Branch n)) o false
       of_card None = refl
@@ -96,19 +96,19 @@ module _ (w : Parts) (b : Books) where
   -- what a task frees, by its card
   frees_by_card : (t : TaskId) (c : Card) → card_at b.tasks t ≡ Some c → is_branch c.spot ≡ true → (s : Spot) → frees_in w b t s ≡ is_keyed w keys.Queue c.queue s
   frees_by_card t c at branch (Site n k) = refl
-  frees_by_card t c at branch (Branch n) = of_seat (seat w n)
+  frees_by_card t c at branch (Branch n) = of_placement (placement w n)
     where
-      of_seat : (o : Option Seat) → option_map_or (λ (s : Seat). is_throttle (policy_of w s.branch.queue) && comes_to b s.branch.queue t) o false ≡ option_map_or (λ (s : Seat). is_throttle (policy_of w s.branch.queue) && (c.queue == s.branch.queue)) o false
-      of_seat None = refl
-      of_seat (Some s) = rw (at, branch) refl
+      of_placement : (o : Option Placement) → option_map_or (λ (s : Placement). is_throttle (policy_of w s.branch.queue) && comes_to b s.branch.queue t) o false ≡ option_map_or (λ (s : Placement). is_throttle (policy_of w s.branch.queue) && (c.queue == s.branch.queue)) o false
+      of_placement None = refl
+      of_placement (Some s) = rw (at, branch) refl
 
   frees_none : (t : TaskId) → ((q : ℕ) → comes_to b q t ≡ false) → (s : Spot) → frees_in w b t s ≡ false
   frees_none t stays (Site n k) = refl
-  frees_none t stays (Branch n) = of_seat (seat w n)
+  frees_none t stays (Branch n) = of_placement (placement w n)
     where
-      of_seat : (o : Option Seat) → option_map_or (λ (s : Seat). is_throttle (policy_of w s.branch.queue) && comes_to b s.branch.queue t) o false ≡ false
-      of_seat None = refl
-      of_seat (Some s) = rw (stays s.branch.queue) (and_false (is_throttle (policy_of w s.branch.queue)))
+      of_placement : (o : Option Placement) → option_map_or (λ (s : Placement). is_throttle (policy_of w s.branch.queue) && comes_to b s.branch.queue t) o false ≡ false
+      of_placement None = refl
+      of_placement (Some s) = rw (stays s.branch.queue) (and_false (is_throttle (policy_of w s.branch.queue)))
 
   -- the place after one task that a branch fired
   pub freed_branch : (t : TaskId) (c : Card) (n place : ℕ) → card_at b.tasks t ≡ Some c → is_branch c.spot ≡ true → place ≡ lowered (is_keyed w keys.Queue c.queue) (spots w) n → place ≡ lowered (frees_in w b t) (spots w) n

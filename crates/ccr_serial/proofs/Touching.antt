@@ -9,7 +9,7 @@ use Rattle.ccr_base.specs.declared.names.Spot.{Spot}
 use Rattle.ccr_base.specs.declared.names.Spot.TheVariants.{Branch, Site}
 use Rattle.ccr_base.specs.Names.{has_task, same_spot}
 use Rattle.ccr_wiring.specs.declared.parts.Parts.{Parts}
-use Rattle.ccr_wiring.specs.Wirings.{Seat, seat, policy_of, site_port}
+use Rattle.ccr_wiring.specs.Wirings.{Placement, placement, policy_of, site_port}
 use Rattle.ccr_model.specs.declared.history.Event.{Event}
 use Rattle.ccr_model.specs.declared.history.Event.TheVariants.{Post, Fire, Admit, Put, Start, End}
 use Rattle.ccr_model.specs.Firings.{firings, firing_of, fired_at, yielded, yielded_by}
@@ -31,11 +31,11 @@ use Rattle.ccr_serial.proofs.Rooms.{live_before, room_before, fired_where-append
 use Rattle.ccr_serial.proofs.Takes.{less_before, enough_before, some_before}
 
 -- a branch
-seat_before : (w : Parts) (h : List Event) (e : Event) (n : ℕ) (o : Option Seat) → option_map_or (touches_branch w h e) o false ≡ false
-    → option_map_or (λ (s : Seat). is_live_in w (h ++ e ∷ []) n s.arbiter s.branch.group) o false && option_map_or (λ (s : Seat). has_room_in w (h ++ e ∷ []) s.branch.queue (policy_of w s.branch.queue)) o true && option_map_or (λ (s : Seat). has_enough (held (h ++ e ∷ [])) s.branch.pattern) o false ≡ true
-    → option_map_or (λ (s : Seat). is_live_in w h n s.arbiter s.branch.group) o false && option_map_or (λ (s : Seat). has_room_in w h s.branch.queue (policy_of w s.branch.queue)) o true && option_map_or (λ (s : Seat). has_enough (held h) s.branch.pattern) o false ≡ true
-seat_before w h e n None none is = absurd (cc)
-seat_before w h e n (Some s) none is =
+placement_before : (w : Parts) (h : List Event) (e : Event) (n : ℕ) (o : Option Placement) → option_map_or (touches_branch w h e) o false ≡ false
+    → option_map_or (λ (s : Placement). is_live_in w (h ++ e ∷ []) n s.arbiter s.branch.group) o false && option_map_or (λ (s : Placement). has_room_in w (h ++ e ∷ []) s.branch.queue (policy_of w s.branch.queue)) o true && option_map_or (λ (s : Placement). has_enough (held (h ++ e ∷ [])) s.branch.pattern) o false ≡ true
+    → option_map_or (λ (s : Placement). is_live_in w h n s.arbiter s.branch.group) o false && option_map_or (λ (s : Placement). has_room_in w h s.branch.queue (policy_of w s.branch.queue)) o true && option_map_or (λ (s : Placement). has_enough (held h) s.branch.pattern) o false ≡ true
+placement_before w h e n None none is = absurd (cc)
+placement_before w h e n (Some s) none is =
     let outs = neither (names_any (posts_to e) s.branch.pattern) (is_throttle (policy_of w s.branch.queue) && frees w h e s.branch.queue) none in
     let first = both (is_live_in w (h ++ e ∷ []) n s.arbiter s.branch.group && has_room_in w (h ++ e ∷ []) s.branch.queue (policy_of w s.branch.queue)) (has_enough (held (h ++ e ∷ [])) s.branch.pattern) is in
     let second = both (is_live_in w (h ++ e ∷ []) n s.arbiter s.branch.group) (has_room_in w (h ++ e ∷ []) s.branch.queue (policy_of w s.branch.queue)) first.0 in
@@ -101,7 +101,7 @@ port_before h e (Some p) none is = some_before (held (h ++ e ∷ []) p) (held h 
 
 -- the law of the cursor
 pub could_fire : (w : Parts) (h : List Event) (e : Event) (s : Spot) → IsLegal w h → touches w h e s ≡ false → can_fire w (h ++ e ∷ []) s ≡ true → can_fire w h s ≡ true
-could_fire w h e (Branch n) legal none is = seat_before w h e n (seat w n) none is
+could_fire w h e (Branch n) legal none is = placement_before w h e n (placement w n) none is
 could_fire w h e (Site n k) legal none is =
     let outs = neither (option_map_or (posts_to e) (site_port w n k) false) (list_any (yields_at h (Site n k)) (yielded_by e)) none in
     let first = both (is_live w (h ++ e ∷ []) (Site n k) && true) (can_take w (h ++ e ∷ []) (Site n k)) is in

@@ -16,11 +16,11 @@ use Rattle.ccr_model.specs.TaskData.{play_of}
 use Rattle.ccr_model.specs.Tasks.{fired_by, waiting, queued, running}
 use Rattle.ccr_model.specs.Live.{is_live, has_room}
 use Rattle.ccr_model.specs.Choice.{engine_choice}
-use Rattle.ccr_model.specs.Rules.{cuts_at, may_enter, drop_at, has_budget, needs_no_admission}
+use Rattle.ccr_model.specs.Rules.{cuts_at, may_admit, drop_at, has_budget, needs_no_admission}
 use Rattle.ccr_model.specs.Order.{next_attempt}
 use Rattle.ccr_rows.specs.Rows.{row}
 use Rattle.ccr_ledger.specs.Books.{Books, number, card_at, runners}
-use Rattle.ccr_ledger.specs.Asked.{lives, room, choice_at, cuts, enters, drops, play_in, made_in, budget_lasts}
+use Rattle.ccr_ledger.specs.Asked.{lives, room, choice_at, cuts, may_admit_task, drops, play_in, made_in, budget_lasts}
 use Rattle.ccr_ledger.specs.declared.cards.Card.{Card}
 use Rattle.ccr_ledger.specs.Events.{after_event}
 use Rattle.ccr_ledger.specs.Kept.{Keeps}
@@ -74,14 +74,14 @@ first_in wiring closer desk =
     (start_in closer desk.books 0 wiring.queues)))))
 
 -- what the order asks of the tables is what the model says
-pub record AreTold (wiring : Parts) (history : List Event) (books : Books) : Type 0 where
-  pub said : (poster : ℕ) → poster < length wiring.posters → number books.said poster ≡ posts_of_poster history poster
+pub record TablesTell (wiring : Parts) (history : List Event) (books : Books) : Type 0 where
+  pub script_posts : (poster : ℕ) → poster < length wiring.posters → number books.script_posts poster ≡ posts_of_poster history poster
   pub lives_so : (spot : Spot) → lives wiring books spot ≡ is_live wiring history spot
   pub room_so : (spot : Spot) → room wiring books spot ≡ has_room wiring history spot
   pub choice_so : (spot : Spot) → choice_at wiring books spot ≡ engine_choice wiring history spot
   pub cuts_so : (spot : Spot) → cuts wiring books spot ≡ cuts_at wiring history spot
   pub waits_so : (domain : ℕ) → domain < length wiring.arbiters → row books.waiting domain ≡ waiting wiring history domain
-  pub enters_so : (task : TaskId) → enters books task ≡ may_enter wiring history task
+  pub may_admit_task_so : (task : TaskId) → may_admit_task books task ≡ may_admit wiring history task
   pub names : (place : ℕ) → option_map (λ entry. entry.0) (slice_get books.tasks place) ≡ slice_get (fired history) place
   pub drops_so : (task : TaskId) → drops wiring books task ≡ drop_at wiring history task
   pub runs_so : runners books.running ≡ running history

@@ -13,7 +13,7 @@ use Rattle.ccr_wiring.specs.declared.parts.Parts.{Parts}
 use Rattle.ccr_wiring.specs.declared.parts.PosterPart.{PosterPart}
 use Rattle.ccr_wiring.specs.declared.parts.ArbiterPart.{ArbiterPart}
 use Rattle.ccr_wiring.specs.declared.parts.QueuePart.{QueuePart}
-use Rattle.ccr_wiring.specs.Wirings.{Seat, seat, policy_of, site_port, is_branch, next_site}
+use Rattle.ccr_wiring.specs.Wirings.{Placement, placement, policy_of, site_port, is_branch, next_site}
 use Rattle.ccr_model.specs.declared.history.Event.{Event}
 use Rattle.ccr_model.specs.declared.history.Event.TheVariants.{Fire, Admit, Put, Start, End}
 use Rattle.ccr_model.specs.declared.history.EndHow.TheVariants as ends
@@ -23,12 +23,12 @@ use Rattle.ccr_model.specs.Order.{script_post, task_post, how_of}
 use Rattle.ccr_rows.specs.Rows.{row}
 use Rattle.ccr_ledger.specs.declared.cards.Card.{Card}
 use Rattle.ccr_ledger.specs.Books.{Books, number, card_at}
-use Rattle.ccr_ledger.specs.Asked.{lives, room, choice_at, cuts, enters, drops, play_in, made_in, budget_lasts}
+use Rattle.ccr_ledger.specs.Asked.{lives, room, choice_at, cuts, may_admit_task, drops, play_in, made_in, budget_lasts}
 use Rattle.ccr_serial.specs.Touched.{posts_to, freed_by, names_any, is_throttle}
 
 -- the next line of the poster of this number
 abbrev pub line_in : Books → ℕ → PosterPart → Option Event
-line_in books actor poster = option_map (script_post actor (number books.said actor)) (slice_get poster.posts (number books.said actor))
+line_in books actor poster = option_map (script_post actor (number books.script_posts actor)) (slice_get poster.posts (number books.script_posts actor))
 
 -- of the posters, of which the first has this number, the next line of the first that has one left
 abbrev pub post_in : Books → ℕ → List PosterPart → Option Event
@@ -50,7 +50,7 @@ first_fire_in wiring task books (spot ∷ more) = option_or (fire_in wiring task
 -- the admission of the first task, where it may enter
 abbrev pub admit_in : Books → Option TaskId → Option Event
 admit_in books None = None
-admit_in books (Some task) = if enters books task then Some (Admit task) else None
+admit_in books (Some task) = if may_admit_task books task then Some (Admit task) else None
 
 -- of the domains, of which the first has this number, the first that has a task to admit
 abbrev pub first_admit_in : Books → ℕ → List ArbiterPart → Option Event
@@ -85,22 +85,22 @@ yields_in books site task = option_map_or (λ (card : Card). same_spot (next_sit
 
 -- whether the spot is a branch on a throttle queue for which a branch fired the task
 abbrev pub frees_in : Parts → Books → TaskId → Spot → Bool
-frees_in wiring books task (Branch branch) = option_map_or (λ (s : Seat). is_throttle (policy_of wiring s.branch.queue) && comes_to books s.branch.queue task) (seat wiring branch) false
+frees_in wiring books task (Branch branch) = option_map_or (λ (s : Placement). is_throttle (policy_of wiring s.branch.queue) && comes_to books s.branch.queue task) (placement wiring branch) false
 frees_in wiring books task (Site branch site) = false
 
 -- a branch: a post to a port that it names, or a place that becomes free in its throttle queue
-abbrev pub touches_branch_in : Parts → Books → Event → Seat → Bool
+abbrev pub touches_branch_in : Parts → Books → Event → Placement → Bool
 touches_branch_in wiring books event s = names_any (posts_to event) s.branch.pattern || (is_throttle (policy_of wiring s.branch.queue) && list_any (comes_to books s.branch.queue) (freed_by event))
 
 -- whether the event may let the spot fire
 abbrev pub touches_in : Parts → Books → Event → Spot → Bool
-touches_in wiring books event (Branch branch) = option_map_or (touches_branch_in wiring books event) (seat wiring branch) false
+touches_in wiring books event (Branch branch) = option_map_or (touches_branch_in wiring books event) (placement wiring branch) false
 touches_in wiring books event (Site branch site) = option_map_or (posts_to event) (site_port wiring branch site) false || list_any (yields_in books (Site branch site)) (yielded_by event)
 
 -- of the posters, of which the first has this number, none has a line left
 abbrev pub are_done_in : Books → ℕ → List PosterPart → Bool
 are_done_in books actor [] = true
-are_done_in books actor (poster ∷ posters) = nat_le (length poster.posts) (number books.said actor) && are_done_in books (actor + 1) posters
+are_done_in books actor (poster ∷ posters) = nat_le (length poster.posts) (number books.script_posts actor) && are_done_in books (actor + 1) posters
 
 -- whether some of the spots can fire
 abbrev pub some_fires_in : Parts → TaskId → Books → List Spot → Bool

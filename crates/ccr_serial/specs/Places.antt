@@ -5,7 +5,7 @@ use Rattle.std.specs.Option.{option_map_or}
 use Rattle.ccr_base.specs.declared.names.Spot.{Spot}
 use Rattle.ccr_base.specs.declared.names.Spot.TheVariants.{Branch, Site}
 use Rattle.ccr_wiring.specs.declared.parts.Parts.{Parts}
-use Rattle.ccr_wiring.specs.Wirings.{Seat, seat, seats, policy_of, site_port, spots}
+use Rattle.ccr_wiring.specs.Wirings.{Placement, placement, placements, policy_of, site_port, spots}
 use Rattle.ccr_wiring.specs.Valid.{IsValid}
 use Rattle.ccr_serial.specs.declared.places.Key.{Key}
 use Rattle.ccr_serial.specs.declared.places.Key.TheVariants as keys
@@ -23,9 +23,9 @@ at_most (Some place) number = min number place
 
 -- whether the spot takes from the port of this number, is a branch on the queue of this number and held back by it, or is the branch of this number
 abbrev pub is_keyed : Parts → Key → ℕ → Spot → Bool
-is_keyed wiring keys.Port number (Branch branch) = option_map_or (λ (s : Seat). names_any (λ port. number == port) s.branch.pattern) (seat wiring branch) false
+is_keyed wiring keys.Port number (Branch branch) = option_map_or (λ (s : Placement). names_any (λ port. number == port) s.branch.pattern) (placement wiring branch) false
 is_keyed wiring keys.Port number (Site branch site) = option_map_or (λ port. number == port) (site_port wiring branch site) false
-is_keyed wiring keys.Queue number (Branch branch) = option_map_or (λ (s : Seat). is_throttle (policy_of wiring s.branch.queue) && (number == s.branch.queue)) (seat wiring branch) false
+is_keyed wiring keys.Queue number (Branch branch) = option_map_or (λ (s : Placement). is_throttle (policy_of wiring s.branch.queue) && (number == s.branch.queue)) (placement wiring branch) false
 is_keyed wiring keys.Queue number (Site branch site) = false
 is_keyed wiring keys.Branch number (Branch branch) = number == branch
 is_keyed wiring keys.Branch number (Site branch site) = false
@@ -38,7 +38,7 @@ first_keyed wiring key number = first_place (is_keyed wiring key number) (spots 
 abbrev pub count_of : Parts → Key → ℕ
 count_of wiring keys.Port = length wiring.ports
 count_of wiring keys.Queue = length wiring.queues
-count_of wiring keys.Branch = length (seats wiring)
+count_of wiring keys.Branch = length (placements wiring)
 
 -- these are the first places of so many of the first numbers
 pub record AreFirst (wiring : Parts) (key : Key) (count : ℕ) (firsts : List (Option ℕ)) : Type 0 where

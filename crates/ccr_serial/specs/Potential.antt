@@ -5,7 +5,7 @@ use Rattle.ccr_base.specs.declared.patterns.Slot.{Slot}
 use Rattle.ccr_base.specs.declared.patterns.Pattern.{Pattern}
 use Rattle.ccr_base.specs.declared.patterns.Pattern.TheVariants.{Slots, Gather}
 use Rattle.ccr_wiring.specs.declared.parts.Parts.{Parts}
-use Rattle.ccr_wiring.specs.Wirings.{Seat, seat}
+use Rattle.ccr_wiring.specs.Wirings.{Placement, placement}
 use Rattle.ccr_wiring.specs.Limits.{posts_in_all}
 use Rattle.ccr_model.specs.declared.history.Event.{Event}
 
@@ -16,7 +16,7 @@ takes_some (Gather total first second) = nat_le 1 total
 
 -- no branch fires on nothing
 abbrev pub TakesSome : Parts → Type 0
-TakesSome wiring = (branch : ℕ) (s : Seat) → seat wiring branch ≡ Some s → takes_some s.branch.pattern ≡ true
+TakesSome wiring = (branch : ℕ) (s : Placement) → placement wiring branch ≡ Some s → takes_some s.branch.pattern ≡ true
 
 -- each message that may be posted makes at most six events: its post, and the firing that takes it with the admission, the put, the start and the end of that task
 unfoldable pub most_events : Parts → ℕ

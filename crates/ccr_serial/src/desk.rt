@@ -13,7 +13,7 @@ use crate::touched::place_after;
 use ccr_base::{ActorNo, OutOfMemory, Spot, TaskId};
 use ccr_ledger::Ledger;
 use ccr_model::Event;
-use ccr_model::seats::{is_interleave, seat};
+use ccr_model::placements::{is_interleave, placement};
 use ccr_wiring::Wiring;
 use std::alloc::Global;
 use std::marker::Model;
@@ -51,8 +51,8 @@ fn needs_no_admission(wiring: &Wiring, spot: Spot) -> bool
     ensures { result ≡ needs_no_admission wiring.now spot }
 {
     match spot {
-        Spot::Branch(branch) => match seat(wiring, branch) {
-            Some(seat) => !is_interleave(seat.kind),
+        Spot::Branch(branch) => match placement(wiring, branch) {
+            Some(placement) => !is_interleave(placement.kind),
             None => false,
         },
         Spot::Site(_, _) => true,
@@ -115,7 +115,7 @@ impl Desk {
 
     /// The event that comes first: a script's next line, a firing, an admission, a put, the next event of a running task, or a
     /// start, in this order; None where there is none.
-    pub(crate) fn first(
+    pub(crate) fn next_event(
         &mut self,
         alloc: Global,
         wiring: &Wiring,

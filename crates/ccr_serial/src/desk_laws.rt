@@ -16,64 +16,64 @@ ghost use Rattle.ccr_ledger.specs.Kept.{Keeps};
 ghost use Rattle.ccr_serial.specs.Cursor.{IsStill};
 ghost use Rattle.ccr_serial.specs.Ready.{AreReady, IsLeast};
 ghost use Rattle.ccr_serial.specs.Parts.{post_in, first_fire_in, first_admit_in, put_in, run_in, start_in};
-ghost use Rattle.ccr_serial.specs.Desk.{AreTold, Desk, Follows, IsAhead, IsIdle, Stands, after_place, first_in};
+ghost use Rattle.ccr_serial.specs.Desk.{TablesTell, Desk, Follows, IsAhead, IsIdle, Stands, after_place, first_in};
 
 /// The next line by the tables.
 pub fn posts_are_told()
-    ensures { (wiring : Parts) (history : List Event) (books : Books) → AreTold wiring history books → post_in books 0 wiring.posters ≡ post_from history 0 wiring.posters }
+    ensures { (wiring : Parts) (history : List Event) (books : Books) → TablesTell wiring history books → post_in books 0 wiring.posters ≡ post_from history 0 wiring.posters }
 {}
 
 /// The next firing by the tables.
 pub fn firings_are_told()
-    ensures { (wiring : Parts) (closer : ℕ) (history : List Event) (books : Books) → AreTold wiring history books → first_fire_in wiring (record { actor = closer; attempt = next_attempt closer (fired history) }) books (spots wiring) ≡ fire_from wiring closer history (spots wiring) }
+    ensures { (wiring : Parts) (closer : ℕ) (history : List Event) (books : Books) → TablesTell wiring history books → first_fire_in wiring (record { actor = closer; attempt = next_attempt closer (fired history) }) books (spots wiring) ≡ fire_from wiring closer history (spots wiring) }
 {}
 
 /// The next admission by the tables.
 pub fn admissions_are_told()
-    ensures { (wiring : Parts) (history : List Event) (books : Books) → AreTold wiring history books → first_admit_in books 0 wiring.arbiters ≡ admit_from wiring history 0 wiring.arbiters }
+    ensures { (wiring : Parts) (history : List Event) (books : Books) → TablesTell wiring history books → first_admit_in books 0 wiring.arbiters ≡ admit_from wiring history 0 wiring.arbiters }
 {}
 
 /// The next put by the tables.
 pub fn puts_are_told()
-    ensures { (wiring : Parts) (history : List Event) (books : Books) (numbers : List ℕ) (number : ℕ) → AreTold wiring history books → AreReady wiring history numbers → IsLeast numbers number → put_in wiring books number ≡ put_first wiring history }
+    ensures { (wiring : Parts) (history : List Event) (books : Books) (numbers : List ℕ) (number : ℕ) → TablesTell wiring history books → AreReady wiring history numbers → IsLeast numbers number → put_in wiring books number ≡ put_first wiring history }
 {}
 
 /// The next event of a running task by the tables.
 pub fn runs_are_told()
-    ensures { (wiring : Parts) (history : List Event) (books : Books) → AreTold wiring history books → option_map (run_in wiring books) (slice_get (runners books.running) 0) ≡ option_map (run_task wiring history) (slice_get (running history) 0) }
+    ensures { (wiring : Parts) (history : List Event) (books : Books) → TablesTell wiring history books → option_map (run_in wiring books) (slice_get (runners books.running) 0) ≡ option_map (run_task wiring history) (slice_get (running history) 0) }
 {}
 
 /// The next start by the tables.
 pub fn starts_are_told()
-    ensures { (wiring : Parts) (closer : ℕ) (history : List Event) (books : Books) → AreTold wiring history books → start_in closer books 0 wiring.queues ≡ start_from wiring closer history 0 wiring.queues }
+    ensures { (wiring : Parts) (closer : ℕ) (history : List Event) (books : Books) → TablesTell wiring history books → start_in closer books 0 wiring.queues ≡ start_from wiring closer history 0 wiring.queues }
 {}
 
 /// What an event touches by the tables is enough to lower the place by.
 pub fn the_place_is_told()
-    ensures { (wiring : Parts) (history : List Event) (books : Books) (event : Event) (place : ℕ) → IsLegal wiring history → AreTold wiring history books → IsStill wiring history place → IsStill wiring (history ++ event ∷ []) (after_place wiring books event place) }
+    ensures { (wiring : Parts) (history : List Event) (books : Books) (event : Event) (place : ℕ) → IsLegal wiring history → TablesTell wiring history books → IsStill wiring history place → IsStill wiring (history ++ event ∷ []) (after_place wiring books event place) }
 {}
 
 /// After each allowed event the desk still says what the model says.
 pub fn the_desk_follows()
-    ensures { (wiring : Parts) (closer : ℕ) (history : List Event) (event : Event) (old new : Desk) → IsLegal wiring history → IsAllowed wiring history event → AreTold wiring history old.books → Keeps wiring (history ++ event ∷ []) (after_event wiring event old.books) → Stands wiring closer history old → Follows wiring closer event old new → Stands wiring closer (history ++ event ∷ []) new }
+    ensures { (wiring : Parts) (closer : ℕ) (history : List Event) (event : Event) (old new : Desk) → IsLegal wiring history → IsAllowed wiring history event → TablesTell wiring history old.books → Keeps wiring (history ++ event ∷ []) (after_event wiring event old.books) → Stands wiring closer history old → Follows wiring closer event old new → Stands wiring closer (history ++ event ∷ []) new }
 {}
 
 /// What the order asks of the tables is what the model says, where they keep what it says.
 pub fn the_tables_tell()
-    ensures { (wiring : Parts) → IsValid wiring → (history : List Event) → IsLegal wiring history → (books : Books) → Keeps wiring history books → AreTold wiring history books }
+    ensures { (wiring : Parts) → IsValid wiring → (history : List Event) → IsLegal wiring history → (books : Books) → Keeps wiring history books → TablesTell wiring history books }
 {}
 
 /// The event that comes first is read from the desk.
 pub fn the_order_is_told()
-    ensures { (wiring : Parts) (closer : ℕ) (history : List Event) (desk : Desk) → AreTold wiring history desk.books → Stands wiring closer history desk → first_in wiring closer desk ≡ first wiring closer history }
+    ensures { (wiring : Parts) (closer : ℕ) (history : List Event) (desk : Desk) → TablesTell wiring history desk.books → Stands wiring closer history desk → first_in wiring closer desk ≡ first wiring closer history }
 {}
 
 /// The desk may go on past what was asked in vain.
 pub fn the_desk_goes_ahead()
-    ensures { (wiring : Parts) (closer : ℕ) (history : List Event) (old new : Desk) → AreTold wiring history old.books → Stands wiring closer history old → IsAhead wiring closer old new → Stands wiring closer history new }
+    ensures { (wiring : Parts) (closer : ℕ) (history : List Event) (old new : Desk) → TablesTell wiring history old.books → Stands wiring closer history old → IsAhead wiring closer old new → Stands wiring closer history new }
 {}
 
 /// Before the desk's poster and place nothing is left by the tables too.
 pub fn the_desk_is_idle_behind()
-    ensures { (wiring : Parts) (closer : ℕ) (history : List Event) (desk : Desk) → AreTold wiring history desk.books → Stands wiring closer history desk → IsIdle wiring closer desk }
+    ensures { (wiring : Parts) (closer : ℕ) (history : List Event) (desk : Desk) → TablesTell wiring history desk.books → Stands wiring closer history desk → IsIdle wiring closer desk }
 {}

@@ -18,7 +18,7 @@ use ccr_wiring::{PosterPart, Wiring};
 use std::alloc::Global;
 
 /// The post as a message of this name.
-pub(crate) fn named(alloc: Global, id: MsgId, sent: &Sent) -> Result<Msg, OutOfMemory>
+pub(crate) fn message_of(alloc: Global, id: MsgId, sent: &Sent) -> Result<Msg, OutOfMemory>
     ensures { IfOk result (λ message. message ≡ record { id = id; port = sent.now.port; value = sent.now.value; causes = sent.now.causes }) }
 {
     Ok(Msg {
@@ -38,7 +38,7 @@ fn next_line(
 ) -> Result<Option<Event>, OutOfMemory>
     ensures { IfOk result (λ event. event ≡ line_in ledger.now number poster.now) }
 {
-    let place = ledger.said(number);
+    let place = ledger.script_posts(number);
     let Some(sent) = poster.posts.as_slice().get(place as usize) else {
         return Ok(None);
     };
@@ -46,7 +46,7 @@ fn next_line(
         actor: number,
         place,
     };
-    Ok(Some(Event::Post(named(alloc, id, sent)?)))
+    Ok(Some(Event::Post(message_of(alloc, id, sent)?)))
 }
 
 /// The next line of the lowest poster that has one left, which the number goes on to.
@@ -123,7 +123,7 @@ fn admit_at(ledger: &Ledger, domain: usize) -> Option<Event>
     ensures { result ≡ admit_in ledger.now (slice_get (row ledger.now.waiting domain) 0) }
 {
     let task = ledger.oldest_waiting(domain)?;
-    if ledger.enters(task) {
+    if ledger.may_admit_task(task) {
         Some(Event::Admit(task))
     } else {
         None
@@ -196,7 +196,7 @@ fn run_task(
         task,
         place: card.made,
     };
-    Ok(Event::Post(named(alloc, id, sent)?))
+    Ok(Event::Post(message_of(alloc, id, sent)?))
 }
 
 /// The next event of the running task that started first.

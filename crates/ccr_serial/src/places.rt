@@ -5,14 +5,14 @@ ghost use Rattle.std.specs.List.{list_any, slice_get};
 ghost use Rattle.ccr_base.specs.declared.names.Spot.TheVariants.{Site};
 ghost use Rattle.ccr_base.specs.declared.patterns.Slot.{Slot};
 ghost use Rattle.ccr_base.specs.Names.{same_spot};
-ghost use Rattle.ccr_wiring.specs.Wirings.{next_site, seats, spots};
+ghost use Rattle.ccr_wiring.specs.Wirings.{next_site, placements, spots};
 ghost use Rattle.ccr_wiring.specs.Valid.{IsValid};
 ghost use Rattle.ccr_serial.specs.declared.places.Key.TheVariants as keys;
 ghost use Rattle.ccr_serial.specs.Touched.{is_throttle, names_any};
 ghost use Rattle.ccr_serial.specs.Places.{AreFirst, first_keyed, first_place, is_keyed};
 
 use ccr_base::{OutOfMemory, Pattern, Policy, PortNo, QueueNo, Slot, Spot};
-use ccr_model::seats::{policy_of, seat, site_port};
+use ccr_model::placements::{placement, policy_of, site_port};
 use ccr_wiring::{Parts, Wiring};
 use std::alloc::Global;
 use std::marker::Model;
@@ -55,8 +55,8 @@ fn takes_from(wiring: &Wiring, port: PortNo, spot: Spot) -> bool
     ensures { result ≡ is_keyed wiring.now keys.Port port spot }
 {
     match spot {
-        Spot::Branch(branch) => match seat(wiring, branch) {
-            Some(seat) => pattern_names(&seat.branch.pattern, port),
+        Spot::Branch(branch) => match placement(wiring, branch) {
+            Some(placement) => pattern_names(&placement.branch.pattern, port),
             None => false,
         },
         Spot::Site(branch, site) => match site_port(wiring, branch, site) {
@@ -81,9 +81,9 @@ fn is_held_by(wiring: &Wiring, queue: QueueNo, spot: Spot) -> bool
     ensures { result ≡ is_keyed wiring.now keys.Queue queue spot }
 {
     match spot {
-        Spot::Branch(branch) => match seat(wiring, branch) {
-            Some(seat) => is_throttle(policy_of(wiring, seat.branch.queue))
-                && queue == seat.branch.queue,
+        Spot::Branch(branch) => match placement(wiring, branch) {
+            Some(placement) => is_throttle(policy_of(wiring, placement.branch.queue))
+                && queue == placement.branch.queue,
             None => false,
         },
         Spot::Site(_, _) => false,
@@ -135,11 +135,11 @@ fn all_first(
 
 /// How many branches the wiring has, which are at most 256.
 fn count_branches(wiring: &Wiring) -> u32
-    ensures { result ≡ length (seats wiring.now) }
+    ensures { result ≡ length (placements wiring.now) }
 {
     let _valid = wiring.parts();
     for branch in 0..256 {
-        if seat(wiring, branch).is_none() {
+        if placement(wiring, branch).is_none() {
             return branch;
         }
     }

@@ -79,7 +79,7 @@ pub(crate) fn next_of(
 {
     make_current(alloc, places, closer, history, desk, *current)?;
     *current = false;
-    let next = desk.first(alloc, places.wiring(), closer)?;
+    let next = desk.next_event(alloc, places.wiring(), closer)?;
     *current = true;
     Ok(next)
 }

@@ -22,7 +22,7 @@ use Rattle.ccr_wiring.specs.Spots.{has_crowded_port}
 use Rattle.ccr_text.specs.Words.{is_name_of}
 use Rattle.ccr_wiring.specs.Valid.{IsValid}
 use Rattle.ccr_wiring.specs.Versions.{has_strange_version, has_newer}
-use Rattle.ccr_wiring.specs.Wirings.{Seat, seats_of, seats_from, seats, in_domain}
+use Rattle.ccr_wiring.specs.Wirings.{Placement, placements_of, placements_from, placements, in_domain}
 use Rattle.ccr_trace.specs.Words.{branch_names, branch_names_of, cause_names}
 
 neither : (a b : Bool) → (a || b) ≡ false → (a ≡ false) × (b ≡ false)
@@ -176,17 +176,17 @@ apart (arbiter ∷ arbiters) grouped e =
 pub branches_apart : (parts : Parts) → IsValid parts → has_repeated (branch_names parts) ≡ false
 branches_apart parts valid = apart parts.arbiters (misgrouped_none parts valid) (arbiters_apart parts valid)
 
-counted : (number : ℕ) (arbiters : List ArbiterPart) → length (flat_map branch_names_of arbiters) ≡ length (seats_from number arbiters)
+counted : (number : ℕ) (arbiters : List ArbiterPart) → length (flat_map branch_names_of arbiters) ≡ length (placements_from number arbiters)
 counted number [] = refl
 counted number (arbiter ∷ arbiters) =
     let more = counted (number + 1) arbiters in
-    let seated : length (seats_of number arbiter) ≡ length arbiter.branches = length-map {B = Seat} arbiter.branches _ in
+    let with_placement : length (placements_of number arbiter) ≡ length arbiter.branches = length-map {B = Placement} arbiter.branches _ in
     ap length (flat_map-cons branch_names_of arbiter arbiters)
-    ∙ omega (arith, more, length-append (branch_names_of arbiter) (flat_map branch_names_of arbiters), length-append (seats_of number arbiter) (seats_from (number + 1) arbiters), length-map arbiter.branches (λ (part : BranchPart). part.name), seated)
+    ∙ omega (arith, more, length-append (branch_names_of arbiter) (flat_map branch_names_of arbiters), length-append (placements_of number arbiter) (placements_from (number + 1) arbiters), length-map arbiter.branches (λ (part : BranchPart). part.name), with_placement)
 
 -- a name for each branch
-pub length-branch_names : (parts : Parts) → length (branch_names parts) ≡ length (seats parts)
-length-branch_names parts = counted 0 parts.arbiters ∙ sym (length-map (seats_from 0 parts.arbiters) (in_domain parts.domains))
+pub length-branch_names : (parts : Parts) → length (branch_names parts) ≡ length (placements parts)
+length-branch_names parts = counted 0 parts.arbiters ∙ sym (length-map (placements_from 0 parts.arbiters) (in_domain parts.domains))
 
 formed : (parts : Parts) → IsValid parts → list_any (λ name. not (is_name_of name)) (declared_names parts) ≡ false
 unfolding code_of

@@ -10,7 +10,7 @@ use Rattle.ccr_base.specs.declared.names.Spot.TheVariants.{Branch, Site}
 use Rattle.ccr_wiring.specs.declared.parts.CausePart.{CausePart}
 use Rattle.ccr_wiring.specs.declared.parts.Parts.{Parts}
 use Rattle.ccr_wiring.specs.Valid.{IsValid}
-use Rattle.ccr_wiring.specs.Wirings.{Seat, seat, seats, site_port}
+use Rattle.ccr_wiring.specs.Wirings.{Placement, placement, placements, site_port}
 use Rattle.ccr_model.specs.declared.history.Event.{Event}
 use Rattle.ccr_model.specs.declared.history.Event.TheVariants as events
 use Rattle.ccr_model.specs.declared.history.EndHow.{EndHow}
@@ -53,22 +53,22 @@ words_of_said parts (events.Put task dropped) = refl
 words_of_said parts (events.Start task actor) = refl
 words_of_said parts (events.End task how) = refl
 
-seat_within : (parts : Parts) (branch : ℕ) → IsSome (seat parts branch) → branch < length (branch_names parts)
-seat_within parts branch there = by (seat parts branch) refl there
+placement_within : (parts : Parts) (branch : ℕ) → IsSome (placement parts branch) → branch < length (branch_names parts)
+placement_within parts branch there = by (placement parts branch) refl there
   where
-    by : (found : Option Seat) → slice_get (seats parts) branch ≡ found → is_some found ≡ true → branch < length (branch_names parts)
+    by : (found : Option Placement) → slice_get (placements parts) branch ≡ found → is_some found ≡ true → branch < length (branch_names parts)
     by None is e = absurd cc
-    by (Some s) is e = omega (arith, slice_get_within (seats parts) branch s is, length-branch_names parts)
+    by (Some s) is e = omega (arith, slice_get_within (placements parts) branch s is, length-branch_names parts)
 
 site_within : (parts : Parts) (branch site : ℕ) → IsSome (site_port parts branch site) → branch < length (branch_names parts)
-site_within parts branch site there = seat_within parts branch (by (seat parts branch) refl)
+site_within parts branch site there = placement_within parts branch (by (placement parts branch) refl)
   where
-    by : (found : Option Seat) → seat parts branch ≡ found → is_some (seat parts branch) ≡ true
+    by : (found : Option Placement) → placement parts branch ≡ found → is_some (placement parts branch) ≡ true
     by (Some s) is = ap is_some is
     by None is = absurd (let none : is_some (site_port parts branch site) ≡ false = rw is refl in let clash : true ≡ false = sym there ∙ none in cc)
 
 spot_good : (parts : Parts) (spot : Spot) → IsValid parts → IsKnownSpot parts spot → IsShortSpot spot → IsName (spot_said parts spot).name × IsSite (spot_said parts spot).site
-spot_good parts (Branch branch) valid there short = (name_formed (branch_names parts) branch (are_formed parts valid).branches (seat_within parts branch there), tt)
+spot_good parts (Branch branch) valid there short = (name_formed (branch_names parts) branch (are_formed parts valid).branches (placement_within parts branch there), tt)
 spot_good parts (Site branch site) valid there short = (name_formed (branch_names parts) branch (are_formed parts valid).branches (site_within parts branch site there), short)
 
 count_causes : (parts : Parts) → length (cause_names parts) ≡ length parts.causes
@@ -102,7 +102,7 @@ said_good parts (events.End task how) valid there some short = (short.0, end_goo
 
 spot_again : (parts : Parts) (spot : Spot) → IsValid parts → IsKnownSpot parts spot → spot_known parts (spot_said parts spot) ≡ Some spot
 unfolding spot_known
-spot_again parts (Branch branch) valid there = rw (number_in-name (branch_names parts) branch (branches_apart parts valid) (seat_within parts branch there)) refl
+spot_again parts (Branch branch) valid there = rw (number_in-name (branch_names parts) branch (branches_apart parts valid) (placement_within parts branch there)) refl
 spot_again parts (Site branch site) valid there = rw (number_in-name (branch_names parts) branch (branches_apart parts valid) (site_within parts branch site there), there) refl
 
 causes_again : (parts : Parts) → IsValid parts → (causes : List ℕ) → All (λ cause. cause < length parts.causes) causes → each (number_in (cause_names parts)) (map (name_at (cause_names parts)) causes) ≡ Some causes

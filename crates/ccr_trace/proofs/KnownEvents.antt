@@ -11,7 +11,7 @@ use Rattle.ccr_base.specs.declared.names.Spot.{Spot}
 use Rattle.ccr_base.specs.declared.names.Spot.TheVariants.{Branch, Site}
 use Rattle.ccr_wiring.specs.declared.parts.CausePart.{CausePart}
 use Rattle.ccr_wiring.specs.declared.parts.Parts.{Parts}
-use Rattle.ccr_wiring.specs.Wirings.{Seat, seat, seats, site_port}
+use Rattle.ccr_wiring.specs.Wirings.{Placement, placement, placements, site_port}
 use Rattle.ccr_model.specs.declared.history.Event.{Event}
 use Rattle.ccr_model.specs.declared.history.Event.TheVariants as events
 use Rattle.ccr_model.specs.declared.history.EndHow.{EndHow}
@@ -42,15 +42,15 @@ each_good read Good good (w ∷ words) values e =
     let rest = bind_some (each read words) _ values first.2 in
     subst (λ (v : List _). All Good v) (some_is (first.0 ∷ rest.0) values rest.2) (All-cons Good first.0 rest.0 (good w first.0 first.1) (each_good read Good good words rest.0 rest.1))
 
-seat_there : (parts : Parts) (branch : ℕ) → branch < length (seats parts) → IsSome (seat parts branch)
-seat_there parts branch below = at_place (seats parts) below
+placement_there : (parts : Parts) (branch : ℕ) → branch < length (placements parts) → IsSome (placement parts branch)
+placement_there parts branch below = at_place (placements parts) below
   where
-    at_place : (xs : List Seat) → branch < length xs → is_some (slice_get xs branch) ≡ true
+    at_place : (xs : List Placement) → branch < length xs → is_some (slice_get xs branch) ≡ true
     at_place [] below = absurd (omega arith)
     at_place (x ∷ xs) below = ap is_some (slice_get-get_or (x ∷ xs) branch x below)
 
-spot_there : (parts : Parts) (branch : ℕ) (site : Option ℕ) (spot : Spot) → branch < length (seats parts) → spot_at parts branch site ≡ Some spot → IsKnownSpot parts spot
-spot_there parts branch None spot below e = subst (λ (s : Spot). IsKnownSpot parts s) (some_is (Branch branch) spot e) (seat_there parts branch below)
+spot_there : (parts : Parts) (branch : ℕ) (site : Option ℕ) (spot : Spot) → branch < length (placements parts) → spot_at parts branch site ≡ Some spot → IsKnownSpot parts spot
+spot_there parts branch None spot below e = subst (λ (s : Spot). IsKnownSpot parts s) (some_is (Branch branch) spot e) (placement_there parts branch below)
 spot_there parts branch (Some site) spot below e =
     elim (chosen (is_some (site_port parts branch site)) (Some (Site branch site)) None (Some spot) e) [
       | inl h ↦ subst (λ (s : Spot). IsKnownSpot parts s) (some_is (Site branch site) spot h.1) h.0
@@ -74,7 +74,7 @@ known_is parts (Post id port value causes) event good e =
 known_is parts (Fire task spot messages cuts) event good e =
     let place = bind_some (number_in (branch_names parts) spot.name >>= λ branch. spot_at parts branch spot.site) _ event e in
     let branch = bind_some (number_in (branch_names parts) spot.name) _ place.0 place.1 in
-    let below : branch.0 < length (seats parts) = omega (arith, number_within (branch_names parts) spot.name branch.0 branch.1, length-branch_names parts) in
+    let below : branch.0 < length (placements parts) = omega (arith, number_within (branch_names parts) spot.name branch.0 branch.1, length-branch_names parts) in
     subst (λ (v : Event). IsKnown parts v) (some_is (events.Fire task place.0 messages cuts) event place.2) (spot_there parts branch.0 spot.site place.0 below branch.2)
 known_is parts (Admit task) event good e = subst (λ (v : Event). IsKnown parts v) (some_is (events.Admit task) event e) tt
 known_is parts (Put task dropped) event good e = subst (λ (v : Event). IsKnown parts v) (some_is (events.Put task dropped) event e) tt

@@ -121,14 +121,14 @@ module _ (numbers : AreNumbers) (parts : Parts) (valid : IsValid parts) where
       ∙ same_read ([] ++ history) history (10 + length (events_text parts history)) (length (history_text parts history)) (1 + length history) (length history + 1) refl (omega (arith, count_lines parts history)) (omega arith)))
 
 -- the events of the lines that were read, and what stands behind the line `report 1`
-pub record Told (parts : Parts) (lines : List (List ℕ)) (read out : ReadHistory) : Type 0 where
+pub record HasRead (parts : Parts) (lines : List (List ℕ)) (read out : ReadHistory) : Type 0 where
   pub events : List Event
   pub more : List ℕ
   pub history : out.history ≡ read.history ++ events
   pub text : join_with_byte 10 lines ≡ events_text parts events ++ report_before more
   pub rest : out.rest ≡ read.rest + length (events_text parts events)
 
-told_done : (parts : Parts) (line next : List ℕ) (lines : List (List ℕ)) (read out : ReadHistory) → bytes_eq line (codes "report 1") ≡ true → read ≡ out → Told parts (line ∷ next ∷ lines) read out
+told_done : (parts : Parts) (line next : List ℕ) (lines : List (List ℕ)) (read out : ReadHistory) → bytes_eq line (codes "report 1") ≡ true → read ≡ out → HasRead parts (line ∷ next ∷ lines) read out
 told_done parts line next lines read out is same = record {
   events = [];
   more = join_with_byte 10 (next ∷ lines);
@@ -142,7 +142,7 @@ line_is parts line event on =
     let said = event_said parts line event on in
     ap joined (known_words parts said.0 event said.2) ∙ (line_told parts.version line said.0 said.1).1
 
-told_more : (parts : Parts) (line next : List ℕ) (lines : List (List ℕ)) (read out : ReadHistory) (event : Event) → event_on parts line ≡ Ok event → Told parts (next ∷ lines) (with_event read line event) out → Told parts (line ∷ next ∷ lines) read out
+told_more : (parts : Parts) (line next : List ℕ) (lines : List (List ℕ)) (read out : ReadHistory) (event : Event) → event_on parts line ≡ Ok event → HasRead parts (next ∷ lines) (with_event read line event) out → HasRead parts (line ∷ next ∷ lines) read out
 told_more parts line next lines read out event on told =
     let same = line_is parts line event on in
     record {
@@ -153,7 +153,7 @@ told_more parts line next lines read out event on told =
       rest = omega (arith, told.rest, count_bytes parts event told.events, ap length same);
     }
 
-told_from : (parts : Parts) (lines : List (List ℕ)) (read out : ReadHistory) → reading_from parts read lines ≡ Ok out → Told parts lines read out
+told_from : (parts : Parts) (lines : List (List ℕ)) (read out : ReadHistory) → reading_from parts read lines ≡ Ok out → HasRead parts lines read out
 unfolding reading_from
 told_from parts [] read out e = absurd cc
 told_from parts (last ∷ []) read out e = absurd cc

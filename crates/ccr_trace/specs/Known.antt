@@ -6,7 +6,7 @@ use Rattle.std.specs.Str.{bytes_eq}
 use Rattle.ccr_base.specs.declared.names.Spot.{Spot}
 use Rattle.ccr_base.specs.declared.names.Spot.TheVariants.{Branch, Site}
 use Rattle.ccr_wiring.specs.declared.parts.Parts.{Parts}
-use Rattle.ccr_wiring.specs.Wirings.{seat, site_port}
+use Rattle.ccr_wiring.specs.Wirings.{placement, site_port}
 use Rattle.ccr_model.specs.declared.history.Event.{Event}
 use Rattle.ccr_model.specs.declared.history.Event.TheVariants as events
 use Rattle.ccr_model.specs.declared.history.EndHow.{EndHow}
@@ -41,7 +41,7 @@ known parts (End task how) = Some (events.End task how)
 
 -- the spot is one of the wiring's
 abbrev pub IsKnownSpot : Parts → Spot → Type 0
-IsKnownSpot parts (Branch branch) = IsSome (seat parts branch)
+IsKnownSpot parts (Branch branch) = IsSome (placement parts branch)
 IsKnownSpot parts (Site branch site) = IsSome (site_port parts branch site)
 
 -- the value has no more numbers than the wiring's version lets it have

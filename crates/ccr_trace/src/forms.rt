@@ -179,7 +179,12 @@ fn end(known: &Known<'_>, mut words: Cursor<'_>) -> Result<Event, Stop>
 }
 
 #[tactic(auto, unfolding(crate::specs::Forms::form_said))]
-fn form(alloc: Global, known: &Known<'_>, first: &[u8], words: Cursor<'_>) -> Result<Event, Stop>
+fn event_of_words(
+    alloc: Global,
+    known: &Known<'_>,
+    first: &[u8],
+    words: Cursor<'_>,
+) -> Result<Event, Stop>
     ensures { Gives result (event_of known.now (form_said known.now.version first.now words.entry)) }
 {
     if is_text(first, "post") {
@@ -205,5 +210,5 @@ pub fn event_on(alloc: Global, known: &Known<'_>, line: &[u8]) -> Result<Event, 
 {
     let mut words = Cursor::new(line);
     let first = words.word()?;
-    form(alloc, known, first, words)
+    event_of_words(alloc, known, first, words)
 }

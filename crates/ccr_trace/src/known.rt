@@ -11,7 +11,7 @@ use crate::cursor::Cursor;
 use crate::numbers::Numbers;
 use crate::stop::Stop;
 use ccr_base::{CauseNo, List, Name, OutOfMemory, PortNo, Spot};
-use ccr_model::seats::site_port;
+use ccr_model::placements::site_port;
 use ccr_wiring::{ArbiterPart, CausePart, Parts, Wiring, valid_wirings_are_sound};
 use std::alloc::Global;
 use std::marker::Model;

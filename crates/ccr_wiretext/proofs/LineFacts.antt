@@ -26,7 +26,7 @@ use Rattle.ccr_wiretext.specs.declared.keyword.Keyword.{Keyword}
 use Rattle.ccr_wiretext.specs.declared.keyword.Keyword.TheVariants as keywords
 use Rattle.ccr_wiretext.specs.declared.named.Named.{Named}
 use Rattle.ccr_wiretext.specs.declared.named.Named.TheVariants as kinds
-use Rattle.ccr_wiretext.specs.Names.{Naming, named, as_port, as_queue, as_cause, as_handler}
+use Rattle.ccr_wiretext.specs.Names.{Naming, meaning_of, as_port, as_queue, as_cause, as_handler}
 use Rattle.ccr_wiretext.specs.Drafts.{Declared}
 use Rattle.ccr_wiretext.specs.Places.{Words}
 use Rattle.ccr_wiretext.specs.Grammar.{Refers, IsPort, IsPolicy, IsValueWord, IsExpr, IsSlots, IsPattern, ArePorts, AreInterleaves, AreCauses, IsGroup}
@@ -87,7 +87,7 @@ kind_handler parts handlers n kinds.Poster fit e = absurd cc
 referred : (as_kind : Named → Option ℕ) (P : Named → Type 0) (Q : ℕ → Type 0) → ((n : ℕ) (what : Named) → P what → as_kind what ≡ Some n → Q n)
     → (names : Naming) (word : List ℕ) (n : ℕ) → Each (λ (entry : List ℕ × Named). P entry.1) names → Refers as_kind names word n → Q n
 referred as_kind P Q kind names word n known refers =
-    let what = then_some as_kind (named names word) n refers in
+    let what = then_some as_kind (meaning_of names word) n refers in
     kind n what.0 (named_each P names word what.0 known what.1) what.2
 
 pub port_there : (draft : Declared) (handlers : ℕ) (word : List ℕ) (n : ℕ) → Known draft.parts handlers draft.names → IsPort draft word n → n < length draft.parts.ports

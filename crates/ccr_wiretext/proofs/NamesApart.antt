@@ -5,7 +5,7 @@ use Rattle.std.proofs.lemmas.Slice.Eq.{bytes_eq-Decides}
 use Rattle.ccr_text.specs.Words.{is_name_of}
 use Rattle.ccr_wiring.specs.Names.{has_name, has_repeated}
 use Rattle.ccr_wiretext.specs.declared.named.Named.{Named}
-use Rattle.ccr_wiretext.specs.Names.{Naming, named}
+use Rattle.ccr_wiretext.specs.Names.{Naming, meaning_of}
 use Rattle.ccr_wiretext.specs.Grammar.{IsNew}
 use Rattle.ccr_wiretext.proofs.Each.{Each, each_insert, neither, none_inserted}
 
@@ -28,9 +28,9 @@ repeated_insert (x ∷ xs) ys name apart new =
 pub record NamesApart (names : Naming) (declared : List (List ℕ)) : Type 0 where
   pub apart : has_repeated declared ≡ false
   pub formed : Each (λ name. is_name_of name ≡ true) declared
-  pub fresh : (name : List ℕ) → named names name ≡ None → has_name declared name ≡ false
+  pub fresh : (name : List ℕ) → meaning_of names name ≡ None → has_name declared name ≡ false
 
-named_none : (names : Naming) (name word : List ℕ) (what : Named) → named (names ++ (name, what) ∷ []) word ≡ None → (named names word ≡ None) × (bytes_eq word name ≡ false)
+named_none : (names : Naming) (name word : List ℕ) (what : Named) → meaning_of (names ++ (name, what) ∷ []) word ≡ None → (meaning_of names word ≡ None) × (bytes_eq word name ≡ false)
 named_none [] name word what e = (refl, by (bytes_eq word name) e)
   where
     by : (t : Bool) → cond t (Some what) None ≡ None → t ≡ false
@@ -38,8 +38,8 @@ named_none [] name word what e = (refl, by (bytes_eq word name) e)
     by false h = refl
 named_none (entry ∷ names) name word what e = by (bytes_eq word entry.0) e (named_none names name word what)
   where
-    by : (t : Bool) → cond t (Some entry.1) (named (names ++ (name, what) ∷ []) word) ≡ None → (named (names ++ (name, what) ∷ []) word ≡ None → (named names word ≡ None) × (bytes_eq word name ≡ false))
-        → (cond t (Some entry.1) (named names word) ≡ None) × (bytes_eq word name ≡ false)
+    by : (t : Bool) → cond t (Some entry.1) (meaning_of (names ++ (name, what) ∷ []) word) ≡ None → (meaning_of (names ++ (name, what) ∷ []) word ≡ None → (meaning_of names word ≡ None) × (bytes_eq word name ≡ false))
+        → (cond t (Some entry.1) (meaning_of names word) ≡ None) × (bytes_eq word name ≡ false)
     by true h next = absurd cc
     by false h next = next h
 
@@ -52,10 +52,10 @@ name_added names xs ys name what apart new = record {
 }
 
 -- what each name stands for
-pub named_each : (P : Named → Type 0) (names : Naming) (word : List ℕ) (what : Named) → Each (λ (entry : List ℕ × Named). P entry.1) names → named names word ≡ Some what → P what
+pub named_each : (P : Named → Type 0) (names : Naming) (word : List ℕ) (what : Named) → Each (λ (entry : List ℕ × Named). P entry.1) names → meaning_of names word ≡ Some what → P what
 named_each P [] word what each e = absurd cc
 named_each P (entry ∷ names) word what each e = by (bytes_eq word entry.0) e (named_each P names word what each.1)
   where
-    by : (t : Bool) → cond t (Some entry.1) (named names word) ≡ Some what → (named names word ≡ Some what → P what) → P what
+    by : (t : Bool) → cond t (Some entry.1) (meaning_of names word) ≡ Some what → (meaning_of names word ≡ Some what → P what) → P what
     by true h next = subst P (let same : entry.1 ≡ what = cc in same) each.0
     by false h next = next h

@@ -5,13 +5,13 @@ use Rattle.std.specs.Str.{bytes_eq}
 use Rattle.std.specs.Map.{lookup}
 use Rattle.indexmap.specs.IndexMap.{insert_entry}
 use Rattle.ccr_wiretext.specs.declared.named.Named.{Named}
-use Rattle.ccr_wiretext.specs.Names.{named}
+use Rattle.ccr_wiretext.specs.Names.{meaning_of}
 
 abbrev pub seen : List (Vec ℕ × Named) → List (List ℕ × Named)
 seen entries = map (λ entry. (entry.0.items, entry.1)) entries
 
 -- a name is looked up
-pub named-seen : (entries : List (Vec ℕ × Named)) (word : List ℕ) → named (seen entries) word ≡ lookup (λ key. bytes_eq word key.items) entries
+pub named-seen : (entries : List (Vec ℕ × Named)) (word : List ℕ) → meaning_of (seen entries) word ≡ lookup (λ key. bytes_eq word key.items) entries
 named-seen [] word = refl
 named-seen (entry ∷ entries) word = ap (cond (bytes_eq word entry.0.items) (Some entry.1)) (named-seen entries word)
 
@@ -23,9 +23,9 @@ not_first true found what e = absurd cc
 not_first false found what e = (refl, e)
 
 -- a new name goes last
-pub seen-insert : (entries : List (Vec ℕ × Named)) (key : Vec ℕ) (what : Named) → named (seen entries) key.items ≡ None
+pub seen-insert : (entries : List (Vec ℕ × Named)) (key : Vec ℕ) (what : Named) → meaning_of (seen entries) key.items ≡ None
     → seen (insert_entry (λ (a : Vec ℕ) (b : Vec ℕ). bytes_eq a.items b.items) entries key what) ≡ seen entries ++ (key.items, what) ∷ []
 seen-insert [] key what new = refl
 seen-insert (entry ∷ entries) key what new =
-    let parts = not_first (bytes_eq key.items entry.0.items) (named (seen entries) key.items) entry.1 new in
+    let parts = not_first (bytes_eq key.items entry.0.items) (meaning_of (seen entries) key.items) entry.1 new in
     rw (parts.0, seen-insert entries key what parts.1) refl

@@ -10,7 +10,7 @@ use Rattle.ccr_base.specs.declared.patterns.Pred.TheVariants as preds
 use Rattle.ccr_base.specs.declared.patterns.Pattern.{Pattern}
 use Rattle.ccr_base.specs.declared.patterns.Pattern.TheVariants as patterns
 use Rattle.ccr_wiring.specs.Repeats.{has_port}
-use Rattle.ccr_wiretext.specs.Names.{Naming, named, as_cause}
+use Rattle.ccr_wiretext.specs.Names.{Naming, meaning_of, as_cause}
 use Rattle.ccr_wiretext.specs.Drafts.{Declared}
 use Rattle.ccr_wiretext.specs.Places.{Words, ◌>>=◌, unless, or_code, no_more, port, number, number_within, interleave}
 use Rattle.ccr_wiretext.specs.Patterns.{pred, new_port, slot, slots, taken, gathered, pattern, members, all_members, is_combined, new_member, further, combined, causes}
@@ -307,7 +307,7 @@ pub causes_said : (names : Naming) (found : List ℕ) (words : Words) (all : Lis
 unfolding causes
 causes_said names found [] all e = ([], sym (ok_is found all e) ∙ sym (append-nil found), refl)
 causes_said names found (w ∷ words) all e =
-    let cause = bind_ok (or_code (option_and_then as_cause (named names w)) 7) (λ cause. unless (not (has_port found cause)) 8 >>= λ apart. causes names (found ++ cause ∷ []) words) all e in
+    let cause = bind_ok (or_code (option_and_then as_cause (meaning_of names w)) 7) (λ cause. unless (not (has_port found cause)) 8 >>= λ apart. causes names (found ++ cause ∷ []) words) all e in
     let apart = bind_ok (unless (not (has_port found cause.0)) 8) (λ apart. causes names (found ++ cause.0 ∷ []) words) all cause.2 in
     let rest = causes_said names (found ++ cause.0 ∷ []) words all apart.2 in (
       cause.0 ∷ rest.0,

@@ -13,7 +13,7 @@ use Rattle.ccr_base.specs.declared.handlers.Expr.TheVariants as exprs
 use Rattle.ccr_text.specs.Words.{number_of, is_name_of}
 use Rattle.ccr_wiring.specs.References.{no_interleave}
 use Rattle.ccr_wiretext.specs.declared.named.Named.{Named}
-use Rattle.ccr_wiretext.specs.Names.{Naming, named, as_arbiter}
+use Rattle.ccr_wiretext.specs.Names.{Naming, meaning_of, as_arbiter}
 use Rattle.ccr_wiretext.specs.Drafts.{Declared}
 use Rattle.ccr_wiretext.specs.Places.{Words, ◌>>=◌, unless, or_code, word, new_name, reference, number, number_within, numbers_after, several, single, value_in, value, part, policy, group, expr, interleave}
 use Rattle.ccr_wiretext.specs.Grammar.{IsNew, Refers, IsNumber, IsWithin, IsPolicy, IsGroup, IsValueWord, IsExpr, IsInterleave}
@@ -25,9 +25,9 @@ use Rattle.ccr_wiretext.proofs.ValuesRead.{value_in_said, value_in_read, no_valu
 pub new_name_said : (names : Naming) (words : Words) (x : List ℕ × Words) → new_name names words ≡ Ok x → (words ≡ x.0 ∷ x.1) × IsNew names x.0
 unfolding new_name
 new_name_said names words x e =
-    let a = bind_ok (word words) (λ name. unless (is_name_of name.0) 14 >>= λ formed. unless (not (is_some (named names name.0))) 6 >>= λ new. Ok name) x e in
-    let b = bind_ok (unless (is_name_of a.0.0) 14) (λ formed. unless (not (is_some (named names a.0.0))) 6 >>= λ new. Ok a.0) x a.2 in
-    let c = bind_ok (unless (not (is_some (named names a.0.0))) 6) (λ new. Ok a.0) x b.2 in
+    let a = bind_ok (word words) (λ name. unless (is_name_of name.0) 14 >>= λ formed. unless (not (is_some (meaning_of names name.0))) 6 >>= λ new. Ok name) x e in
+    let b = bind_ok (unless (is_name_of a.0.0) 14) (λ formed. unless (not (is_some (meaning_of names a.0.0))) 6 >>= λ new. Ok a.0) x a.2 in
+    let c = bind_ok (unless (not (is_some (meaning_of names a.0.0))) 6) (λ new. Ok a.0) x b.2 in
     subst (λ (y : List ℕ × Words). (words ≡ y.0 ∷ y.1) × IsNew names y.0) (ok_is a.0 x c.2)
     (word_ok words a.0 a.1, record { formed = unless_ok _ 14 b.0 b.1; new = none_is _ (unless_ok _ 6 c.0 c.1) })
 
@@ -41,7 +41,7 @@ pub reference_said : (as_kind : Named → Option ℕ) (names : Naming) (words : 
 unfolding reference
 reference_said as_kind names [] x e = absurd cc
 reference_said as_kind names (name ∷ words) x e =
-    let a = bind_ok (or_code (option_and_then as_kind (named names name)) 7) (λ number. Ok (number, words)) x e in
+    let a = bind_ok (or_code (option_and_then as_kind (meaning_of names name)) 7) (λ number. Ok (number, words)) x e in
     subst (λ (y : ℕ × Words). (n : List ℕ) × (name ∷ words ≡ n ∷ y.1) × Refers as_kind names n y.0) (ok_is (a.0, words) x a.2) (name, refl, or_code_ok _ 7 a.0 a.1)
 
 pub reference_read : (as_kind : Named → Option ℕ) (names : Naming) (name : List ℕ) (number : ℕ) (rest : Words) → Refers as_kind names name number

@@ -5,7 +5,7 @@ use Rattle.std.specs.Option.{option_and_then}
 use Rattle.std.specs.List.{list_any, position_or_len}
 use Rattle.std.proofs.lemmas.Bool.Decides.{nat_tests}
 use Rattle.ccr_wiring.specs.Repeats.{has_port}
-use Rattle.ccr_wiretext.specs.Names.{named, as_port, as_set}
+use Rattle.ccr_wiretext.specs.Names.{meaning_of, as_port, as_set}
 use Rattle.ccr_wiretext.specs.Drafts.{Declared, members_of}
 use Rattle.ccr_wiretext.specs.Places.{Words, or_code, word, slash_place, member, set_port, port_at, port_of, port}
 use Rattle.ccr_wiretext.specs.Grammar.{IsPlain, IsPort}
@@ -99,8 +99,8 @@ port_is draft word n e = by (slash_place word) refl e
         unslashed = elim (cut_at word) [ inl parts ↦ parts.0 | inr cut ↦ absurd (let found : slash_place word ≡ Some (length cut.set) = cut_place word cut in let h2 : None ≡ Some (length cut.set) = sym at ∙ found in cc) ]
     by (Some place) at h =
         let cut = place_cut word place at in
-        let set = then_some (set_port draft (drop (place + 1) word)) (option_and_then as_set (named draft.names (take place word))) n h in
-        let other = then_some (member draft set.0) (option_and_then as_port (named draft.names (drop (place + 1) word))) n set.2 in
+        let set = then_some (set_port draft (drop (place + 1) word)) (option_and_then as_set (meaning_of draft.names (take place word))) n h in
+        let other = then_some (member draft set.0) (option_and_then as_port (meaning_of draft.names (drop (place + 1) word))) n set.2 in
         let front : take place word ≡ cut.0.set = ap (λ k. take k word) cut.1 ∙ ap (take (length cut.0.set)) cut.0.spelled ∙ take_front cut.0.set (47 ∷ cut.0.name) in
         let behind : drop (place + 1) word ≡ cut.0.name = ap (λ k. drop (k + 1) word) cut.1 ∙ ap (drop (length cut.0.set + 1)) cut.0.spelled ∙ drop_front cut.0.set cut.0.name in
         elim (chosen (has_port (members_of draft set.0) other.0) (Some other.0) None (Some n) other.2) [
@@ -112,8 +112,8 @@ port_is draft word n e = by (slash_place word) refl e
                 spelled = cut.0.spelled;
                 plain = cut.0.plain;
                 number = set.0;
-                in_set = subst (λ w. option_and_then as_set (named draft.names w) ≡ Some set.0) front set.1;
-                in_names = subst (λ w. option_and_then as_port (named draft.names w) ≡ Some n) behind (other.1 ∙ ap Some same);
+                in_set = subst (λ w. option_and_then as_set (meaning_of draft.names w) ≡ Some set.0) front set.1;
+                in_names = subst (λ w. option_and_then as_port (meaning_of draft.names w) ≡ Some n) behind (other.1 ∙ ap Some same);
                 member = subst (λ p. has_port (members_of draft set.0) p ≡ true) same is.0;
               })
           | inr is ↦ absurd (let s : None ≡ Some n = is.1 in cc)

@@ -17,7 +17,7 @@ use Rattle.ccr_text.specs.Words.{number_of, is_name_of}
 use Rattle.ccr_wiring.specs.References.{no_interleave}
 use Rattle.ccr_wiring.specs.Repeats.{has_port}
 use Rattle.ccr_wiretext.specs.declared.named.Named.{Named}
-use Rattle.ccr_wiretext.specs.Names.{Naming, named, as_port, as_set, as_cause, as_arbiter}
+use Rattle.ccr_wiretext.specs.Names.{Naming, meaning_of, as_port, as_set, as_cause, as_arbiter}
 use Rattle.ccr_wiretext.specs.Drafts.{Declared, members_of}
 use Rattle.ccr_wiretext.specs.Patterns.{is_combined}
 use Rattle.ccr_wiretext.specs.Places.{Words}
@@ -25,11 +25,11 @@ use Rattle.ccr_wiretext.specs.Places.{Words}
 -- a name that may be declared here
 pub record IsNew (names : Naming) (name : List ℕ) : Type 0 where
   pub formed : is_name_of name ≡ true
-  pub new : named names name ≡ None
+  pub new : meaning_of names name ≡ None
 
 -- the name of something of a kind, with its number
 abbrev pub Refers : (Named → Option ℕ) → Naming → List ℕ → ℕ → Type 0
-Refers as_kind names name number = option_and_then as_kind (named names name) ≡ Some number
+Refers as_kind names name number = option_and_then as_kind (meaning_of names name) ≡ Some number
 
 -- no slash stands in the word
 abbrev pub IsPlain : List ℕ → Type 0

@@ -9,9 +9,9 @@ abbrev pub Naming : Type 0
 Naming = List (List ℕ × Named)
 
 -- what a name stands for
-abbrev pub named : Naming → List ℕ → Option Named
-named [] word = None
-named (entry ∷ names) word = if bytes_eq word entry.0 then Some entry.1 else named names word
+abbrev pub meaning_of : Naming → List ℕ → Option Named
+meaning_of [] word = None
+meaning_of (entry ∷ names) word = if bytes_eq word entry.0 then Some entry.1 else meaning_of names word
 
 -- the number of a port. The others are likewise
 abbrev pub as_port : Named → Option ℕ

@@ -10,7 +10,7 @@ use Rattle.ccr_base.specs.declared.patterns.Pattern.{Pattern}
 use Rattle.ccr_base.specs.declared.patterns.Pattern.TheVariants as patterns
 use Rattle.ccr_wiring.specs.declared.parts.DomainPart.{DomainPart}
 use Rattle.ccr_wiring.specs.Repeats.{has_port}
-use Rattle.ccr_wiretext.specs.Names.{Naming, named, as_cause}
+use Rattle.ccr_wiretext.specs.Names.{Naming, meaning_of, as_cause}
 use Rattle.ccr_wiretext.specs.Drafts.{Declared}
 use Rattle.ccr_wiretext.specs.Places.{Words, ◌>>=◌, unless, or_code, word, no_more, port, number, number_within, interleave}
 
@@ -116,6 +116,6 @@ combined draft words = do
 unfoldable pub causes : Naming → List ℕ → Words → Result (List ℕ) ℕ
 causes names found [] = Ok found
 causes names found (first ∷ words) = do
-  cause ← or_code (option_and_then as_cause (named names first)) 7
+  cause ← or_code (option_and_then as_cause (meaning_of names first)) 7
   apart ← unless (not (has_port found cause)) 8
   causes names (found ++ cause ∷ []) words

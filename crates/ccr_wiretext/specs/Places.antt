@@ -15,7 +15,7 @@ use Rattle.ccr_text.specs.Words.{number_of, is_name_of}
 use Rattle.ccr_wiring.specs.Repeats.{has_port}
 use Rattle.ccr_wiretext.specs.declared.named.Named.{Named}
 use Rattle.ccr_wiring.specs.References.{no_interleave}
-use Rattle.ccr_wiretext.specs.Names.{Naming, named, as_port, as_set, as_arbiter}
+use Rattle.ccr_wiretext.specs.Names.{Naming, meaning_of, as_port, as_set, as_arbiter}
 use Rattle.ccr_wiretext.specs.Drafts.{Declared, members_of}
 
 -- the words that are left
@@ -56,14 +56,14 @@ unfoldable pub new_name : Naming → Words → Result (List ℕ × Words) ℕ
 new_name names words = do
   name ← word words
   formed ← unless (is_name_of name.0) 14
-  new ← unless (not (is_some (named names name.0))) 6
+  new ← unless (not (is_some (meaning_of names name.0))) 6
   Ok name
 
 -- a name that is referred to
 unfoldable pub reference : (Named → Option ℕ) → Naming → Words → Result (ℕ × Words) ℕ
 reference as_kind names words = do
   name ← word words
-  number ← or_code (option_and_then as_kind (named names name.0)) 7
+  number ← or_code (option_and_then as_kind (meaning_of names name.0)) 7
   Ok (number, name.1)
 
 -- the place of the first slash
@@ -76,12 +76,12 @@ member draft set port = if has_port (members_of draft set) port then Some port e
 
 -- the set's port of that name
 abbrev pub set_port : Declared → List ℕ → ℕ → Option ℕ
-set_port draft name set = option_and_then (member draft set) (option_and_then as_port (named draft.names name))
+set_port draft name set = option_and_then (member draft set) (option_and_then as_port (meaning_of draft.names name))
 
 -- the port that is meant, by the place of the slash
 abbrev pub port_at : Declared → List ℕ → Option ℕ → Option ℕ
-port_at draft name None = option_and_then as_port (named draft.names name)
-port_at draft name (Some place) = option_and_then (set_port draft (drop (place + 1) name)) (option_and_then as_set (named draft.names (take place name)))
+port_at draft name None = option_and_then as_port (meaning_of draft.names name)
+port_at draft name (Some place) = option_and_then (set_port draft (drop (place + 1) name)) (option_and_then as_set (meaning_of draft.names (take place name)))
 
 -- the port that PORT or SET/PORT means
 abbrev pub port_of : Declared → List ℕ → Option ℕ

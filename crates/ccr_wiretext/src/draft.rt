@@ -2,7 +2,7 @@
 
 ghost use Rattle.std.specs.Prelude.{◌≡◌, ◌<◌, None, OnOk, IfOk, length, [], ◌∷◌, ◌++◌};
 ghost use Rattle.ccr_wiring.specs.Spots.{branch_named};
-ghost use Rattle.ccr_wiretext.specs.Names.{named};
+ghost use Rattle.ccr_wiretext.specs.Names.{meaning_of};
 ghost use Rattle.ccr_wiretext.specs.Drafts.{nothing, with_budget, with_queue, with_port, with_set, with_cause, with_receive, with_handler, with_arbiter, with_poster, with_domain, with_action, with_branch, with_post, end_handler, end_arbiter, end_poster};
 
 use crate::named::{Named, Names};
@@ -109,7 +109,7 @@ impl Draft {
     }
 
     pub fn add_queue(&mut self, part: QueuePart) -> Result<(), OutOfMemory>
-        requires new { named self.old.names part.name ≡ None }
+        requires new { meaning_of self.old.names part.name ≡ None }
         requires room { length self.old.parts.queues < 16 }
         ensures { OnOk result (self.new ≡ with_queue self.old part) }
     {
@@ -119,7 +119,7 @@ impl Draft {
     }
 
     pub fn add_port(&mut self, name: &[u8]) -> Result<(), OutOfMemory>
-        requires new { named self.old.names name.now ≡ None }
+        requires new { meaning_of self.old.names name.now ≡ None }
         requires room { length self.old.parts.ports < 256 }
         ensures { OnOk result (self.new ≡ with_port self.old name.now) }
     {
@@ -130,7 +130,7 @@ impl Draft {
     }
 
     pub fn add_set(&mut self, part: SetPart) -> Result<(), OutOfMemory>
-        requires new { named self.old.names part.name ≡ None }
+        requires new { meaning_of self.old.names part.name ≡ None }
         requires room { length self.old.parts.sets < 64 }
         ensures { OnOk result (self.new ≡ with_set self.old part) }
     {
@@ -140,7 +140,7 @@ impl Draft {
     }
 
     pub fn add_cause(&mut self, part: CausePart) -> Result<(), OutOfMemory>
-        requires new { named self.old.names part.name ≡ None }
+        requires new { meaning_of self.old.names part.name ≡ None }
         requires room { length self.old.parts.causes < 32 }
         ensures { OnOk result (self.new ≡ with_cause self.old part) }
     {
@@ -151,7 +151,7 @@ impl Draft {
 
     /// A receive, which is an arbiter and its one branch.
     pub fn add_receive(&mut self, branch: BranchPart) -> Result<(), OutOfMemory>
-        requires { named self.old.names branch.name ≡ None }
+        requires { meaning_of self.old.names branch.name ≡ None }
         ensures { OnOk result (self.new ≡ with_receive self.old branch) }
     {
         let spotted = self.spotted_by(&branch)?;
@@ -169,7 +169,7 @@ impl Draft {
     }
 
     pub fn begin_handler(&mut self, name: &[u8]) -> Result<(), OutOfMemory>
-        requires new { named self.old.names name.now ≡ None }
+        requires new { meaning_of self.old.names name.now ≡ None }
         requires room { length self.old.parts.handlers < 256 }
         ensures { OnOk result (self.new ≡ with_handler self.old name.now) }
     {
@@ -185,7 +185,7 @@ impl Draft {
     }
 
     pub fn begin_arbiter(&mut self, kind: Kind, name: &[u8]) -> Result<(), OutOfMemory>
-        requires new { named self.old.names name.now ≡ None }
+        requires new { meaning_of self.old.names name.now ≡ None }
         requires room { length self.old.parts.arbiters < 256 }
         ensures { OnOk result (self.new ≡ with_arbiter self.old kind name.now) }
     {
@@ -202,7 +202,7 @@ impl Draft {
     }
 
     pub fn begin_poster(&mut self, name: &[u8]) -> Result<(), OutOfMemory>
-        requires { named self.old.names name.now ≡ None }
+        requires { meaning_of self.old.names name.now ≡ None }
         ensures { OnOk result (self.new ≡ with_poster self.old name.now) }
     {
         self.names.add(name, Named::Poster)?;
@@ -233,7 +233,7 @@ impl Draft {
         mut part: ArbiterPart,
         branch: BranchPart,
     ) -> Result<(), OutOfMemory>
-        requires { named self.old.names branch.name ≡ None }
+        requires { meaning_of self.old.names branch.name ≡ None }
         ensures { OnOk result (self.new ≡ with_branch self.old part branch) }
     {
         let spotted = self.spotted_by(&branch)?;

@@ -3,7 +3,7 @@
 ghost use Rattle.std.specs.Prelude.{◌≡◌, ◌<◌, ◌+◌, ◌++◌, None, IfOk, OnOk, length, nat_lt, sum, map};
 ghost use Rattle.std.specs.List.{list_any};
 ghost use Rattle.ccr_wiring.specs.Spots.{times};
-ghost use Rattle.ccr_wiretext.specs.Names.{named};
+ghost use Rattle.ccr_wiretext.specs.Names.{meaning_of};
 ghost use Rattle.ccr_wiretext.specs.Answers.{Gives, GivesBy};
 ghost use Rattle.ccr_wiretext.specs.Forms.{budget_form, queue_form, name_form, set_form, cause_form, combine_form, crowds, branch_tail, receive_room, receive_form, branch_form, post_form, fail_form, caused_form, await_form, script_form, arbiter_end_form};
 
@@ -94,7 +94,7 @@ impl Draft {
     #[tactic(auto, unfolding(crate::specs::Forms::queue_form, crate::specs::Places::new_name))]
     pub fn queue_form(&self, mut words: Cursor<'_>) -> Result<QueuePart, Stop>
         ensures form { Gives result (queue_form self.now words.entry) }
-        ensures new { IfOk result (λ part. named self.now.names part.name ≡ None) }
+        ensures new { IfOk result (λ part. meaning_of self.now.names part.name ≡ None) }
         ensures room { OnOk result (length self.now.parts.queues < 16) }
     {
         if self.parts.queues.as_slice().len() >= MAX_QUEUES {
@@ -116,7 +116,7 @@ impl Draft {
         mut words: Cursor<'a>,
     ) -> Result<&'a [u8], Stop>
         ensures form { GivesBy (λ name. name.now) result (name_form limit count self.now words.entry) }
-        ensures new { IfOk result (λ name. named self.now.names name.now ≡ None) }
+        ensures new { IfOk result (λ name. meaning_of self.now.names name.now ≡ None) }
         ensures room { OnOk result (count < limit) }
     {
         if count >= limit {
@@ -131,7 +131,7 @@ impl Draft {
     #[tactic(auto, unfolding(crate::specs::Forms::set_form, crate::specs::Places::new_name))]
     pub fn set_form(&self, mut words: Cursor<'_>) -> Result<SetPart, Stop>
         ensures form { Gives result (set_form self.now words.entry) }
-        ensures new { IfOk result (λ part. named self.now.names part.name ≡ None) }
+        ensures new { IfOk result (λ part. meaning_of self.now.names part.name ≡ None) }
         ensures room { OnOk result (length self.now.parts.sets < 64) }
     {
         if self.parts.sets.as_slice().len() >= MAX_SETS {
@@ -147,7 +147,7 @@ impl Draft {
     #[tactic(auto, unfolding(crate::specs::Forms::cause_form, crate::specs::Places::new_name))]
     pub fn cause_form(&self, mut words: Cursor<'_>) -> Result<CausePart, Stop>
         ensures form { Gives result (cause_form self.now words.entry) }
-        ensures new { IfOk result (λ part. named self.now.names part.name ≡ None) }
+        ensures new { IfOk result (λ part. meaning_of self.now.names part.name ≡ None) }
         ensures room { OnOk result (length self.now.parts.causes < 32) }
     {
         if self.parts.causes.as_slice().len() >= MAX_CAUSES {
@@ -226,7 +226,7 @@ impl Draft {
     #[tactic(auto, unfolding(crate::specs::Forms::receive_form, crate::specs::Places::new_name))]
     pub fn receive_form(&self, mut words: Cursor<'_>) -> Result<BranchPart, Stop>
         ensures form { Gives result (receive_form self.now words.entry) }
-        ensures new { IfOk result (λ branch. named self.now.names branch.name ≡ None) }
+        ensures new { IfOk result (λ branch. meaning_of self.now.names branch.name ≡ None) }
     {
         self.receive_room()?;
         let name = words.new_name(&self.names)?;
@@ -243,7 +243,7 @@ impl Draft {
         mut words: Cursor<'_>,
     ) -> Result<BranchPart, Stop>
         ensures form { Gives result (branch_form self.now part.now group words.entry) }
-        ensures new { IfOk result (λ branch. named self.now.names branch.name ≡ None) }
+        ensures new { IfOk result (λ branch. meaning_of self.now.names branch.name ≡ None) }
     {
         let begun = part.branches.as_slice().len();
         if !has_branch_room(self.parts.arbiters.as_slice(), begun) {

@@ -1,7 +1,7 @@
 //! What the declared names stand for.
 
 ghost use Rattle.std.specs.Prelude.{◌≡◌, [], ◌∷◌, ◌++◌, None, OnOk};
-ghost use Rattle.ccr_wiretext.specs.Names.{named};
+ghost use Rattle.ccr_wiretext.specs.Names.{meaning_of};
 
 use indexmap::IndexMap;
 use std::alloc::{AllocError, Global};
@@ -47,13 +47,13 @@ impl Names {
     }
 
     pub fn get(&self, name: &[u8]) -> Option<Named>
-        ensures { result ≡ named self.now name.now }
+        ensures { result ≡ meaning_of self.now name.now }
     {
         self.entries.get(name).copied()
     }
 
     pub fn add(&mut self, name: &[u8], what: Named) -> Result<(), AllocError>
-        requires { named self.old name.now ≡ None }
+        requires { meaning_of self.old name.now ≡ None }
         ensures { OnOk result (self.new ≡ self.old ++ (name.now, what) ∷ []) }
     {
         let name = Vec::from_slice(self.alloc, name)?;

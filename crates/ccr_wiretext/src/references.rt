@@ -9,7 +9,7 @@ ghost use Rattle.ccr_wiretext.specs.Patterns.{is_combined};
 ghost use Rattle.ccr_wiretext.specs.Drafts.{members_of};
 ghost use Rattle.ccr_wiretext.specs.Places.{slash_place, set_port, port_of};
 ghost use Rattle.std.specs.Option.{option_and_then};
-ghost use Rattle.ccr_wiretext.specs.Names.{named, as_port, as_set};
+ghost use Rattle.ccr_wiretext.specs.Names.{meaning_of, as_port, as_set};
 
 use crate::draft::Draft;
 use crate::named::Named;
@@ -43,7 +43,7 @@ fn slash_place(name: &[u8]) -> Option<usize>
 
 impl Draft {
     fn plain_port(&self, name: &[u8]) -> Option<PortNo>
-        ensures { result ≡ option_and_then as_port (named self.now.names name.now) }
+        ensures { result ≡ option_and_then as_port (meaning_of self.now.names name.now) }
     {
         match self.names.get(name) {
             Some(Named::Port(number)) => Some(number),
@@ -52,7 +52,7 @@ impl Draft {
     }
 
     fn port_set(&self, name: &[u8]) -> Option<u32>
-        ensures { result ≡ option_and_then as_set (named self.now.names name.now) }
+        ensures { result ≡ option_and_then as_set (meaning_of self.now.names name.now) }
     {
         match self.names.get(name) {
             Some(Named::Set(number)) => Some(number),

@@ -290,22 +290,22 @@ impl LineWords {
     {
         match group {
             Group::Once => {
-                self.named("receive", name)?;
+                self.word_and_name("receive", name)?;
                 self.text("once")
             }
             Group::Always => {
-                self.named("receive", name)?;
+                self.word_and_name("receive", name)?;
                 self.text("always")
             }
-            Group::Choice => self.named("branch", name),
-            Group::Teardown => self.named("teardown", name),
-            Group::Exclusive => self.named("exclusive", name),
-            Group::Concurrent => self.named("concurrent", name),
+            Group::Choice => self.word_and_name("branch", name),
+            Group::Teardown => self.word_and_name("teardown", name),
+            Group::Exclusive => self.word_and_name("exclusive", name),
+            Group::Concurrent => self.word_and_name("concurrent", name),
         }
     }
 
     /// The word `first` and a name.
-    pub fn named(&mut self, first: &str, name: &[u8]) -> Result<(), OutOfMemory>
+    pub fn word_and_name(&mut self, first: &str, name: &[u8]) -> Result<(), OutOfMemory>
         ensures { OnOk result (self.new ≡ self.old ++ first.now ∷ name.now ∷ []) }
     {
         self.text(first)?;
@@ -333,21 +333,21 @@ impl LineWords {
     pub fn queue(&mut self, part: &QueuePart) -> Result<(), OutOfMemory>
         ensures { OnOk result (self.new ≡ self.old ++ queue_words part.now) }
     {
-        self.named("queue", part.name.as_slice())?;
+        self.word_and_name("queue", part.name.as_slice())?;
         self.policy(part.policy)
     }
 
     pub fn set(&mut self, parts: &Parts, part: &SetPart) -> Result<(), OutOfMemory>
         ensures { OnOk result (self.new ≡ self.old ++ set_words parts.now part.now) }
     {
-        self.named("portset", part.name.as_slice())?;
+        self.word_and_name("portset", part.name.as_slice())?;
         self.ports(parts, part.ports.as_slice())
     }
 
     pub fn cause(&mut self, parts: &Parts, part: &CausePart) -> Result<(), OutOfMemory>
         ensures { OnOk result (self.new ≡ self.old ++ cause_words parts.now part.now) }
     {
-        self.named("cause", part.name.as_slice())?;
+        self.word_and_name("cause", part.name.as_slice())?;
         self.word(port_name(parts, part.port))
     }
 
@@ -364,16 +364,16 @@ impl LineWords {
     {
         match *action {
             Action::Post(port, value) => {
-                self.named("post", port_name(parts, port))?;
+                self.word_and_name("post", port_name(parts, port))?;
                 self.expr(value)
             }
             Action::Fail(value) => {
                 self.text("fail")?;
                 self.expr(value)
             }
-            Action::Add(cause) => self.named("add", cause_name(parts, cause)),
-            Action::Remove(cause) => self.named("remove", cause_name(parts, cause)),
-            Action::Await(port) => self.named("await", port_name(parts, port)),
+            Action::Add(cause) => self.word_and_name("add", cause_name(parts, cause)),
+            Action::Remove(cause) => self.word_and_name("remove", cause_name(parts, cause)),
+            Action::Await(port) => self.word_and_name("await", port_name(parts, port)),
         }
     }
 
@@ -391,7 +391,7 @@ impl LineWords {
         ensures words { OnOk result (self.new ≡ self.old ++ post_words parts.now post.now) }
         ensures valued { OnOk result (IsValue post.now.value) }
     {
-        self.named("post", port_name(parts, post.port))?;
+        self.word_and_name("post", port_name(parts, post.port))?;
         self.value(&post.value)?;
         self.causes(parts, post.causes.as_slice())
     }

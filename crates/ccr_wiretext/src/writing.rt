@@ -57,7 +57,7 @@ fn put_named(alloc: Global, out: &mut Text, first: &str, name: &Name) -> Result<
     ensures { OnOk result (out.new.items ≡ out.old.items ++ line_text (first.now ∷ name.now ∷ [])) }
 {
     let mut line = LineWords::new(alloc);
-    line.named(first, name.as_slice())?;
+    line.word_and_name(first, name.as_slice())?;
     put_line(out, line.as_slice())
 }
 

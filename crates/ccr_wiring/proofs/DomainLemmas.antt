@@ -15,34 +15,34 @@ use Rattle.ccr_wiring.specs.Domains.{least_with, domain_of}
 use Rattle.ccr_wiring.specs.Groups.{is_interleave}
 use Rattle.ccr_wiring.specs.References.{no_interleave, domain_is_dangling, has_dangling_domain}
 use Rattle.ccr_wiring.specs.Repeats.{has_port}
-use Rattle.ccr_wiring.specs.Wirings.{Seat, seat, seats, seats_of, seats_from, in_domain}
+use Rattle.ccr_wiring.specs.Wirings.{Placement, placement, placements, placements_of, placements_from, in_domain}
 use Rattle.ccr_wiring.proofs.Lists.{neither}
 
--- the arbiter of a seat, by its place
-pub record Placed (first : ℕ) (arbiters : List ArbiterPart) (s : Seat) : Type 0 where
+-- the arbiter of a placement, by its place
+pub record ArbiterOf (first : ℕ) (arbiters : List ArbiterPart) (s : Placement) : Type 0 where
   pub place : ℕ
   pub arbiter : ArbiterPart
   pub number : s.arbiter ≡ first + place
   pub at : slice_get arbiters place ≡ Some arbiter
   pub kind : s.kind ≡ arbiter.kind
 
-here_or_later : (number : ℕ) (kind : Kind) (branches : List BranchPart) (rest : List Seat) (branch : ℕ) (s : Seat)
+here_or_later : (number : ℕ) (kind : Kind) (branches : List BranchPart) (rest : List Placement) (branch : ℕ) (s : Placement)
     → slice_get (map (λ branch. record { arbiter = number; kind = kind; branch = branch }) branches ++ rest) branch ≡ Some s
     → ((s.arbiter ≡ number) × (s.kind ≡ kind)) ⊎ ((later : ℕ) × (slice_get rest later ≡ Some s))
 here_or_later number kind [] rest branch s at = inr (branch, at)
 here_or_later number kind (part ∷ branches) rest zero s at = inl (cc, cc)
 here_or_later number kind (part ∷ branches) rest (suc branch) s at = here_or_later number kind branches rest branch s at
 
--- each seat is one of an arbiter's
-pub seat_placed : (first : ℕ) (arbiters : List ArbiterPart) (branch : ℕ) (s : Seat) → slice_get (seats_from first arbiters) branch ≡ Some s → Placed first arbiters s
-seat_placed first [] branch s at = absurd (none_there at)
+-- each placement is one of an arbiter's
+pub placement_of_arbiter : (first : ℕ) (arbiters : List ArbiterPart) (branch : ℕ) (s : Placement) → slice_get (placements_from first arbiters) branch ≡ Some s → ArbiterOf first arbiters s
+placement_of_arbiter first [] branch s at = absurd (none_there at)
   where
-    none_there : slice_get {X = Seat} [] branch ≡ Some s → ⊥
+    none_there : slice_get {X = Placement} [] branch ≡ Some s → ⊥
     none_there e = absurd cc
-seat_placed first (arbiter ∷ arbiters) branch s at = of_either (here_or_later first arbiter.kind arbiter.branches (seats_from (first + 1) arbiters) branch s at) (λ later is. seat_placed (first + 1) arbiters later s is)
+placement_of_arbiter first (arbiter ∷ arbiters) branch s at = of_either (here_or_later first arbiter.kind arbiter.branches (placements_from (first + 1) arbiters) branch s at) (λ later is. placement_of_arbiter (first + 1) arbiters later s is)
   where
-    of_either : ((s.arbiter ≡ first) × (s.kind ≡ arbiter.kind)) ⊎ ((later : ℕ) × (slice_get (seats_from (first + 1) arbiters) later ≡ Some s))
-        → ((later : ℕ) → slice_get (seats_from (first + 1) arbiters) later ≡ Some s → Placed (first + 1) arbiters s) → Placed first (arbiter ∷ arbiters) s
+    of_either : ((s.arbiter ≡ first) × (s.kind ≡ arbiter.kind)) ⊎ ((later : ℕ) × (slice_get (placements_from (first + 1) arbiters) later ≡ Some s))
+        → ((later : ℕ) → slice_get (placements_from (first + 1) arbiters) later ≡ Some s → ArbiterOf (first + 1) arbiters s) → ArbiterOf first (arbiter ∷ arbiters) s
     of_either (inl here) others = record { place = 0; arbiter = arbiter; number = omega (arith, here.0); at = refl; kind = here.1 }
     of_either (inr later) others =
         let p = others later.0 later.1 in
@@ -106,16 +106,16 @@ domain_kind parts number arbiter (domain ∷ domains) none at =
         rw there (other_kind (slice_get parts.arbiters (least_with number domain.members)) arbiter.kind kind (kind_at (slice_get parts.arbiters (least_with number domain.members)) least))
 
 -- each branch's domain is the number of an arbiter of the kind of its own
-pub kept_domain : (parts : Parts) (branch : ℕ) (s : Seat) → has_dangling_domain parts ≡ false → seat parts branch ≡ Some s → IsSomeAnd (slice_get parts.arbiters s.arbiter) (λ (arbiter : ArbiterPart). arbiter.kind ≡ s.kind)
-kept_domain parts branch s none at = of_own (slice_get (seats_from 0 parts.arbiters) branch) refl (sym (slice_get-map (in_domain parts.domains) (seats_from 0 parts.arbiters) branch) ∙ at)
+pub kept_domain : (parts : Parts) (branch : ℕ) (s : Placement) → has_dangling_domain parts ≡ false → placement parts branch ≡ Some s → IsSomeAnd (slice_get parts.arbiters s.arbiter) (λ (arbiter : ArbiterPart). arbiter.kind ≡ s.kind)
+kept_domain parts branch s none at = of_own (slice_get (placements_from 0 parts.arbiters) branch) refl (sym (slice_get-map (in_domain parts.domains) (placements_from 0 parts.arbiters) branch) ∙ at)
   where
-    of_own : (found : Option Seat) → slice_get (seats_from 0 parts.arbiters) branch ≡ found → option_map (in_domain parts.domains) found ≡ Some s → IsSomeAnd (slice_get parts.arbiters s.arbiter) (λ (arbiter : ArbiterPart). arbiter.kind ≡ s.kind)
+    of_own : (found : Option Placement) → slice_get (placements_from 0 parts.arbiters) branch ≡ found → option_map (in_domain parts.domains) found ≡ Some s → IsSomeAnd (slice_get parts.arbiters s.arbiter) (λ (arbiter : ArbiterPart). arbiter.kind ≡ s.kind)
     of_own None found is = absurd cc
     of_own (Some own) found is =
-        let p = seat_placed 0 parts.arbiters branch own found in
+        let p = placement_of_arbiter 0 parts.arbiters branch own found in
         let number : own.arbiter ≡ p.place = omega (arith, p.number) in
         let there : slice_get parts.arbiters own.arbiter ≡ Some p.arbiter = ap (slice_get parts.arbiters) number ∙ p.at in
         let kept : IsSomeAnd (slice_get parts.arbiters (domain_of parts.domains own.arbiter)) (λ (arbiter : ArbiterPart). arbiter.kind ≡ p.arbiter.kind) = domain_kind parts own.arbiter p.arbiter parts.domains none there in
         let same : in_domain parts.domains own ≡ s = cc in
         let kept' : IsSomeAnd (slice_get parts.arbiters (domain_of parts.domains own.arbiter)) (λ (arbiter : ArbiterPart). arbiter.kind ≡ own.kind) = rw p.kind kept in
-        subst (λ (x : Seat). IsSomeAnd (slice_get parts.arbiters x.arbiter) (λ (arbiter : ArbiterPart). arbiter.kind ≡ x.kind)) same kept'
+        subst (λ (x : Placement). IsSomeAnd (slice_get parts.arbiters x.arbiter) (λ (arbiter : ArbiterPart). arbiter.kind ≡ x.kind)) same kept'

@@ -3,6 +3,6 @@ pub mod Lists
 pub mod Crowds
 pub mod SpotLemmas
 pub mod Validity
-pub mod SeatPlaces
+pub mod Positions
 pub mod DomainLemmas
 pub mod Soundness

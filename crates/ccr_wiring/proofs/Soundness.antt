@@ -18,7 +18,7 @@ use Rattle.ccr_wiring.specs.declared.parts.DomainPart.{DomainPart}
 use Rattle.ccr_wiring.specs.declared.parts.HandlerPart.{HandlerPart}
 use Rattle.ccr_wiring.specs.declared.parts.Kind.{Kind}
 use Rattle.ccr_wiring.specs.declared.parts.Parts.{Parts}
-use Rattle.ccr_wiring.specs.Wirings.{Seat, seat, seats, seats_of, seats_from, in_domain, actions_of, exception_port, awaited, site_port}
+use Rattle.ccr_wiring.specs.Wirings.{Placement, placement, placements, placements_of, placements_from, in_domain, actions_of, exception_port, awaited, site_port}
 use Rattle.ccr_wiring.specs.Groups.{may_have, has_strange_group}
 use Rattle.ccr_wiring.specs.References.{is_beyond, has_beyond, no_port, no_cause, action_is_dangling, slots_are_dangling, pattern_is_dangling, branch_is_dangling, post_is_dangling, handler_is_dangling, cause_is_dangling, poster_is_dangling, has_dangling, has_dangling_set, has_dangling_cause, has_dangling_handler, has_dangling_arbiter, has_dangling_poster, has_dangling_domain}
 use Rattle.ccr_wiring.specs.Repeats.{are_apart, slot_ports, names_ports_once, branch_repeats, post_repeats, poster_repeats, has_repeating_set, has_repeating_arbiter, has_repeating_poster, has_repeating_domain}
@@ -26,7 +26,7 @@ use Rattle.ccr_wiring.specs.Limits.{is_outside, slot_is_outside, pattern_is_outs
 use Rattle.ccr_wiring.specs.Spots.{pattern_ports, times, named_ports, has_crowded}
 use Rattle.ccr_wiring.specs.Valid.{IsValid, IsSound, IsSmall, IsSlotFilled, IsPatternFilled, IsActionNamed, IsPostNamed}
 use Rattle.ccr_wiring.proofs.Lists.{neither, none_at}
-use Rattle.ccr_wiring.proofs.SpotLemmas.{length-seats}
+use Rattle.ccr_wiring.proofs.SpotLemmas.{length-placements}
 use Rattle.ccr_wiring.proofs.DomainLemmas.{kept_domain}
 use Rattle.ccr_wiring.proofs.Validity.{no_codes, within, few_branches, few_actions}
 
@@ -40,26 +40,26 @@ below count number none = grind (arith, nat_tests, none)
 at_most : (most n : ℕ) → nat_lt most n ≡ false → n ≤ most
 at_most most n none = grind (arith, nat_tests, none)
 
--- tests of the branches of arbiters are tests of the seats
-seat_any : (q : Kind → BranchPart → Bool) (number : ℕ) (kind : Kind) (branches : List BranchPart) → list_any (λ (s : Seat). q s.kind s.branch) (map (λ branch. record { arbiter = number; kind = kind; branch = branch }) branches) ≡ list_any (q kind) branches
-seat_any q number kind [] = refl
-seat_any q number kind (branch ∷ branches) = ap (λ b. q kind branch || b) (seat_any q number kind branches)
+-- tests of the branches of arbiters are tests of the placements
+placement_any : (q : Kind → BranchPart → Bool) (number : ℕ) (kind : Kind) (branches : List BranchPart) → list_any (λ (s : Placement). q s.kind s.branch) (map (λ branch. record { arbiter = number; kind = kind; branch = branch }) branches) ≡ list_any (q kind) branches
+placement_any q number kind [] = refl
+placement_any q number kind (branch ∷ branches) = ap (λ b. q kind branch || b) (placement_any q number kind branches)
 
-seats_any : (q : Kind → BranchPart → Bool) (number : ℕ) (arbiters : List ArbiterPart) → list_any (λ (s : Seat). q s.kind s.branch) (seats_from number arbiters) ≡ list_any (λ (arbiter : ArbiterPart). list_any (q arbiter.kind) arbiter.branches) arbiters
-seats_any q number [] = refl
-seats_any q number (arbiter ∷ arbiters) =
-    list_any-append (λ (s : Seat). q s.kind s.branch) (seats_of number arbiter) (seats_from (number + 1) arbiters)
-    ∙ (ap (λ b. b || list_any (λ (s : Seat). q s.kind s.branch) (seats_from (number + 1) arbiters)) (seat_any q number arbiter.kind arbiter.branches)
-    ∙ ap (λ b. list_any (q arbiter.kind) arbiter.branches || b) (seats_any q (number + 1) arbiters))
+placements_any : (q : Kind → BranchPart → Bool) (number : ℕ) (arbiters : List ArbiterPart) → list_any (λ (s : Placement). q s.kind s.branch) (placements_from number arbiters) ≡ list_any (λ (arbiter : ArbiterPart). list_any (q arbiter.kind) arbiter.branches) arbiters
+placements_any q number [] = refl
+placements_any q number (arbiter ∷ arbiters) =
+    list_any-append (λ (s : Placement). q s.kind s.branch) (placements_of number arbiter) (placements_from (number + 1) arbiters)
+    ∙ (ap (λ b. b || list_any (λ (s : Placement). q s.kind s.branch) (placements_from (number + 1) arbiters)) (placement_any q number arbiter.kind arbiter.branches)
+    ∙ ap (λ b. list_any (q arbiter.kind) arbiter.branches || b) (placements_any q (number + 1) arbiters))
 
 -- a domain changes neither kind nor branch
-domain_any : (q : Kind → BranchPart → Bool) (domains : List DomainPart) (ss : List Seat) → list_any (λ (s : Seat). q s.kind s.branch) (map (in_domain domains) ss) ≡ list_any (λ (s : Seat). q s.kind s.branch) ss
+domain_any : (q : Kind → BranchPart → Bool) (domains : List DomainPart) (ss : List Placement) → list_any (λ (s : Placement). q s.kind s.branch) (map (in_domain domains) ss) ≡ list_any (λ (s : Placement). q s.kind s.branch) ss
 domain_any q domains [] = refl
 domain_any q domains (s ∷ ss) = ap (λ b. q s.kind s.branch || b) (domain_any q domains ss)
 
--- what no branch passes, the branch of no seat passes
-seat_none : (q : Kind → BranchPart → Bool) (parts : Parts) → list_any (λ (arbiter : ArbiterPart). list_any (q arbiter.kind) arbiter.branches) parts.arbiters ≡ false → (branch : ℕ) (s : Seat) → seat parts branch ≡ Some s → q s.kind s.branch ≡ false
-seat_none q parts none branch s at = none_at (λ (s : Seat). q s.kind s.branch) (seats parts) branch s (domain_any q parts.domains (seats_from 0 parts.arbiters) ∙ (seats_any q 0 parts.arbiters ∙ none)) at
+-- what no branch passes, the branch of no placement passes
+placement_none : (q : Kind → BranchPart → Bool) (parts : Parts) → list_any (λ (arbiter : ArbiterPart). list_any (q arbiter.kind) arbiter.branches) parts.arbiters ≡ false → (branch : ℕ) (s : Placement) → placement parts branch ≡ Some s → q s.kind s.branch ≡ false
+placement_none q parts none branch s at = none_at (λ (s : Placement). q s.kind s.branch) (placements parts) branch s (domain_any q parts.domains (placements_from 0 parts.arbiters) ∙ (placements_any q 0 parts.arbiters ∙ none)) at
 
 -- where none passes either test, none passes the first
 any_first : {X : Type 0} (p q : X → Bool) (xs : List X) → list_any (λ x. p x || q x) xs ≡ false → list_any p xs ≡ false
@@ -162,7 +162,7 @@ awaited_none parts (Add cause ∷ actions) none = awaited_none parts actions (ne
 awaited_none parts (Remove cause ∷ actions) none = awaited_none parts actions (neither (no_cause parts cause) (list_any (action_is_dangling parts) actions) none).1
 awaited_none parts (Fail expr ∷ actions) none = awaited_none parts actions none
 
-site_named : (parts : Parts) (branch site port : ℕ) (found : Option Seat) → seat parts branch ≡ found → has_dangling_handler parts ≡ false → site_port parts branch site ≡ Some port → port < length parts.ports
+site_named : (parts : Parts) (branch site port : ℕ) (found : Option Placement) → placement parts branch ≡ found → has_dangling_handler parts ≡ false → site_port parts branch site ≡ Some port → port < length parts.ports
 site_named parts branch site port None found none at = absurd (no_site (rw found at at))
   where
     no_site : None ≡ Some port → ⊥
@@ -236,7 +236,7 @@ small parts none =
     let two = neither (a || b) c three.0 in
     let one = neither a b two.0 in
     let branches = few_branches parts none in
-    let count = length-seats parts in
+    let count = length-placements parts in
     record {
       budget = at_most 10000 parts.budget inside.budget;
       queues = at_most 16 (length parts.queues) one.0;
@@ -258,17 +258,17 @@ sound parts valid =
     let inside = within parts none.limits in
     let all = neither (has_repeating_set parts || has_repeating_arbiter parts || has_repeating_poster parts) (has_repeating_domain parts) none.repeats in
     let twice = neither (has_repeating_set parts || has_repeating_arbiter parts) (has_repeating_poster parts) all.0 in
-    let branches = seat_none (λ kind branch. branch_is_dangling parts branch) parts numbers.arbiters in
+    let branches = placement_none (λ kind branch. branch_is_dangling parts branch) parts numbers.arbiters in
     record {
-      apart = λ branch s at. not_not (names_ports_once s.branch.pattern) (seat_none (λ kind branch. branch_repeats branch) parts (neither (has_repeating_set parts) (has_repeating_arbiter parts) twice.0).1 branch s at);
+      apart = λ branch s at. not_not (names_ports_once s.branch.pattern) (placement_none (λ kind branch. branch_repeats branch) parts (neither (has_repeating_set parts) (has_repeating_arbiter parts) twice.0).1 branch s at);
       queues = λ branch s at. (branch_named parts s.branch (branches branch s at)).queue;
       handlers = λ branch s at. (branch_named parts s.branch (branches branch s at)).handler;
-      groups = λ branch s at. not_not (may_have s.kind s.branch.group) (seat_none (λ kind branch. not (may_have kind branch.group)) parts (any_first has_strange_group _ parts.arbiters none.groups) branch s at);
+      groups = λ branch s at. not_not (may_have s.kind s.branch.group) (placement_none (λ kind branch. not (may_have kind branch.group)) parts (any_first has_strange_group _ parts.arbiters none.groups) branch s at);
       pattern_ports = λ branch s place port at there. pattern_port parts s.branch.pattern place port (branch_named parts s.branch (branches branch s at)).pattern there;
-      patterns = λ branch s at. pattern_filled s.branch.pattern (seat_none (λ kind branch. branch_is_outside branch) parts inside.arbiters branch s at);
+      patterns = λ branch s at. pattern_filled s.branch.pattern (placement_none (λ kind branch. branch_is_outside branch) parts inside.arbiters branch s at);
       actions = λ handler place action at. actions_named parts handler place action (slice_get parts.handlers handler) refl numbers.handlers at;
       few_actions = λ handler. few_actions parts handler none.limits;
-      site_ports = λ branch site port at. site_named parts branch site port (seat parts branch) refl numbers.handlers at;
+      site_ports = λ branch site port at. site_named parts branch site port (placement parts branch) refl numbers.handlers at;
       exception_ports = λ cause port at. exception_named parts cause port (slice_get parts.causes cause) refl numbers.causes at;
       scripts = λ poster place part post at there. post_named parts post (none_at (post_is_dangling parts) part.posts place post (none_at (poster_is_dangling parts) parts.posters poster part numbers.posters at) there) (none_at post_repeats part.posts place post (none_at poster_repeats parts.posters poster part twice.1 at) there);
       few_spots = not_crowded (named_ports parts) none.spots;

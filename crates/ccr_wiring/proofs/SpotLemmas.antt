@@ -10,37 +10,37 @@ use Rattle.ccr_wiring.specs.declared.parts.BranchPart.{BranchPart}
 use Rattle.ccr_wiring.specs.declared.parts.Kind.{Kind}
 use Rattle.ccr_wiring.specs.declared.parts.Parts.{Parts}
 use Rattle.ccr_wiring.specs.declared.parts.DomainPart.{DomainPart}
-use Rattle.ccr_wiring.specs.Wirings.{Seat, seats, seats_from, spots, spots_from, sites_from, awaited, actions_of, in_domain}
+use Rattle.ccr_wiring.specs.Wirings.{Placement, placements, placements_from, spots, spots_from, sites_from, awaited, actions_of, in_domain}
 use Rattle.ccr_wiring.specs.Spots.{branch_spots, all_branches}
 
-abbrev seat_branches : List Seat → List BranchPart
-seat_branches seats = map (λ (s : Seat). s.branch) seats
+abbrev placement_branches : List Placement → List BranchPart
+placement_branches placements = map (λ (s : Placement). s.branch) placements
 
-spots_by_branch : (parts : Parts) (number : ℕ) (ss : List Seat) → spots_from parts number ss ≡ branch_spots parts number (seat_branches ss)
+spots_by_branch : (parts : Parts) (number : ℕ) (ss : List Placement) → spots_from parts number ss ≡ branch_spots parts number (placement_branches ss)
 spots_by_branch parts number [] = refl
 spots_by_branch parts number (s ∷ ss) = ap (λ (rest : List Spot). (Branch number ∷ sites_from number 0 (awaited (actions_of parts s.branch.handler))) ++ rest) (spots_by_branch parts (number + 1) ss)
 
-seats_branches : (arbiter : ℕ) (kind : Kind) (branches : List BranchPart) (rest : List Seat) → seat_branches (map (λ branch. record { arbiter = arbiter; kind = kind; branch = branch }) branches ++ rest) ≡ branches ++ seat_branches rest
-seats_branches arbiter kind [] rest = refl
-seats_branches arbiter kind (branch ∷ branches) rest = ap (λ (bs : List BranchPart). branch ∷ bs) (seats_branches arbiter kind branches rest)
+placements_branches : (arbiter : ℕ) (kind : Kind) (branches : List BranchPart) (rest : List Placement) → placement_branches (map (λ branch. record { arbiter = arbiter; kind = kind; branch = branch }) branches ++ rest) ≡ branches ++ placement_branches rest
+placements_branches arbiter kind [] rest = refl
+placements_branches arbiter kind (branch ∷ branches) rest = ap (λ (bs : List BranchPart). branch ∷ bs) (placements_branches arbiter kind branches rest)
 
-all_seat_branches : (number : ℕ) (arbiters : List ArbiterPart) → seat_branches (seats_from number arbiters) ≡ all_branches arbiters
-all_seat_branches number [] = refl
-all_seat_branches number (arbiter ∷ arbiters) =
-    seats_branches number arbiter.kind arbiter.branches (seats_from (number + 1) arbiters)
-    ∙ (ap (λ (bs : List BranchPart). arbiter.branches ++ bs) (all_seat_branches (number + 1) arbiters) ∙ sym (flat_map-cons (λ (a : ArbiterPart). a.branches) arbiter arbiters))
+all_placement_branches : (number : ℕ) (arbiters : List ArbiterPart) → placement_branches (placements_from number arbiters) ≡ all_branches arbiters
+all_placement_branches number [] = refl
+all_placement_branches number (arbiter ∷ arbiters) =
+    placements_branches number arbiter.kind arbiter.branches (placements_from (number + 1) arbiters)
+    ∙ (ap (λ (bs : List BranchPart). arbiter.branches ++ bs) (all_placement_branches (number + 1) arbiters) ∙ sym (flat_map-cons (λ (a : ArbiterPart). a.branches) arbiter arbiters))
 
-domain_branches : (domains : List DomainPart) (ss : List Seat) → seat_branches (map (in_domain domains) ss) ≡ seat_branches ss
+domain_branches : (domains : List DomainPart) (ss : List Placement) → placement_branches (map (in_domain domains) ss) ≡ placement_branches ss
 domain_branches domains [] = refl
 domain_branches domains (s ∷ ss) = ap (λ (bs : List BranchPart). s.branch ∷ bs) (domain_branches domains ss)
 
--- the branches of all seats
-all_branches_seated : (parts : Parts) → seat_branches (seats parts) ≡ all_branches parts.arbiters
-all_branches_seated parts = domain_branches parts.domains (seats_from 0 parts.arbiters) ∙ all_seat_branches 0 parts.arbiters
+-- the branches of all placements
+all_branches_with_placement : (parts : Parts) → placement_branches (placements parts) ≡ all_branches parts.arbiters
+all_branches_with_placement parts = domain_branches parts.domains (placements_from 0 parts.arbiters) ∙ all_placement_branches 0 parts.arbiters
 
 -- the spots are those of all branches
 pub spots_listed : (parts : Parts) → spots parts ≡ branch_spots parts 0 (all_branches parts.arbiters)
-spots_listed parts = spots_by_branch parts 0 (seats parts) ∙ ap (λ (bs : List BranchPart). branch_spots parts 0 bs) (all_branches_seated parts)
+spots_listed parts = spots_by_branch parts 0 (placements parts) ∙ ap (λ (bs : List BranchPart). branch_spots parts 0 bs) (all_branches_with_placement parts)
 
 -- the spots of some branches and those that follow
 pub branch_spots-append : (parts : Parts) (number : ℕ) (xs ys : List BranchPart) → branch_spots parts number (xs ++ ys) ≡ branch_spots parts number xs ++ branch_spots parts (number + length xs) ys
@@ -78,6 +78,6 @@ length-all_branches (arbiter ∷ arbiters) =
     ∙ (ap (λ n. length arbiter.branches + n) (length-all_branches arbiters)
     ∙ sym (sum_by-cons (λ (n : ℕ). n) (length arbiter.branches) (map (λ (a : ArbiterPart). length a.branches) arbiters))))
 
--- there are as many seats as branches
-pub length-seats : (parts : Parts) → length (seats parts) ≡ length (all_branches parts.arbiters)
-length-seats parts = sym (length-map (seats parts) (λ (s : Seat). s.branch)) ∙ ap length (all_branches_seated parts)
+-- there are as many placements as branches
+pub length-placements : (parts : Parts) → length (placements parts) ≡ length (all_branches parts.arbiters)
+length-placements parts = sym (length-map (placements parts) (λ (s : Placement). s.branch)) ∙ ap length (all_branches_with_placement parts)

@@ -7,7 +7,7 @@ pub mod Repeats
 pub mod Limits
 pub mod Versions
 pub mod Spots
-pub mod Seats
+pub mod Placements
 pub mod Codes
 pub mod Valid
 pub mod Answers

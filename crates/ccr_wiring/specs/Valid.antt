@@ -10,7 +10,7 @@ use Rattle.ccr_base.specs.declared.patterns.Slot.{Slot}
 use Rattle.ccr_wiring.specs.declared.parts.Parts.{Parts}
 use Rattle.ccr_wiring.specs.declared.parts.PosterPart.{PosterPart}
 use Rattle.ccr_wiring.specs.declared.parts.ArbiterPart.{ArbiterPart}
-use Rattle.ccr_wiring.specs.Wirings.{Seat, seat, seats, actions_of, exception_port, site_port}
+use Rattle.ccr_wiring.specs.Wirings.{Placement, placement, placements, actions_of, exception_port, site_port}
 use Rattle.ccr_wiring.specs.Codes.{code_of}
 use Rattle.ccr_wiring.specs.Groups.{may_have}
 use Rattle.ccr_wiring.specs.Limits.{posts_in_all}
@@ -24,23 +24,23 @@ IsValid parts = code_of parts ≡ None
 
 -- no pattern names one port twice
 abbrev pub HasPortsApart : Parts → Type 0
-HasPortsApart wiring = (branch : ℕ) (s : Seat) → seat wiring branch ≡ Some s → names_ports_once s.branch.pattern ≡ true
+HasPortsApart wiring = (branch : ℕ) (s : Placement) → placement wiring branch ≡ Some s → names_ports_once s.branch.pattern ≡ true
 
 -- each branch's queue is one of the wiring's
 abbrev pub HasQueues : Parts → Type 0
-HasQueues wiring = (branch : ℕ) (s : Seat) → seat wiring branch ≡ Some s → s.branch.queue < length wiring.queues
+HasQueues wiring = (branch : ℕ) (s : Placement) → placement wiring branch ≡ Some s → s.branch.queue < length wiring.queues
 
 -- each branch's handler is one of the wiring's
 abbrev pub HasHandlers : Parts → Type 0
-HasHandlers wiring = (branch : ℕ) (s : Seat) → seat wiring branch ≡ Some s → s.branch.handler < length wiring.handlers
+HasHandlers wiring = (branch : ℕ) (s : Placement) → placement wiring branch ≡ Some s → s.branch.handler < length wiring.handlers
 
 -- each branch's group is one that its arbiter's kind has
 abbrev pub HasGroups : Parts → Type 0
-HasGroups wiring = (branch : ℕ) (s : Seat) → seat wiring branch ≡ Some s → may_have s.kind s.branch.group ≡ true
+HasGroups wiring = (branch : ℕ) (s : Placement) → placement wiring branch ≡ Some s → may_have s.kind s.branch.group ≡ true
 
 -- each port of a pattern is one of the wiring's
 abbrev pub HasPatternPorts : Parts → Type 0
-HasPatternPorts wiring = (branch : ℕ) (s : Seat) (place port : ℕ) → seat wiring branch ≡ Some s → slice_get (pattern_ports s.branch.pattern) place ≡ Some port → port < length wiring.ports
+HasPatternPorts wiring = (branch : ℕ) (s : Placement) (place port : ℕ) → placement wiring branch ≡ Some s → slice_get (pattern_ports s.branch.pattern) place ≡ Some port → port < length wiring.ports
 
 -- a slot takes 1 to 1,000 messages, no more and no fewer
 abbrev pub IsSlotFilled : Slot → Type 0
@@ -53,7 +53,7 @@ IsPatternFilled (Gather total first second) = (0 < total) × (total ≤ 1000)
 
 -- each branch takes at least one message
 abbrev pub HasPatternsFilled : Parts → Type 0
-HasPatternsFilled wiring = (branch : ℕ) (s : Seat) → seat wiring branch ≡ Some s → IsPatternFilled s.branch.pattern
+HasPatternsFilled wiring = (branch : ℕ) (s : Placement) → placement wiring branch ≡ Some s → IsPatternFilled s.branch.pattern
 
 -- the port or cause of an action is one of the wiring's
 abbrev pub IsActionNamed : Parts → Action → Type 0
@@ -95,7 +95,7 @@ HasFewSpots wiring = (port : ℕ) → times port (named_ports wiring) ≤ 16
 
 -- each branch's domain is the number of an arbiter of the kind of its own
 abbrev pub HasDomains : Parts → Type 0
-HasDomains wiring = (branch : ℕ) (s : Seat) → seat wiring branch ≡ Some s → IsSomeAnd (slice_get wiring.arbiters s.arbiter) (λ (arbiter : ArbiterPart). arbiter.kind ≡ s.kind)
+HasDomains wiring = (branch : ℕ) (s : Placement) → placement wiring branch ≡ Some s → IsSomeAnd (slice_get wiring.arbiters s.arbiter) (λ (arbiter : ArbiterPart). arbiter.kind ≡ s.kind)
 
 -- how many of each kind there are at most
 pub record IsSmall (wiring : Parts) : Type 0 where
@@ -106,7 +106,7 @@ pub record IsSmall (wiring : Parts) : Type 0 where
   pub causes : length wiring.causes ≤ 32
   pub handlers : length wiring.handlers ≤ 256
   pub arbiters : length wiring.arbiters ≤ 256
-  pub branches : length (seats wiring) ≤ 256
+  pub branches : length (placements wiring) ≤ 256
   pub posters : length wiring.posters ≤ 16
   pub posts : posts_in_all wiring.posters ≤ 10000
 

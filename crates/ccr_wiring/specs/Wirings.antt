@@ -17,31 +17,31 @@ use Rattle.ccr_wiring.specs.declared.parts.DomainPart.{DomainPart}
 use Rattle.ccr_wiring.specs.Domains.{domain_of}
 
 -- a branch with the number of its domain and the kind of its arbiter
-pub record Seat : Type 0 where
+pub record Placement : Type 0 where
   pub arbiter : ℕ
   pub kind : Kind
   pub branch : BranchPart
 
 -- the arbiter's branches, each with the arbiter's number and kind
-abbrev pub seats_of : ℕ → ArbiterPart → List Seat
-seats_of number arbiter = map (λ branch. record { arbiter = number; kind = arbiter.kind; branch = branch }) arbiter.branches
+abbrev pub placements_of : ℕ → ArbiterPart → List Placement
+placements_of number arbiter = map (λ branch. record { arbiter = number; kind = arbiter.kind; branch = branch }) arbiter.branches
 
 -- the branches of the arbiters, of which the first has this number
-abbrev pub seats_from : ℕ → List ArbiterPart → List Seat
-seats_from number [] = []
-seats_from number (arbiter ∷ arbiters) = seats_of number arbiter ++ seats_from (number + 1) arbiters
+abbrev pub placements_from : ℕ → List ArbiterPart → List Placement
+placements_from number [] = []
+placements_from number (arbiter ∷ arbiters) = placements_of number arbiter ++ placements_from (number + 1) arbiters
 
 -- the branch in the domain of its arbiter
-abbrev pub in_domain : List DomainPart → Seat → Seat
+abbrev pub in_domain : List DomainPart → Placement → Placement
 in_domain domains s = record { arbiter = domain_of domains s.arbiter; kind = s.kind; branch = s.branch }
 
 -- all branches, in the order of their numbers
-abbrev pub seats : Parts → List Seat
-seats wiring = map (in_domain wiring.domains) (seats_from 0 wiring.arbiters)
+abbrev pub placements : Parts → List Placement
+placements wiring = map (in_domain wiring.domains) (placements_from 0 wiring.arbiters)
 
 -- the branch of this number
-abbrev pub seat : Parts → ℕ → Option Seat
-seat wiring branch = slice_get (seats wiring) branch
+abbrev pub placement : Parts → ℕ → Option Placement
+placement wiring branch = slice_get (placements wiring) branch
 
 -- the queue's policy; a number that names no queue counts as an unbounded one
 abbrev pub policy_of : Parts → ℕ → Policy
@@ -85,7 +85,7 @@ next_site spot = Site (branch_of spot) (segment_of spot)
 
 -- the port that is awaited at this site of the branch
 abbrev pub site_port : Parts → ℕ → ℕ → Option ℕ
-site_port wiring branch site = option_map_or (λ (s : Seat). slice_get (awaited (actions_of wiring s.branch.handler)) site) (seat wiring branch) None
+site_port wiring branch site = option_map_or (λ (s : Placement). slice_get (awaited (actions_of wiring s.branch.handler)) site) (placement wiring branch) None
 
 -- a site for each awaited port, of which the first has this number
 abbrev pub sites_from : ℕ → ℕ → List ℕ → List Spot
@@ -93,10 +93,10 @@ sites_from branch site [] = []
 sites_from branch site (port ∷ ports) = Site branch site ∷ sites_from branch (site + 1) ports
 
 -- the branches, of which the first has this number, each followed by its sites
-abbrev pub spots_from : Parts → ℕ → List Seat → List Spot
+abbrev pub spots_from : Parts → ℕ → List Placement → List Spot
 spots_from wiring branch [] = []
 spots_from wiring branch (s ∷ ss) = Branch branch ∷ sites_from branch 0 (awaited (actions_of wiring s.branch.handler)) ++ spots_from wiring (branch + 1) ss
 
 -- each branch, followed by its sites
 abbrev pub spots : Parts → List Spot
-spots wiring = spots_from wiring 0 (seats wiring)
+spots wiring = spots_from wiring 0 (placements wiring)

@@ -8,9 +8,9 @@ mod laws;
 mod limits;
 mod names;
 mod parts;
+mod placements;
 mod references;
 mod repeats;
-mod seats;
 mod spots;
 mod unfit;
 mod versions;
@@ -26,7 +26,7 @@ pub use parts::{
     ArbiterPart, BranchPart, CausePart, DomainPart, HandlerPart, Kind, Parts, PosterPart,
     QueuePart, SetPart,
 };
-pub use seats::SeatOf;
+pub use placements::PlacementOf;
 pub use unfit::Unfit;
 pub use wiring::Wiring;
 

@@ -3,16 +3,16 @@
 ghost use Rattle.std.specs.Prelude.{◌≡◌, ◌<◌, OnOk, IfOk, IfErr, length};
 ghost use Rattle.std.specs.Option.{option_map};
 ghost use Rattle.ccr_wiring.specs.Answers.{IsCause};
-ghost use Rattle.ccr_wiring.specs.Seats.{seat_seen};
-ghost use Rattle.ccr_wiring.specs.Wirings.{seat, spots as spots_of};
+ghost use Rattle.ccr_wiring.specs.Placements.{placement_seen};
+ghost use Rattle.ccr_wiring.specs.Wirings.{placement, spots as spots_of};
 ghost use Rattle.ccr_wiring.specs.Valid.{IsValid};
 ghost use Rattle.ccr_wiring.specs.Domains.{domain_of};
 
 use crate::codes::code_of;
 use crate::domains::domain_of;
-use crate::seats::{Place, all_places, seat_at};
+use crate::placements::{Position, all_positions, placement_at};
 use crate::spots::all_spots;
-use crate::{Parts, SeatOf, Unfit};
+use crate::{Parts, PlacementOf, Unfit};
 use ccr_base::{ArbiterNo, BranchNo, Spot};
 use std::alloc::Global;
 use std::marker::Model;
@@ -23,13 +23,13 @@ pub struct Wiring {
     parts: Parts,
     spots: Vec<Spot>,
     /// Where the branch of each number stands.
-    places: Vec<Place>,
+    positions: Vec<Position>,
 }
 
 impl Model for Wiring {
     ghost use Rattle.std.specs.Prelude.{◌≡◌};
     ghost use Rattle.ccr_wiring.specs.declared.parts.Parts.{Parts};
-    ghost use Rattle.ccr_wiring.specs.Seats.{places as places_of};
+    ghost use Rattle.ccr_wiring.specs.Placements.{positions as positions_of};
     ghost use Rattle.ccr_wiring.specs.Wirings.{spots as spots_of};
     ghost use Rattle.ccr_wiring.specs.Valid.{IsValid};
 
@@ -37,7 +37,7 @@ impl Model for Wiring {
 
     ghost view = { λ wiring. wiring.parts };
 
-    ghost invariant = { λ wiring. IsValid wiring.parts × (wiring.spots.items ≡ spots_of wiring.parts) × (wiring.places.items ≡ places_of wiring.parts) };
+    ghost invariant = { λ wiring. IsValid wiring.parts × (wiring.spots.items ≡ spots_of wiring.parts) × (wiring.positions.items ≡ positions_of wiring.parts) };
 }
 
 impl Wiring {
@@ -52,11 +52,11 @@ impl Wiring {
             Some(code) => Err(Unfit::Code(code)),
             None => {
                 let spots = all_spots(alloc, &parts)?;
-                let places = all_places(alloc, &parts)?;
+                let positions = all_positions(alloc, &parts)?;
                 Ok(Wiring {
                     parts,
                     spots,
-                    places,
+                    positions,
                 })
             }
         }
@@ -87,10 +87,10 @@ impl Wiring {
     }
 
     /// The branch of this number, found in a time that doesn't grow with the wiring.
-    pub fn seat(&self, branch: BranchNo) -> Option<SeatOf<'_>>
-        ensures seat { option_map seat_seen result ≡ seat self.now branch }
+    pub fn placement(&self, branch: BranchNo) -> Option<PlacementOf<'_>>
+        ensures placement { option_map placement_seen result ≡ placement self.now branch }
     {
-        let place = self.places.get(branch as usize)?;
-        seat_at(self.parts.arbiters.as_slice(), *place)
+        let position = self.positions.get(branch as usize)?;
+        placement_at(self.parts.arbiters.as_slice(), *position)
     }
 }

@@ -30,5 +30,5 @@ given_after s [] = at_end s
 given_after s (text ∷ texts) = option_and_then (λ t. given_after t texts) (turn s text)
 
 -- what the words ask for; none where they are not of the form
-abbrev pub said : List Text → Option Request
-said words = option_and_then meaning (given_after start words)
+abbrev pub asked_for : List Text → Option Request
+asked_for words = option_and_then meaning (given_after start words)

@@ -3,7 +3,7 @@
 ghost use Rattle.std.specs.Prelude.{◌≡◌, IfOk, IfSome};
 ghost use Rattle.ccr_words.specs.Parts.{Given};
 ghost use Rattle.ccr_words.specs.Table.{meaning, IsSized};
-ghost use Rattle.ccr_words.specs.Said.{said};
+ghost use Rattle.ccr_words.specs.Said.{asked_for};
 ghost use Rattle.ccr_words.specs.Parsing.{HasGiven};
 
 use crate::parsing::{matches_of, texts_of};
@@ -31,7 +31,7 @@ fn request_of_matches(matches: &ArgMatches) -> Option<Request>
 /// What the words behind the program's name ask for; none where they aren't of the form (docs/FORMATS.md, "Words").
 #[tactic(auto, using(crate::proofs::Same::same_said))]
 pub fn read_words(alloc: Global, words: &[Name]) -> Result<Option<Request>, OutOfMemory>
-    ensures said { IfOk result (λ request. request ≡ said words.now) }
+    ensures asked_for { IfOk result (λ request. request ≡ asked_for words.now) }
     ensures sized { IfOk result (λ request. IfSome request IsSized) }
 {
     match texts_of(alloc, words)? {

@@ -10,7 +10,7 @@ use ccr_model::enough::can_fire;
 use ccr_model::firings::{cut, dropped, fired, put};
 use ccr_model::live::{has_room, is_live};
 use ccr_model::posts::{held, taken};
-use ccr_model::rules::{cuts_at, drop_at, may_enter, may_put};
+use ccr_model::rules::{cuts_at, drop_at, may_admit, may_put};
 use ccr_model::tasks::{queued, running, waiting};
 use ccr_model::{Event, History};
 use ccr_wiring::Wiring;
@@ -84,7 +84,7 @@ fn holds_of(
         Question::HasRoom(spot) => has_room(alloc, wiring, events, spot),
         Question::CanFire(spot) => can_fire(alloc, wiring, events, spot),
         Question::Takes(spot, name) => is_choice(alloc, wiring, events, spot, &[name]),
-        Question::MayEnter(task) => may_enter(alloc, wiring, events, task),
+        Question::MayEnter(task) => may_admit(alloc, wiring, events, task),
         Question::MayPut(task) => may_put(alloc, wiring, events, task),
     }
 }

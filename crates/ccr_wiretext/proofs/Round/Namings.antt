@@ -8,7 +8,7 @@ use Rattle.std.proofs.lemmas.List.{map-append}
 use Rattle.ccr_text.specs.Words.{is_name_of}
 use Rattle.ccr_wiring.specs.Names.{has_name, has_repeated, has_malformed}
 use Rattle.ccr_wiretext.specs.declared.named.Named.{Named}
-use Rattle.ccr_wiretext.specs.Names.{Naming, named}
+use Rattle.ccr_wiretext.specs.Names.{Naming, meaning_of}
 use Rattle.ccr_wiretext.specs.Grammar.{IsNew, Refers}
 use Rattle.ccr_wiretext.proofs.Steps.{not_false, same_name}
 use Rattle.ccr_wiretext.proofs.Each.{neither}
@@ -48,7 +48,7 @@ apart_front (x ∷ xs) ys e =
 pub good_front : (xs ys : List (List ℕ)) → Good (xs ++ ys) → Good xs
 good_front xs ys good = record { apart = apart_front xs ys good.apart; formed = (any_parts (λ name. not (is_name_of name)) xs ys good.formed).0 }
 
-pub fresh : (names : Naming) (name : List ℕ) (rest : List (List ℕ)) → has_repeated (names_of names ++ name ∷ rest) ≡ false → named names name ≡ None
+pub fresh : (names : Naming) (name : List ℕ) (rest : List (List ℕ)) → has_repeated (names_of names ++ name ∷ rest) ≡ false → meaning_of names name ≡ None
 fresh [] name rest e = refl
 fresh (entry ∷ names) name rest e =
     let parts = neither (has_name (names_of names ++ name ∷ rest) entry.0) (has_repeated (names_of names ++ name ∷ rest)) e in
@@ -67,20 +67,20 @@ is_new names name what rest good =
     }
 
 -- what is declared stays declared
-named_more : (names more : Naming) (word : List ℕ) (what : Named) → named names word ≡ Some what → named (names ++ more) word ≡ Some what
+named_more : (names more : Naming) (word : List ℕ) (what : Named) → meaning_of names word ≡ Some what → meaning_of (names ++ more) word ≡ Some what
 named_more [] more word what e = absurd cc
 named_more (entry ∷ names) more word what e = by (bytes_eq word entry.0) e (named_more names more word what)
   where
-    by : (t : Bool) → cond t (Some entry.1) (named names word) ≡ Some what → (named names word ≡ Some what → named (names ++ more) word ≡ Some what) → cond t (Some entry.1) (named (names ++ more) word) ≡ Some what
+    by : (t : Bool) → cond t (Some entry.1) (meaning_of names word) ≡ Some what → (meaning_of names word ≡ Some what → meaning_of (names ++ more) word ≡ Some what) → cond t (Some entry.1) (meaning_of (names ++ more) word) ≡ Some what
     by true h next = h
     by false h next = next h
 
 -- a new name means what it is declared for
-pub named_at : (names : Naming) (name : List ℕ) (what : Named) (more : Naming) → named names name ≡ None → named (names ++ (name, what) ∷ more) name ≡ Some what
+pub named_at : (names : Naming) (name : List ℕ) (what : Named) (more : Naming) → meaning_of names name ≡ None → meaning_of (names ++ (name, what) ∷ more) name ≡ Some what
 named_at [] name what more e = rw (same_name name) refl
 named_at (entry ∷ names) name what more e = by (bytes_eq name entry.0) e (named_at names name what more)
   where
-    by : (t : Bool) → cond t (Some entry.1) (named names name) ≡ None → (named names name ≡ None → named (names ++ (name, what) ∷ more) name ≡ Some what) → cond t (Some entry.1) (named (names ++ (name, what) ∷ more) name) ≡ Some what
+    by : (t : Bool) → cond t (Some entry.1) (meaning_of names name) ≡ None → (meaning_of names name ≡ None → meaning_of (names ++ (name, what) ∷ more) name ≡ Some what) → cond t (Some entry.1) (meaning_of (names ++ (name, what) ∷ more) name) ≡ Some what
     by true h next = absurd cc
     by false h next = next h
 
@@ -88,18 +88,18 @@ some_is : {X : Type 0} (x y : X) → Some x ≡ Some y → x ≡ y
 some_is x y e = cc
 
 entries_named : {X : Type 0} (name : X → List ℕ) (make : ℕ → Named) (front : Naming) (start : ℕ) (xs : List X) (k : ℕ) (x : X) → slice_get xs k ≡ Some x
-    → has_repeated (names_of (front ++ entries name make start xs)) ≡ false → named (front ++ entries name make start xs) (name x) ≡ Some (make (start + k))
+    → has_repeated (names_of (front ++ entries name make start xs)) ≡ false → meaning_of (front ++ entries name make start xs) (name x) ≡ Some (make (start + k))
 entries_named name make front start [] k x e apart = absurd cc
 entries_named name make front start (y ∷ ys) zero x e apart =
     let split : names_of (front ++ (name y, make start) ∷ entries name make (start + 1) ys) ≡ names_of front ++ name y ∷ names_of (entries name make (start + 1) ys) = names_append front ((name y, make start) ∷ entries name make (start + 1) ys) in
-    let here : named (front ++ (name y, make start) ∷ entries name make (start + 1) ys) (name y) ≡ Some (make start) =
+    let here : meaning_of (front ++ (name y, make start) ∷ entries name make (start + 1) ys) (name y) ≡ Some (make start) =
     named_at front (name y) (make start) (entries name make (start + 1) ys) (fresh front (name y) (names_of (entries name make (start + 1) ys)) (ap has_repeated (sym split) ∙ apart)) in
     let counted : start + 0 ≡ start = omega arith in
-    rw counted (subst (λ z. named (front ++ (name y, make start) ∷ entries name make (start + 1) ys) (name z) ≡ Some (make start)) (some_is y x e) here)
+    rw counted (subst (λ z. meaning_of (front ++ (name y, make start) ∷ entries name make (start + 1) ys) (name z) ≡ Some (make start)) (some_is y x e) here)
 entries_named name make front start (y ∷ ys) (suc k) x e apart =
     let same : (front ++ (name y, make start) ∷ []) ++ entries name make (start + 1) ys ≡ front ++ (name y, make start) ∷ entries name make (start + 1) ys = append_assoc front ((name y, make start) ∷ []) (entries name make (start + 1) ys) in
     let counted : start + suc k ≡ start + 1 + k = omega arith in
-    rw counted (subst (λ (all : Naming). named all (name x) ≡ Some (make (start + 1 + k))) same
+    rw counted (subst (λ (all : Naming). meaning_of all (name x) ≡ Some (make (start + 1 + k))) same
     (entries_named name make (front ++ (name y, make start) ∷ []) (start + 1) ys k x e (ap (λ (all : Naming). has_repeated (names_of all)) same ∙ apart)))
 
 formed_get : {X : Type 0} (name : X → List ℕ) (make : ℕ → Named) (start : ℕ) (xs : List X) (k : ℕ) (x : X) → slice_get xs k ≡ Some x → has_malformed (names_of (entries name make start xs)) ≡ false → is_name_of (name x) ≡ true
@@ -153,9 +153,9 @@ known_get as_kind name make kind front xs good k x e =
     }
 
 pub known_more : (as_kind : Named → Option ℕ) (names more : Naming) (name : List ℕ) (number : ℕ) → IsKnown as_kind names name number → IsKnown as_kind (names ++ more) name number
-known_more as_kind names more name number known = record { formed = known.formed; refers = by (named names name) refl known.refers }
+known_more as_kind names more name number known = record { formed = known.formed; refers = by (meaning_of names name) refl known.refers }
   where
-    by : (o : Option Named) → named names name ≡ o → option_and_then as_kind o ≡ Some number → option_and_then as_kind (named (names ++ more) name) ≡ Some number
+    by : (o : Option Named) → meaning_of names name ≡ o → option_and_then as_kind o ≡ Some number → option_and_then as_kind (meaning_of (names ++ more) name) ≡ Some number
     by None is e = absurd cc
     by (Some what) is e = rw (named_more names more name what is) e
 

@@ -89,7 +89,7 @@ fn domain_is_the_least_member(rt: HostRuntime) -> Result<(), Fail> {
 fn domain_of_branch(alloc: Global, branch: BranchNo) -> Option<usize> {
     let parts = combined(alloc, &[&[4, 2, 3]]).ok()?;
     let wiring = Wiring::check(alloc, parts).ok()?;
-    Some(wiring.seat(branch)?.arbiter)
+    Some(wiring.placement(branch)?.arbiter)
 }
 
 #[test]

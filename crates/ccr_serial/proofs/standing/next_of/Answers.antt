@@ -22,4 +22,4 @@ pub returns-clause-event : goal.returns-clause-event
 returns-clause-event c = first_by c.args.places.now c.requires.sound.valid c.args.closer c.args.history.now c.make_current.new.desk c.in_ok-next.next c.requires.sound.legal c.in_ok-make_current.ensures.stands (subst (λ (w : Parts). c.in_ok-next.next ≡ first_in w c.args.closer c.make_current.new.desk) c.wiring.ensures c.in_ok-next.ensures.event)
 
 pub returns-clause-stands : goal.returns-clause-stands
-returns-clause-stands c current = ahead_by c.args.places.now c.requires.sound.valid c.args.closer c.args.history.now c.make_current.new.desk c.first.new.self c.requires.sound.legal c.in_ok-make_current.ensures.stands (subst (λ (w : Parts). IsAhead w c.args.closer c.make_current.new.desk c.first.new.self) c.wiring.ensures c.in_ok-next.ensures.ahead)
+returns-clause-stands c current = ahead_by c.args.places.now c.requires.sound.valid c.args.closer c.args.history.now c.make_current.new.desk c.next_event.new.self c.requires.sound.legal c.in_ok-make_current.ensures.stands (subst (λ (w : Parts). IsAhead w c.args.closer c.make_current.new.desk c.next_event.new.self) c.wiring.ensures c.in_ok-next.ensures.ahead)

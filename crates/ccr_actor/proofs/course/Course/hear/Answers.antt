@@ -1,9 +1,9 @@
 use Rattle.std.proofs.Common.{◌≡◌, true, false, Bool, List, ◌∷◌, Some, refl, sym, ap, subst, inl, ◌∙◌}
 use Rattle.std.specs.Prelude.{OnOk, OnErr}
 use Rattle.ccr_base.specs.declared.names.Spot.{Spot}
-use Rattle.ccr_claim.specs.declared.outcomes.Standing.{Standing}
-use Rattle.ccr_claim.specs.declared.outcomes.Standing.TheVariants as standings
-use Rattle.ccr_claim.specs.Attempts.{standing_of}
+use Rattle.ccr_claim.specs.declared.outcomes.Progress.{Progress}
+use Rattle.ccr_claim.specs.declared.outcomes.Progress.TheVariants as progresses
+use Rattle.ccr_claim.specs.Attempts.{progress_of}
 use Rattle.ccr_actor.specs.Acting.{kept}
 use Rattle.ccr_actor.specs.Actors.{State, end_attempt}
 use Rattle.ccr_actor.specs.Courses.{EndsSo, IsHeard, IsGivenUp, IsPast, is_memory, fired_on, heard, state_of}
@@ -15,7 +15,7 @@ fired_so c spot more at =
     let old = c.args.self.now in
     let new = c.answer.new.attempt in
     let so = heard_in old c.in-Some-attempt.attempt new c.args.reply spot more c.in-Some-attempt.is c.requires.way.dropped c.requires.way.put at c.requires.way.runs c.requires.asked c.requires.reply c.answer.ensures.after in
-    let stand : standing_of new.ended ≡ standings.Fired c.in-Fired.waits = sym c.answer.ensures.standing ∙ c.in-Fired.is in
+    let stand : progress_of new.ended ≡ progresses.Fired c.in-Fired.waits = sym c.answer.ensures.progress ∙ c.in-Fired.is in
     subst (λ s. IsHeard old.wiring.now old.number (record { actor = old.number; attempt = old.count }) (state_of old) spot more (heard old.wiring.now old.number (state_of old) spot more c.args.reply) s new) stand so
 
 pub returns-in-Fired-clause-step : goal.returns-in-Fired-clause-step
@@ -47,7 +47,7 @@ given_so c spot more at =
     let old = c.args.self.now in
     let new = c.answer.new.attempt in
     let so = heard_in old c.in-Some-attempt.attempt new c.args.reply spot more c.in-Some-attempt.is c.requires.way.dropped c.requires.way.put at c.requires.way.runs c.requires.asked c.requires.reply c.answer.ensures.after in
-    let stand : standing_of new.ended ≡ standings.GaveUp c.in-GaveUp.why = sym c.answer.ensures.standing ∙ c.in-GaveUp.is in
+    let stand : progress_of new.ended ≡ progresses.GaveUp c.in-GaveUp.why = sym c.answer.ensures.progress ∙ c.in-GaveUp.is in
     let target = heard old.wiring.now old.number (state_of old) spot more c.args.reply in
     let up : IsGivenUp (is_memory c.in-GaveUp.why) old.wiring.now old.number (state_of old) more target new = subst (λ s. IsHeard old.wiring.now old.number (record { actor = old.number; attempt = old.count }) (state_of old) spot more target s new) stand so in
     let other : is_memory c.in-GaveUp.why ≡ false = sym c.is_memory.ensures ∙ c.if-is_memory.false in
@@ -70,7 +70,7 @@ returns-then-is_memory-clause-past c =
     let new = c.answer.new.attempt in
     let first = first_spot old.wiring.now (record { actor = old.number; attempt = old.count }) old.spots.items old.attempt c.requires.way.runs in
     let so = heard_in old c.in-Some-attempt.attempt new c.args.reply first.0 first.1 c.in-Some-attempt.is c.requires.way.dropped c.requires.way.put first.2 c.requires.way.runs c.requires.asked c.requires.reply c.answer.ensures.after in
-    let stand : standing_of new.ended ≡ standings.GaveUp c.in-GaveUp.why = sym c.answer.ensures.standing ∙ c.in-GaveUp.is in
+    let stand : progress_of new.ended ≡ progresses.GaveUp c.in-GaveUp.why = sym c.answer.ensures.progress ∙ c.in-GaveUp.is in
     let reached = heard old.wiring.now old.number (state_of old) first.0 first.1 c.args.reply in
     let up : IsGivenUp (is_memory c.in-GaveUp.why) old.wiring.now old.number (state_of old) first.1 reached new = subst (λ s. IsHeard old.wiring.now old.number (record { actor = old.number; attempt = old.count }) (state_of old) first.0 first.1 reached s new) stand so in
     let memory : is_memory c.in-GaveUp.why ≡ true = sym c.is_memory.ensures ∙ c.if-is_memory.true in

@@ -1,5 +1,5 @@
 use Rattle.std.proofs.Common.{◌∙◌, sym, ap, refl, Some}
-use Rattle.ccr_port.specs.declared.claims.Mark.{Mark}
+use Rattle.ccr_port.specs.declared.claims.MarkedClaim.{MarkedClaim}
 use Rattle.ccr_port.specs.Entries.{can_take, without_entries}
 use Rattle.ccr_port.specs.Marks.{IsPort}
 use Rattle.ccr_port.proofs.PortSteps.{marks-can_go, marks-gone, consumed}

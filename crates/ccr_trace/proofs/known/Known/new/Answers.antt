@@ -1,6 +1,6 @@
 use Rattle.std.proofs.Common.{◌≡◌, ◌≤◌, ℕ, List, map, length, Bor, refl, sym, arith, ap, ◌∙◌}
 use Rattle.std.proofs.lemmas.List.{length-map}
-use Rattle.ccr_wiring.specs.Wirings.{seats}
+use Rattle.ccr_wiring.specs.Wirings.{placements}
 use Rattle.ccr_trace.specs.Words.{branch_names, cause_names}
 use Rattle.ccr_trace.proofs.Numbered.{seen}
 use Rattle.ccr_trace.proofs.Apart.{ports_apart, causes_apart, branches_apart, length-branch_names}
@@ -21,7 +21,7 @@ of-requires-3-clause-apart c =
 pub of-requires-3-clause-few : goal.of-requires-3-clause-few
 of-requires-3-clause-few c =
     let names : length c.deref-3.result.now ≡ length (branch_names c.args.wiring.now) = sym (length-map c.deref-3.result.now (λ (name : Bor (List ℕ)). name.now)) ∙ rw (c.deref-3.ensures.value, c.in_ok-names-3.ensures, c.parts-parts.ensures.parts) refl in
-    let few : length (seats c.args.wiring.now) ≤ 256 = (c.valid_wirings_are_sound.ensures c.args.wiring.now c.parts-parts.ensures.valid).small.branches in
+    let few : length (placements c.args.wiring.now) ≤ 256 = (c.valid_wirings_are_sound.ensures c.args.wiring.now c.parts-parts.ensures.valid).small.branches in
     omega (arith, names, few, length-branch_names c.args.wiring.now)
 
 pub invariant_of-result : goal.invariant_of-result

@@ -1,0 +1,124 @@
+//! Whether names are those of a choice from what the ports hold.
+
+ghost use Rattle.std.specs.Prelude.{◌≡◌, ◌==◌, ◌&&◌, IfOk, OnOk, length};
+ghost use Rattle.ccr_base.specs.Names.{same_lists, same_message};
+ghost use Rattle.ccr_base.specs.declared.patterns.Pattern.TheVariants.{Slots};
+ghost use Rattle.ccr_rows.specs.Rows.{row};
+ghost use Rattle.ccr_model.specs.Choice.{are_oldest, are_split, is_choice_of};
+ghost use Rattle.ccr_ledger.specs.Fronts.{are_front, are_fronts};
+
+use crate::choices::{names_of_slots, oldest_names};
+use ccr_base::{MsgId, OutOfMemory, Pattern, PortNo, Slot};
+use ccr_held::HeldMessages;
+use std::alloc::Global;
+
+/// Whether two lists of names are the same.
+fn are_same(names: &[MsgId], others: &[MsgId]) -> bool
+    ensures { result ≡ same_lists same_message names.now others.now }
+{
+    match (names, others) {
+        ([], []) => true,
+        ([name, names @ ..], [other, others @ ..]) => name == other && are_same(names, others),
+        _ => false,
+    }
+}
+
+/// Whether the names are the first of these.
+fn are_front(oldest: &[MsgId], names: &[MsgId]) -> bool
+    ensures { result ≡ are_front oldest.now names.now }
+{
+    let Some((name, later)) = names.split_first() else {
+        return true;
+    };
+    let Some((first, others)) = oldest.split_first() else {
+        return false;
+    };
+    first == name && are_front(others, later)
+}
+
+/// Whether the names are the first of one list, followed by the first of the other.
+fn are_fronts(first: &[MsgId], second: &[MsgId], names: &[MsgId]) -> bool
+    ensures { result ≡ are_fronts first.now second.now names.now }
+{
+    let Some((name, later)) = names.split_first() else {
+        return true;
+    };
+    let Some((oldest, others)) = first.split_first() else {
+        return are_front(second, names);
+    };
+    are_front(second, names) || (oldest == name && are_fronts(others, second, later))
+}
+
+/// Whether the names are those of the slots' choice.
+fn are_slots(
+    alloc: Global,
+    ports: &mut Vec<HeldMessages>,
+    slots: &[Slot],
+    names: &[MsgId],
+) -> Result<bool, OutOfMemory>
+    ensures are { IfOk result (λ are. are ≡ is_choice_of (row ports.old.items) (Slots slots.now) names.now) }
+    ensures kept { OnOk result (ports.new.items ≡ ports.old.items) }
+{
+    match names_of_slots(alloc, ports, slots)? {
+        Some(chosen) => Ok(are_same(&chosen, names)),
+        None => Ok(false),
+    }
+}
+
+/// Whether the names are those of some split of a gather that gives its total. It takes a time linear in the names where
+/// no two messages of the ports have one name, as after each legal history.
+fn are_gather(
+    alloc: Global,
+    ports: &mut Vec<HeldMessages>,
+    total: usize,
+    first: PortNo,
+    second: PortNo,
+    names: &[MsgId],
+) -> Result<bool, OutOfMemory>
+    ensures are { IfOk result (λ are. are ≡ ((length names.now == total) && are_split (row ports.old.items first) (row ports.old.items second) names.now)) }
+    ensures kept { OnOk result (ports.new.items ≡ ports.old.items) }
+{
+    if names.len() != total {
+        return Ok(false);
+    }
+    let of_first = oldest_names(alloc, ports, first, total)?;
+    let of_second = oldest_names(alloc, ports, second, total)?;
+    Ok(are_fronts(&of_first, &of_second, names))
+}
+
+/// Whether the names are those of a choice of the pattern. Which split of a gather is free.
+pub(crate) fn are_choice_of(
+    alloc: Global,
+    ports: &mut Vec<HeldMessages>,
+    pattern: &Pattern,
+    names: &[MsgId],
+) -> Result<bool, OutOfMemory>
+    ensures are { IfOk result (λ are. are ≡ is_choice_of (row ports.old.items) pattern.now names.now) }
+    ensures kept { OnOk result (ports.new.items ≡ ports.old.items) }
+{
+    match pattern {
+        Pattern::Slots(slots) => are_slots(alloc, ports, slots.as_slice(), names),
+        Pattern::Gather {
+            total,
+            first,
+            second,
+        } => are_gather(alloc, ports, *total as usize, *first, *second, names),
+    }
+}
+
+/// Whether the names are the one oldest message's of the port.
+pub(crate) fn are_oldest(
+    alloc: Global,
+    ports: &mut Vec<HeldMessages>,
+    port: PortNo,
+    names: &[MsgId],
+) -> Result<bool, OutOfMemory>
+    ensures are { IfOk result (λ are. are ≡ are_oldest (row ports.old.items port) names.now) }
+    ensures kept { OnOk result (ports.new.items ≡ ports.old.items) }
+{
+    if names.len() != 1 {
+        return Ok(false);
+    }
+    let oldest = oldest_names(alloc, ports, port, 1)?;
+    Ok(are_front(&oldest, names))
+}

@@ -1,0 +1,27 @@
+use Rattle.std.proofs.Common.{◌≡◌, List, Some, None, length, refl, ap, sym, ◌∙◌, arith}
+use Rattle.std.specs.Option.{option_and_then}
+use Rattle.std.specs.List.{slice_get}
+use Rattle.std.proofs.lemmas.Grind.{common_steps}
+use Rattle.std.proofs.lemmas.Option.{slice_get_past, slice_get_read}
+use Rattle.ccr_wiring.specs.declared.placements.Position.{Position}
+use Rattle.ccr_wiring.specs.Placements.{positions, placement_at}
+use Rattle.ccr_wiring.specs.Wirings.{placement}
+use Rattle.ccr_wiring.proofs.Positions.{placement_at_position}
+use Rattle.ccr_wiring.proofs.wiring.Wiring.placement.Goals as goal
+
+pub returns-in_err-position : goal.returns-in_err-position
+returns-in_err-position c =
+    let parts = c.args.self.now in
+    let kept : positions parts ≡ c.deref.result.now = sym (ap positions c.self.view_is) ∙ (sym c.self.invariant.2 ∙ sym c.deref.ensures.value) in
+    let gone : slice_get c.deref.result.now c.args.branch ≡ None = slice_get_past c.deref.result.now c.args.branch c.in_err-position.ensures.lookup.3 in
+    let none : placement parts c.args.branch ≡ None = sym (placement_at_position parts c.args.branch) ∙ ap (option_and_then (placement_at parts.arbiters)) (ap (λ (ps : List Position). slice_get ps c.args.branch) kept ∙ gone) in
+    record { placement = rw none (grind (arith, common_steps)) }
+
+pub returns : goal.returns
+returns c =
+    let parts = c.args.self.now in
+    let position = c.in_ok-position.position.now in
+    let kept : positions parts ≡ c.deref.result.now = sym (ap positions c.self.view_is) ∙ (sym c.self.invariant.2 ∙ sym c.deref.ensures.value) in
+    let there : slice_get c.deref.result.now c.args.branch ≡ Some position = slice_get_read c.deref.result.now (length c.deref.result.now) c.args.branch position refl c.in_ok-position.ensures.lookup.3.0 c.in_ok-position.ensures.lookup.1 in
+    let at : placement parts c.args.branch ≡ placement_at parts.arbiters position = sym (placement_at_position parts c.args.branch) ∙ ap (option_and_then (placement_at parts.arbiters)) (ap (λ (ps : List Position). slice_get ps c.args.branch) kept ∙ there) in
+    record { placement = c.placement_at.ensures ∙ rw (at, c.as_slice.ensures) (ap (λ w. placement_at w.arbiters position) c.self.view_is) }
