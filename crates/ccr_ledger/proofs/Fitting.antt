@@ -7,7 +7,7 @@ use Rattle.ccr_base.specs.declared.messages.Msg.{Msg}
 use Rattle.ccr_base.specs.declared.patterns.Pred.{Pred}
 use Rattle.ccr_base.specs.declared.patterns.Pred.TheVariants.{Any}
 use Rattle.ccr_base.specs.Choice.{holds, fitting}
-use Rattle.ccr_base.specs.Names.{same_message, has_message, same_lists}
+use Rattle.ccr_base.specs.Names.{same_message, has_message}
 use Rattle.ccr_held.specs.Taken.{without_first, without_some, shared}
 use Rattle.ccr_held.proofs.Taking.{all-fit, without-any}
 use Rattle.ccr_model.specs.Choice.{names_of, are_first, are_split}
@@ -102,15 +102,6 @@ some-named n pred (m ∷ ms) apart = of_test (holds pred m.value) refl n (λ k. 
 -- and of all the oldest
 pub oldest-named : (n : ℕ) (ms : List Msg) → AreApart ms → drop n ms ≡ left_by (names_of (take n ms)) ms
 oldest-named n ms apart = sym (without-any n ms) ∙ (some-named n Any ms apart ∙ ap (λ fs. left_by (names_of (take n fs)) ms) (all-fit ms))
-
--- names that pass the test are those of the messages
-pub same_names : (ms : List Msg) (names : List MsgId) → same_lists same_message (names_of ms) names ≡ true → names ≡ names_of ms
-same_names [] [] is = refl
-same_names [] (n ∷ names) is = absurd (cc)
-same_names (m ∷ ms) [] is = absurd (cc)
-same_names (m ∷ ms) (n ∷ names) is =
-    let parts = both (same_message m.id n) (same_lists same_message (names_of ms) names) is in
-    rw (same_message-is m.id n parts.0, ← same_names ms names parts.1) refl
 
 -- names of a first part are those of so many messages
 pub first-names : (ms : List Msg) (names : List MsgId) → are_first ms names ≡ true → names ≡ names_of (take (length names) ms)

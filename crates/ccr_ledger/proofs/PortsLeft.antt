@@ -17,12 +17,12 @@ use Rattle.ccr_held.specs.Taken.{without_some, shared}
 use Rattle.ccr_model.specs.Choice.{names_of, choice_of_slots, are_first, are_split, is_choice_of, are_oldest}
 use Rattle.ccr_model.proofs.PostNames.{times}
 use Rattle.ccr_model.proofs.TakenOnce.{joined_some, choice_some, times-filter, times-take}
-use Rattle.ccr_model.proofs.FirstNames.{names_of-append}
+use Rattle.ccr_model.proofs.FirstNames.{names_of-append, same_names}
 use Rattle.ccr_model.proofs.Options.{some_of}
 use Rattle.ccr_model.proofs.Booleans.{both, neither, not_true, same_number}
 use Rattle.ccr_ledger.specs.Taking.{take_slot, take_slots, take_oldest, take_gather, take_pattern}
 use Rattle.ccr_ledger.proofs.Tables.{length-with_row, row-with_row}
-use Rattle.ccr_ledger.proofs.Fitting.{left_by, none_left, left_both, times-left, apart_left, some-named, oldest-named, same_names, first-names, split-names}
+use Rattle.ccr_ledger.proofs.Fitting.{left_by, none_left, left_both, times-left, apart_left, some-named, oldest-named, first-names, split-names}
 
 -- the rows are what the ports hold, and no two messages of these have one name
 pub record AreHeld (ports : List (List Msg)) (held_at : ℕ → List Msg) : Type 0 where

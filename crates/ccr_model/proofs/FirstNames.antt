@@ -1,9 +1,11 @@
 -- The names of the first of a list.
-use Rattle.std.proofs.Common.{◌≡◌, ℕ, zero, suc, List, [], ◌∷◌, ◌++◌, length, take, Option, Some, None, refl, ap, append_assoc, arith}
-use Rattle.std.specs.Option.{option_map}
+use Rattle.std.proofs.Common.{◌≡◌, ℕ, zero, suc, true, List, [], ◌∷◌, ◌++◌, length, take, refl, ap, sym, arith}
 use Rattle.ccr_base.specs.declared.names.MsgId.{MsgId}
 use Rattle.ccr_base.specs.declared.messages.Msg.{Msg}
-use Rattle.ccr_model.specs.Choice.{names_of, joined}
+use Rattle.ccr_base.specs.Names.{same_message, same_lists}
+use Rattle.ccr_model.specs.Choice.{names_of}
+use Rattle.ccr_model.proofs.Booleans.{both}
+use Rattle.ccr_model.proofs.SameNames.{same_message-is}
 
 pub names_of-take : (n : ℕ) (messages : List Msg) → names_of (take n messages) ≡ take n (names_of messages)
 names_of-take zero messages = refl
@@ -18,10 +20,13 @@ pub length-names_of : (messages : List Msg) → length (names_of messages) ≡ l
 length-names_of [] = refl
 length-names_of (message ∷ messages) = omega (arith, length-names_of messages)
 
--- a choice behind the names so far
-pub names_of-joined : (names : List MsgId) (front : List Msg) (back : Option (List Msg)) → option_map (λ (messages : List Msg). names ++ names_of messages) (joined (Some front) back) ≡ option_map (λ (messages : List Msg). (names ++ names_of front) ++ names_of messages) back
-names_of-joined names front None = refl
-names_of-joined names front (Some back) = ap Some (rw (names_of-append front back) (append_assoc' names (names_of front) (names_of back)))
-  where
-    append_assoc' : (a b c : List MsgId) → a ++ (b ++ c) ≡ (a ++ b) ++ c
-    append_assoc' a b c = simp append_assoc
+-- names that pass the test are those of the messages
+pub same_names : (ms : List Msg) (names : List MsgId) → same_lists same_message (names_of ms) names ≡ true → names ≡ names_of ms
+same_names [] [] is = refl
+same_names [] (n ∷ names) is = absurd (cc)
+same_names (m ∷ ms) [] is = absurd (cc)
+same_names (m ∷ ms) (n ∷ names) is =
+    let parts = both (same_message m.id n) (same_lists same_message (names_of ms) names) is in
+    let one : n ≡ m.id = sym (same_message-is m.id n parts.0) in
+    let others : names ≡ names_of ms = same_names ms names parts.1 in
+    cc

@@ -13,6 +13,7 @@ pub mod Pushes
 pub mod HeldSteps
 pub mod PostNames
 pub mod LegalParts
+pub mod ListParts
 pub mod TakenOnce
 pub mod TaskSteps
 pub mod Stable

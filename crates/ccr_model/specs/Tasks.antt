@@ -6,8 +6,6 @@ use Rattle.ccr_base.specs.declared.names.TaskId.{TaskId}
 use Rattle.ccr_base.specs.declared.names.Spot.{Spot}
 use Rattle.ccr_base.specs.declared.names.Spot.TheVariants.{Branch, Site}
 use Rattle.ccr_wiring.specs.declared.parts.Parts.{Parts}
-use Rattle.ccr_wiring.specs.declared.parts.Kind.{Kind}
-use Rattle.ccr_wiring.specs.declared.parts.Kind.TheVariants as kinds
 use Rattle.ccr_base.specs.declared.policies.Group.{Group}
 use Rattle.ccr_base.specs.declared.policies.Group.TheVariants as groups
 use Rattle.ccr_model.specs.declared.history.Event.{Event}
@@ -15,14 +13,10 @@ use Rattle.ccr_model.specs.declared.history.Event.TheVariants.{Start}
 use Rattle.ccr_base.specs.Names.{same_task, without}
 use Rattle.ccr_model.specs.Posts.{posts_of_task}
 use Rattle.ccr_wiring.specs.Wirings.{Placement, placement}
+pub use Rattle.ccr_wiring.specs.Groups.{is_interleave}
 use Rattle.ccr_model.specs.Firings.{fired_where, cut, ever_admitted, put, dropped, started, ended, last_segments}
 use Rattle.ccr_model.specs.Sites.{root_of}
 use Rattle.ccr_model.specs.TaskData.{placement_of, play_of}
-
--- an Interleave
-abbrev pub is_interleave : Kind → Bool
-is_interleave kinds.Interleave = true
-is_interleave _ = false
 
 -- a teardown branch
 abbrev pub is_teardown : Group → Bool

@@ -5,11 +5,11 @@ ghost use Rattle.std.specs.List.{slice_get};
 ghost use Rattle.std.specs.Option.{option_map};
 ghost use Rattle.ccr_wiring.specs.Wirings.{placement, policy_of, actions_of, awaited, site_port};
 ghost use Rattle.ccr_model.specs.Views.{placement_seen};
-ghost use Rattle.ccr_model.specs.Tasks.{is_interleave, is_teardown, is_concurrent};
+ghost use Rattle.ccr_model.specs.Tasks.{is_teardown, is_concurrent};
 
 use ccr_base::{Action, BranchNo, Group, HandlerNo, Policy, PortNo, QueueNo};
-pub use ccr_wiring::PlacementOf;
-use ccr_wiring::{Kind, Wiring};
+use ccr_wiring::Wiring;
+pub use ccr_wiring::{PlacementOf, is_interleave};
 
 /// The branch of this number.
 pub fn placement(wiring: &Wiring, branch: BranchNo) -> Option<PlacementOf<'_>>
@@ -60,16 +60,6 @@ pub fn site_port(wiring: &Wiring, branch: BranchNo, site: u32) -> Option<PortNo>
 {
     let placement = placement(wiring, branch)?;
     awaited_at(actions_of(wiring, placement.branch.handler), site)
-}
-
-/// Whether an arbiter of the kind is an Interleave.
-pub fn is_interleave(kind: Kind) -> bool
-    ensures { result ≡ is_interleave kind }
-{
-    match kind {
-        Kind::Interleave => true,
-        _ => false,
-    }
 }
 
 /// Whether a branch of the group is a teardown branch.

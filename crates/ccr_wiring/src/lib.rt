@@ -27,6 +27,8 @@ pub use parts::{
     QueuePart, SetPart,
 };
 pub use placements::PlacementOf;
+pub use references::is_interleave;
+pub use repeats::are_apart;
 pub use unfit::Unfit;
 pub use wiring::Wiring;
 

@@ -163,7 +163,8 @@ fn has_dangling_poster(parts: &Parts) -> bool
         .any(|poster| poster_is_dangling(parts, poster))
 }
 
-fn is_interleave(kind: Kind) -> bool
+/// Whether an arbiter of the kind is an Interleave.
+pub fn is_interleave(kind: Kind) -> bool
     ensures { result ≡ is_interleave kind }
 {
     match kind {

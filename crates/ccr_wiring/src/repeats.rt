@@ -13,7 +13,8 @@ fn has_number(numbers: &[u32], number: u32) -> bool
     numbers.contains(&number)
 }
 
-fn are_apart(numbers: &[u32]) -> bool
+/// Whether no number stands twice.
+pub fn are_apart(numbers: &[u32]) -> bool
     ensures { result ≡ are_apart numbers.now }
 {
     for (place, number) in numbers.iter().enumerate() {
