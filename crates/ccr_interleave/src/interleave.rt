@@ -150,8 +150,8 @@ impl InterleaveObject {
     /// noted over is concurrent, another where none is left. It takes no memory: the commit made the room.
     pub fn admit(&mut self) -> Option<Task>
         ensures reply { result ≡ next_task self.old }
-        ensures given { IsGiven self.old.state (Admit (option_map (λ task. task.id) result)) }
         ensures state { self.new ≡ after_next self.old }
+        ensures given { IsGiven self.old.state (Admit (option_map (λ task. task.id) result)) }
         ensures step { self.new.state ≡ after self.old.state (Admit (option_map (λ task. task.id) result)) }
     {
         let spot = self.waiting.front()?.spot;
@@ -199,6 +199,7 @@ impl InterleaveObject {
     pub fn over(&mut self, task: TaskId, root: TaskId, how: How)
         requires { IsTrue (can_over self.old.state root) }
         ensures state { self.new ≡ record self.old { state = after_over self.old.state root } }
+        ensures given { IsGiven self.old.state (Over task root how) }
         ensures step { self.new.state ≡ after self.old.state (Over task root how) }
     {
         let admission = set_admission(&mut self.fired, root, Admission::Outside);

@@ -1,12 +1,11 @@
 -- What each poster posted are the first lines of its script.
-use Rattle.std.proofs.Common.{◌≡◌, ◌∙◌, ℕ, zero, suc, ◌+◌, ◌≤◌, ◌<◌, ◌⊎◌, inl, inr, Bool, true, false, ◌&&◌, List, [], ◌∷◌, ◌++◌, length, map, filter, take, Option, Some, None, refl, ap, sym, subst, arith, append-nil}
-use Rattle.std.specs.Prelude.{◌==◌, if◌then◌else◌, option_and_then}
+use Rattle.std.proofs.Common.{◌≡◌, ◌∙◌, ℕ, zero, suc, ◌+◌, ◌≤◌, ◌⊎◌, inl, inr, Bool, true, false, ◌&&◌, List, [], ◌∷◌, ◌++◌, length, map, filter, take, Some, None, refl, ap, sym, subst, arith, append-nil}
+use Rattle.std.specs.Prelude.{◌==◌, option_and_then}
 use Rattle.std.specs.List.{slice_get}
 use Rattle.std.specs.Option.{option_map_or}
 use Rattle.std.specs.Cmp.Lexicographic.{bytes_decides}
 use Rattle.std.proofs.lemmas.List.{map-append, length-append, take_all}
 use Rattle.std.proofs.lemmas.List.Elements.{filter-append}
-use Rattle.std.proofs.lemmas.Grind.{common_steps}
 use Rattle.std.proofs.lemmas.Bool.Decides.{nat_tests}
 use Rattle.ccr_base.specs.declared.names.MsgId.{MsgId}
 use Rattle.ccr_base.specs.declared.names.MsgId.TheVariants.{Script, Task}
@@ -20,9 +19,10 @@ use Rattle.ccr_model.specs.declared.history.Event.{Event}
 use Rattle.ccr_model.specs.declared.history.Event.TheVariants.{Post, Fire, Admit, Put, Start, End}
 use Rattle.ccr_model.specs.Posts.{posts, post_of, posts_of_poster, is_script_of}
 use Rattle.ccr_model.specs.Rules.{is_post, is_script_line, refusal_of_post}
-use Rattle.ccr_model.specs.Legal.{IsAllowed, IsLegal, is_complete, are_whole_from, has_shed}
+use Rattle.ccr_model.specs.Legal.{IsAllowed, IsLegal, is_complete, are_whole_from}
 use Rattle.ccr_model.proofs.Booleans.{both, same_number}
-use Rattle.ccr_model.proofs.Options.{some_of, some_then}
+use Rattle.ccr_model.proofs.ListParts.{take_more}
+use Rattle.ccr_model.proofs.Options.{some_of}
 use Rattle.ccr_model.proofs.PostNames.{along, refused_not}
 use Rattle.ccr_model.proofs.Pushes.{posts-push}
 use Rattle.ccr_laws.specs.Scripts.{posts_by, sent_of, FollowsScript}
@@ -46,15 +46,6 @@ sent-post m s is =
     let value : m.value ≡ s.value = (bytes_decides m.value s.value).0 front.1 in
     let causes : m.causes ≡ s.causes = same_causes m.causes s.causes parts.1 in
     rw (port, value, causes) refl
-
-take-next : {X : Type 0} (xs : List X) (n : ℕ) (x : X) → slice_get xs n ≡ Some x → take (n + 1) xs ≡ take n xs ++ x ∷ []
-take-next [] n x at = absurd (cc)
-take-next (y ∷ xs) zero x at = let one : y ≡ x = cc in rw one (none xs)
-  where
-    none : (ys : List _) → x ∷ take 0 ys ≡ x ∷ []
-    none [] = refl
-    none (z ∷ ys) = refl
-take-next (y ∷ xs) (suc n) x at = let e : suc n + 1 ≡ suc (n + 1) = omega arith in rw e (ap (λ zs. y ∷ zs) (take-next xs n x at))
 
 -- an item of a list with one more is one of the list's, or the last
 get-last : {X : Type 0} (xs : List X) (x y : X) (k : ℕ) → slice_get (xs ++ x ∷ []) k ≡ Some y → (slice_get xs k ≡ Some y) ⊎ ((k ≡ length xs) × (x ≡ y))
@@ -86,7 +77,7 @@ follows-same h g n script same follows = record {
 -- one more line
 follows-line : (h : List Event) (m : Msg) (n : ℕ) (p : PosterPart) (s : Sent) → m.id ≡ Script n (posts_of_poster h n) → slice_get p.posts (posts_of_poster h n) ≡ Some s → is_post m s ≡ true → FollowsScript h n p.posts → FollowsScript (h ++ Post m ∷ []) n p.posts
 follows-line h m n p s named at is follows = record {
-  lines = subst (λ ms. map sent_of ms ≡ take (length ms) p.posts) (sym more) (rw (map-append, length-append, sent-post m s is, follows.lines) (sym (take-next p.posts (length (posts_by h n)) s at)));
+  lines = subst (λ ms. map sent_of ms ≡ take (length ms) p.posts) (sym more) (rw (map-append, length-append, sent-post m s is, follows.lines) (sym (take_more p.posts (length (posts_by h n)) s at)));
   names = λ place y there. of_either place y (get-last (posts_by h n) m y place (subst (λ ms. slice_get ms place ≡ Some y) more there));
 }
   where

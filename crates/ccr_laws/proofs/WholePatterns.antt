@@ -24,7 +24,7 @@ use Rattle.ccr_wiring.proofs.Soundness.{sound}
 use Rattle.ccr_model.specs.Posts.{held}
 use Rattle.ccr_model.specs.Choice.{names_of, joined, choice_of_slots, are_first, are_split, is_choice_of, are_oldest, is_choice}
 use Rattle.ccr_model.specs.Legal.{IsLegal}
-use Rattle.ccr_model.proofs.FirstNames.{names_of-append, length-names_of}
+use Rattle.ccr_model.proofs.FirstNames.{names_of-append, length-names_of, same_names}
 use Rattle.ccr_model.proofs.TakenOnce.{FireFacts-allowed}
 use Rattle.ccr_model.proofs.Options.{some_of}
 use Rattle.ccr_model.proofs.SameNames.{same_message-is}
@@ -32,17 +32,6 @@ use Rattle.ccr_model.proofs.Booleans.{both}
 use Rattle.ccr_laws.specs.Standing.{Stands}
 use Rattle.ccr_laws.specs.WholePattern.{AreFirst, FillsSlot, FillsSlots, FillsGather, FillsPattern, IsOldest, TakesWhole}
 use Rattle.ccr_laws.proofs.Allowed.{allowed_at}
-
--- names that pass the test are those of the messages
-same_names : (ms : List Msg) (names : List MsgId) → same_lists same_message (names_of ms) names ≡ true → names ≡ names_of ms
-same_names [] [] is = refl
-same_names [] (n ∷ names) is = absurd (cc)
-same_names (m ∷ ms) [] is = absurd (cc)
-same_names (m ∷ ms) (n ∷ names) is =
-    let parts = both (same_message m.id n) (same_lists same_message (names_of ms) names) is in
-    let one : n ≡ m.id = sym (same_message-is m.id n parts.0) in
-    let others : names ≡ names_of ms = same_names ms names parts.1 in
-    cc
 
 -- what is taken of those that fit
 taken_slot : (past : List Event) (slot : Slot) → IsSlotFilled slot → is_choosable slot (held past slot.port) ≡ true → FillsSlot past slot (take slot.most (fitting slot.pred (held past slot.port)))
