@@ -10,6 +10,8 @@ mod model;
 #[cfg(test)]
 mod report;
 #[cfg(test)]
+mod spots;
+#[cfg(test)]
 mod steps;
 #[cfg(test)]
 mod trace;

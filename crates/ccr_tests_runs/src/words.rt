@@ -1,20 +1,24 @@
-use super::*;
-use ccr_base::{List, Name, OutOfMemory};
+//! Words that ask for something, and words that are refused.
+
+use ccr_base::{List, Name};
+use ccr_words::{Command, Request, read_words};
 use std::alloc::Global;
+use std::process::Abort;
 use std::test::*;
 
-fn words_of(alloc: Global, line: &[u8]) -> Result<Vec<Name>, OutOfMemory> {
+fn words_of(rt: &impl Abort, alloc: Global, line: &[u8]) -> Vec<Name> {
     let mut words = Vec::new(alloc);
     for word in line.split(|byte| *byte == b' ') {
-        words.push(List::from_vec(Vec::from_slice(alloc, word)?))?;
+        let word = Vec::from_slice(alloc, word).expect(rt, "memory");
+        assert!(rt; words.push(List::from_vec(word)).is_ok());
     }
-    Ok(words)
+    words
 }
 
 /// What the words of the line ask for, which single spaces part.
-fn asked(alloc: Global, line: &[u8]) -> Result<Option<Request>, OutOfMemory> {
-    let words = words_of(alloc, line)?;
-    read_words(alloc, words.as_slice())
+fn asked(rt: &impl Abort, alloc: Global, line: &[u8]) -> Option<Request> {
+    let words = words_of(rt, alloc, line);
+    read_words(alloc, words.as_slice()).expect(rt, "memory")
 }
 
 const CHECK: Option<Request> = Some(Request::Read {
@@ -37,7 +41,7 @@ const fn load(size: u32, json: bool) -> Option<Request> {
 }
 
 #[test]
-fn words_in_any_order(rt: HostRuntime) -> Result<(), Fail> {
+fn words_in_any_order(rt: HostRuntime) {
     let table: [(&[u8], Option<Request>); 9] = [
         (b"check", CHECK),
         (b"run", RUN),
@@ -50,14 +54,13 @@ fn words_in_any_order(rt: HostRuntime) -> Result<(), Fail> {
         (b"--size=010 load", load(10, false)),
     ];
     for (line, want) in table {
-        let request = asked(rt.alloc(), line)?;
+        let request = asked(&rt, rt.alloc(), line);
         assert_eq!(rt; request, want);
     }
-    Ok(())
 }
 
 #[test]
-fn words_that_are_refused(rt: HostRuntime) -> Result<(), Fail> {
+fn words_that_are_refused(rt: HostRuntime) {
     let table: [&[u8]; 30] = [
         b"",
         b"-",
@@ -91,8 +94,7 @@ fn words_that_are_refused(rt: HostRuntime) -> Result<(), Fail> {
         b"run --\xff",
     ];
     for line in table {
-        let request = asked(rt.alloc(), line)?;
+        let request = asked(&rt, rt.alloc(), line);
         assert!(rt; request.is_none());
     }
-    Ok(())
 }
