@@ -35,10 +35,6 @@ or_false false = refl
 pub has_task-push : (tasks : List TaskId) (last task : TaskId) → has_task (tasks ++ last ∷ []) task ≡ (has_task tasks task || same_task task last)
 has_task-push tasks last task = list_any-append (same_task task) tasks (last ∷ []) ∙ ap (λ b. has_task tasks task || b) (or_false (same_task task last))
 
--- the longer list still has them all
-pub AreAmong-more : (tasks all : List TaskId) (last : TaskId) → AreAmong tasks all → AreAmong tasks (all ++ last ∷ [])
-AreAmong-more tasks all last among = λ task found. has_task-push all last task ∙ ap (λ b. b || same_task task last) (among task found)
-
 -- one of them may come to the shorter list
 pub AreAmong-push : (tasks all : List TaskId) (last : TaskId) → AreAmong tasks all → has_task all last ≡ true → AreAmong (tasks ++ last ∷ []) all
 AreAmong-push tasks all last among there = λ task found. of_test task (has_task tasks task) refl (sym (has_task-push tasks last task) ∙ found)

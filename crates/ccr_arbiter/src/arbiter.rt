@@ -105,6 +105,7 @@ impl ArbiterObject {
     pub fn over(&mut self, task: TaskId, root: TaskId, how: How)
         requires { IsTrue (can_over self.old root) }
         ensures state { self.new ≡ after_over self.old root }
+        ensures given { IsGiven self.old (Over task root how) }
         ensures step { self.new ≡ after self.old (Over task root how) }
     {
         let noted = self.over.insert(root);

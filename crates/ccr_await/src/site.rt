@@ -49,6 +49,7 @@ impl SiteObject {
     /// Suspends the task behind those that are there, or hands it back.
     pub fn suspend(&mut self, task: Task) -> Result<(), (OutOfMemory, Task)>
         ensures state { OnOk result (self.new ≡ after_suspend self.old task) }
+        ensures given { OnOk result (IsGiven (site_state self.old) (Suspend task.id)) }
         ensures step { OnOk result (site_state self.new ≡ after (site_state self.old) (Suspend task.id)) }
         ensures err { OnErr result (self.new ≡ self.old) }
         ensures returned { IfErr result (λ refused. refused.1 ≡ task) }
