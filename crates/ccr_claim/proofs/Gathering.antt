@@ -1,14 +1,12 @@
 -- One more message gathered, and one more slot.
-use Rattle.std.proofs.Common.{◌≡◌, ℕ, ◌+◌, ◌<◌, List, [], ◌∷◌, ◌++◌, map, length, take, get_or, refl, ap, sym, ◌∙◌, arith}
+use Rattle.std.proofs.Common.{◌≡◌, ℕ, ◌+◌, ◌<◌, List, [], ◌∷◌, ◌++◌, length, take, get_or, refl, ap, sym, ◌∙◌}
 use Rattle.std.specs.List.{flat_map}
 use Rattle.std.proofs.lemmas.List.{map-append, append-nil, append_assoc, take_more}
 use Rattle.ccr_base.specs.declared.messages.Msg.{Msg}
-use Rattle.ccr_base.specs.declared.patterns.Slot.{Slot}
 use Rattle.ccr_cause.specs.Causes.{with_cause, union}
-use Rattle.ccr_claim.specs.declared.plan.Had.{Had}
 use Rattle.ccr_claim.specs.declared.firing.Gathered.{Gathered}
 use Rattle.ccr_claim.specs.Firings.{IsOf}
-use Rattle.ccr_claim.specs.Plans.{had_at, in_slots, names_of, values_of, causes_of}
+use Rattle.ccr_claim.specs.Plans.{names_of, values_of, causes_of}
 
 -- causes are joined from left to right
 pub union-append : (a b c : List ℕ) → union a (b ++ c) ≡ union (union a b) c
@@ -29,10 +27,6 @@ names-push messages m = map-append (λ (m : Msg). m.id) messages (m ∷ [])
 
 pub values-push : (messages : List Msg) (m : Msg) → values_of (messages ++ m ∷ []) ≡ values_of messages ++ m.value ∷ []
 values-push messages m = map-append (λ (m : Msg). m.value) messages (m ∷ [])
-
--- what one more slot's port gave
-pub slots-push : (slots : List Slot) (s : Slot) (had : List Had) → in_slots (slots ++ s ∷ []) had ≡ in_slots slots had ++ had_at had s.port
-slots-push slots s had = flat-push (λ (s : Slot). had_at had s.port) slots s
 
 -- the next message is gathered
 pub one_more : (before messages : List Msg) (i : ℕ) (x : Msg) (all new : Gathered) → i < length messages → x ≡ get_or messages i x → IsOf (before ++ take i messages) all → new.names.items ≡ all.names.items ++ x.id ∷ [] → new.values.items ≡ all.values.items ++ x.value ∷ [] → new.causes ≡ union all.causes x.causes → IsOf (before ++ take (i + 1) messages) new
