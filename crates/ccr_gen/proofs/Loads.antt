@@ -16,9 +16,9 @@ use Rattle.ccr_model.specs.Posts.{posts, taken, held}
 use Rattle.ccr_model.specs.Choice.{names_of, choice_of_slots, is_choice}
 use Rattle.ccr_model.proofs.Booleans.{both}
 use Rattle.ccr_model.proofs.Filters.{filter_swap}
-use Rattle.ccr_model.proofs.FirstNames.{names_of-append}
+use Rattle.ccr_model.proofs.FirstNames.{names_of-append, same_names}
 use Rattle.ccr_model.proofs.Options.{some_of}
-use Rattle.ccr_model.proofs.SameNames.{same_message-is, same_message-self}
+use Rattle.ccr_model.proofs.SameNames.{same_message-self}
 use Rattle.ccr_model.proofs.TakenOnce.{joined_some}
 use Rattle.ccr_gen.specs.Generated.{any_of, generated}
 use Rattle.ccr_gen.specs.Weights.{weight, value, load, is_open}
@@ -118,17 +118,6 @@ slot_takes port count ms xs is = by (is_choosable (any_of port count) ms) refl i
         let enough : nat_le count (length ms) ≡ true = ap (λ (l : List Msg). nat_le count (length l)) (sym (fitting_any ms)) ∙ e in
         let many : count ≤ length ms = grind (arith, nat_tests, enough) in
         (taken, ap length taken ∙ omega (arith, length-take count ms))
-
--- names that pass the test are those of the messages
-same_names : (ms : List Msg) (names : List MsgId) → same_lists same_message (names_of ms) names ≡ true → names ≡ names_of ms
-same_names [] [] is = refl
-same_names [] (n ∷ names) is = absurd (cc)
-same_names (m ∷ ms) [] is = absurd (cc)
-same_names (m ∷ ms) (n ∷ names) is =
-    let parts = both (same_message m.id n) (same_lists same_message (names_of ms) names) is in
-    let one : n ≡ m.id = sym (same_message-is m.id n parts.0) in
-    let others : names ≡ names_of ms = same_names ms names parts.1 in
-    cc
 
 -- a firing whose first slot takes so many of the port takes at least their load off
 first_slot : (port count : ℕ) (h : List Event) (front : List Msg) (back : List MsgId) → choice (any_of port count) (held h port) ≡ Some front

@@ -35,9 +35,6 @@ few_actions size (suc zero) = omega arith
 few_actions size (suc (suc zero)) = omega arith
 few_actions size (suc (suc (suc branch))) = omega arith
 
-no_actions : (size branch : ℕ) → actions_at (generated size) (suc (suc (suc branch))) ≡ []
-no_actions size branch = refl
-
 pays : (size : ℕ) (spot : Spot) (load : Load) (place : ℕ) (sent : Sent) → slice_get (play_at (generated size) (branch_of spot) (segment_of spot) load).posts place ≡ Some sent → Pays spot place sent
 pays size (Site branch site) load place sent is =
     let past : actions_from (suc site) (actions_at (generated size) branch) ≡ [] = actions_from-past (suc site) (actions_at (generated size) branch) (omega (arith, few_actions size branch)) in
