@@ -1,7 +1,7 @@
 -- Which text is due for which words and input.
 use Rattle.std.proofs.Common.{◌≡◌, ℕ, ◌≤◌, Bool, true, false, List, length, Option, Some, None, Result, Ok, Err, refl, sym, ap, subst}
 use Rattle.std.specs.Prelude.{IsSome}
-use Rattle.ccr_io.specs.Bytes.{HoldsAll, IsLongerThan}
+use Rattle.ccr_io.specs.Bytes.{HoldsAll}
 use Rattle.ccr_wiring.specs.declared.parts.Parts.{Parts}
 use Rattle.ccr_cli.specs.declared.status.Status.{Status}
 use Rattle.ccr_cli.specs.declared.status.Status.TheVariants.{Done, Usage, Refused, Shed, Illegal, TooLong}
@@ -12,7 +12,7 @@ use Rattle.ccr_words.specs.declared.requests.Request.TheVariants.{Read, Load}
 use Rattle.ccr_words.specs.Said.{asked_for}
 use Rattle.ccr_cli.specs.Inputs.{limit_of}
 use Rattle.ccr_cli.specs.Loads.{LoadGives}
-use Rattle.ccr_cli.specs.Answers.{usage_text, too_long_text, reads, Answers, AnswersText, AnswersRest, AnswersInput, AnswersRequest, IsExhausted, IsExhaustedFor}
+use Rattle.ccr_cli.specs.Answers.{reads, Answers, AnswersText, AnswersRest, AnswersInput, IsExhausted, IsExhaustedFor}
 
 pub apart : (read : Result Parts (ℕ × ℕ)) (wiring : Parts) (refusal : ℕ × ℕ) → read ≡ Ok wiring → read ≡ Err refusal → ⊥
 apart read wiring refusal ok err = cc
@@ -43,12 +43,6 @@ text_is_due command json rest after bytes Refused text holds small answers = to_
 text_is_due command json rest after bytes Usage text holds small answers = absurd (no_usage command json answers.0 bytes text answers.2)
 text_is_due command json rest after bytes TooLong text holds small answers = absurd (no_excess command json answers.0 bytes text answers.2)
 
-pub excess_is_due : (command : Command) (json : Bool) (rest : Option (List ℕ)) (status : Status) (text : List ℕ) → status ≡ TooLong → IsLongerThan (limit_of command) rest → text ≡ too_long_text → AnswersInput command json rest status text
-excess_is_due command json rest status text same long due = rw same (long, due)
-
-pub usage_is_due : (rest : Option (List ℕ)) (status : Status) (text : List ℕ) → status ≡ Usage → text ≡ usage_text → AnswersRequest None rest status text
-usage_is_due rest status text same due = rw same due
-
 pub is_exhausted : (status : Status) (bytes : List ℕ) (rest after : Option (List ℕ)) → HoldsAll bytes rest after → IsExhausted status rest after
 is_exhausted Usage bytes rest after holds = tt
 is_exhausted TooLong bytes rest after holds = tt
@@ -70,10 +64,6 @@ exhausted_for command json Shed rest after is = is
 exhausted_for command json Illegal rest after is = is
 exhausted_for command json Refused rest after is = is
 
--- refused words leave all to come
-pub usage_exhausted : (status : Status) (rest after : Option (List ℕ)) → status ≡ Usage → IsExhaustedFor None status rest after
-usage_exhausted status rest after is = rw is tt
-
 -- so does a load
 pub load_exhausted : (size : ℕ) (json : Bool) (status : Status) (text : List ℕ) (rest after : Option (List ℕ)) → LoadGives size json status text → IsExhaustedFor (Some (Load size json)) status rest after
 load_exhausted size json Done text rest after gives = tt
@@ -88,26 +78,9 @@ pub reads_some : (request : Option Request) → reads request ≡ true → IsSom
 reads_some (Some request) is = refl
 reads_some None is = absurd cc
 
--- a request to read reads
-pub read_reads : (words : List (List ℕ)) (command : Command) (json : Bool) → asked_for words ≡ Some (Read command json) → reads (asked_for words) ≡ true
-read_reads words command json is = ap reads is
-
 -- a load doesn't
 pub load_reads_nothing : (words : List (List ℕ)) (size : ℕ) (json : Bool) → asked_for words ≡ Some (Load size json) → reads (asked_for words) ≡ false
 load_reads_nothing words size json is = ap reads is
-
-pub none_reads_nothing : (words : List (List ℕ)) → asked_for words ≡ None → reads (asked_for words) ≡ false
-none_reads_nothing words is = ap reads is
-
--- what was answered so has read the source out
-pub done_reads_out : (words : List (List ℕ)) (command : Command) (json : Bool) (status : Status) (rest after : Option (List ℕ)) → IsExhaustedFor (asked_for words) status rest after → asked_for words ≡ Some (Read command json) → status ≡ Done → IsExhausted Done rest after
-done_reads_out words command json status rest after out is done = subst (λ (o : Option Request). IsExhaustedFor o Done rest after) is (subst (λ (s : Status). IsExhaustedFor (asked_for words) s rest after) done out)
-
-pub shed_reads_out : (words : List (List ℕ)) (status : Status) (rest after : Option (List ℕ)) → IsExhaustedFor (asked_for words) status rest after → status ≡ Shed → IsExhausted Shed rest after
-shed_reads_out words status rest after out shed = subst (λ (s : Status). IsExhaustedFor (asked_for words) s rest after) shed out
-
-pub illegal_reads_out : (words : List (List ℕ)) (status : Status) (rest after : Option (List ℕ)) → IsExhaustedFor (asked_for words) status rest after → status ≡ Illegal → IsExhausted Illegal rest after
-illegal_reads_out words status rest after out illegal = subst (λ (s : Status). IsExhaustedFor (asked_for words) s rest after) illegal out
 
 -- a load meets no fault of the source
 pub load_has_no_fault : (words : List (List ℕ)) (size : ℕ) (json : Bool) → asked_for words ≡ Some (Load size json) → reads (asked_for words) ≡ true → ⊥

@@ -1,7 +1,7 @@
 -- What the writes of a slab of linked messages leave: its messages, linked.
-use Rattle.std.proofs.Common.{◌≡◌, ◌≢◌, ℕ, zero, suc, ◌+◌, ◌-◌, ◌<◌, ◌≤◌, Bool, true, false, not, ◌==◌, ◌&&◌, List, [], ◌∷◌, ◌++◌, length, Option, Some, None, refl, sym, ap, ◌∙◌, arith, length-append, is_some}
+use Rattle.std.proofs.Common.{◌≡◌, ◌≢◌, ℕ, suc, ◌+◌, ◌-◌, Bool, true, false, ◌==◌, ◌&&◌, List, [], ◌∷◌, ◌++◌, length, Option, Some, None, refl, sym, ap, ◌∙◌, arith, length-append, is_some}
 use Rattle.std.specs.Prelude.{if◌then◌else◌, option_map}
-use Rattle.std.specs.List.{slice_get, list_all}
+use Rattle.std.specs.List.{slice_get}
 use Rattle.std.specs.Option.{option_and_then, option_map_or}
 use Rattle.slab.specs.Slab.{Slab, get, Updates}
 use Rattle.ccr_base.specs.declared.messages.Msg.{Msg}
@@ -21,9 +21,6 @@ eq_is n m is = grind (arith, is)
 -- ---- the messages of the keys
 
 module _ (slab : Slab Entry) where
-  kept_one : Msg → ℕ → ℕ × Msg
-  kept_one message key = (key, message)
-
   pub keys-entries : (ks : List ℕ) → are_kept slab ks ≡ true → keys_of (entries_at slab ks) ≡ ks
   keys-entries [] kept = refl
   keys-entries (k ∷ ks) kept = of_message (message_at slab k) (both _ _ kept).0 (keys-entries ks (both _ _ kept).1)

@@ -3,14 +3,12 @@ use Rattle.std.proofs.Common.{◌≡◌, Bool, true, false, cond, ◌||◌, ◌+
 use Rattle.std.specs.Prelude.{ℕ}
 use Rattle.std.proofs.lemmas.List.{take_more}
 use Rattle.std.proofs.lemmas.List.Folds.{list_any-append}
-use Rattle.ccr_base.specs.declared.names.TaskId.{TaskId}
 use Rattle.ccr_base.specs.declared.names.MsgId.{MsgId}
 use Rattle.ccr_base.specs.declared.names.MsgId.TheVariants.{Script, Task}
 use Rattle.std.specs.List.{list_any}
 use Rattle.std.specs.Map.{lookup}
-use Rattle.ccr_base.specs.contracts.names.TaskIdPartialEq.TheImpl.{ghosts as tasks}
 use Rattle.ccr_base.specs.contracts.names.MsgIdPartialEq.TheImpl.{ghosts as names}
-use Rattle.ccr_base.specs.Names.{same_task, same_message, has_message}
+use Rattle.ccr_base.specs.Names.{same_message, has_message}
 use Rattle.ccr_model.proofs.SameNames.{same_message-sym}
 
 -- whether a name stands among one name more
@@ -43,10 +41,6 @@ message_inserted old new key name updates =
     ∙ updates
     ∙ ap (λ (b : Bool). cond b true (list_any (names.eq name) old)) (derived_message key name)
     ∙ ap (λ (b : Bool). cond (same_message key name) true b) (list_any_same (names.eq name) (same_message name) (derived_message name) old)
-
--- the derived comparison of tasks is the test of their names
-pub derived_task : (s t : TaskId) → tasks.eq s t ≡ same_task s t
-derived_task s t = refl
 
 pub lookup_same : {K X : Type 0} (p q : K → Bool) → ((x : K) → p x ≡ q x) → (entries : List (K × X)) → lookup p entries ≡ lookup q entries
 lookup_same p q same [] = refl

@@ -12,6 +12,7 @@ use Rattle.ccr_model.specs.Firings.{Firing, firings, fired}
 use Rattle.ccr_model.specs.Legal.{IsAllowed, IsLegal}
 use Rattle.ccr_model.specs.Order.{next_attempt}
 use Rattle.ccr_model.proofs.LegalParts.{Parted-legal}
+use Rattle.ccr_model.proofs.ListParts.{take_more}
 use Rattle.ccr_model.proofs.Stable.{firings-append}
 use Rattle.ccr_ledger.specs.Events.{empty_books}
 use Rattle.ccr_ledger.proofs.Keeping.{keeps-none, keeps-event}
@@ -32,15 +33,6 @@ stands_none w c = record { books = keeps-none w; attempt = refl; poster = done w
   where
     done : {X : Type 0} (ps : List X) → true ≡ true
     done ps = refl
-
-take_more : {X : Type 0} (xs : List X) (i : ℕ) (x : X) → slice_get xs i ≡ Some x → take (i + 1) xs ≡ take i xs ++ x ∷ []
-take_more [] i x at = absurd (cc)
-take_more (y ∷ xs) zero x at = let one : y ≡ x = cc in rw one (none xs)
-  where
-    none : (ys : List _) → x ∷ take 0 ys ≡ x ∷ []
-    none [] = refl
-    none (z ∷ ys) = refl
-take_more (y ∷ xs) (suc i) x at = let e : suc i + 1 ≡ suc (i + 1) = omega arith in rw e (ap (λ zs. y ∷ zs) (take_more xs i x at))
 
 drop_none : {X : Type 0} (ys : List X) → ys ≡ drop 0 ys
 drop_none [] = refl
@@ -75,13 +67,6 @@ attempt_fits_on w c es i e d at stands low =
     let whole : es ≡ (take i es ++ e ∷ []) ++ drop (i + 1) es = parted es i e at ∙ sym (append_assoc (take i es) (e ∷ []) (drop (i + 1) es)) in
     let some : next_attempt c (fired (take i es ++ e ∷ [])) ≤ next_attempt c (fired es) = subst (λ h. next_attempt c (fired (take i es ++ e ∷ [])) ≤ next_attempt c (fired h)) (sym whole) (attempts_before c (take i es ++ e ∷ []) (drop (i + 1) es)) in
     attempt_fits w c (take i es) e d stands (omega (arith, some, low))
-
-pub stands_start : (w : Parts) (c : ℕ) (es : List Event) (d : Desk) → d ≡ record { books = empty_books w; attempt = 0; poster = 0; place = 0; ready = [] } → Stands w c (take 0 es) d
-stands_start w c es d is = rw is (subst (λ h. Stands w c h (record { books = empty_books w; attempt = 0; poster = 0; place = 0; ready = [] })) (none es) (stands_none w c))
-  where
-    none : (es : List Event) → [] ≡ take 0 es
-    none [] = refl
-    none (e ∷ es) = refl
 
 pub idle_by : (w : Parts) → IsValid w → (c : ℕ) (h : List Event) (d : Desk) → IsLegal w h → Stands w c h d → IsIdle w c d
 idle_by w valid c h d legal stands = idle_stands w c h d (told_by w valid c h d legal stands) stands

@@ -1,5 +1,5 @@
 -- What an engine keeps, and a run of it from its start to its end.
-use Rattle.std.proofs.Common.{◌≡◌, ℕ, ◌+◌, ◌<◌, ◌≤◌, true, false, List, [], ◌∷◌, ◌++◌, length, Option, Some, None, refl, sym, arith, ap, ◌∙◌, subst, append_assoc, append-nil, length-append}
+use Rattle.std.proofs.Common.{◌≡◌, ℕ, ◌+◌, ◌<◌, ◌≤◌, true, false, List, [], ◌∷◌, ◌++◌, length, Option, Some, None, refl, arith, ap, ◌∙◌, subst, append_assoc, append-nil, length-append}
 use Rattle.std.specs.Prelude.{IfSome, is_some, ◌^◌}
 use Rattle.ccr_wiring.specs.declared.parts.Parts.{Parts}
 use Rattle.ccr_wiring.specs.Valid.{IsValid}
@@ -82,9 +82,6 @@ pub record GoesFrom (start now : Engine) : Type 0 where
   pub more : List Event
   pub begins : now.history ≡ start.history ++ more
   pub ordered : IsOrderedAfter start.wiring start.closer start.history more
-
-pub GoesFrom-start : (start : Engine) → GoesFrom start start
-GoesFrom-start start = record { wiring = refl; closer = refl; more = []; begins = sym (append-nil start.history); ordered = tt }
 
 goes_on : (start s : Engine) → GoesFrom start s → (e : Event) → next_event s ≡ Some e → GoesFrom start (record s { history = s.history ++ e ∷ [] })
 unfolding next_event

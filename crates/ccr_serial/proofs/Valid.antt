@@ -6,7 +6,7 @@ use Rattle.ccr_base.specs.declared.patterns.Pattern.{Pattern}
 use Rattle.ccr_base.specs.declared.patterns.Pattern.TheVariants.{Slots, Gather}
 use Rattle.ccr_wiring.specs.declared.parts.Parts.{Parts}
 use Rattle.ccr_wiring.specs.Limits.{posts_in_all}
-use Rattle.ccr_wiring.specs.Valid.{IsValid, HasPortsApart, HasQueues, HasPatternsFilled, IsPatternFilled}
+use Rattle.ccr_wiring.specs.Valid.{IsValid, HasQueues, IsPatternFilled}
 use Rattle.ccr_wiring.proofs.Soundness.{sound}
 use Rattle.ccr_serial.specs.Potential.{takes_some, TakesSome, most_events}
 
@@ -21,12 +21,6 @@ pattern_takes_some (Gather total p q) filled = grind (arith, nat_tests, filled.0
 
 pub TakesSome-valid : (w : Parts) → IsValid w → TakesSome w
 TakesSome-valid w valid b s is = pattern_takes_some s.branch.pattern ((sound w valid).patterns b s is)
-
-pub HasPatternsFilled-valid : (w : Parts) → IsValid w → HasPatternsFilled w
-HasPatternsFilled-valid w valid = (sound w valid).patterns
-
-pub HasPortsApart-valid : (w : Parts) → IsValid w → HasPortsApart w
-HasPortsApart-valid w valid = (sound w valid).apart
 
 pub HasQueues-valid : (w : Parts) → IsValid w → HasQueues w
 HasQueues-valid w valid = (sound w valid).queues
