@@ -7,3 +7,4 @@ pub mod Forms
 pub mod Known
 pub mod Reading
 pub mod Answers
+pub mod Codes

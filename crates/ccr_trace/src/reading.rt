@@ -2,7 +2,9 @@
 
 ghost use Rattle.std.specs.Prelude.{◌≡◌, ◌<◌, ◌≤◌, ◌+◌, ◌^◌, length, IfOk, OnOk};
 ghost use Rattle.ccr_trace.specs.Pieces.{bytes_in};
+ghost use Rattle.ccr_trace.specs.Codes.{code_number};
 ghost use Rattle.ccr_trace.specs.Known.{AreKnown, HaveMessages};
+ghost use Rattle.ccr_trace.specs.declared.refused.HistoryRefused.TheVariants.{At};
 ghost use Rattle.ccr_trace.specs.Answers.{IsReading, IsRefusal, refused};
 ghost use Rattle.ccr_trace.specs.Reading.{ended, head, with_event, reading, reading_from, reading_lines};
 
@@ -11,7 +13,7 @@ use crate::forms::event_on;
 use crate::known::Known;
 use crate::pieces::Pieces;
 use crate::places::is_text;
-use crate::refused::HistoryRefused;
+use crate::refused::{Code, HistoryRefused};
 use crate::stop::Stop;
 use ccr_base::OutOfMemory;
 use ccr_model::{Event, History};
@@ -40,14 +42,24 @@ impl ReadHistory {
     }
 }
 
+/// The line is refused with the code.
+fn refusal_at(line: u32, code: Code) -> HistoryRefused
+    ensures { result ≡ At line (code_number code) }
+{
+    HistoryRefused::At {
+        line,
+        code: code.number(),
+    }
+}
+
 /// What is answered where a line stops the reading.
 fn refused(line: u32, stop: Stop) -> HistoryRefused
     ensures { result ≡ refused line stop }
 {
     match stop {
         Stop::Memory => HistoryRefused::Memory,
-        Stop::Malformed => HistoryRefused::At { line, code: 1 },
-        Stop::Unknown => HistoryRefused::At { line, code: 2 },
+        Stop::Malformed => refusal_at(line, Code::Malformed),
+        Stop::Unknown => refusal_at(line, Code::Unknown),
     }
 }
 
@@ -57,15 +69,9 @@ fn ended(lines: u32, bytes: &[u8]) -> HistoryRefused
     ensures { IsRefusal result (ended lines bytes.now) }
 {
     if bytes.is_empty() {
-        return HistoryRefused::At {
-            line: lines.max(1),
-            code: 3,
-        };
+        return refusal_at(lines.max(1), Code::Unfinished);
     }
-    HistoryRefused::At {
-        line: lines + 1,
-        code: 1,
-    }
+    refusal_at(lines + 1, Code::Malformed)
 }
 
 /// The events of the lines behind the first.
@@ -114,7 +120,7 @@ fn read_lines(
         return Err(ended(0, first));
     }
     if !is_first_line(known.parts(), first) {
-        return Err(HistoryRefused::At { line: 1, code: 1 });
+        return Err(refusal_at(1, Code::Malformed));
     }
     read_from(alloc, known, lines)
 }

@@ -1,10 +1,35 @@
 //! Why no history was read.
 
 ghost use Rattle.std.specs.Prelude.{◌≡◌};
+ghost use Rattle.ccr_trace.specs.Codes.{code_number};
 ghost use Rattle.ccr_trace.specs.declared.refused.HistoryRefused.TheVariants.{Memory};
 
 use ccr_base::OutOfMemory;
 use thiserror::Error;
+
+/// What is wrong with a line.
+#[derive(Clone, Copy)]
+pub(crate) enum Code {
+    /// It has none of the forms.
+    Malformed,
+    /// It names what the wiring doesn't have.
+    Unknown,
+    /// The text ends before the line `report 1`.
+    Unfinished,
+}
+
+impl Code {
+    /// The number of the code (docs/FORMATS.md).
+    pub(crate) fn number(self) -> u8
+        ensures { result ≡ code_number self }
+    {
+        match self {
+            Code::Malformed => 1,
+            Code::Unknown => 2,
+            Code::Unfinished => 3,
+        }
+    }
+}
 
 /// The first line that offends, and its code (docs/FORMATS.md), or want of memory.
 #[derive(Clone, Copy, Debug, PartialEq, Eq, Error)]

@@ -1,5 +1,4 @@
 use Rattle.std.proofs.Common.{◌≡◌, ◌∷◌, [], ◌∙◌, List, ℕ, sym, ap}
-use Rattle.ccr_trace.specs.Answers.{IsReading}
 use Rattle.std.specs.Str.{bytes_eq}
 use Rattle.ccr_wiring.specs.declared.parts.Parts.{Parts}
 use Rattle.ccr_trace.specs.Reading.{ended, first_line, reading_lines}
@@ -20,7 +19,7 @@ returns-then-is_empty c =
 pub returns-then-not-is_first_line : goal.returns-then-not-is_first_line
 returns-then-not-is_first_line c =
     let some : c.args.lines ≡ c.in-Some.first.now ∷ c.take.new.self = c.in-Some.ensures.some in
-    ap (λ (lines : List (List ℕ)). reading_lines c.args.known.now lines) some ∙ lines_stop c.args.known.now c.in-Some.first.now c.take.new.self (sym c.is_empty.ensures ∙ c.if-is_empty.false) (ap (λ (p : Parts). bytes_eq c.in-Some.first.now (first_line p)) (sym c.parts.ensures) ∙ sym c.is_first_line.ensures ∙ c.if-not-is_first_line.true)
+    rw c.refusal_at.ensures (ap (λ (lines : List (List ℕ)). reading_lines c.args.known.now lines) some ∙ lines_stop c.args.known.now c.in-Some.first.now c.take.new.self (sym c.is_empty.ensures ∙ c.if-is_empty.false) (ap (λ (p : Parts). bytes_eq c.in-Some.first.now (first_line p)) (sym c.parts.ensures) ∙ sym c.is_first_line.ensures ∙ c.if-not-is_first_line.true))
 
 pub returns : goal.returns
 returns c =
