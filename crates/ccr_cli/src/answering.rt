@@ -15,12 +15,15 @@ use crate::answers::{Answer, check, refused, too_long, usage};
 use crate::load::load;
 use crate::run::run;
 use crate::status::{Failure, Status};
-use crate::verify::verify;
+use crate::verify::{MAX_WIRING_TEXT, verify};
 use ccr_base::{Name, OutOfMemory};
 use ccr_io::{ReadEnd, Source, read_all};
 use ccr_wiretext::read_wiring;
 use ccr_words::{Command, Request, read_words};
 use std::alloc::Global;
+
+/// How many bytes a wiring and an output behind it have at most.
+const MAX_OUTPUT_TEXT: usize = 33_554_432;
 
 /// The most bytes that an input may have.
 fn limit_of(command: Command) -> usize
@@ -28,8 +31,8 @@ fn limit_of(command: Command) -> usize
     ensures most { result ≤ 33554432 }
 {
     match command {
-        Command::Check | Command::Run => 1_048_576,
-        Command::Verify => 33_554_432,
+        Command::Check | Command::Run => MAX_WIRING_TEXT,
+        Command::Verify => MAX_OUTPUT_TEXT,
     }
 }
 

@@ -19,15 +19,15 @@ use ccr_wiring::Wiring;
 use std::alloc::Global;
 
 /// The most bytes that a wiring text may have.
-const LIMIT: usize = 1_048_576;
+pub(crate) const MAX_WIRING_TEXT: usize = 1_048_576;
 
 /// The wiring that the text says. A text that is too long is refused at the line of the first byte too many.
 fn read_part(alloc: Global, part: &[u8]) -> Result<Wiring, ReadRefused>
     ensures { IsReading result (reading_part part.now) }
 {
-    if part.len() > LIMIT {
+    if part.len() > MAX_WIRING_TEXT {
         return Err(ReadRefused::At {
-            line: line_at(LIMIT, part),
+            line: line_at(MAX_WIRING_TEXT, part),
             code: 10,
         });
     }
