@@ -1,7 +1,8 @@
 -- Which events are allowed, from the facts of the invariant.
-use Rattle.std.proofs.Common.{◌≡◌, ◌≤◌, ◌<◌, ℕ, ◌+◌, ◌-◌, Bool, true, false, ◌||◌, List, [], ◌∷◌, length, Option, Some, None, refl, sym, subst, arith}
+use Rattle.std.proofs.Common.{◌≡◌, ◌≤◌, ◌<◌, ℕ, ◌+◌, ◌-◌, Bool, true, false, ◌||◌, List, [], ◌∷◌, length, Option, Some, None, refl, sym, ap, ◌∙◌, subst, arith}
 use Rattle.std.specs.Prelude.{◌==◌, nat_le}
 use Rattle.std.specs.List.{slice_get}
+use Rattle.std.specs.Option.{option_map_or}
 use Rattle.std.proofs.lemmas.Bool.Decides.{nat_tests}
 use Rattle.ccr_base.specs.declared.messages.Msg.{Msg}
 use Rattle.ccr_base.specs.declared.messages.Sent.{Sent}
@@ -13,12 +14,12 @@ use Rattle.ccr_base.specs.declared.names.TaskId.{TaskId}
 use Rattle.ccr_base.specs.Names.{same_task, has_task, same_lists, same_options}
 use Rattle.ccr_wiring.specs.declared.parts.Parts.{Parts}
 use Rattle.ccr_wiring.specs.declared.parts.PosterPart.{PosterPart}
-use Rattle.ccr_wiring.specs.Wirings.{Seat, seat, branch_of, policy_of}
+use Rattle.ccr_wiring.specs.Wirings.{Seat, seat, branch_of, policy_of, site_port}
 use Rattle.ccr_model.specs.declared.history.Event.{Event}
 use Rattle.ccr_model.specs.declared.history.Event.TheVariants as events
 use Rattle.ccr_model.specs.declared.history.EndHow.{EndHow}
 use Rattle.ccr_model.specs.declared.history.EndHow.TheVariants as ends
-use Rattle.ccr_model.specs.Choice.{is_choice, is_choice_of}
+use Rattle.ccr_model.specs.Choice.{is_choice, is_choice_of, are_oldest}
 use Rattle.ccr_model.specs.Firings.{Firing, fired, firing_named, cut, put, let_in}
 use Rattle.ccr_model.specs.Legal.{IsAllowed}
 use Rattle.ccr_model.specs.Live.{is_live, has_room}
@@ -40,6 +41,12 @@ fire_allowed w first h t b s names sits fresh low live chosen =
     let room : has_room w h (Branch b) ≡ true = rw sits (room_free w h s.branch.queue (policy_of w s.branch.queue) (first.no_throttles s.branch.queue)) in
     let cuts : same_lists same_task [] (cuts_at w h (Branch b)) ≡ true = rw (sits, first.no_teardown b s sits) refl in
     refused_pass (is_new h t) 4 _ new (refused_pass (is_live w h (Branch b)) 5 _ live (refused_pass (is_choice w h (Branch b) names) 6 _ choice (refused_pass (has_room w h (Branch b)) 7 _ room (refused_pass (same_lists same_task [] (cuts_at w h (Branch b))) 8 None cuts refl))))
+
+pub resume_allowed : (w : Parts) (h : List Event) (t : TaskId) (b k port : ℕ) (names : List MsgId) → site_port w b k ≡ Some port → has_task (fired h) t ≡ false → t.actor ≤ 32 → is_live w h (Site b k) ≡ true → are_oldest (held h port) names ≡ true → IsAllowed w h (events.Fire t (Site b k) names [])
+resume_allowed w h t b k port names awaits fresh low live oldest =
+    let new : is_new h t ≡ true = grind (arith, nat_tests, fresh, low) in
+    let choice : is_choice w h (Site b k) names ≡ true = ap (λ o. option_map_or (λ p. are_oldest (held h p) names) o false) awaits ∙ oldest in
+    refused_pass (is_new h t) 4 _ new (refused_pass (is_live w h (Site b k)) 5 _ live (refused_pass (is_choice w h (Site b k) names) 6 _ choice refl))
 
 same_causes : (cs : List ℕ) → same_lists (λ c d. c == d) cs cs ≡ true
 same_causes [] = refl

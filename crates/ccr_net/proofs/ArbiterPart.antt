@@ -1,10 +1,9 @@
 -- What fired at an arbiter by its notes is what its branches fired in the history, and so a branch that isn't dead is live.
-use Rattle.std.proofs.Common.{◌≡◌, ◌<◌, ℕ, ◌+◌, Bool, true, false, ◌&&◌, List, [], ◌∷◌, ◌++◌, map, filter, flat_map, Option, Some, None, refl, sym, arith, ap, ◌∙◌, subst, append-nil, append_assoc}
+use Rattle.std.proofs.Common.{◌≡◌, ℕ, Bool, true, false, List, [], ◌∷◌, ◌++◌, map, filter, flat_map, Some, None, refl, sym, arith, ap, ◌∙◌, subst, append-nil, append_assoc}
 use Rattle.std.specs.Prelude.{◌==◌, if◌then◌else◌, slice_get}
 use Rattle.std.specs.Option.{option_map}
 use Rattle.std.proofs.lemmas.Grind.{common_steps}
 use Rattle.ccr_base.specs.declared.names.MsgId.{MsgId}
-use Rattle.ccr_base.specs.declared.names.Place.{Place}
 use Rattle.ccr_base.specs.declared.names.Place.TheVariants as places
 use Rattle.ccr_base.specs.declared.names.Spot.{Spot}
 use Rattle.ccr_base.specs.declared.names.Spot.TheVariants.{Branch, Site}
@@ -17,7 +16,6 @@ use Rattle.ccr_wiring.specs.declared.parts.Kind.TheVariants as kinds
 use Rattle.ccr_wiring.specs.declared.parts.Parts.{Parts}
 use Rattle.ccr_wiring.specs.Wirings.{Seat, seat}
 use Rattle.ccr_model.specs.declared.history.Event.{Event}
-use Rattle.ccr_model.specs.declared.history.Event.TheVariants as events
 use Rattle.ccr_model.specs.Firings.{Firing, firings, firing_of, fired_at}
 use Rattle.ccr_model.specs.Tasks.{fired_by, is_branch_where}
 use Rattle.ccr_model.proofs.Booleans.{same_number}
@@ -107,6 +105,10 @@ FiresAlike-fire w e i b s t ms cs sits at_i place note j = rw (note, place, sits
     by : (c : Bool) → fired_there (if c then notes.Fired t (Branch b) ms cs ∷ [] else []) ≡ map (λ (f : Firing). f.task) (if c then (record { task = t; spot = Branch b; messages = ms; cuts = cs }) ∷ [] else [])
     by true = refl
     by false = refl
+
+-- a firing at a site is no arbiter's
+pub FiresAlike-resume : (w : Parts) (e : Entry) (b k : ℕ) (t : TaskId) (ms : List MsgId) (cs : List TaskId) → e.place ≡ places.Site b k → e.note ≡ notes.Fired t (Site b k) ms cs → FiresAlike w e (event_of e)
+FiresAlike-resume w e b k t ms cs place note j = rw (note, place) refl
 
 -- ---- the arbiter by its notes
 

@@ -1,7 +1,6 @@
 -- The whole invariant, and how a step of one actor keeps it.
 use Rattle.std.proofs.Common.{◌≡◌, ◌≢◌, ◌⊎◌, inl, inr, ℕ, zero, suc, Bool, true, false, List, [], ◌∷◌, ◌++◌, Option, Some, None, refl, sym, arith, ap, ◌∙◌, subst}
 use Rattle.std.specs.Prelude.{◌==◌, if◌then◌else◌, nat_le}
-use Rattle.std.specs.Option.{option_map_or}
 use Rattle.std.proofs.lemmas.Bool.Decides.{nat_tests}
 use Rattle.std.proofs.lemmas.Grind.{common_steps}
 use Rattle.ccr_base.specs.declared.names.Place.{Place}
@@ -28,6 +27,7 @@ use Rattle.ccr_net.proofs.Invariant.{PortsMatch, ActorMatches}
 use Rattle.ccr_net.proofs.PortSteps.{Changes}
 use Rattle.ccr_net.proofs.ActorSteps.{ActorMatches-same, ActorMatches-short}
 use Rattle.ccr_net.proofs.ArbiterPart.{ArbitersMatch}
+use Rattle.ccr_net.proofs.SitePart.{SitesMatch}
 use Rattle.ccr_net.proofs.QueuePart.{QueuesMatch, QueueChanges}
 use Rattle.ccr_net.proofs.WorkPart.{WorkMatches}
 use Rattle.ccr_net.proofs.MeterPart.{MeterMatches, OneWorks}
@@ -113,6 +113,7 @@ pub record Holds (w : Parts) (n : ℕ) (lacks : Lacks) (es : List Entry) : Type 
   pub meter : MeterMatches w n (visible es) (meter_at w es).drawn (works_of w lacks es)
   pub budget : (meter_at w es).budget ≡ w.budget
   pub arbiters : ArbitersMatch w (visible es) es
+  pub sites : SitesMatch (visible es) es
 
 -- what the entry must be shown to keep, where the actor's state then is `next` and the history `h`
 pub record Keeps (w : Parts) (n : ℕ) (lacks : Lacks) (es : List Entry) (e : Entry) (next : State) (h : List Event) : Type 0 where
@@ -126,6 +127,7 @@ pub record Keeps (w : Parts) (n : ℕ) (lacks : Lacks) (es : List Entry) (e : En
   pub meter : (works' : ℕ → Work) → OneWorks (works_of w lacks es) works' e.actor next.work → MeterMatches w n h (meter_at w (es ++ e ∷ [])).drawn works'
   pub budget : (meter_at w (es ++ e ∷ [])).budget ≡ w.budget
   pub arbiters : ArbitersMatch w h (es ++ e ∷ [])
+  pub sites : SitesMatch h (es ++ e ∷ [])
 
 differ : (a b : ℕ) → (a == b) ≡ false → a ≢ b
 differ a b is same = let k : (a == b) ≡ true = subst (λ r. (a == r) ≡ true) same (eq-self a) in absurd (cc)
@@ -139,6 +141,7 @@ Holds-kept w n lacks es e next h keeps = record {
   meter = rw keeps.shows (keeps.meter (works_of w lacks (es ++ e ∷ [])) (record { own = own_work; others = λ b other. other_work b other }));
   budget = keeps.budget;
   arbiters = rw keeps.shows keeps.arbiters;
+  sites = rw keeps.shows keeps.sites;
 }
   where
     moved : IsNextState w e.actor (state_of w lacks es e.actor) (reply_of w es e) (state_of w lacks (es ++ e ∷ []) e.actor)

@@ -9,6 +9,7 @@ pub mod Starts
 pub mod WorkPart
 pub mod QueuePart
 pub mod ArbiterPart
+pub mod SitePart
 pub mod MeterPart
 pub mod Phases
 pub mod Assembly
@@ -17,7 +18,11 @@ pub mod PlainFacts
 pub mod PlainWirings
 pub mod Allowed
 pub mod Shown
+pub mod Choices
 pub mod Steps
+pub mod Noted
+pub mod Driving
+pub mod Working
 pub mod Theorem
 pub mod Refines
 mod WorkedNets

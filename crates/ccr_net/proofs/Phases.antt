@@ -1,5 +1,5 @@
 -- Where an attempt is in its pattern: what it got and the slots that are left are the slots of its plan.
-use Rattle.std.proofs.Common.{◌≡◌, ℕ, ◌-◌, ◌^◌, Bool, true, false, List, [], ◌∷◌, ◌++◌, length, map, refl, arith, ap, ◌∙◌, append_assoc}
+use Rattle.std.proofs.Common.{◌≡◌, ℕ, ◌-◌, ◌^◌, Bool, true, false, List, [], ◌∷◌, ◌++◌, length, map, Some, refl, arith, ap, ◌∙◌, append_assoc}
 use Rattle.std.specs.Prelude.{if◌then◌else◌, nat_lt}
 use Rattle.std.proofs.lemmas.Grind.{common_steps}
 use Rattle.ccr_base.specs.declared.names.Spot.{Spot}
@@ -8,7 +8,8 @@ use Rattle.ccr_base.specs.declared.patterns.Pattern.{Pattern}
 use Rattle.ccr_base.specs.declared.patterns.Pattern.TheVariants.{Slots, Gather}
 use Rattle.ccr_base.specs.declared.patterns.Slot.{Slot}
 use Rattle.ccr_wiring.specs.declared.parts.Parts.{Parts}
-use Rattle.ccr_wiring.specs.Wirings.{spots}
+use Rattle.ccr_base.specs.declared.names.Spot.TheVariants.{Branch, Site}
+use Rattle.ccr_wiring.specs.Wirings.{Seat, seat, site_port}
 use Rattle.ccr_model.proofs.Members.{Among}
 use Rattle.ccr_claim.specs.declared.plan.Had.{Had}
 use Rattle.ccr_claim.specs.Plans.{sort_slots, slots_in, any_slot, gather_slots, narrowed, rest_narrowed}
@@ -77,8 +78,13 @@ PhaseFits w n booking spots = Unit {0}
 PhaseFits w n (claiming slots had) [] = ⊥
 PhaseFits w n (claiming slots had) (spot ∷ more) = (nat_lt n (2 ^ 32) ≡ true) × Fits (pattern_at w spot) slots had
 
+-- a branch, or a site that awaits a port
+abbrev pub SpotFits : Parts → Spot → Type 0
+SpotFits w (Branch b) = (s : Seat) × (seat w b ≡ Some s)
+SpotFits w (Site b k) = (port : ℕ) × (site_port w b k ≡ Some port)
+
 -- an actor's drive is over spots of the wiring
 pub record StateFits (w : Parts) (state : State) : Type 0 where
   pub no_arbiters : state.arbiters ≡ []
-  pub spots_so : (spot : Spot) → Among spot state.spots → Among spot (spots w)
+  pub spots_so : (spot : Spot) → Among spot state.spots → SpotFits w spot
   pub phase_so : PhaseFits w state.attempt state.phase state.spots

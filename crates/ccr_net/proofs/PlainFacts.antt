@@ -1,5 +1,5 @@
 -- What plain wirings have, and what their legal histories have.
-use Rattle.std.proofs.Common.{◌⊎◌, inl, inr, ◌≡◌, ◌≢◌, ◌<◌, ℕ, Bool, true, false, ◌&&◌, List, [], ◌∷◌, ◌++◌, length, filter, Option, Some, None, refl, sym, arith, ◌∙◌, subst, append-nil}
+use Rattle.std.proofs.Common.{◌⊎◌, inl, inr, ◌≡◌, ◌<◌, ℕ, Bool, true, false, ◌&&◌, List, [], ◌∷◌, ◌++◌, length, filter, Option, Some, None, refl, sym, arith, ◌∙◌, subst, append-nil}
 use Rattle.std.specs.Prelude.{slice_get, ◌==◌, nat_lt}
 use Rattle.std.proofs.lemmas.Grind.{common_steps}
 use Rattle.std.proofs.lemmas.Bool.Decides.{nat_tests}
@@ -20,7 +20,7 @@ use Rattle.ccr_base.specs.Names.{same_task, has_task, same_lists}
 use Rattle.ccr_handler.specs.declared.segments.PlayEnd.TheVariants as plays
 use Rattle.ccr_wiring.specs.declared.parts.ArbiterPart.{ArbiterPart}
 use Rattle.ccr_wiring.specs.declared.parts.Parts.{Parts}
-use Rattle.ccr_wiring.specs.Wirings.{Seat, seat, spots, policy_of}
+use Rattle.ccr_wiring.specs.Wirings.{Seat, seat, spots, policy_of, next_site}
 use Rattle.ccr_model.specs.declared.history.Event.{Event}
 use Rattle.ccr_model.specs.declared.history.Event.TheVariants as events
 use Rattle.ccr_model.specs.Firings.{cut, firing_of, started}
@@ -39,6 +39,7 @@ use Rattle.ccr_model.proofs.TasksLeft.{of_without}
 use Rattle.ccr_model.proofs.TaskLists.{among_left}
 use Rattle.ccr_actor.specs.Plans.{is_interleave_number, throttled}
 use Rattle.ccr_net.specs.Plain.{is_throttle}
+use Rattle.ccr_net.proofs.Phases.{SpotFits}
 use Rattle.ccr_places.specs.Arbiters as arbiters
 use Rattle.ccr_actor.specs.Actors.{play_in}
 use Rattle.ccr_net.specs.Places.{arbiter_after, first_branch}
@@ -60,8 +61,8 @@ pub record PlainFacts (w : Parts) : Type 0 where
   pub seats_free : (b : ℕ) (s : Seat) → seat w b ≡ Some s → is_interleave s.kind ≡ false
   pub no_interleaves : (b : ℕ) (s : Seat) → seat w b ≡ Some s → is_interleave_number w s.arbiter ≡ false
   pub no_throttles : (q : ℕ) → is_throttle (policy_of w q) ≡ false
-  pub branches : (spot : Spot) → Among spot (spots w) → (b : ℕ) × (s : Seat) × (spot ≡ Branch b) × (seat w b ≡ Some s)
-  pub no_yield : (task : Task) (site : ℕ) → (play_in w task).end ≢ plays.Yield site
+  pub places_so : (spot : Spot) → Among spot (spots w) → SpotFits w spot
+  pub sites_so : (task : Task) (site : ℕ) → (play_in w task).end ≡ plays.Yield site → SpotFits w (next_site task.spot)
 
 -- ---- where no queue is a throttle
 

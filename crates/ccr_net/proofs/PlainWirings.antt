@@ -1,16 +1,15 @@
 -- A valid wiring that is plain has what the proofs use.
-use Rattle.std.proofs.Common.{◌≡◌, ◌≢◌, ◌≤◌, ◌⊎◌, ℕ, zero, suc, ◌+◌, ◌-◌, ◌&&◌, not, Bool, length, option_map, true, false, List, [], ◌∷◌, Option, Some, None, inl, inr, refl, sym, ap, ◌∙◌, subst, arith}
-use Rattle.std.specs.Prelude.{IsSomeAnd, filter_map, ◌==◌, nat_le, nat_lt}
+use Rattle.std.proofs.Common.{◌≡◌, ◌≤◌, ◌⊎◌, ℕ, zero, suc, ◌+◌, ◌-◌, ◌&&◌, not, Bool, length, option_map, drop, true, false, List, [], ◌∷◌, Option, Some, None, inl, inr, refl, sym, ap, ◌∙◌, subst, arith}
+use Rattle.std.specs.Prelude.{IsSomeAnd, ◌==◌, nat_le, nat_lt}
 use Rattle.std.proofs.lemmas.Bool.Decides.{nat_tests}
 use Rattle.std.specs.List.{slice_get}
 use Rattle.std.specs.Option.{option_map_or}
 use Rattle.ccr_base.specs.declared.handlers.Action.{Action}
 use Rattle.ccr_base.specs.declared.handlers.Action.TheVariants as actions
 use Rattle.ccr_base.specs.declared.names.Spot.{Spot}
-use Rattle.ccr_base.specs.declared.names.Spot.TheVariants.{Branch}
+use Rattle.ccr_base.specs.declared.names.Spot.TheVariants.{Branch, Site}
 use Rattle.ccr_base.specs.declared.patterns.Pattern.{Pattern}
 use Rattle.ccr_base.specs.declared.patterns.Pattern.TheVariants.{Slots, Gather}
-use Rattle.ccr_base.specs.declared.patterns.Slot.{Slot}
 use Rattle.ccr_base.specs.declared.policies.Group.{Group}
 use Rattle.ccr_base.specs.declared.policies.Group.TheVariants as groups
 use Rattle.ccr_base.specs.declared.tasks.Task.{Task}
@@ -23,20 +22,22 @@ use Rattle.ccr_wiring.specs.declared.parts.Kind.TheVariants as kinds
 use Rattle.ccr_wiring.specs.declared.parts.Parts.{Parts}
 use Rattle.ccr_wiring.specs.Groups.{may_have, is_receive, is_one_named, is_misgrouped, has_strange_group}
 use Rattle.ccr_wiring.specs.Valid.{IsValid, IsSound, IsPatternFilled}
-use Rattle.ccr_wiring.specs.Wirings.{Seat, seat, seats, seats_from, in_domain, spots, spots_from, actions_of, awaited, branch_of, segment_of, exception_port}
+use Rattle.ccr_wiring.specs.Wirings.{Seat, seat, seats, seats_from, in_domain, spots_from, sites_from, site_port, actions_of, awaited, branch_of, segment_of, exception_port}
 use Rattle.ccr_wiring.proofs.Lists.{neither, none_at}
 use Rattle.ccr_wiring.proofs.SeatPlaces.{seat-here, seat-later, seat-domain}
 use Rattle.ccr_wiring.proofs.Soundness.{sound}
 use Rattle.ccr_wiring.proofs.Validity.{no_codes}
 use Rattle.ccr_model.specs.Tasks.{is_interleave, is_teardown}
 use Rattle.ccr_model.proofs.Booleans.{both}
-use Rattle.ccr_model.proofs.Members.{Among}
+use Rattle.ccr_model.proofs.Members.{Among, Among-either}
 use Rattle.ccr_actor.specs.Plans.{is_interleave_number}
 use Rattle.ccr_actor.specs.Plans as plans
 use Rattle.ccr_actor.specs.Actors.{play_in}
 use Rattle.ccr_places.specs.Arbiters as arbiters
 use Rattle.ccr_net.specs.Places.{arbiter_after, branches_before, first_branch, is_once}
 use Rattle.ccr_net.specs.Plain.{IsPlain}
+use Rattle.ccr_net.proofs.Phases.{SpotFits}
+use Rattle.ccr_net.proofs.WorkPart.{drop-next}
 use Rattle.ccr_net.proofs.PlainFacts.{PlainFacts, IsEven, Retires}
 
 -- where a member stands
@@ -154,48 +155,84 @@ retires_so w valid plain b s part sits at here = by s.kind s.branch.group refl r
     by kinds.Choice groups.Concurrent k g may free = absurd (let out : false ≡ true = rw (k, g) at may in cc)
     by kinds.Interleave group k g may free = absurd (let out : true ≡ false = rw k at free in cc)
 
--- where nothing is awaited each spot is a branch
-spots_are_branches : (w : Parts) (k : ℕ) (ss : List Seat) → ((i : ℕ) (s : Seat) → slice_get ss i ≡ Some s → awaited (actions_of w s.branch.handler) ≡ []) → (spot : Spot) → Among spot (spots_from w k ss) → (i : ℕ) × (s : Seat) × (spot ≡ Branch (k + i)) × (slice_get ss i ≡ Some s)
-spots_are_branches w k [] none spot is = absurd is
-spots_are_branches w k (s ∷ ss) none spot is = by (rw (none 0 s refl) at is) (λ more. spots_are_branches w (k + 1) ss (λ i r at_i. none (suc i) r at_i) spot more)
+-- ---- awaits
+
+awaited-after : (acts : List Action) → awaited (after_await acts) ≡ drop 1 (awaited acts)
+awaited-after [] = refl
+awaited-after (actions.Post port expr ∷ acts) = awaited-after acts
+awaited-after (actions.Fail expr ∷ acts) = awaited-after acts
+awaited-after (actions.Add cause ∷ acts) = awaited-after acts
+awaited-after (actions.Remove cause ∷ acts) = awaited-after acts
+awaited-after (actions.Await port ∷ acts) = refl
+
+drop-one : (k : ℕ) (xs : List ℕ) → drop 1 (drop k xs) ≡ drop (suc k) xs
+drop-one zero xs = refl
+drop-one (suc k) [] = refl
+drop-one (suc k) (x ∷ xs) = drop-one k xs
+
+awaited-from : (k : ℕ) (acts : List Action) → awaited (actions_from k acts) ≡ drop k (awaited acts)
+awaited-from zero acts = refl
+awaited-from (suc k) acts = awaited-after (actions_from k acts) ∙ ap (drop 1) (awaited-from k acts) ∙ drop-one k (awaited acts)
+
+-- a play that ends in a suspension stops at an await
+yields_awaits : (port_of : ℕ → Option ℕ) (values : List (List ℕ)) (segment : ℕ) (acts : List Action) (site : ℕ) (causes : List ℕ) → (play port_of values segment causes acts).end ≡ plays.Yield site → (port : ℕ) × (rest : List ℕ) × (awaited acts ≡ port ∷ rest)
+yields_awaits port_of values segment [] site causes is = absurd (cc)
+yields_awaits port_of values segment (actions.Post port expr ∷ acts) site causes is = yields_awaits port_of values segment acts site causes is
+yields_awaits port_of values segment (actions.Fail expr ∷ acts) site causes is = absurd (cc)
+yields_awaits port_of values segment (actions.Add cause ∷ acts) site causes is = yields_awaits port_of values segment acts site _ is
+yields_awaits port_of values segment (actions.Remove cause ∷ acts) site causes is = yields_awaits port_of values segment acts site _ is
+yields_awaits port_of values segment (actions.Await port ∷ acts) site causes is = (port, awaited acts, refl)
+
+-- so there is a site for the task
+pub yields_at_site : (w : Parts) (task : Task) (site : ℕ) → (play_in w task).end ≡ plays.Yield site → (port : ℕ) × (site_port w (branch_of task.spot) (segment_of task.spot) ≡ Some port)
+yields_at_site w task site is = of_seat (seat w (branch_of task.spot)) refl
   where
-    by : Among spot (Branch k ∷ spots_from w (k + 1) ss) → (Among spot (spots_from w (k + 1) ss) → (i : ℕ) × (r : Seat) × (spot ≡ Branch ((k + 1) + i)) × (slice_get ss i ≡ Some r)) → (i : ℕ) × (r : Seat) × (spot ≡ Branch (k + i)) × (slice_get (s ∷ ss) i ≡ Some r)
-    by (inl e) later = (0, s, e ∙ ap Branch (let same : k ≡ k + 0 = omega arith in same), refl)
-    by (inr more) later =
-        let found = later more in
-        let same : (k + 1) + found.0 ≡ k + suc found.0 = omega arith in
-        (suc found.0, found.1, found.2 ∙ ap Branch same, found.3)
+    k : ℕ
+    k = segment_of task.spot
 
--- ---- actions without an await
+    acts : Option Seat → List Action
+    acts o = option_map_or (λ (s : Seat). actions_of w s.branch.handler) o []
 
--- behind the first await there is nothing where there is none
-nothing_behind : (acts : List Action) → awaited acts ≡ [] → after_await acts ≡ []
-nothing_behind [] none = refl
-nothing_behind (actions.Post port expr ∷ acts) none = nothing_behind acts none
-nothing_behind (actions.Fail expr ∷ acts) none = nothing_behind acts none
-nothing_behind (actions.Add cause ∷ acts) none = nothing_behind acts none
-nothing_behind (actions.Remove cause ∷ acts) none = nothing_behind acts none
-nothing_behind (actions.Await port ∷ acts) none = absurd (cc)
+    found : (port : ℕ) × (rest : List ℕ) × (awaited (actions_from k (acts (seat w (branch_of task.spot)))) ≡ port ∷ rest)
+    found = yields_awaits (exception_port w) task.values k (actions_from k (acts (seat w (branch_of task.spot)))) site task.causes is
 
-still_none : (k : ℕ) (acts : List Action) → awaited acts ≡ [] → awaited (actions_from k acts) ≡ []
-still_none zero acts none = none
-still_none (suc k) acts none = ap awaited (nothing_behind (actions_from k acts) (still_none k acts none))
+    there : slice_get (awaited (acts (seat w (branch_of task.spot)))) k ≡ Some found.0
+    there = (drop-next k (awaited (acts (seat w (branch_of task.spot)))) found.0 found.1 (sym found.2 ∙ awaited-from k (acts (seat w (branch_of task.spot))))).0
 
-no_yield_in : (port_of : ℕ → Option ℕ) (values : List (List ℕ)) (segment : ℕ) (acts : List Action) (site : ℕ) (causes : List ℕ) → awaited acts ≡ [] → (play port_of values segment causes acts).end ≢ plays.Yield site
-no_yield_in port_of values segment [] site causes none is = absurd (cc)
-no_yield_in port_of values segment (actions.Post port expr ∷ acts) site causes none is = no_yield_in port_of values segment acts site causes none is
-no_yield_in port_of values segment (actions.Fail expr ∷ acts) site causes none is = absurd (cc)
-no_yield_in port_of values segment (actions.Add cause ∷ acts) site causes none is = no_yield_in port_of values segment acts site _ none is
-no_yield_in port_of values segment (actions.Remove cause ∷ acts) site causes none is = no_yield_in port_of values segment acts site _ none is
-no_yield_in port_of values segment (actions.Await port ∷ acts) site causes none is = absurd (cc)
+    of_seat : (o : Option Seat) → seat w (branch_of task.spot) ≡ o → (port : ℕ) × (site_port w (branch_of task.spot) k ≡ Some port)
+    of_seat None none = absurd (let nothing : slice_get (awaited (acts None)) k ≡ Some found.0 = subst (λ o. slice_get (awaited (acts o)) k ≡ Some found.0) none there in nobody nothing)
+      where
+        nobody : slice_get {X = ℕ} [] k ≡ Some found.0 → ⊥
+        nobody e = absurd (cc)
+    of_seat (Some s) some = (found.0, ap (λ o. option_map_or (λ (r : Seat). slice_get (awaited (actions_of w r.branch.handler)) k) o None) some ∙ (subst (λ o. slice_get (awaited (acts o)) k ≡ Some found.0) some there))
 
--- the actions of the branch, where there is one
-no_awaits_at : (w : Parts) → IsPlain w → (b : ℕ) → awaited (option_map_or (λ (s : Seat). actions_of w s.branch.handler) (seat w b) []) ≡ []
-no_awaits_at w plain b = by (seat w b) refl
+-- ---- each spot of the wiring is a branch or a site
+
+sites_in : (b n : ℕ) (ports : List ℕ) (spot : Spot) → Among spot (sites_from b n ports) → (i : ℕ) × (port : ℕ) × (spot ≡ Site b (n + i)) × (slice_get ports i ≡ Some port)
+sites_in b n [] spot is = absurd is
+sites_in b n (port ∷ ports) spot (inl e) = (0, port, e ∙ ap (Site b) (let same : n ≡ n + 0 = omega arith in same), refl)
+sites_in b n (port ∷ ports) spot (inr more) =
+    let found = sites_in b (n + 1) ports spot more in
+    let same : (n + 1) + found.0 ≡ n + suc found.0 = omega arith in
+    (suc found.0, found.1, found.2 ∙ ap (Site b) same, found.3)
+
+spots_fit : (w : Parts) (k : ℕ) (ss : List Seat) (spot : Spot) → ((i : ℕ) (s : Seat) → slice_get ss i ≡ Some s → seat w (k + i) ≡ Some s) → Among spot (spots_from w k ss) → SpotFits w spot
+spots_fit w k [] spot known is = absurd is
+spots_fit w k (s ∷ ss) spot known (inl e) = subst (SpotFits w) (sym e) (s, here)
   where
-    by : (o : Option Seat) → seat w b ≡ o → awaited (option_map_or (λ (s : Seat). actions_of w s.branch.handler) o []) ≡ []
-    by None is = refl
-    by (Some s) is = plain.awaits_none b s is
+    here : seat w k ≡ Some s
+    here = ap (seat w) (let same : k ≡ k + 0 = omega arith in same) ∙ known 0 s refl
+spots_fit w k (s ∷ ss) spot known (inr more) = by (Among-either spot (sites_from k 0 (awaited (actions_of w s.branch.handler))) (spots_from w (k + 1) ss) more) (spots_fit w (k + 1) ss spot (λ i r at_i. ap (seat w) (let same : (k + 1) + i ≡ k + suc i = omega arith in same) ∙ known (suc i) r at_i))
+  where
+    here : seat w k ≡ Some s
+    here = ap (seat w) (let same : k ≡ k + 0 = omega arith in same) ∙ known 0 s refl
+
+    by : Among spot (sites_from k 0 (awaited (actions_of w s.branch.handler))) ⊎ Among spot (spots_from w (k + 1) ss) → (Among spot (spots_from w (k + 1) ss) → SpotFits w spot) → SpotFits w spot
+    by (inl site) later =
+        let found = sites_in k 0 (awaited (actions_of w s.branch.handler)) spot site in
+        let same : 0 + found.0 ≡ found.0 = omega arith in
+        subst (SpotFits w) (sym (found.2 ∙ ap (Site k) same)) (found.1, rw here found.3)
+    by (inr rest) later = later rest
 
 pub plain_facts : (w : Parts) → IsValid w → IsPlain w → PlainFacts w
 plain_facts w valid plain = record {
@@ -205,13 +242,10 @@ plain_facts w valid plain = record {
   seats_free = plain.no_interleaves;
   no_interleaves = λ b s is. no_number (slice_get w.arbiters s.arbiter) s.kind (plain.no_interleaves b s is) (all.domains b s is);
   no_throttles = plain.no_throttles;
-  branches = λ spot is. (let found = spots_are_branches w 0 (seats w) plain.awaits_none spot is in (found.0, found.1, found.2 ∙ ap Branch (from_none found.0), found.3));
-  no_yield = λ task site. no_yield_in (exception_port w) task.values (segment_of task.spot) (actions_from (segment_of task.spot) (acts (branch_of task.spot))) site task.causes (still_none (segment_of task.spot) (acts (branch_of task.spot)) (no_awaits_at w plain (branch_of task.spot)));
+  places_so = λ spot is. spots_fit w 0 (seats w) spot (λ i r at_i. ap (seat w) (from_none i) ∙ at_i) is;
+  sites_so = λ task site is. yields_at_site w task site is;
 }
   where
-    acts : ℕ → List Action
-    acts b = option_map_or (λ (s : Seat). actions_of w s.branch.handler) (seat w b) []
-
     from_none : (k : ℕ) → 0 + k ≡ k
     from_none k = omega arith
 

@@ -77,6 +77,7 @@ Holds-begins w n lacks = record {
   };
   budget = refl;
   arbiters = λ i. refl;
+  sites = λ b k. refl;
 }
   where
     works_begin : (a : ℕ) → works_of w lacks [] a ≡ work_of w a

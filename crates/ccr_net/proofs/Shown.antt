@@ -8,7 +8,6 @@ use Rattle.ccr_base.specs.declared.names.Spot.{Spot}
 use Rattle.ccr_base.specs.declared.names.TaskId.{TaskId}
 use Rattle.ccr_base.specs.Names.{has_task}
 use Rattle.ccr_wiring.specs.declared.parts.Parts.{Parts}
-use Rattle.ccr_wiring.specs.Wirings.{spots}
 use Rattle.ccr_model.specs.declared.history.Event.{Event}
 use Rattle.ccr_model.specs.declared.history.Event.TheVariants as events
 use Rattle.ccr_model.specs.Firings.{fired, put, firing_of}
@@ -33,11 +32,12 @@ use Rattle.ccr_net.proofs.Invariant.{ActorMatches}
 use Rattle.ccr_net.proofs.PortSteps.{Changes, PortsMatch-post, PortsMatch-event, fired-post}
 use Rattle.ccr_net.proofs.ActorSteps.{ActorMatches-same, ActorMatches-ports, ActorMatches-history}
 use Rattle.ccr_net.proofs.HeldApart.{post_fresh}
+use Rattle.ccr_net.proofs.SitePart.{SitesMatch, SitesMatch-other}
 use Rattle.ccr_net.proofs.ArbiterPart.{ArbitersMatch-push, FiresAlike-other}
 use Rattle.ccr_net.proofs.QueuePart.{QueuesMatch, QueuesMatch-event, queued-other}
 use Rattle.ccr_net.proofs.WorkPart.{WorkMatches, WorkMatches-same, SaysSame}
 use Rattle.ccr_net.proofs.MeterPart.{MeterMatches, OneWorks}
-use Rattle.ccr_net.proofs.Phases.{StateFits, PhaseFits}
+use Rattle.ccr_net.proofs.Phases.{StateFits, PhaseFits, SpotFits}
 use Rattle.ccr_net.proofs.Assembly.{ActorHolds, Holds, Holds-kept, meter_at, works_of, port_changes, same_queues, same_meter, none_go_on}
 
 -- names stand once in a legal history
@@ -70,7 +70,7 @@ module _ (w : Parts) (n : ℕ) (lacks : Lacks) (es : List Entry) (e : Entry) (lo
     pub arbiters : next.arbiters ≡ before.arbiters
     pub phase : next.phase ≡ before.phase
     pub attempt : next.attempt ≡ before.attempt
-    pub spots_so : (s : Spot) → Among s next.spots → Among s (spots w)
+    pub spots_so : (s : Spot) → Among s next.spots → SpotFits w s
 
   pub goes_fits : (next : State) → turn before ≡ go_on → GoesOn next → StateFits w next
   goes_fits next turns on = record {
@@ -132,6 +132,7 @@ module _ (w : Parts) (n : ℕ) (lacks : Lacks) (es : List Entry) (e : Entry) (lo
     meter = λ works' one. rw (same_meter w es e (places.Port m.port) place refl) (meter works' one);
     budget = rw (same_meter w es e (places.Port m.port) place refl) holds.budget;
     arbiters = ArbitersMatch-push w es e (h ++ events.Post m ∷ []) (shows (events.Post m) (rw note refl)) (FiresAlike-other w e (events.Post m) (rw note refl) refl) holds.arbiters;
+    sites = SitesMatch-other w es e (events.Post m) holds.legal (rw note refl) refl refl holds.sites;
   })
 
   -- ---- an event that posts, takes, fires and puts nothing: a start and an end
@@ -144,8 +145,9 @@ module _ (w : Parts) (n : ℕ) (lacks : Lacks) (es : List Entry) (e : Entry) (lo
       → ((a : ℕ) → e.actor ≢ a → SaysSame h ev a)
       → meter_at w (es ++ e ∷ []) ≡ meter_at w es
       → ((works' : ℕ → Work) → OneWorks (works_of w lacks es) works' e.actor next.work → MeterMatches w n (h ++ ev ∷ []) (meter_at w es).drawn works')
+      → SitesMatch (h ++ ev ∷ []) (es ++ e ∷ [])
       → Holds w n lacks (es ++ e ∷ [])
-  step_other ev place next there is unfired same turns goes on p t f u allowed queues work says drawn meter = Holds-kept w n lacks es e next (h ++ ev ∷ []) (record {
+  step_other ev place next there is unfired same turns goes on p t f u allowed queues work says drawn meter sited = Holds-kept w n lacks es e next (h ++ ev ∷ []) (record {
     shows = shows ev is;
     goes = goes;
     legal = legal_push w [] h ev holds.legal allowed;
@@ -160,4 +162,5 @@ module _ (w : Parts) (n : ℕ) (lacks : Lacks) (es : List Entry) (e : Entry) (lo
     meter = λ works' one. rw drawn (meter works' one);
     budget = rw drawn holds.budget;
     arbiters = ArbitersMatch-push w es e (h ++ ev ∷ []) (shows ev is) (FiresAlike-other w e ev is unfired) holds.arbiters;
+    sites = sited;
   })

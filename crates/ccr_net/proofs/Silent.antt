@@ -6,6 +6,7 @@ use Rattle.std.proofs.lemmas.Bool.Decides.{nat_tests}
 use Rattle.ccr_base.specs.declared.names.Place.{Place}
 use Rattle.ccr_base.specs.declared.names.Place.TheVariants as places
 use Rattle.ccr_base.specs.declared.names.Spot.{Spot}
+use Rattle.ccr_base.specs.declared.names.Spot.TheVariants.{Site}
 use Rattle.ccr_base.specs.declared.names.TaskId.{TaskId}
 use Rattle.ccr_base.specs.declared.messages.Msg.{Msg}
 use Rattle.ccr_base.specs.declared.tasks.How.TheVariants as hows
@@ -38,6 +39,7 @@ use Rattle.ccr_net.proofs.Pushes.{visible-push, queue_at}
 use Rattle.ccr_net.proofs.Invariant.{PortsMatch, claim_for}
 use Rattle.ccr_net.proofs.PortSteps.{Changes, PortsMatch-consume, PortsMatch-free, PortsMatch-got}
 use Rattle.ccr_net.proofs.ActorSteps.{ActorMatches-same, ActorMatches-ports, ActorMatches-settled, ActorMatches-give_up, ActorMatches-got, unfired}
+use Rattle.ccr_net.proofs.SitePart.{SitesMatch-silent}
 use Rattle.ccr_net.proofs.ArbiterPart.{ArbitersMatch-push, FiresAlike-silent}
 use Rattle.ccr_net.proofs.QueuePart.{QueuesMatch, QueuesMatch-note}
 use Rattle.ccr_net.proofs.MeterPart.{MeterMatches, MeterMatches-quiet, OneWorks, is_posting, is_shedding}
@@ -72,6 +74,7 @@ module _ (w : Parts) (n : ℕ) (lacks : Lacks) (es : List Entry) (e : Entry) (lo
     meter = meter;
     budget = budget ∙ holds.budget;
     arbiters = ArbitersMatch-push w es e h (rw (visible-push es e, none, append-nil (visible es)) refl) (FiresAlike-silent w e none) holds.arbiters;
+    sites = SitesMatch-silent es e none holds.sites;
   })
 
   -- the meter says the same of the budget
@@ -284,6 +287,10 @@ module _ (w : Parts) (n : ℕ) (lacks : Lacks) (es : List Entry) (e : Entry) (lo
   pub step_dead : (i : ℕ) (spot : Spot) (more : List Spot) → e.place ≡ places.Arbiter i → event_of e ≡ [] → turn before ≡ drive spot more → after_in w e.actor before (turn before) (reply_of w es e) ≡ give_up w e.actor before spot more → Holds w n lacks (es ++ e ∷ [])
   step_dead i spot more place none turns goes =
       silent_else (places.Arbiter i) (give_up w e.actor before spot more) place refl none goes (rw (same_queues w es e (places.Arbiter i) place refl) holds.queues) (ActorHolds-give_up (port_at es) spot more (drives spot more turns) (holds.actors e.actor)) (unmetered (places.Arbiter i) place refl) refl (λ is. is)
+
+  pub step_dead_site : (b k : ℕ) (more : List Spot) → e.place ≡ places.Site b k → event_of e ≡ [] → turn before ≡ drive (Site b k) more → after_in w e.actor before (turn before) (reply_of w es e) ≡ give_up w e.actor before (Site b k) more → Holds w n lacks (es ++ e ∷ [])
+  step_dead_site b k more place none turns goes =
+      silent_else (places.Site b k) (give_up w e.actor before (Site b k) more) place refl none goes (rw (same_queues w es e (places.Site b k) place refl) holds.queues) (ActorHolds-give_up (port_at es) (Site b k) more (drives (Site b k) more turns) (holds.actors e.actor)) (unmetered (places.Site b k) place refl) refl (λ is. is)
 
   -- ---- a claim that got its messages
 

@@ -1,5 +1,5 @@
 -- Firings, puts, takes, ends and posts, each as a whole step.
-use Rattle.std.proofs.Common.{◌⊎◌, inl, inr, ◌≡◌, ◌≢◌, ◌≤◌, ◌<◌, ℕ, zero, suc, ◌+◌, ◌-◌, Bool, true, false, ◌&&◌, List, [], ◌∷◌, ◌++◌, length, map, flat_map, take, Option, option_map, Some, None, refl, sym, arith, ap, ◌∙◌, subst, append-nil, length-append}
+use Rattle.std.proofs.Common.{inl, inr, ◌≡◌, ◌≤◌, ◌<◌, ℕ, suc, ◌+◌, Bool, true, false, List, [], ◌∷◌, ◌++◌, length, map, flat_map, take, Option, option_map, Some, None, refl, sym, arith, ap, ◌∙◌, subst, append-nil}
 use Rattle.std.specs.Prelude.{◌==◌, if◌then◌else◌, nat_lt}
 use Rattle.std.proofs.lemmas.Grind.{common_steps}
 use Rattle.std.proofs.lemmas.List.{length-map}
@@ -10,247 +10,69 @@ use Rattle.ccr_base.specs.declared.names.MsgId.{MsgId}
 use Rattle.ccr_base.specs.declared.names.Place.{Place}
 use Rattle.ccr_base.specs.declared.names.Place.TheVariants as places
 use Rattle.ccr_base.specs.declared.names.Spot.{Spot}
-use Rattle.ccr_base.specs.declared.names.Spot.TheVariants.{Branch}
 use Rattle.ccr_base.specs.declared.names.TaskId.{TaskId}
 use Rattle.ccr_base.specs.declared.patterns.Pattern.{Pattern}
-use Rattle.ccr_base.specs.declared.patterns.Pattern.TheVariants.{Slots, Gather}
-use Rattle.ccr_base.specs.declared.patterns.Pred.{Pred}
 use Rattle.ccr_base.specs.declared.patterns.Pred.TheVariants.{Any}
 use Rattle.ccr_base.specs.declared.patterns.Slot.{Slot}
-use Rattle.ccr_base.specs.Choice.{fitting}
 use Rattle.ccr_base.specs.declared.tasks.Task.{Task}
 use Rattle.ccr_base.specs.Names.{same_task, has_task, has_message}
 use Rattle.ccr_wiring.specs.declared.parts.Parts.{Parts}
-use Rattle.ccr_wiring.specs.Wirings.{Seat, seat, spots, policy_of, branch_of}
+use Rattle.ccr_wiring.specs.Wirings.{Seat, seat, policy_of, branch_of, segment_of, next_site}
 use Rattle.ccr_model.specs.declared.history.Event.{Event}
 use Rattle.ccr_model.specs.declared.history.Event.TheVariants as events
 use Rattle.ccr_model.specs.declared.history.EndHow.{EndHow}
-use Rattle.ccr_model.specs.Choice.{is_choice_of, are_first, are_split}
-use Rattle.ccr_model.specs.Firings.{Firing, fired, firings, put, ended}
+use Rattle.ccr_model.specs.declared.history.EndHow.TheVariants as ends
+use Rattle.ccr_model.specs.Choice.{is_choice_of, are_first, are_oldest}
+use Rattle.ccr_model.specs.Firings.{Firing, fired, firings, put, ended, yielded_by}
 use Rattle.ccr_model.specs.Legal.{IsAllowed}
-use Rattle.ccr_model.specs.Live.{is_live}
 use Rattle.ccr_model.specs.Posts.{posts, posts_of_task, held, taken}
 use Rattle.ccr_model.specs.TaskData.{seat_of}
 use Rattle.ccr_model.specs.Tasks.{queued, is_for_queue, running_by}
-use Rattle.ccr_model.proofs.Booleans.{same_number, eq-self, refuted, no_both, or_left, or_right}
+use Rattle.ccr_model.proofs.Booleans.{same_number, eq-self, refuted, no_both}
 use Rattle.ccr_model.proofs.FiredTasks.{IsFired, IsFired-append}
 use Rattle.ccr_model.proofs.LegalParts.{legal_push}
 use Rattle.ccr_model.proofs.Members.{Among}
 use Rattle.ccr_model.proofs.Options.{some_of}
 use Rattle.ccr_model.proofs.PostNames.{AreNamed}
-use Rattle.ccr_model.proofs.Pushes.{posts-push, fired-fire, put-push}
-use Rattle.ccr_model.proofs.SameNames.{same_task-is, same_task-self, same_message-self}
+use Rattle.ccr_model.proofs.Pushes.{posts-push, put-push}
+use Rattle.ccr_model.proofs.SameNames.{same_task-self}
 use Rattle.ccr_model.proofs.TaskSteps.{queued-fire}
 use Rattle.ccr_model.proofs.FiringFacts.{firing_named-new}
 use Rattle.ccr_model.proofs.Seated.{firing_seated}
 use Rattle.ccr_model.proofs.TaskLists.{without-append, has_oldest}
 use Rattle.ccr_model.proofs.TaskPlaces.{ArePlaced-legal, QueuedFacts, QueuedFacts-queued}
 use Rattle.ccr_places.specs.declared.notes.Note.TheVariants as notes
-use Rattle.ccr_places.specs.Ports.{PortState}
 use Rattle.ccr_places.specs.Queues as queues
-use Rattle.ccr_claim.specs.declared.asks.Ask.{Ask}
-use Rattle.ccr_claim.specs.declared.asks.Ask.TheVariants as asks
 use Rattle.ccr_claim.specs.declared.asks.Reply.TheVariants as replies
 use Rattle.ccr_claim.specs.declared.plan.Had.{Had}
-use Rattle.ccr_claim.specs.Plans.{had_at, ports_in, in_slots, in_pattern, names_of, sort_slots}
+use Rattle.ccr_claim.specs.Plans.{any_slot, had_at, ports_in, in_pattern, names_of}
 use Rattle.ccr_claim.specs.declared.asks.Asked.{Asked}
 use Rattle.ccr_claim.specs.Attempts.{had_in}
-use Rattle.ccr_actor.specs.Plans.{is_interleave_number}
-use Rattle.ccr_actor.specs.Actors.{State, round, playing, resting, turn, settle, drive, go_on, after_in, name_at, spots_left, fire, begin_play, play_in, after_over, next_round, settled, admit_too, add_arbiter}
+use Rattle.ccr_actor.specs.Plans.{is_interleave_number, pattern_at, one_of}
+use Rattle.ccr_actor.specs.Actors.{State, round, playing, resting, turn, settle, drive, go_on, after_in, name_at, spots_left, fire, begin_play, play_in, after_over, next_round, driving, settled, admit_too, add_arbiter}
 use Rattle.ccr_net.specs.declared.entries.Entry.{Entry}
-use Rattle.ccr_net.specs.Runs.{Lacks, state_of, port_at, reply_of}
+use Rattle.ccr_net.specs.Runs.{Lacks, state_of, port_at, reply_of, waits}
 use Rattle.ccr_net.specs.Views.{view, arbiter_of, queue_of}
 use Rattle.ccr_net.specs.Visible.{visible, event_of}
 use Rattle.ccr_net.proofs.Pushes.{visible-push, queue_at}
-use Rattle.ccr_net.proofs.Invariant.{PortsMatch, ActorMatches, IsOwed, put_in, puts_in}
+use Rattle.ccr_net.proofs.Invariant.{ActorMatches, put_in, puts_in}
 use Rattle.ccr_net.proofs.Marks.{has_name}
 use Rattle.ccr_net.proofs.PortSteps.{PortsMatch-fire, PortsMatch-event, IsTouched}
 use Rattle.ccr_net.proofs.ActorSteps.{ActorMatches-fire, ActorMatches-over, unfired}
-use Rattle.ccr_net.proofs.Patterns.{Among-map, Among-mapped, sorted_among, among_sorted, touched, taken_there, choice_slots, same_lists-self, found_member, had_at-is, held_had}
-use Rattle.ccr_net.proofs.ArbiterPart.{ArbitersMatch-push, FiresAlike-other, FiresAlike-fire}
+use Rattle.ccr_net.proofs.Patterns.{touched, taken_there, found_member, had_at-is, held_had}
+use Rattle.ccr_net.proofs.SitePart.{SitesMatch, SitesMatch-other, SitesMatch-suspend}
+use Rattle.ccr_net.proofs.ArbiterPart.{ArbitersMatch-push, FiresAlike, FiresAlike-other}
 use Rattle.ccr_net.proofs.QueuePart.{QueuesMatch-event, QueuesMatch-put, QueuesMatch-take, QueueChanges, Drops, drops_none, drops_first, drops, drop_at-note, queued-other, new_unput, Takes, task_queued}
 use Rattle.ccr_net.proofs.Starts.{starts, running_by-push, AreStarted-legal}
 use Rattle.ccr_net.proofs.WorkPart.{WorkMatches, WorkMatches-same, SaysSame, RunsTask, Idle, view-stays, quiet_says, start_says, end_says, running_by-end}
 use Rattle.ccr_net.proofs.MeterPart.{MeterMatches-quiet, is_posting, is_shedding}
-use Rattle.ccr_net.proofs.Phases.{Fits, slot_had, lower, higher}
-use Rattle.ccr_net.proofs.Assembly.{ActorHolds, Holds, Holds-kept, meter_at, works_of, queue_changes, same_ports, same_queues, same_meter, hand_settles}
+use Rattle.ccr_net.proofs.Phases.{SpotFits, Fits, slot_had}
+use Rattle.ccr_net.proofs.Assembly.{ActorHolds, Holds, Holds-kept, is_port_place, is_queue_place, is_meter_place, meter_at, works_of, queue_changes, same_ports, same_queues, same_meter, hand_settles}
 use Rattle.ccr_net.proofs.Silent.{drives}
 use Rattle.ccr_net.proofs.PlainFacts.{PlainFacts, IsEven, no_cuts, no_posts, throttled_none}
-use Rattle.ccr_net.proofs.Allowed.{fire_allowed, put_allowed, start_allowed}
+use Rattle.ccr_net.proofs.Allowed.{put_allowed, start_allowed}
 use Rattle.ccr_net.proofs.Shown.{named_legal, ActorHolds-event, step_other}
-
--- ---- what an attempt got is a choice of its pattern
-
--- the names of a first part of each
-first_takes : (m : ℕ) (bs : List Msg) → are_first bs (names_of (take m bs)) ≡ true
-first_takes zero [] = refl
-first_takes zero (b ∷ bs) = refl
-first_takes (suc m) [] = refl
-first_takes (suc m) (b ∷ bs) = rw (same_message-self b.id, first_takes m bs) refl
-
-split_first : (as' bs : List Msg) (names : List MsgId) → are_first bs names ≡ true → are_split as' bs names ≡ true
-split_first as' bs [] is = of_nothing as'
-  where
-    of_nothing : (xs : List Msg) → are_split xs bs [] ≡ true
-    of_nothing [] = refl
-    of_nothing (x ∷ xs) = refl
-split_first [] bs (name ∷ names) is = is
-split_first (x ∷ as') bs (name ∷ names) is = or_left (are_first bs (name ∷ names)) _ is
-
-split_takes : (k m : ℕ) (as' bs : List Msg) → are_split as' bs (names_of (take k as' ++ take m bs)) ≡ true
-split_takes zero m as' bs = split_first as' bs (names_of (take m bs)) (first_takes m bs)
-split_takes (suc k) m [] bs = split_first [] bs (names_of (take m bs)) (first_takes m bs)
-split_takes (suc k) m (x ∷ as') bs = or_right (are_first bs (x.id ∷ names_of (take k as' ++ take m bs))) _ (rw (same_message-self x.id, split_takes k m as' bs) refl)
-
-any_fit : (ms : List Msg) → fitting Any ms ≡ ms
-any_fit [] = refl
-any_fit (m ∷ ms) = ap (λ xs. m ∷ xs) (any_fit ms)
-
-all_fit : (pred : Pred) (ms : List Msg) → pred ≡ Any → fitting pred ms ≡ ms
-all_fit pred ms is = ap (λ p. fitting p ms) is ∙ any_fit ms
-
--- both claims of a gather were made
-pub record BothGot (first second total : ℕ) (had : List Had) : Type 0 where
-  pub one : Had
-  pub other : Had
-  pub is_one : Among one had
-  pub is_other : Among other had
-  pub one_port : one.slot.port ≡ first
-  pub other_port : other.slot.port ≡ second
-  pub one_any : one.slot.pred ≡ Any
-  pub other_any : other.slot.pred ≡ Any
-  pub sum : ((d : Had) → Among d had → (d.slot.least ≤ length d.messages) × (length d.messages ≤ d.slot.most)) → length one.messages + length other.messages ≡ total
-  pub alone : (d : Had) → Among d had → (d.slot.port ≡ first) ⊎ (d.slot.port ≡ second)
-
-both_got : (first second total : ℕ) (had : List Had) → Fits (Gather total first second) [] had → BothGot first second total had
-both_got first second total [] fits = absurd (cc)
-both_got first second total (d ∷ []) fits = absurd (let none = fits.1 in cc)
-both_got first second total (d ∷ x ∷ y ∷ more) fits = absurd fits
-both_got first second total (d ∷ x ∷ []) fits = by (nat_lt first second) refl
-  where
-    lower_port : d.slot.port ≡ lower first second
-    lower_port = ap (λ (s : Slot). s.port) fits.0
-
-    higher_port : x.slot.port ≡ higher first second
-    higher_port = ap (λ (s : Slot). s.port) fits.1
-
-    sums : ((z : Had) → Among z (d ∷ x ∷ []) → (z.slot.least ≤ length z.messages) × (length z.messages ≤ z.slot.most)) → length d.messages + length x.messages ≡ total
-    sums enough =
-        let a = enough d (inl refl) in let b = enough x (inr (inl refl)) in
-        let most : d.slot.most ≡ total = ap (λ (s : Slot). s.most) fits.0 in
-        let low : x.slot.least ≡ total - length d.messages = ap (λ (s : Slot). s.least) fits.1 in
-        let high : x.slot.most ≡ total - length d.messages = ap (λ (s : Slot). s.most) fits.1 in
-        omega (arith, a.1, b.0, b.1, most, low, high)
-
-    which : (z : Had) → Among z (d ∷ x ∷ []) → (z.slot.port ≡ lower first second) ⊎ (z.slot.port ≡ higher first second)
-    which z (inl e) = inl (ap (λ (y : Had). y.slot.port) e ∙ lower_port)
-    which z (inr (inl e)) = inr (ap (λ (y : Had). y.slot.port) e ∙ higher_port)
-    which z (inr (inr none)) = absurd none
-
-    turned : {P Q : Type 0} → P ⊎ Q → Q ⊎ P
-    turned (inl p) = inr p
-    turned (inr q) = inl q
-
-    by : (c : Bool) → nat_lt first second ≡ c → BothGot first second total (d ∷ x ∷ [])
-    by true e =
-        let l : lower first second ≡ first = rw e refl in let r : higher first second ≡ second = rw e refl in
-        record { one = d; other = x; is_one = inl refl; is_other = inr (inl refl); one_port = lower_port ∙ l; other_port = higher_port ∙ r; one_any = ap (λ (s : Slot). s.pred) fits.0; other_any = ap (λ (s : Slot). s.pred) fits.1; sum = sums; alone = λ z is. rw e at (which z is) }
-    by false e =
-        let l : lower first second ≡ second = rw e refl in let r : higher first second ≡ first = rw e refl in
-        record { one = x; other = d; is_one = inr (inl refl); is_other = inl refl; one_port = higher_port ∙ r; other_port = lower_port ∙ l; one_any = ap (λ (s : Slot). s.pred) fits.1; other_any = ap (λ (s : Slot). s.pred) fits.0; sum = λ enough. (let s = sums enough in omega (arith, s)); alone = λ z is. turned (rw e at (which z is)) }
-
--- what a firing takes, port by port
-in_ports : (pattern : Pattern) (had : List Had) → in_pattern pattern had ≡ flat_map (had_at had) (ports_in pattern)
-in_ports (Slots slots) had = by_slots slots
-  where
-    by_slots : (ss : List Slot) → in_slots ss had ≡ flat_map (had_at had) (map (λ (s : Slot). s.port) ss)
-    by_slots [] = refl
-    by_slots (s ∷ ss) = ap (λ rest. had_at had s.port ++ rest) (by_slots ss)
-in_ports (Gather total first second) had = ap (λ rest. had_at had first ++ rest) (sym (append-nil (had_at had second)))
-
-chosen_ports : (w : Parts) (h : List Event) (port : ℕ → PortState) (a : ℕ) (st : State) → AreNamed (posts h) → PortsMatch h port → ActorMatches w h port a st → has_task (fired h) (name_at a st) ≡ false → (pattern : Pattern) → IsEven pattern → Fits pattern [] (had_in st.phase) → is_choice_of (held h) pattern (names_of (flat_map (had_at (had_in st.phase)) (ports_in pattern))) ≡ true
-chosen_ports w h port a st named match own fresh (Gather total first second) even fits = rw (front, back, append-nil got.other.messages) (and_both (length (names_of (got.one.messages ++ got.other.messages)) == total) _ count split)
-  where
-    got : BothGot first second total (had_in st.phase)
-    got = both_got first second total (had_in st.phase) fits
-
-    front : had_at (had_in st.phase) first ≡ got.one.messages
-    front = ap (had_at (had_in st.phase)) (sym got.one_port) ∙ had_at-is w h port a st named match own fresh got.one got.is_one
-
-    back : had_at (had_in st.phase) second ≡ got.other.messages
-    back = ap (had_at (had_in st.phase)) (sym got.other_port) ∙ had_at-is w h port a st named match own fresh got.other got.is_other
-
-    count : (length (names_of (got.one.messages ++ got.other.messages)) == total) ≡ true
-    count = let s = got.sum own.had_enough in let l = length-append {A = Msg} got.one.messages got.other.messages in let m = length-map (got.one.messages ++ got.other.messages) (λ (x : Msg). x.id) in grind (arith, nat_tests, s, l, m)
-
-    taken_first : (d : Had) → Among d (had_in st.phase) → d.slot.pred ≡ Any → (p : ℕ) → d.slot.port ≡ p → take (length d.messages) (held h p) ≡ d.messages
-    taken_first d is any p at_p = ap (λ q. take (length d.messages) (held h q)) (sym at_p) ∙ ap (take (length d.messages)) (held_had w h port a st named match own fresh d is ∙ sym (all_fit d.slot.pred (port d.slot.port).items any)) ∙ own.had_marked d is
-
-    split : are_split (held h first) (held h second) (names_of (got.one.messages ++ got.other.messages)) ≡ true
-    split = subst (λ xs. are_split (held h first) (held h second) (names_of (xs ++ got.other.messages)) ≡ true) (taken_first got.one got.is_one got.one_any first got.one_port) (subst (λ ys. are_split (held h first) (held h second) (names_of (take (length got.one.messages) (held h first) ++ ys)) ≡ true) (taken_first got.other got.is_other got.other_any second got.other_port) (split_takes (length got.one.messages) (length got.other.messages) (held h first) (held h second)))
-
-    and_both : (x y : Bool) → x ≡ true → y ≡ true → x && y ≡ true
-    and_both x y p q = rw (p, q) refl
-chosen_ports w h port a st named match own fresh (Slots all) even fits = rw (choice_slots w h port a st named match own fresh all (λ slot is. (from_sorted slot (among_sorted all slot is), even slot is))) (same_lists-self (names_of (flat_map (had_at (had_in st.phase)) (ports_in (Slots all)))))
-  where
-    from_sorted : (slot : Slot) → Among slot (sort_slots all) → (d : Had) × Among d (had_in st.phase) × (d.slot ≡ slot)
-    from_sorted slot is = Among-mapped slot_had (had_in st.phase) slot (subst (Among slot) (sym fits ∙ append-nil (map slot_had (had_in st.phase))) is)
-
-chosen : (w : Parts) (h : List Event) (port : ℕ → PortState) (a : ℕ) (st : State) → AreNamed (posts h) → PortsMatch h port → ActorMatches w h port a st → has_task (fired h) (name_at a st) ≡ false → (pattern : Pattern) → IsEven pattern → Fits pattern [] (had_in st.phase) → is_choice_of (held h) pattern (names_of (in_pattern pattern (had_in st.phase))) ≡ true
-chosen w h port a st named match own fresh pattern even fits = subst (λ ms. is_choice_of (held h) pattern (names_of ms) ≡ true) (sym (in_ports pattern (had_in st.phase))) (chosen_ports w h port a st named match own fresh pattern even fits)
-
-whole_ports : (pattern : Pattern) → IsEven pattern → (had : List Had) → Fits pattern [] had → (d : Had) → Among d had → Among d.slot.port (ports_in pattern)
-whole_ports (Gather total first second) even had fits d is = by ((both_got first second total had fits).alone d is)
-  where
-    by : (d.slot.port ≡ first) ⊎ (d.slot.port ≡ second) → Among d.slot.port (first ∷ second ∷ [])
-    by (inl e) = inl e
-    by (inr e) = inr (inl e)
-whole_ports (Slots all) even had fits d is = Among-map (λ (s : Slot). s.port) all d.slot (sorted_among all d.slot (subst (Among d.slot) (sym (append-nil (map slot_had had)) ∙ fits) (Among-map slot_had had d is)))
-
-fired_other : (h : List Event) (t u : TaskId) (s : Spot) (ms : List MsgId) → t.actor ≢ u.actor → has_task (fired (h ++ events.Fire t s ms [] ∷ [])) u ≡ has_task (fired h) u
-fired_other h t u s ms other = rw (fired-fire h t s ms []) (of_test (same_task u t) refl)
-  where
-    of_test : (b : Bool) → same_task u t ≡ b → has_task (fired h ++ t ∷ []) u ≡ has_task (fired h) u
-    of_test true e = absurd (other (ap (λ (x : TaskId). x.actor) (sym (same_task-is u t e))))
-    of_test false e = grind (arith, common_steps, e)
-
-put_other : (h : List Event) (t u : TaskId) (d : Option TaskId) → t.actor ≢ u.actor → has_task (put (h ++ events.Put t d ∷ [])) u ≡ has_task (put h) u
-put_other h t u d other = rw put-push (of_test (same_task u t) refl)
-  where
-    of_test : (b : Bool) → same_task u t ≡ b → has_task (put h ++ t ∷ []) u ≡ has_task (put h) u
-    of_test true e = absurd (other (ap (λ (x : TaskId). x.actor) (sym (same_task-is u t e))))
-    of_test false e = grind (arith, common_steps, e)
-
--- what isn't a put stays owed, whatever is put
-owed_unput : (w : Parts) (h : List Event) (t : TaskId) (d : Option TaskId) (a bound : ℕ) (place : Place) (ask : Ask) → put_in ask ≡ [] → IsOwed w h a bound place ask → IsOwed w (h ++ events.Put t d ∷ []) a bound place ask
-owed_unput w h t d a bound place (asks.Put u) none is = absurd (cc)
-owed_unput w h t d a bound place (asks.Consume u) none is = (is.0, grind (arith, common_steps, is.1))
-owed_unput w h t d a bound place (asks.Free u) none is = (is.0, is.1, grind (arith, common_steps, is.2))
-owed_unput w h t d a bound place (asks.Unbook u) none is = is
-owed_unput w h t d a bound place (asks.Post m) none is = absurd is
-owed_unput w h t d a bound place (asks.Claim u s) none is = absurd is
-owed_unput w h t d a bound place (asks.Commit u ms) none is = absurd is
-owed_unput w h t d a bound place asks.Admit none is = absurd is
-owed_unput w h t d a bound place (asks.Over u r how) none is = is
-owed_unput w h t d a bound place (asks.Suspend u) none is = absurd is
-owed_unput w h t d a bound place (asks.Book u r) none is = absurd is
-owed_unput w h t d a bound place asks.Take none is = absurd is
-owed_unput w h t d a bound place asks.Draw none is = absurd is
-owed_unput w h t d a bound place asks.Leave none is = absurd is
-owed_unput w h t d a bound place asks.Left none is = absurd is
-
-none_put : (hand : List Asked) → length (puts_in hand) ≤ 0 → (y : Asked) → Among y hand → put_in y.ask ≡ []
-none_put [] few y is = absurd is
-none_put (x ∷ hand) few y (inl e) = ap (λ (z : Asked). put_in z.ask) e ∙ front (put_in x.ask) (puts_in hand) few
-  where
-    front : (ts us : List TaskId) → length (ts ++ us) ≤ 0 → ts ≡ []
-    front [] us le = refl
-    front (t ∷ ts) us le = absurd (omega arith)
-none_put (x ∷ hand) few y (inr is) = none_put hand (back (put_in x.ask) (puts_in hand) few) y is
-  where
-    back : (ts us : List TaskId) → length (ts ++ us) ≤ 0 → length us ≤ 0
-    back [] us le = le
-    back (t ∷ ts) us le = absurd (omega arith)
+use Rattle.ccr_net.proofs.Choices.{first_takes, all_fit, in_ports, chosen, whole_ports, fired_other, put_other, owed_unput, none_put}
 
 module _ (w : Parts) (n : ℕ) (first : PlainFacts w) (few : n ≤ 33) (lacks : Lacks) (es : List Entry) (e : Entry) (low : e.actor < n) (holds : Holds w n lacks es) where
   abbrev before : State
@@ -261,35 +83,92 @@ module _ (w : Parts) (n : ℕ) (first : PlainFacts w) (few : n ≤ 33) (lacks : 
 
   -- ---- a firing
 
-  pub step_fire : (i b : ℕ) (s : Seat) (more : List Spot) → seat w b ≡ Some s → s.arbiter ≡ i → is_live w h (Branch b) ≡ true → e.place ≡ places.Arbiter i → e.note ≡ notes.Fired (name_at e.actor before) (Branch b) (names_of (in_pattern s.branch.pattern (had_in before.phase))) [] → turn before ≡ drive (Branch b) more → Fits s.branch.pattern [] (had_in before.phase) → Holds w n lacks (es ++ e ∷ [])
-  step_fire i b s more sits at_its live place note turns fits = Holds-kept w n lacks es e (fire w e.actor before (Branch b) more (Some task) []) (h ++ event ∷ []) (record {
+  -- the names of what the attempt got, where they are a choice of its pattern
+  pub chosen_now : (pattern : Pattern) → IsEven pattern → Fits pattern [] (had_in before.phase) → is_choice_of (held h) pattern (names_of (in_pattern pattern (had_in before.phase))) ≡ true
+  chosen_now pattern even fits = chosen w h (port_at es) e.actor before (named_legal w h holds.legal) holds.ports (holds.actors e.actor).claims (unfired w h (port_at es) e.actor before (holds.actors e.actor).claims) pattern even fits
+
+  -- of a site, the oldest message
+  pub oldest_now : (port : ℕ) → Fits (one_of port) [] (had_in before.phase) → are_oldest (held h port) (names_of (in_pattern (one_of port) (had_in before.phase))) ≡ true
+  oldest_now port fits = of_had (had_in before.phase) refl fits
+    where
+      own : ActorMatches w h (port_at es) e.actor before
+      own = (holds.actors e.actor).claims
+
+      fresh : has_task (fired h) (name_at e.actor before) ≡ false
+      fresh = unfired w h (port_at es) e.actor before own
+
+      one_had : (d : Had) → Among d (had_in before.phase) → d.slot ≡ any_slot port 1 1 → are_oldest (held h port) (names_of (in_pattern (one_of port) (had_in before.phase))) ≡ true
+      one_had d is slot =
+          let at_port : d.slot.port ≡ port = ap (λ (x : Slot). x.port) slot in
+          let any : d.slot.pred ≡ Any = ap (λ (x : Slot). x.pred) slot in
+          let enough = own.had_enough d is in
+          let least : d.slot.least ≡ 1 = ap (λ (x : Slot). x.least) slot in
+          let most : d.slot.most ≡ 1 = ap (λ (x : Slot). x.most) slot in
+          let one : length d.messages ≡ 1 = omega (arith, enough.0, enough.1, least, most) in
+          let got : had_at (had_in before.phase) port ≡ d.messages = ap (had_at (had_in before.phase)) (sym at_port) ∙ had_at-is w h (port_at es) e.actor before (named_legal w h holds.legal) holds.ports own fresh d is in
+          let whole : in_pattern (one_of port) (had_in before.phase) ≡ d.messages = in_ports (one_of port) (had_in before.phase) ∙ append-nil (had_at (had_in before.phase) port) ∙ got in
+          let taken_so : take (length d.messages) (held h port) ≡ d.messages = ap (λ q. take (length d.messages) (held h q)) (sym at_port) ∙ ap (take (length d.messages)) (held_had w h (port_at es) e.actor before (named_legal w h holds.legal) holds.ports own fresh d is ∙ sym (all_fit d.slot.pred (port_at es d.slot.port).items any)) ∙ own.had_marked d is in
+          let count : (length (names_of d.messages) == 1) ≡ true = (let m = length-map d.messages (λ (x : Msg). x.id) in grind (arith, nat_tests, one, m)) in
+          let firsts : are_first (held h port) (names_of d.messages) ≡ true = subst (λ ms. are_first (held h port) (names_of ms) ≡ true) taken_so (first_takes (length d.messages) (held h port)) in
+          rw (whole, count) firsts
+
+      of_had : (had : List Had) → had_in before.phase ≡ had → Fits (one_of port) [] (had_in before.phase) → are_oldest (held h port) (names_of (in_pattern (one_of port) (had_in before.phase))) ≡ true
+      of_had [] is so = absurd (let none : map slot_had [] ++ [] ≡ any_slot port 1 1 ∷ [] = subst (λ xs. map slot_had xs ++ [] ≡ any_slot port 1 1 ∷ []) is so in cc)
+      of_had (d ∷ []) is so = one_had d (subst (Among d) (sym is) (inl refl)) (inside (subst (λ xs. map slot_had xs ++ [] ≡ any_slot port 1 1 ∷ []) is so))
+        where
+          inside : d.slot ∷ [] ≡ any_slot port 1 1 ∷ [] → d.slot ≡ any_slot port 1 1
+          inside e' = cc
+      of_had (d ∷ x ∷ more) is so = absurd (longer (subst (λ xs. map slot_had xs ++ [] ≡ any_slot port 1 1 ∷ []) is so))
+        where
+          longer : d.slot ∷ x.slot ∷ (map slot_had more ++ []) ≡ any_slot port 1 1 ∷ [] → ⊥
+          longer e' = absurd (let counts : length (d.slot ∷ x.slot ∷ (map slot_had more ++ [])) ≡ 1 = ap length e' in omega (arith, counts))
+
+  -- what a firing at the spot shows at its place
+  pub record FiresAt (spot : Spot) (more : List Spot) : Type 0 where
+    pub place : Place
+    pub there : e.place ≡ place
+    pub no_port : is_port_place place ≡ false
+    pub no_queue : is_queue_place place ≡ false
+    pub no_meter : is_meter_place place ≡ false
+    pub at_once : waits w spot ≡ false
+    pub note : e.note ≡ notes.Fired (name_at e.actor before) spot (names_of (in_pattern (pattern_at w spot) (had_in before.phase))) []
+    pub turns : turn before ≡ drive spot more
+    pub even : IsEven (pattern_at w spot)
+    pub fits : Fits (pattern_at w spot) [] (had_in before.phase)
+    pub allowed : IsAllowed w h (events.Fire (name_at e.actor before) spot (names_of (in_pattern (pattern_at w spot) (had_in before.phase))) [])
+    pub arbiters : FiresAlike w e (event_of e)
+    pub sites : SitesMatch (h ++ events.Fire (name_at e.actor before) spot (names_of (in_pattern (pattern_at w spot) (had_in before.phase))) [] ∷ []) (es ++ e ∷ [])
+
+  pub step_fire : (spot : Spot) (more : List Spot) → FiresAt spot more → Holds w n lacks (es ++ e ∷ [])
+  step_fire spot more at_spot = Holds-kept w n lacks es e (fire w e.actor before spot more (Some task) []) (h ++ event ∷ []) (record {
     shows = shows_so;
-    goes = rw (turns, replied) refl;
-    legal = legal_push w [] h event holds.legal (fire_allowed w first h t b s ms sits fresh (omega (arith, low, few)) live (chosen w h (port_at es) e.actor before named holds.ports own fresh s.branch.pattern (first.even b s sits) fits));
-    ports = rw same (PortsMatch-fire h (port_at es) t (Branch b) ms [] named fresh (subst (λ xs. (q : ℕ) → IsTouched h (port_at es) t (names_of xs) q) (sym in_order) (touched w h (port_at es) e.actor before named holds.ports own fresh (ports_in s.branch.pattern) (whole_ports s.branch.pattern (first.even b s sits) (had_in before.phase) fits))) (subst (λ xs. (name : MsgId) → has_message (names_of xs) name ≡ true → has_name (posts h) name ≡ true) (sym in_order) (taken_there w h (port_at es) e.actor before named holds.ports own fresh (ports_in s.branch.pattern))) holds.ports);
-    queues = rw (same_queues w es e (places.Arbiter i) place refl) (QueuesMatch-event w h event (queue_at w es) (λ q. queued-fire w h q t (Branch b) ms [] unput) holds.queues);
+    goes = rw (at_spot.turns, replied) refl;
+    legal = legal_push w [] h event holds.legal at_spot.allowed;
+    ports = rw same (PortsMatch-fire h (port_at es) t spot ms [] named fresh (subst (λ xs. (q : ℕ) → IsTouched h (port_at es) t (names_of xs) q) (sym in_order) (touched w h (port_at es) e.actor before named holds.ports own fresh (ports_in (pattern_at w spot)) (whole_ports (pattern_at w spot) at_spot.even (had_in before.phase) at_spot.fits))) (subst (λ xs. (name : MsgId) → has_message (names_of xs) name ≡ true → has_name (posts h) name ≡ true) (sym in_order) (taken_there w h (port_at es) e.actor before named holds.ports own fresh (ports_in (pattern_at w spot)))) holds.ports);
+    queues = rw (same_queues w es e at_spot.place at_spot.there at_spot.no_queue) (QueuesMatch-event w h event (queue_at w es) (λ q. queued-fire w h q t spot ms [] unput) holds.queues);
     own = rw same (record {
-      claims = ActorMatches-fire w h (port_at es) e.actor before (Branch b) (Branch b) more ms [] (Some task) [] whole (_, firing_named-new h t (Branch b) ms [] fresh) unput own;
+      claims = ActorMatches-fire w h (port_at es) e.actor before spot spot more ms [] (Some task) [] whole (_, firing_named-new h t spot ms [] fresh) unput own;
       work = WorkMatches-same w h event e.actor before.work (says e.actor) (holds.actors e.actor).work;
       fits = record { no_arbiters = refl; spots_so = λ x is. driven x (nat_lt (before.fired + 1) 32768) is; phase_so = tt };
     });
-    others = λ a other. rw same (ActorHolds-event w n lacks es e low holds event (port_at es) a (state_of w lacks es a) (λ u own_u. fired_other h t u (Branch b) ms (λ is. other (is ∙ own_u))) (λ u own_u. rw (put-push, append-nil) refl) (says a) (holds.actors a));
-    meter = λ works' one. rw (same_meter w es e (places.Arbiter i) place refl) (MeterMatches-quiet w n h (h ++ event ∷ []) (meter_at w es).drawn e.actor (works_of w lacks es) works' before.work low (rw (posts-push, append-nil) refl) refl (λ is. is) one holds.meter);
-    budget = rw (same_meter w es e (places.Arbiter i) place refl) holds.budget;
-    arbiters = ArbitersMatch-push w es e (h ++ event ∷ []) shows_so (FiresAlike-fire w e i b s t ms [] sits at_its place note) holds.arbiters;
+    others = λ a other. rw same (ActorHolds-event w n lacks es e low holds event (port_at es) a (state_of w lacks es a) (λ u own_u. fired_other h t u spot ms (λ is. other (is ∙ own_u))) (λ u own_u. rw (put-push, append-nil) refl) (says a) (holds.actors a));
+    meter = λ works' one. rw (same_meter w es e at_spot.place at_spot.there at_spot.no_meter) (MeterMatches-quiet w n h (h ++ event ∷ []) (meter_at w es).drawn e.actor (works_of w lacks es) works' before.work low (rw (posts-push, append-nil) refl) refl (λ is. is) one holds.meter);
+    budget = rw (same_meter w es e at_spot.place at_spot.there at_spot.no_meter) holds.budget;
+    arbiters = ArbitersMatch-push w es e (h ++ event ∷ []) shows_so at_spot.arbiters holds.arbiters;
+    sites = at_spot.sites;
   })
     where
       t : TaskId
       t = name_at e.actor before
 
       ms : List MsgId
-      ms = names_of (in_pattern s.branch.pattern (had_in before.phase))
+      ms = names_of (in_pattern (pattern_at w spot) (had_in before.phase))
 
-      in_order : in_pattern s.branch.pattern (had_in before.phase) ≡ flat_map (had_at (had_in before.phase)) (ports_in s.branch.pattern)
-      in_order = in_ports s.branch.pattern (had_in before.phase)
+      in_order : in_pattern (pattern_at w spot) (had_in before.phase) ≡ flat_map (had_at (had_in before.phase)) (ports_in (pattern_at w spot))
+      in_order = in_ports (pattern_at w spot) (had_in before.phase)
 
       event : Event
-      event = events.Fire t (Branch b) ms []
+      event = events.Fire t spot ms []
 
       task : Task
       task = view w (h ++ event ∷ []) t
@@ -307,13 +186,13 @@ module _ (w : Parts) (n : ℕ) (first : PlainFacts w) (few : n ≤ 33) (lacks : 
       unput = new_unput w h t holds.legal fresh
 
       shows_so : visible (es ++ e ∷ []) ≡ h ++ event ∷ []
-      shows_so = rw (visible-push es e, note) refl
+      shows_so = rw (visible-push es e, at_spot.note) refl
 
       same : port_at (es ++ e ∷ []) ≡ port_at es
-      same = same_ports es e (places.Arbiter i) place refl
+      same = same_ports es e at_spot.place at_spot.there at_spot.no_port
 
       replied : reply_of w es e ≡ replies.Fired (Some task) []
-      replied = rw (shows_so, note, sits, first.seats_free b s sits) refl
+      replied = rw (shows_so, at_spot.note, at_spot.at_once) refl
 
       whole : (x : Task) → Some task ≡ Some x → (x.id ≡ t) × (x.queue ≡ queue_of w (h ++ event ∷ []) t)
       whole x is = let one : task ≡ x = cc in subst (λ (y : Task). (y.id ≡ t) × (y.queue ≡ queue_of w (h ++ event ∷ []) t)) one (refl, refl)
@@ -321,8 +200,8 @@ module _ (w : Parts) (n : ℕ) (first : PlainFacts w) (few : n ≤ 33) (lacks : 
       says : (a : ℕ) → SaysSame h event a
       says a = quiet_says h event a (rw (posts-push, append-nil) refl) (λ c. refl) refl
 
-      driven : (x : Spot) (c : Bool) → Among x (if c then Branch b ∷ more else []) → Among x (spots w)
-      driven x true is = (holds.actors e.actor).fits.spots_so x (subst (Among x) (sym (drives w n lacks es e low holds (Branch b) more turns).spots_so) is)
+      driven : (x : Spot) (c : Bool) → Among x (if c then spot ∷ more else []) → SpotFits w x
+      driven x true is = (holds.actors e.actor).fits.spots_so x (subst (Among x) (sym (drives w n lacks es e low holds spot more at_spot.turns).spots_so) is)
       driven x false is = absurd is
 
   -- the arbiter of a fired task is no Interleave
@@ -346,6 +225,7 @@ module _ (w : Parts) (n : ℕ) (first : PlainFacts w) (few : n ≤ 33) (lacks : 
     meter = λ works' one. rw (same_meter w es e (places.Queue q) place refl) (MeterMatches-quiet w n h (h ++ event ∷ []) (meter_at w es).drawn e.actor (works_of w lacks es) works' (next dropped).work low (rw (posts-push, append-nil) refl) (ap is_posting (same_work dropped)) (λ is. sym (ap is_shedding (same_work dropped)) ∙ is) one holds.meter);
     budget = rw (same_meter w es e (places.Queue q) place refl) holds.budget;
     arbiters = ArbitersMatch-push w es e (h ++ event ∷ []) shows_so (FiresAlike-other w e event (rw note refl) refl) holds.arbiters;
+    sites = SitesMatch-other w es e event holds.legal (rw note refl) refl refl holds.sites;
   })
     where
       d : Option TaskId
@@ -458,6 +338,7 @@ module _ (w : Parts) (n : ℕ) (first : PlainFacts w) (few : n ≤ 33) (lacks : 
       (λ a other. start_says h t a e.actor other)
       (same_meter w es e (places.Queue q) place refl)
       (λ works' one. MeterMatches-quiet w n h (h ++ event ∷ []) (meter_at w es).drawn e.actor (works_of w lacks es) works' (playing task 0 (play_in w task)) low (rw (posts-push, append-nil) refl) (sym unposting) (λ is. absurd (cc)) one holds.meter)
+      (SitesMatch-other w es e event holds.legal (rw note refl) refl refl holds.sites)
     where
       event : Event
       event = events.Start t e.actor
@@ -497,8 +378,8 @@ module _ (w : Parts) (n : ℕ) (first : PlainFacts w) (few : n ≤ 33) (lacks : 
 
   -- ---- an end
 
-  pub step_end : (i : ℕ) (task : Task) (place : ℕ) (left : List Sent) (how : EndHow) → e.place ≡ places.Arbiter i → event_of e ≡ events.End task.id how ∷ [] → turn before ≡ go_on → RunsTask w h e.actor task place left → is_posting before.work ≡ false → after_in w e.actor before (turn before) (reply_of w es e) ≡ after_over w before task → IsAllowed w h (events.End task.id how) → Holds w n lacks (es ++ e ∷ [])
-  step_end i task place left how there is turns run unposting goes allowed =
+  pub step_end : (i : ℕ) (task : Task) (place : ℕ) (left : List Sent) (how : EndHow) → e.place ≡ places.Arbiter i → event_of e ≡ events.End task.id how ∷ [] → yielded_by (events.End task.id how) ≡ [] → turn before ≡ go_on → RunsTask w h e.actor task place left → is_posting before.work ≡ false → after_in w e.actor before (turn before) (reply_of w es e) ≡ after_over w before task → IsAllowed w h (events.End task.id how) → Holds w n lacks (es ++ e ∷ [])
+  step_end i task place left how there is last turns run unposting goes allowed =
       step_other w n lacks es e low holds event (places.Arbiter i) (after_over w before task) there is refl (same_ports es e (places.Arbiter i) there refl) turns goes
       (record { hand = refl; arbiters = rw free refl; phase = refl; attempt = refl; spots_so = (holds.actors e.actor).fits.spots_so })
       (rw (posts-push, append-nil) refl) taken_so fired_so (rw (put-push, append-nil) refl) allowed
@@ -507,6 +388,7 @@ module _ (w : Parts) (n : ℕ) (first : PlainFacts w) (few : n ≤ 33) (lacks : 
       (λ a other. end_says h task.id how a e.actor (AreStarted-legal w h holds.legal) run.alone other)
       (same_meter w es e (places.Arbiter i) there refl)
       (λ works' one. MeterMatches-quiet w n h (h ++ event ∷ []) (meter_at w es).drawn e.actor (works_of w lacks es) works' (next_round before.taken) low (rw (posts-push, append-nil) refl) (unposted (nat_lt before.taken 32768) ∙ sym unposting) (λ shed. absurd (unshed (nat_lt before.taken 32768) shed)) one holds.meter)
+      (SitesMatch-other w es e event holds.legal is refl last holds.sites)
     where
       event : Event
       event = events.End task.id how
@@ -522,6 +404,57 @@ module _ (w : Parts) (n : ℕ) (first : PlainFacts w) (few : n ≤ 33) (lacks : 
 
       idle : Idle w (h ++ event ∷ []) e.actor
       idle = record { worker = run.worker; none = running_by-end h task.id how e.actor ∙ rw (run.alone, same_task-self task.id) refl }
+
+      rests : (c : Bool) → WorkMatches w (h ++ event ∷ []) e.actor (if c then round else resting)
+      rests true = idle
+      rests false = tt
+
+      unposted : (c : Bool) → is_posting (if c then round else resting) ≡ false
+      unposted true = refl
+      unposted false = refl
+
+      unshed : (c : Bool) → is_shedding (if c then round else resting) ≡ true → ⊥
+      unshed true is = absurd (cc)
+      unshed false is = absurd (cc)
+
+  -- ---- a suspension
+
+  pub step_suspend : (task : Task) (place : ℕ) (left : List Sent) → e.place ≡ places.Site (branch_of task.spot) (segment_of task.spot) → e.note ≡ notes.Suspend task.id → turn before ≡ go_on → RunsTask w h e.actor task place left → is_posting before.work ≡ false → after_in w e.actor before (turn before) (reply_of w es e) ≡ record (driving before (next_site task.spot ∷ [])) { work = next_round before.taken } → IsAllowed w h (events.End task.id ends.Yield) → SpotFits w (next_site task.spot) → Holds w n lacks (es ++ e ∷ [])
+  step_suspend task place left there note turns run unposting goes allowed there_is =
+      step_other w n lacks es e low holds event here next there (rw note refl) refl (same_ports es e here there refl) turns goes
+      (record { hand = refl; arbiters = refl; phase = refl; attempt = refl; spots_so = λ x is. one_spot x is })
+      (rw (posts-push, append-nil) refl) taken_so fired_so (rw (put-push, append-nil) refl) allowed
+      (rw (same_queues w es e here there refl) (QueuesMatch-event w h event (queue_at w es) (λ q. queued-other w h q event refl refl refl refl) holds.queues))
+      (rests (nat_lt before.taken 32768))
+      (λ a other. end_says h task.id ends.Yield a e.actor (AreStarted-legal w h holds.legal) run.alone other)
+      (same_meter w es e here there refl)
+      (λ works' one. MeterMatches-quiet w n h (h ++ event ∷ []) (meter_at w es).drawn e.actor (works_of w lacks es) works' (next_round before.taken) low (rw (posts-push, append-nil) refl) (unposted (nat_lt before.taken 32768) ∙ sym unposting) (λ shed. absurd (unshed (nat_lt before.taken 32768) shed)) one holds.meter)
+      (SitesMatch-suspend w es e (branch_of task.spot) (segment_of task.spot) task.id run.fires holds.legal allowed (ap branch_of spot_so) (ap segment_of spot_so) there note holds.sites)
+    where
+      event : Event
+      event = events.End task.id ends.Yield
+
+      here : Place
+      here = places.Site (branch_of task.spot) (segment_of task.spot)
+
+      next : State
+      next = record (driving before (next_site task.spot ∷ [])) { work = next_round before.taken }
+
+      spot_so : run.fires.0.spot ≡ task.spot
+      spot_so = sym (ap (λ (t : Task). t.spot) run.as_seen ∙ rw run.fires.1 refl)
+
+      one_spot : (x : Spot) → Among x (next_site task.spot ∷ []) → SpotFits w x
+      one_spot x (inl e') = subst (SpotFits w) (sym e') there_is
+      one_spot x (inr none) = absurd none
+
+      fired_so : fired (h ++ event ∷ []) ≡ fired h
+      fired_so = grind (arith, common_steps)
+
+      taken_so : taken (h ++ event ∷ []) ≡ taken h
+      taken_so = grind (arith, common_steps)
+
+      idle : Idle w (h ++ event ∷ []) e.actor
+      idle = record { worker = run.worker; none = running_by-end h task.id ends.Yield e.actor ∙ rw (run.alone, same_task-self task.id) refl }
 
       rests : (c : Bool) → WorkMatches w (h ++ event ∷ []) e.actor (if c then round else resting)
       rests true = idle

@@ -1,5 +1,5 @@
 -- The words of the worked runs: wirings, messages and entries in short.
-use Rattle.std.proofs.Common.{◌≡◌, ℕ, Bool, true, false, List, [], ◌∷◌, map, ◌||◌, not, ◌&&◌}
+use Rattle.std.proofs.Common.{◌≡◌, ℕ, false, List, [], ◌∷◌, map, ◌||◌, not, ◌&&◌}
 use Rattle.std.specs.FinSet as set
 use Rattle.std.specs.Ordering.{eq_by_cmp}
 use Rattle.ccr_base.specs.declared.names.TaskId.{TaskId}
@@ -18,7 +18,6 @@ use Rattle.ccr_wiring.specs.declared.parts.QueuePart.{QueuePart}
 use Rattle.ccr_wiring.specs.declared.parts.HandlerPart.{HandlerPart}
 use Rattle.ccr_wiring.specs.declared.parts.PosterPart.{PosterPart}
 use Rattle.ccr_wiring.specs.declared.parts.ArbiterPart.{ArbiterPart}
-use Rattle.ccr_wiring.specs.declared.parts.BranchPart.{BranchPart}
 use Rattle.ccr_wiring.specs.declared.parts.Kind.{Kind}
 use Rattle.ccr_places.specs.declared.notes.Note.{Note}
 use Rattle.ccr_places.specs.TaskSets.{TaskSet, task_cmp, task_cmp_total}

@@ -1,12 +1,11 @@
 -- Two posters drive one join of two ports: one finds the other's claim, which is given up for want of a message. Ten steps.
-use Rattle.std.proofs.Common.{◌≡◌, ℕ, true, false, List, [], ◌∷◌, take, Some, None, refl, arith}
+use Rattle.std.proofs.Common.{◌≡◌, true, false, List, [], ◌∷◌, take, Some, None, refl, arith}
 use Rattle.ccr_base.specs.declared.names.MsgId.TheVariants.{Script}
 use Rattle.ccr_base.specs.declared.names.Place.TheVariants as places
 use Rattle.ccr_base.specs.declared.names.Spot.TheVariants.{Branch}
 use Rattle.ccr_base.specs.declared.patterns.Pattern.TheVariants.{Slots}
 use Rattle.ccr_base.specs.declared.policies.Policy.TheVariants.{Unbounded}
 use Rattle.ccr_base.specs.declared.policies.Group.TheVariants as groups
-use Rattle.ccr_base.specs.declared.tasks.How.TheVariants as hows
 use Rattle.ccr_wiring.specs.declared.parts.Parts.{Parts}
 use Rattle.ccr_wiring.specs.declared.parts.Kind.TheVariants as kinds
 use Rattle.ccr_wiring.specs.Codes.{code_of}

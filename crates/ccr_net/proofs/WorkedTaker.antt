@@ -1,5 +1,5 @@
 -- A poster fires a receiver and puts its task, which a worker takes and ends. Nine steps.
-use Rattle.std.proofs.Common.{◌≡◌, ℕ, true, false, List, [], ◌∷◌, take, Some, None, refl, arith}
+use Rattle.std.proofs.Common.{◌≡◌, true, false, List, [], ◌∷◌, take, Some, None, refl, arith}
 use Rattle.ccr_base.specs.declared.names.MsgId.TheVariants.{Script}
 use Rattle.ccr_base.specs.declared.names.Place.TheVariants as places
 use Rattle.ccr_base.specs.declared.names.Spot.TheVariants.{Branch}
@@ -14,9 +14,8 @@ use Rattle.ccr_wiring.specs.Valid.{IsValid}
 use Rattle.ccr_model.specs.declared.history.Event.TheVariants.{Post, Fire, Put, Start, End}
 use Rattle.ccr_model.specs.declared.history.EndHow.TheVariants as ends
 use Rattle.ccr_model.specs.Legal.{first_refusal, is_covered}
-use Rattle.ccr_model.specs.Order.{finished_in}
 use Rattle.ccr_places.specs.declared.notes.Note.TheVariants as notes
-use Rattle.ccr_places.specs.declared.notes.ClaimNote.TheVariants.{Got, Busy, Short}
+use Rattle.ccr_places.specs.declared.notes.ClaimNote.TheVariants.{Got}
 use Rattle.ccr_net.specs.declared.entries.Entry.{Entry}
 use Rattle.ccr_net.specs.Visible.{visible}
 use Rattle.ccr_net.specs.Runs.{made_by, never, IsRun}

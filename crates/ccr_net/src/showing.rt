@@ -75,7 +75,8 @@ fn show(alloc: Global, history: &mut History, entry: &Entry) -> Result<(), OutOf
 }
 
 /// The history that the entries show: bookings, claims, the meter's entries and what was answered with nothing vanish.
-/// Where the entries are a run of the wiring, it is legal and covered; `docs/MODEL.md` has the rules.
+/// Where the entries are a run, and the wiring has no Interleaves and no throttle queues, it is legal and covered;
+/// `docs/MODEL.md` has the rules.
 pub fn visible(alloc: Global, wiring: &Wiring, full: &Full) -> Result<History, OutOfMemory>
     ensures exact { IfOk result (λ history. history ≡ visible full.now.entries) }
     ensures legal { IfOk result (λ history. (workers : ℕ) → workers ≤ 16 → IsPlain wiring.now → IsRun wiring.now workers full.now.entries → IsLegal wiring.now history) }
