@@ -8,3 +8,6 @@ mod showing;
 pub use entries::{Entry, Full};
 pub use laws::visible_runs_are_legal_and_covered;
 pub use showing::visible;
+
+#[cfg(test)]
+mod tests;

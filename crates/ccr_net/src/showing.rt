@@ -1,6 +1,6 @@
 //! What is visible of entries.
 
-ghost use Rattle.std.specs.Prelude.{◌≡◌, ◌++◌, ◌≤◌, ℕ, IfOk, OnOk, OnErr, option_to_list};
+ghost use Rattle.std.specs.Prelude.{◌≡◌, ◌++◌, ◌≤◌, ℕ, true, IfOk, OnOk, OnErr, option_to_list};
 ghost use Rattle.ccr_model.specs.Legal.{IsLegal, is_covered};
 ghost use Rattle.ccr_net.specs.Plain.{IsPlain};
 ghost use Rattle.ccr_net.specs.Runs.{IsRun};
@@ -80,6 +80,7 @@ fn show(alloc: Global, history: &mut History, entry: &Entry) -> Result<(), OutOf
 pub fn visible(alloc: Global, wiring: &Wiring, full: &Full) -> Result<History, OutOfMemory>
     ensures exact { IfOk result (λ history. history ≡ visible full.now.entries) }
     ensures legal { IfOk result (λ history. (workers : ℕ) → workers ≤ 16 → IsPlain wiring.now → IsRun wiring.now workers full.now.entries → IsLegal wiring.now history) }
+    ensures covered { IfOk result (λ history. (workers : ℕ) → workers ≤ 16 → IsPlain wiring.now → IsRun wiring.now workers full.now.entries → is_covered wiring.now history ≡ true) }
 {
     let _parts = wiring.parts();
     let mut history = History::new(alloc);
