@@ -1,5 +1,5 @@
 -- After the sort each place's entries stand as in its history.
-use Rattle.std.proofs.Common.{Bool, true, false, not, ◌&&◌, ◌≡◌, ◌≢◌, ℕ, zero, suc, ◌+◌, ◌<◌, ◌≤◌, cond, eqb, eq-eqb, ne_eqb, List, [], ◌∷◌, ◌++◌, map, length, filter, sym, refl, ap, ◌∙◌, subst, arith, Option, Some, None}
+use Rattle.std.proofs.Common.{Bool, true, false, not, ◌&&◌, ◌≡◌, ◌≢◌, ℕ, zero, suc, ◌+◌, ◌<◌, ◌≤◌, cond, eqb, eq-eqb, ne_eqb, List, [], ◌∷◌, ◌++◌, map, length, filter, sym, refl, ap, ◌∙◌, subst, arith, Some}
 use mathlib.Core.Logic.{dite}
 use native.Mathlib.Decide.{ℕ_discrete}
 use Rattle.std.specs.Prelude.{slice_get}
@@ -10,11 +10,9 @@ use Rattle.std.specs.Prelude.{All}
 use Rattle.ccr_turns.specs.declared.history.Held.{Held}
 use Rattle.ccr_runs.specs.declared.acts.Act.{Act}
 use Rattle.ccr_runs.specs.Merges.{Climbs, act_stamps, history_at, held, tag, tagged}
-use Rattle.std.specs.Prelude.{nat_lt}
 use Rattle.std.specs.List.Sorted.{ties, IsNonDecreasingBy}
 use Rattle.std.specs.Ordering.{is_lt, nat_cmp}
 use Rattle.std.proofs.lemmas.Bool.Decides.{nat_tests}
-use Rattle.std.proofs.lemmas.Grind.{common_steps}
 use Rattle.ccr_runs.proofs.Telling.{climbs_from}
 
 stamp_below : {N : Type 0} → Act N → Act N → Bool
@@ -61,8 +59,8 @@ module _ {N : Type 0} where
       let first : x ≡ y = cc in
       let rest : at_stamp y.stamp xs ≡ at_stamp y.stamp ys = cc in
       let tails : (d : Held N) → at_stamp d.stamp xs ≡ at_stamp d.stamp ys = λ d. dite (ℕ_discrete y.stamp d.stamp)
-        (λ z. subst (λ q. at_stamp q xs ≡ at_stamp q ys) z rest)
-        (λ z. sym (other d.stamp x xs (λ w. z (sym e ∙ w))) ∙ (h d ∙ other d.stamp y ys z)) in
+      (λ z. subst (λ q. at_stamp q xs ≡ at_stamp q ys) z rest)
+      (λ z. sym (other d.stamp x xs (λ w. z (sym e ∙ w))) ∙ (h d ∙ other d.stamp y ys z)) in
       let after = same_histories x.stamp y.stamp xs ys c.1 r.1 tails in
       λ i. first i ∷ after i)
       (λ z.
@@ -148,11 +146,11 @@ module _ {O N : Type 0} where
       let z : 0 + p ≡ p = omega arith in
       let its : history_at p (tagged 0 kept) ≡ left.1 = ap (λ q. history_at q (tagged 0 kept)) (sym z) ∙ part_from 0 p kept left at in
       same_histories 0 0 (history_at p es) left.1 (history-climbs 0 p es c) rises (λ d.
-        let x : Act N = tag p d in
-        let tests = λ (y : Act N). tie x.stamp y.stamp in
-        stamped_part p d.stamp es
-        ∙ (ap (history_at p) (sym (filter-same (ties (λ (a b : Act N). is_lt (nat_cmp a.stamp b.stamp)) x) (λ y. eqb y.stamp d.stamp) tests es) ∙ (stable x ∙ filter-same (ties (λ (a b : Act N). is_lt (nat_cmp a.stamp b.stamp)) x) (λ y. eqb y.stamp d.stamp) tests (tagged 0 kept)))
-        ∙ (sym (stamped_part p d.stamp (tagged 0 kept)) ∙ ap (at_stamp d.stamp) its)))
+      let x : Act N = tag p d in
+      let tests = λ (y : Act N). tie x.stamp y.stamp in
+      stamped_part p d.stamp es
+      ∙ (ap (history_at p) (sym (filter-same (ties (λ (a b : Act N). is_lt (nat_cmp a.stamp b.stamp)) x) (λ y. eqb y.stamp d.stamp) tests es) ∙ (stable x ∙ filter-same (ties (λ (a b : Act N). is_lt (nat_cmp a.stamp b.stamp)) x) (λ y. eqb y.stamp d.stamp) tests (tagged 0 kept)))
+      ∙ (sym (stamped_part p d.stamp (tagged 0 kept)) ∙ ap (at_stamp d.stamp) its)))
 
 tagged_inside : {O N : Type 0} (n q : ℕ) (kept : List (O × List (Held N))) → q + length kept ≤ n → Each (λ (e : Act N). e.place < n) (tagged q kept)
 tagged_inside {N = N} n q [] l = tt
@@ -161,6 +159,7 @@ tagged_inside {N = N} n q (k ∷ ks) l = each_append (map (tag q) k.1) (tagged (
     each_tagged : (hs : List (Held N)) → Each (λ (e : Act N). e.place < n) (map (tag q) hs)
     each_tagged [] = tt
     each_tagged (h ∷ hs) = (omega arith, each_tagged hs)
+
     each_append : (es fs : List (Act N)) → Each (λ (e : Act N). e.place < n) es → Each (λ (e : Act N). e.place < n) fs → Each (λ (e : Act N). e.place < n) (es ++ fs)
     each_append [] fs a b = b
     each_append (e ∷ es) fs a b = (a.0, each_append es fs a.1 b)

@@ -1,15 +1,14 @@
 -- Each seat's part of the entries is its log, and so the entries are a run.
-use Rattle.std.proofs.Common.{Bool, true, false, ◌≡◌, ◌≢◌, ℕ, zero, suc, ◌+◌, ◌<◌, ◌≤◌, max, cond, eqb, eq-eqb, ne_eqb, List, [], ◌∷◌, ◌++◌, map, length, sym, refl, ap, ◌∙◌, subst, arith, Option, Some, None}
+use Rattle.std.proofs.Common.{◌≡◌, ◌≢◌, ℕ, ◌+◌, ◌<◌, ◌≤◌, max, cond, eq-eqb, ne_eqb, List, [], ◌∷◌, ◌++◌, sym, refl, ap, ◌∙◌, subst, arith, Some}
 use mathlib.Core.Logic.{dite}
 use native.Mathlib.Decide.{ℕ_discrete}
 use Rattle.ccr_turns.specs.Logs.{log_stamps, mark, at_place, told}
 use Rattle.ccr_turns.specs.Lists.{Rises, Each, last_of}
-use Rattle.ccr_turns.specs.declared.history.Held.{Held}
 use Rattle.ccr_turns.specs.declared.history.Mark.{Mark}
 use Rattle.ccr_runs.specs.declared.acts.Act.{Act}
 use Rattle.ccr_runs.specs.Merges.{Climbs, act_stamps, history_at, held}
 use Rattle.ccr_runs.specs.Stories.{Scene, moved, story}
-use Rattle.ccr_runs.specs.Runs.{Rules, Gives, IsProper, state_after, Cast, taught, IsRunFrom}
+use Rattle.ccr_runs.specs.Runs.{Rules, Gives, IsProper, state_after, Cast, taught, IsRunFrom, IsMerged, HasProperLog}
 
 pub climbs_from : (a b : ℕ) (xs : List ℕ) → b ≤ a → Climbs a xs → Climbs b xs
 climbs_from a b [] low c = tt
@@ -46,8 +45,8 @@ module _ {N X : Type 0} where
       let first : m ≡ n = cc in
       let rest : at_place n.place ms ≡ at_place n.place ns = cc in
       let tails : (p : ℕ) → at_place p ms ≡ at_place p ns = λ p. dite (ℕ_discrete n.place p)
-        (λ z. subst (λ q. at_place q ms ≡ at_place q ns) z rest)
-        (λ z. sym (elsewhere p m ms (λ w. z (sym y ∙ w))) ∙ (h p ∙ elsewhere p n ns z)) in
+      (λ z. subst (λ q. at_place q ms ≡ at_place q ns) z rest)
+      (λ z. sym (elsewhere p m ms (λ w. z (sym y ∙ w))) ∙ (h p ∙ elsewhere p n ns z)) in
       let after = same_logs m.stamp n.stamp ms ns c.1 r.1 tails in
       λ i. first i ∷ after i)
       (λ z.
@@ -63,28 +62,28 @@ module _ {N X : Type 0} (after : X → N → X) where
   story_at p k v [] = refl
   story_at p k v (e ∷ es) = dite (ℕ_discrete e.place p)
       (λ y. let t = eq-eqb e.place p y in let again = story_at p k (moved after v e) es in
-        let next : told after p k (moved after v e p).0 (moved after v e p).1 (history_at p es) ≡ told after p k (after (v p).0 e.note) e.stamp (history_at p es) = ap (λ b. told after p k (cond b (after (v p).0 e.note, e.stamp) (v p)).0 (cond b (after (v p).0 e.note, e.stamp) (v p)).1 (history_at p es)) t in
-        let there : history_at p (e ∷ es) ≡ held e ∷ history_at p es = ap (λ b. cond b (held e ∷ history_at p es) (history_at p es)) t in
-        dite (ℕ_discrete e.seat k)
-        (λ z. let s = eq-eqb e.seat k z in
-          let mine : story after k v (e ∷ es) ≡ mark e.place e.stamp e.note (v e.place).0 (v e.place).1 ∷ story after k (moved after v e) es = ap (λ b. cond b (mark e.place e.stamp e.note (v e.place).0 (v e.place).1 ∷ story after k (moved after v e) es) (story after k (moved after v e) es)) s in
-          let moved_mark : mark e.place e.stamp e.note (v e.place).0 (v e.place).1 ≡ mark p e.stamp e.note (v p).0 (v p).1 = λ i. mark (y i) e.stamp e.note (v (y i)).0 (v (y i)).1 in
-          let its : told after p k (v p).0 (v p).1 (held e ∷ history_at p es) ≡ mark p e.stamp e.note (v p).0 (v p).1 ∷ told after p k (after (v p).0 e.note) e.stamp (history_at p es) = ap (λ b. cond b (mark p e.stamp e.note (v p).0 (v p).1 ∷ told after p k (after (v p).0 e.note) e.stamp (history_at p es)) (told after p k (after (v p).0 e.note) e.stamp (history_at p es))) s in
-          ap (at_place p) mine ∙ (here p _ _ y ∙ ((λ i. moved_mark i ∷ (again ∙ next) i) ∙ (sym its ∙ ap (told after p k (v p).0 (v p).1) (sym there)))))
-        (λ z. let s = ne_eqb e.seat k z in
-          let mine : story after k v (e ∷ es) ≡ story after k (moved after v e) es = ap (λ b. cond b (mark e.place e.stamp e.note (v e.place).0 (v e.place).1 ∷ story after k (moved after v e) es) (story after k (moved after v e) es)) s in
-          let its : told after p k (v p).0 (v p).1 (held e ∷ history_at p es) ≡ told after p k (after (v p).0 e.note) e.stamp (history_at p es) = ap (λ b. cond b (mark p e.stamp e.note (v p).0 (v p).1 ∷ told after p k (after (v p).0 e.note) e.stamp (history_at p es)) (told after p k (after (v p).0 e.note) e.stamp (history_at p es))) s in
-          ap (at_place p) mine ∙ ((again ∙ next) ∙ (sym its ∙ ap (told after p k (v p).0 (v p).1) (sym there)))))
+      let next : told after p k (moved after v e p).0 (moved after v e p).1 (history_at p es) ≡ told after p k (after (v p).0 e.note) e.stamp (history_at p es) = ap (λ b. told after p k (cond b (after (v p).0 e.note, e.stamp) (v p)).0 (cond b (after (v p).0 e.note, e.stamp) (v p)).1 (history_at p es)) t in
+      let there : history_at p (e ∷ es) ≡ held e ∷ history_at p es = ap (λ b. cond b (held e ∷ history_at p es) (history_at p es)) t in
+      dite (ℕ_discrete e.seat k)
+      (λ z. let s = eq-eqb e.seat k z in
+      let mine : story after k v (e ∷ es) ≡ mark e.place e.stamp e.note (v e.place).0 (v e.place).1 ∷ story after k (moved after v e) es = ap (λ b. cond b (mark e.place e.stamp e.note (v e.place).0 (v e.place).1 ∷ story after k (moved after v e) es) (story after k (moved after v e) es)) s in
+      let moved_mark : mark e.place e.stamp e.note (v e.place).0 (v e.place).1 ≡ mark p e.stamp e.note (v p).0 (v p).1 = λ i. mark (y i) e.stamp e.note (v (y i)).0 (v (y i)).1 in
+      let its : told after p k (v p).0 (v p).1 (held e ∷ history_at p es) ≡ mark p e.stamp e.note (v p).0 (v p).1 ∷ told after p k (after (v p).0 e.note) e.stamp (history_at p es) = ap (λ b. cond b (mark p e.stamp e.note (v p).0 (v p).1 ∷ told after p k (after (v p).0 e.note) e.stamp (history_at p es)) (told after p k (after (v p).0 e.note) e.stamp (history_at p es))) s in
+      ap (at_place p) mine ∙ (here p _ _ y ∙ ((λ i. moved_mark i ∷ (again ∙ next) i) ∙ (sym its ∙ ap (told after p k (v p).0 (v p).1) (sym there)))))
+      (λ z. let s = ne_eqb e.seat k z in
+      let mine : story after k v (e ∷ es) ≡ story after k (moved after v e) es = ap (λ b. cond b (mark e.place e.stamp e.note (v e.place).0 (v e.place).1 ∷ story after k (moved after v e) es) (story after k (moved after v e) es)) s in
+      let its : told after p k (v p).0 (v p).1 (held e ∷ history_at p es) ≡ told after p k (after (v p).0 e.note) e.stamp (history_at p es) = ap (λ b. cond b (mark p e.stamp e.note (v p).0 (v p).1 ∷ told after p k (after (v p).0 e.note) e.stamp (history_at p es)) (told after p k (after (v p).0 e.note) e.stamp (history_at p es))) s in
+      ap (at_place p) mine ∙ ((again ∙ next) ∙ (sym its ∙ ap (told after p k (v p).0 (v p).1) (sym there)))))
       (λ n. let t = ne_eqb e.place p n in let again = story_at p k (moved after v e) es in
-        let next : told after p k (moved after v e p).0 (moved after v e p).1 (history_at p es) ≡ told after p k (v p).0 (v p).1 (history_at p es) = ap (λ b. told after p k (cond b (after (v p).0 e.note, e.stamp) (v p)).0 (cond b (after (v p).0 e.note, e.stamp) (v p)).1 (history_at p es)) t in
-        let there : history_at p (e ∷ es) ≡ history_at p es = ap (λ b. cond b (held e ∷ history_at p es) (history_at p es)) t in
-        dite (ℕ_discrete e.seat k)
-        (λ z. let s = eq-eqb e.seat k z in
-          let mine : story after k v (e ∷ es) ≡ mark e.place e.stamp e.note (v e.place).0 (v e.place).1 ∷ story after k (moved after v e) es = ap (λ b. cond b (mark e.place e.stamp e.note (v e.place).0 (v e.place).1 ∷ story after k (moved after v e) es) (story after k (moved after v e) es)) s in
-          ap (at_place p) mine ∙ (elsewhere p _ _ n ∙ ((again ∙ next) ∙ ap (told after p k (v p).0 (v p).1) (sym there))))
-        (λ z. let s = ne_eqb e.seat k z in
-          let mine : story after k v (e ∷ es) ≡ story after k (moved after v e) es = ap (λ b. cond b (mark e.place e.stamp e.note (v e.place).0 (v e.place).1 ∷ story after k (moved after v e) es) (story after k (moved after v e) es)) s in
-          ap (at_place p) mine ∙ ((again ∙ next) ∙ ap (told after p k (v p).0 (v p).1) (sym there))))
+      let next : told after p k (moved after v e p).0 (moved after v e p).1 (history_at p es) ≡ told after p k (v p).0 (v p).1 (history_at p es) = ap (λ b. told after p k (cond b (after (v p).0 e.note, e.stamp) (v p)).0 (cond b (after (v p).0 e.note, e.stamp) (v p)).1 (history_at p es)) t in
+      let there : history_at p (e ∷ es) ≡ history_at p es = ap (λ b. cond b (held e ∷ history_at p es) (history_at p es)) t in
+      dite (ℕ_discrete e.seat k)
+      (λ z. let s = eq-eqb e.seat k z in
+      let mine : story after k v (e ∷ es) ≡ mark e.place e.stamp e.note (v e.place).0 (v e.place).1 ∷ story after k (moved after v e) es = ap (λ b. cond b (mark e.place e.stamp e.note (v e.place).0 (v e.place).1 ∷ story after k (moved after v e) es) (story after k (moved after v e) es)) s in
+      ap (at_place p) mine ∙ (elsewhere p _ _ n ∙ ((again ∙ next) ∙ ap (told after p k (v p).0 (v p).1) (sym there))))
+      (λ z. let s = ne_eqb e.seat k z in
+      let mine : story after k v (e ∷ es) ≡ story after k (moved after v e) es = ap (λ b. cond b (mark e.place e.stamp e.note (v e.place).0 (v e.place).1 ∷ story after k (moved after v e) es) (story after k (moved after v e) es)) s in
+      ap (at_place p) mine ∙ ((again ∙ next) ∙ ap (told after p k (v p).0 (v p).1) (sym there))))
 
   pub story_climbs : (a k : ℕ) (v : Scene X) (es : List (Act N)) → Climbs a (act_stamps es) → Climbs a (log_stamps (story after k v es))
   story_climbs a k v [] c = tt
@@ -106,19 +105,19 @@ module _ {N X A R S : Type 0} (r : Rules N X A R S) where
       let mine = subst (λ b. IsProper r (l e.seat).0 (l e.seat).1 (cond b (mark e.place e.stamp e.note (v e.place).0 (v e.place).1 ∷ story r.after e.seat (moved r.after v e) es) (story r.after e.seat (moved r.after v e) es))) same (proper e.seat few.0) in
       let its = subst (λ b. Gives r (v e.place).0 (cond b (held e ∷ history_at e.place es) (history_at e.place es))) at (gives e.place) in
       let places : (p : ℕ) → Gives r (moved r.after v e p).0 (history_at p es) = λ p. dite (ℕ_discrete e.place p)
-        (λ y. let t = eq-eqb e.place p y in
-          let g = subst (λ b. Gives r (v p).0 (cond b (held e ∷ history_at p es) (history_at p es))) t (gives p) in
-          subst (λ b. Gives r (cond b (r.after (v p).0 e.note, e.stamp) (v p)).0 (history_at p es)) (sym t) g.1)
-        (λ y. let t = ne_eqb e.place p y in
-          let g = subst (λ b. Gives r (v p).0 (cond b (held e ∷ history_at p es) (history_at p es))) t (gives p) in
-          subst (λ b. Gives r (cond b (r.after (v p).0 e.note, e.stamp) (v p)).0 (history_at p es)) (sym t) g) in
+      (λ y. let t = eq-eqb e.place p y in
+      let g = subst (λ b. Gives r (v p).0 (cond b (held e ∷ history_at p es) (history_at p es))) t (gives p) in
+      subst (λ b. Gives r (cond b (r.after (v p).0 e.note, e.stamp) (v p)).0 (history_at p es)) (sym t) g.1)
+      (λ y. let t = ne_eqb e.place p y in
+      let g = subst (λ b. Gives r (v p).0 (cond b (held e ∷ history_at p es) (history_at p es))) t (gives p) in
+      subst (λ b. Gives r (cond b (r.after (v p).0 e.note, e.stamp) (v p)).0 (history_at p es)) (sym t) g) in
       let actors : (k : ℕ) → k < n → IsProper r (taught r l v e k).0 (taught r l v e k).1 (story r.after k (moved r.after v e) es) = λ k few_k. dite (ℕ_discrete e.seat k)
-        (λ y. let t = eq-eqb e.seat k y in
-          let g = subst (λ b. IsProper r (l k).0 (l k).1 (cond b (mark e.place e.stamp e.note (v e.place).0 (v e.place).1 ∷ story r.after k (moved r.after v e) es) (story r.after k (moved r.after v e) es))) t (proper k few_k) in
-          subst (λ b. IsProper r (cond b (r.got (l k).0 (r.replied (v e.place).0 e.note), e.stamp) (l k)).0 (cond b (r.got (l k).0 (r.replied (v e.place).0 e.note), e.stamp) (l k)).1 (story r.after k (moved r.after v e) es)) (sym t) g.2)
-        (λ y. let t = ne_eqb e.seat k y in
-          let g = subst (λ b. IsProper r (l k).0 (l k).1 (cond b (mark e.place e.stamp e.note (v e.place).0 (v e.place).1 ∷ story r.after k (moved r.after v e) es) (story r.after k (moved r.after v e) es))) t (proper k few_k) in
-          subst (λ b. IsProper r (cond b (r.got (l k).0 (r.replied (v e.place).0 e.note), e.stamp) (l k)).0 (cond b (r.got (l k).0 (r.replied (v e.place).0 e.note), e.stamp) (l k)).1 (story r.after k (moved r.after v e) es)) (sym t) g) in
+      (λ y. let t = eq-eqb e.seat k y in
+      let g = subst (λ b. IsProper r (l k).0 (l k).1 (cond b (mark e.place e.stamp e.note (v e.place).0 (v e.place).1 ∷ story r.after k (moved r.after v e) es) (story r.after k (moved r.after v e) es))) t (proper k few_k) in
+      subst (λ b. IsProper r (cond b (r.got (l k).0 (r.replied (v e.place).0 e.note), e.stamp) (l k)).0 (cond b (r.got (l k).0 (r.replied (v e.place).0 e.note), e.stamp) (l k)).1 (story r.after k (moved r.after v e) es)) (sym t) g.2)
+      (λ y. let t = ne_eqb e.seat k y in
+      let g = subst (λ b. IsProper r (l k).0 (l k).1 (cond b (mark e.place e.stamp e.note (v e.place).0 (v e.place).1 ∷ story r.after k (moved r.after v e) es) (story r.after k (moved r.after v e) es))) t (proper k few_k) in
+      subst (λ b. IsProper r (cond b (r.got (l k).0 (r.replied (v e.place).0 e.note), e.stamp) (l k)).0 (cond b (r.got (l k).0 (r.replied (v e.place).0 e.note), e.stamp) (l k)).1 (story r.after k (moved r.after v e) es)) (sym t) g) in
       (few.0, mine.0, its.0, mine.1, run_of n (moved r.after v e) (taught r l v e) es few.1 places actors)
 
 module _ {N X A R S : Type 0} (r : Rules N X A R S) where
@@ -130,3 +129,9 @@ module _ {N X A R S : Type 0} (r : Rules N X A R S) where
   pub state_more : (s : S) (ms : List (Mark N X)) (m : Mark N X) → state_after r s (ms ++ m ∷ []) ≡ r.got (state_after r s ms) (r.replied m.before m.note)
   state_more s [] m = refl
   state_more s (x ∷ xs) m = state_more (r.got s (r.replied x.before x.note)) xs m
+
+  -- so it is of merged entries, where each seat has a proper log
+  pub run_of_logs : (n : ℕ) (v : Scene X) (l : Cast r) (es : List (Act N)) → IsMerged r n v es → ((k : ℕ) → k < n → HasProperLog r v l k es) → IsRunFrom r n v l es
+  run_of_logs n v l es merged logs = run_of r n v l es merged.seated merged.given (λ k low.
+      let (marks, its, proper) = logs k low in
+      subst (IsProper r (l k).0 (l k).1) (sym (story_is r.after k v es marks merged.sorted its.rising its.same)) proper)
