@@ -9,7 +9,7 @@ use Rattle.ccr_turns.proofs.Rows.{all_from_each}
 use Rattle.std.specs.Prelude.{All}
 use Rattle.ccr_turns.specs.declared.history.Held.{Held}
 use Rattle.ccr_runs.specs.declared.acts.Act.{Act}
-use Rattle.ccr_runs.specs.Merges.{Climbs, act_stamps, history_at, held, tag, tagged}
+use Rattle.ccr_runs.specs.Merges.{Climbs, act_stamps, history_at, held, tag, tagged, IsBefore, IsByPlace}
 use Rattle.std.specs.List.Sorted.{ties, IsNonDecreasingBy}
 use Rattle.std.specs.Ordering.{is_lt, nat_cmp}
 use Rattle.std.proofs.lemmas.Bool.Decides.{nat_tests}
@@ -166,3 +166,59 @@ tagged_inside {N = N} n q (k ∷ ks) l = each_append (map (tag q) k.1) (tagged (
 
 pub all_inside : {O N : Type 0} (kept : List (O × List (Held N))) → All (λ (e : Act N). e.place < length kept) (tagged 0 kept)
 all_inside kept = all_from_each (λ (e : Act _). e.place < length kept) (tagged 0 kept) (tagged_inside (length kept) 0 kept (omega arith))
+
+-- ---- entries of one stamp stand by their places
+
+abbrev act_places : {N : Type 0} → List (Act N) → List ℕ
+act_places {N = N} es = map (λ (e : Act N). e.place) es
+
+abbrev of_stamp : {N : Type 0} → ℕ → List (Act N) → List (Act N)
+of_stamp {N = N} s es = filter (λ (e : Act N). eqb e.stamp s) es
+
+module _ {N : Type 0} where
+  places_of_stamp : (a s : ℕ) (es : List (Act N)) → Climbs a (act_places es) → Climbs a (act_places (of_stamp s es))
+  places_of_stamp a s [] c = tt
+  places_of_stamp a s (e ∷ es) c = by_test (places_of_stamp e.place s es c.1) (eqb e.stamp s)
+    where
+      by_test : Climbs e.place (act_places (of_stamp s es)) → (b : Bool) → Climbs a (act_places (cond b (e ∷ of_stamp s es) (of_stamp s es)))
+      by_test again true = (c.0, again)
+      by_test again false = climbs_from e.place a _ c.0 again
+
+  places_listed : (a q : ℕ) (hs : List (Held N)) (rest : List (Act N)) → a ≤ q → Climbs q (act_places rest) → Climbs a (act_places (map (tag q) hs ++ rest))
+  places_listed a q [] rest low c = climbs_from q a _ low c
+  places_listed a q (h ∷ hs) rest low c = (low, places_listed q q hs rest (omega arith) c)
+
+  -- the entries of each stamp stand by their places, above some bound
+  abbrev AreByPlace : List (Act N) → Type 0
+  AreByPlace es = (x : Act N) → (a : ℕ) × Climbs a (act_places (of_stamp x.stamp es))
+
+  behind : (e : Act N) (es : List (Act N)) → AreByPlace (e ∷ es) → AreByPlace es
+  behind e es all x = by_test (eqb e.stamp x.stamp) (all x)
+    where
+      by_test : (b : Bool) → (a : ℕ) × Climbs a (act_places (cond b (e ∷ of_stamp x.stamp es) (of_stamp x.stamp es))) → (a : ℕ) × Climbs a (act_places (of_stamp x.stamp es))
+      by_test true (a, c) = (e.place, c.1)
+      by_test false (a, c) = (a, c)
+
+  before : (e : Act N) (es : List (Act N)) → AreByPlace (e ∷ es) → IsBefore e es
+  before e [] all = tt
+  before e (f ∷ fs) all = λ same.
+      let (a, c) = all e in
+      let one = subst (λ b. Climbs a (act_places (cond b (e ∷ of_stamp e.stamp (f ∷ fs)) (of_stamp e.stamp (f ∷ fs))))) (eq-eqb e.stamp e.stamp refl) c in
+      let two = subst (λ b. Climbs e.place (act_places (cond b (f ∷ of_stamp e.stamp fs) (of_stamp e.stamp fs)))) (eq-eqb f.stamp e.stamp (sym same)) one.1 in
+      two.0
+
+  by_place : (es : List (Act N)) → AreByPlace es → IsByPlace es
+  by_place [] all = tt
+  by_place (e ∷ es) all = (before e es all, by_place es (behind e es all))
+
+places_tagged : {O N : Type 0} (q : ℕ) (kept : List (O × List (Held N))) → Climbs q (act_places (tagged q kept))
+places_tagged q [] = tt
+places_tagged q (k ∷ ks) = places_listed q q k.1 (tagged (suc q) ks) (omega arith) (climbs_from (suc q) q _ (omega arith) (places_tagged (suc q) ks))
+
+-- a list of the same entries at each stamp, in the same order, has those of one stamp by their places
+pub by_places : {O N : Type 0} (kept : List (O × List (Held N))) (es : List (Act N)) → ((x : Act N) → filter (ties (λ (a b : Act N). is_lt (nat_cmp a.stamp b.stamp)) x) es ≡ filter (ties (λ (a b : Act N). is_lt (nat_cmp a.stamp b.stamp)) x) (tagged 0 kept)) → IsByPlace es
+by_places {O} {N} kept es stable = by_place es (λ x.
+    let test = ties (λ (a b : Act N). is_lt (nat_cmp a.stamp b.stamp)) x in
+    let tests = λ (y : Act N). tie x.stamp y.stamp in
+    let same : of_stamp x.stamp es ≡ of_stamp x.stamp (tagged 0 kept) = sym (filter-same test (λ y. eqb y.stamp x.stamp) tests es) ∙ (stable x ∙ filter-same test (λ y. eqb y.stamp x.stamp) tests (tagged 0 kept)) in
+    (0, subst (λ (l : List (Act N)). Climbs 0 (act_places l)) (sym same) (places_of_stamp 0 x.stamp (tagged 0 kept) (places_tagged 0 kept))))

@@ -1,5 +1,5 @@
 -- The entries of all places, and a place's part of them.
-use Rattle.std.specs.Prelude.{ℕ, suc, ◌≤◌, ◌==◌, cond, List, [], ◌∷◌, ◌++◌, map}
+use Rattle.std.specs.Prelude.{◌≡◌, ℕ, suc, ◌≤◌, ◌==◌, cond, List, [], ◌∷◌, ◌++◌, map}
 use Rattle.ccr_turns.specs.declared.history.Held.{Held}
 use Rattle.ccr_runs.specs.declared.acts.Act.{Act}
 
@@ -22,6 +22,15 @@ module _ {N : Type 0} where
   abbrev pub history_at : ℕ → List (Act N) → List (Held N)
   history_at p [] = []
   history_at p (e ∷ es) = cond (e.place == p) (held e ∷ history_at p es) (history_at p es)
+
+  -- where two neighbours have one stamp, the first doesn't have the greater place
+  abbrev pub IsBefore : Act N → List (Act N) → Type 0
+  IsBefore e [] = Unit {0}
+  IsBefore e (f ∷ fs) = e.stamp ≡ f.stamp → e.place ≤ f.place
+
+  abbrev pub IsByPlace : List (Act N) → Type 0
+  IsByPlace [] = Unit {0}
+  IsByPlace (e ∷ es) = IsBefore e es × IsByPlace es
 
 -- the entries of these places one after the other, with the numbers from p on
 abbrev pub tagged : {O N : Type 0} → ℕ → List (O × List (Held N)) → List (Act N)

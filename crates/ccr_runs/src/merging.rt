@@ -4,7 +4,7 @@ ghost use Rattle.std.specs.Prelude.{◌≡◌, ℕ, ◌<◌, ◌≤◌, ◌^◌,
 ghost use Rattle.ccr_turns.specs.Histories.{history_stamps};
 ghost use Rattle.ccr_turns.specs.Lists.{Rises};
 ghost use Rattle.ccr_turns.specs.declared.history.Held.{Held as Old};
-ghost use Rattle.ccr_runs.specs.Merges.{tagged, tag, history_at, Climbs, act_stamps};
+ghost use Rattle.ccr_runs.specs.Merges.{tagged, tag, history_at, Climbs, act_stamps, IsByPlace};
 
 use crate::acts::Act;
 use ccr_base::{List, OutOfMemory};
@@ -21,6 +21,7 @@ pub fn merge<O: Drop, N: Drop>(
     ensures parts { IfOk result (λ entries. (place : ℕ) (left : O × _) → slice_get kept place ≡ Some left → history_at place entries ≡ left.1) }
     ensures inside { IfOk result (λ entries. All (λ entry. entry.place < length kept) entries) }
     ensures sorted { IfOk result (λ entries. Climbs 0 (act_stamps entries)) }
+    ensures by_place { IfOk result (λ entries. IsByPlace entries) }
 {
     let mut entries = all(alloc, kept.into_vec())?;
     entries.sort_by_key(|entry| entry.stamp)?;

@@ -4,8 +4,8 @@ use Rattle.ccr_turns.specs.Lists.{Rises}
 use Rattle.ccr_turns.specs.Histories.{history_stamps}
 use Rattle.std.proofs.lemmas.List.Sorted.{IsNonDecreasingBy-from_sort_by_key, answers_always, All-permutation}
 use Rattle.ccr_turns.proofs.Rows.{all_at, there_by_slice}
-use Rattle.ccr_runs.specs.Merges.{tagged, history_at, Climbs, act_stamps}
-use Rattle.ccr_runs.proofs.Sorting.{climbs, parts, all_inside}
+use Rattle.ccr_runs.specs.Merges.{tagged, history_at, Climbs, act_stamps, IsByPlace}
+use Rattle.ccr_runs.proofs.Sorting.{climbs, parts, all_inside, by_places}
 use Rattle.ccr_runs.proofs.merging.merge.Goals as goal
 
 pub returns-clause-sorted : goal.returns-clause-sorted
@@ -24,3 +24,9 @@ pub returns-clause-inside : goal.returns-clause-inside
 returns-clause-inside g c =
     subst (λ (es : List _). All (λ e. e.place < length c.args.kept) es) (sym c.from_vec.ensures)
     (All-permutation (λ e. e.place < length c.args.kept) _ _ c.in_ok-sort_by_key.ensures.permutation (subst (λ (es : List _). All (λ e. e.place < length c.args.kept) es) (sym (c.in_ok-entries.ensures ∙ ap (tagged 0) c.into_vec.ensures)) (all_inside c.args.kept)))
+
+pub returns-clause-by_place : goal.returns-clause-by_place
+returns-clause-by_place g c =
+    let stable = c.in_ok-sort_by_key.ensures.stable (λ e. e.stamp) (answers_always _ _ _ (λ f a r q k. search rules)) in
+    subst (λ (es : List _). IsByPlace es) (sym c.from_vec.ensures)
+    (by_places c.args.kept c.sort_by_key.new.self.items (λ x. stable x ∙ ap (filter _) (c.in_ok-entries.ensures ∙ ap (tagged 0) c.into_vec.ensures)))
