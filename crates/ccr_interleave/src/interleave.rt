@@ -83,6 +83,13 @@ impl InterleaveObject {
         }
     }
 
+    /// How many tasks wait.
+    pub fn waiting(&self) -> usize
+        ensures { result ≡ length self.now.tasks }
+    {
+        self.waiting.len()
+    }
+
     /// Whether the task is at a branch of this domain, and none of its name fired here.
     pub fn may_commit(&self, task: &Task) -> bool
         ensures { result ≡ can_commit self.now.state task.now }

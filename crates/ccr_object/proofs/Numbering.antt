@@ -1,0 +1,147 @@
+-- The test by numbers is the condition on the wiring.
+use Rattle.std.proofs.Common.{Bool, true, false, ◌≡◌, ℕ, zero, suc, ◌+◌, ◌<◌, ◌&&◌, List, [], ◌∷◌, ◌++◌, map, length, sym, refl, ap, ◌∙◌, subst, arith, None}
+use Rattle.std.specs.Prelude.{nat_lt, slice_get, All, flat_map, ◌↔◌}
+use Rattle.std.specs.Option.{is_some, option_map_or}
+use Rattle.std.proofs.lemmas.Bool.{lt-ltb, le-ltb, ltb-true, ltb-false, and_parts, and_from}
+use Rattle.std.proofs.lemmas.Bool.Decides.{nat_tests}
+use Rattle.std.proofs.lemmas.List.{length-map}
+use Rattle.std.proofs.lemmas.List.Concat.{flat_map-cons}
+use Rattle.std.proofs.lemmas.List.Elements.{All-nil, All-cons, All-tail}
+use Rattle.ccr_base.specs.declared.messages.Msg.{Msg}
+use Rattle.ccr_base.specs.declared.names.Spot.{Spot}
+use Rattle.ccr_base.specs.declared.names.Spot.TheVariants.{Branch, Site}
+use Rattle.ccr_base.specs.declared.tasks.Task.{Task}
+use Rattle.ccr_wiring.specs.declared.parts.ArbiterPart.{ArbiterPart}
+use Rattle.ccr_wiring.specs.declared.parts.BranchPart.{BranchPart}
+use Rattle.ccr_wiring.specs.declared.parts.Kind.{Kind}
+use Rattle.ccr_wiring.specs.declared.parts.Parts.{Parts}
+use Rattle.ccr_wiring.specs.Repeats.{are_apart}
+use Rattle.ccr_wiring.specs.Wirings.{Seat, seats, seats_from, in_domain, awaited, actions_of}
+use Rattle.ccr_claim.specs.declared.asks.Ask.{Ask}
+use Rattle.ccr_claim.specs.declared.asks.Ask.TheVariants as asks
+use Rattle.ccr_object.specs.Numbers.{numbers_of, site_count, site_counts, arbiter_sites, has_spot, has_each, has_causes, has_message, has_task, is_known, IsSpotOf, AreCausesOf, IsMessageOf, IsTaskOf, IsKnown}
+
+module _ (wiring : Parts) where
+  one_arbiter : (arbiter : ℕ) (kind : Kind) (branches : List BranchPart) (rest : List Seat)
+      → map (λ (s : Seat). site_count wiring s.branch) (map (λ branch. record { arbiter = arbiter; kind = kind; branch = branch }) branches ++ rest) ≡ map (site_count wiring) branches ++ map (λ (s : Seat). site_count wiring s.branch) rest
+  one_arbiter arbiter kind [] rest = refl
+  one_arbiter arbiter kind (b ∷ bs) rest = ap (λ (l : List ℕ). site_count wiring b ∷ l) (one_arbiter arbiter kind bs rest)
+
+  counted : (number : ℕ) (arbiters : List ArbiterPart) → map (λ (s : Seat). site_count wiring s.branch) (seats_from number arbiters) ≡ flat_map (arbiter_sites wiring) arbiters
+  counted number [] = refl
+  counted number (a ∷ more) = one_arbiter number a.kind a.branches (seats_from (number + 1) more)
+      ∙ (ap (λ (l : List ℕ). map (site_count wiring) a.branches ++ l) (counted (number + 1) more) ∙ sym (flat_map-cons (arbiter_sites wiring) a more))
+
+  -- the domain of a branch doesn't count
+  in_domains : (ss : List Seat) → map (λ (s : Seat). site_count wiring s.branch) (map (in_domain wiring.domains) ss) ≡ map (λ (s : Seat). site_count wiring s.branch) ss
+  in_domains [] = refl
+  in_domains (s ∷ ss) = ap (λ (l : List ℕ). site_count wiring s.branch ∷ l) (in_domains ss)
+
+  -- the counts are those of the branches
+  counts_are : site_counts wiring ≡ map (λ (s : Seat). site_count wiring s.branch) (seats wiring)
+  counts_are = sym (in_domains (seats_from 0 wiring.arbiters) ∙ counted 0 wiring.arbiters)
+
+  many : length (site_counts wiring) ≡ length (seats wiring)
+  many = ap length counts_are ∙ length-map (seats wiring) (λ (s : Seat). site_count wiring s.branch)
+
+  none_below : (n : ℕ) → nat_lt n 0 ≡ false
+  none_below n = grind (arith, nat_tests)
+
+  next_below : (i n : ℕ) → nat_lt (suc i) (suc n) ≡ nat_lt i n
+  next_below i n = by_test (nat_lt i n) refl
+    where
+      by_test : (b : Bool) → nat_lt i n ≡ b → nat_lt (suc i) (suc n) ≡ b
+      by_test true e = let l = ltb-true i n e in lt-ltb (suc i) (suc n) (omega arith)
+      by_test false e = let l = ltb-false i n e in le-ltb (suc i) (suc n) (omega arith)
+
+  in_list : {X : Type 0} (xs : List X) (i : ℕ) → nat_lt i (length xs) ≡ is_some (slice_get xs i)
+  in_list [] i = none_below i
+  in_list (x ∷ xs) zero = lt-ltb 0 (length (x ∷ xs)) (omega arith)
+  in_list (x ∷ xs) (suc i) = next_below i (length xs) ∙ in_list xs i
+
+  -- a site is counted where it awaits a port
+  site_in : (ss : List Seat) (branch site : ℕ) → option_map_or (λ count. nat_lt site count) (slice_get (map (λ (s : Seat). site_count wiring s.branch) ss) branch) false
+      ≡ is_some (option_map_or (λ (s : Seat). slice_get (awaited (actions_of wiring s.branch.handler)) site) (slice_get ss branch) None)
+  site_in [] branch site = refl
+  site_in (s ∷ ss) zero site = in_list (awaited (actions_of wiring s.branch.handler)) site
+  site_in (s ∷ ss) (suc branch) site = site_in ss branch site
+
+  spot_to : (spot : Spot) → has_spot (numbers_of wiring) spot ≡ true → IsSpotOf wiring spot
+  spot_to (Branch branch) e = subst (λ n. branch < n) many (ltb-true branch (length (site_counts wiring)) e)
+  spot_to (Site branch site) e = sym (site_in (seats wiring) branch site) ∙ (ap (λ (l : List ℕ). option_map_or (λ count. nat_lt site count) (slice_get l branch) false) (sym counts_are) ∙ e)
+
+  spot_from : (spot : Spot) → IsSpotOf wiring spot → has_spot (numbers_of wiring) spot ≡ true
+  spot_from (Branch branch) l = lt-ltb branch (length (site_counts wiring)) (subst (λ n. branch < n) (sym many) l)
+  spot_from (Site branch site) e = ap (λ (l : List ℕ). option_map_or (λ count. nat_lt site count) (slice_get l branch) false) counts_are ∙ (site_in (seats wiring) branch site ∙ e)
+
+  each_to : (n : ℕ) (causes : List ℕ) → has_each n causes ≡ true → All (λ cause. cause < n) causes
+  each_to n [] e = All-nil (λ cause. cause < n)
+  each_to n (c ∷ cs) e = let p = and_parts (nat_lt c n) (has_each n cs) e in All-cons (λ cause. cause < n) c cs (ltb-true c n p.0) (each_to n cs p.1)
+
+  each_from : (n : ℕ) (causes : List ℕ) → All (λ cause. cause < n) causes → has_each n causes ≡ true
+  each_from n [] all = refl
+  each_from n (c ∷ cs) all = and_from (nat_lt c n) (has_each n cs) (lt-ltb c n (all 0 c (omega arith))) (each_from n cs (All-tail (λ cause. cause < n) c cs all))
+
+  causes_to : (causes : List ℕ) → has_causes (numbers_of wiring) causes ≡ true → AreCausesOf wiring causes
+  causes_to causes e = let p = and_parts (has_each (length wiring.causes) causes) (are_apart causes) e in (each_to (length wiring.causes) causes p.0, p.1)
+
+  causes_from : (causes : List ℕ) → AreCausesOf wiring causes → has_causes (numbers_of wiring) causes ≡ true
+  causes_from causes k = and_from (has_each (length wiring.causes) causes) (are_apart causes) (each_from (length wiring.causes) causes k.0) k.1
+
+  message_to : (m : Msg) → has_message (numbers_of wiring) m ≡ true → IsMessageOf wiring m
+  message_to m e = let p = and_parts (nat_lt m.port (length wiring.ports)) (has_causes (numbers_of wiring) m.causes) e in (ltb-true m.port (length wiring.ports) p.0, causes_to m.causes p.1)
+
+  message_from : (m : Msg) → IsMessageOf wiring m → has_message (numbers_of wiring) m ≡ true
+  message_from m k = and_from (nat_lt m.port (length wiring.ports)) (has_causes (numbers_of wiring) m.causes) (lt-ltb m.port (length wiring.ports) k.0) (causes_from m.causes k.1)
+
+  task_to : (t : Task) → has_task (numbers_of wiring) t ≡ true → IsTaskOf wiring t
+  task_to t e =
+      let p = and_parts _ (has_causes (numbers_of wiring) t.causes) e in
+      let q = and_parts _ (nat_lt t.queue (length wiring.queues)) p.0 in
+      let r = and_parts (has_spot (numbers_of wiring) t.spot) (nat_lt t.arbiter (length wiring.arbiters)) q.0 in
+      (spot_to t.spot r.0, ltb-true t.arbiter (length wiring.arbiters) r.1, ltb-true t.queue (length wiring.queues) q.1, causes_to t.causes p.1)
+
+  task_from : (t : Task) → IsTaskOf wiring t → has_task (numbers_of wiring) t ≡ true
+  task_from t k =
+      and_from ((has_spot (numbers_of wiring) t.spot && nat_lt t.arbiter (length wiring.arbiters)) && nat_lt t.queue (length wiring.queues)) (has_causes (numbers_of wiring) t.causes)
+      (and_from (has_spot (numbers_of wiring) t.spot && nat_lt t.arbiter (length wiring.arbiters)) (nat_lt t.queue (length wiring.queues))
+      (and_from (has_spot (numbers_of wiring) t.spot) (nat_lt t.arbiter (length wiring.arbiters)) (spot_from t.spot k.0) (lt-ltb t.arbiter (length wiring.arbiters) k.1))
+      (lt-ltb t.queue (length wiring.queues) k.2))
+      (causes_from t.causes k.3)
+
+  pub known_to : (ask : Ask) → is_known (numbers_of wiring) ask ≡ true → IsKnown wiring ask
+  known_to (asks.Post m) e = message_to m e
+  known_to (asks.Claim t s) e = ltb-true s.port (length wiring.ports) e
+  known_to (asks.Consume t) e = tt
+  known_to (asks.Free t) e = tt
+  known_to (asks.Commit t ms) e = task_to t e
+  known_to asks.Admit e = tt
+  known_to (asks.Over t r h) e = tt
+  known_to (asks.Suspend t) e = task_to t e
+  known_to (asks.Book t r) e = tt
+  known_to (asks.Unbook t) e = tt
+  known_to (asks.Put t) e = task_to t e
+  known_to asks.Take e = tt
+  known_to asks.Draw e = tt
+  known_to asks.Leave e = tt
+  known_to asks.Left e = tt
+
+  pub known_from : (ask : Ask) → IsKnown wiring ask → is_known (numbers_of wiring) ask ≡ true
+  known_from (asks.Post m) k = message_from m k
+  known_from (asks.Claim t s) k = lt-ltb s.port (length wiring.ports) k
+  known_from (asks.Consume t) k = refl
+  known_from (asks.Free t) k = refl
+  known_from (asks.Commit t ms) k = task_from t k
+  known_from asks.Admit k = refl
+  known_from (asks.Over t r h) k = refl
+  known_from (asks.Suspend t) k = task_from t k
+  known_from (asks.Book t r) k = refl
+  known_from (asks.Unbook t) k = refl
+  known_from (asks.Put t) k = task_from t k
+  known_from asks.Take k = refl
+  known_from asks.Draw k = refl
+  known_from asks.Leave k = refl
+  known_from asks.Left k = refl
+
+  pub exact : (ask : Ask) → (is_known (numbers_of wiring) ask ≡ true) ↔ IsKnown wiring ask
+  exact ask = (known_to ask, known_from ask)

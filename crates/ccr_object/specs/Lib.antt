@@ -1,0 +1,10 @@
+pub mod Commits
+pub mod Ports
+pub mod Arbiters
+pub mod Interleaves
+pub mod Sites
+pub mod Queues
+pub mod Meters
+pub mod Numbers
+pub mod Objects
+pub mod Starts

@@ -1,0 +1,98 @@
+-- The numbers of a wiring, and the asks that name no others.
+use Rattle.std.specs.Prelude.{◌≡◌, ◌<◌, All, ℕ, Bool, true, false, nat_lt, ◌&&◌, List, [], map, flat_map, length, slice_get}
+use Rattle.std.specs.List.{list_all}
+use Rattle.std.specs.Option.{option_map_or, is_some}
+use Rattle.ccr_base.specs.declared.messages.Msg.{Msg}
+use Rattle.ccr_base.specs.declared.names.Spot.{Spot}
+use Rattle.ccr_base.specs.declared.names.Spot.TheVariants.{Branch, Site}
+use Rattle.ccr_base.specs.declared.tasks.Task.{Task}
+use Rattle.ccr_wiring.specs.declared.parts.ArbiterPart.{ArbiterPart}
+use Rattle.ccr_wiring.specs.declared.parts.BranchPart.{BranchPart}
+use Rattle.ccr_wiring.specs.declared.parts.Parts.{Parts}
+use Rattle.ccr_wiring.specs.Repeats.{are_apart}
+use Rattle.ccr_wiring.specs.Wirings.{actions_of, awaited, seats, site_port}
+use Rattle.ccr_claim.specs.declared.asks.Ask.{Ask}
+use Rattle.ccr_claim.specs.declared.asks.Ask.TheVariants as asks
+
+-- how many there are of each kind, and of each branch how many sites it has
+pub record Known : Type 0 where
+  pub ports : ℕ
+  pub queues : ℕ
+  pub causes : ℕ
+  pub arbiters : ℕ
+  pub sites : List ℕ
+
+-- how many sites a branch has
+abbrev pub site_count : Parts → BranchPart → ℕ
+site_count wiring branch = length (awaited (actions_of wiring branch.handler))
+
+abbrev pub arbiter_sites : Parts → ArbiterPart → List ℕ
+arbiter_sites wiring arbiter = map (site_count wiring) arbiter.branches
+
+-- how many sites each branch has
+abbrev pub site_counts : Parts → List ℕ
+site_counts wiring = flat_map (arbiter_sites wiring) wiring.arbiters
+
+abbrev pub numbers_of : Parts → Known
+numbers_of wiring = record {
+  ports = length wiring.ports;
+  queues = length wiring.queues;
+  causes = length wiring.causes;
+  arbiters = length wiring.arbiters;
+  sites = site_counts wiring;
+}
+
+abbrev pub no_numbers : Known
+no_numbers = record { ports = 0; queues = 0; causes = 0; arbiters = 0; sites = [] }
+
+-- whether the spot is one of them
+abbrev pub has_spot : Known → Spot → Bool
+has_spot known (Branch branch) = nat_lt branch (length known.sites)
+has_spot known (Site branch site) = option_map_or (λ count. nat_lt site count) (slice_get known.sites branch) false
+
+-- whether each cause is one of them
+abbrev pub has_each : ℕ → List ℕ → Bool
+has_each count causes = list_all (λ cause. nat_lt cause count) causes
+
+-- whether each cause is one of them and none stands twice
+abbrev pub has_causes : Known → List ℕ → Bool
+has_causes known causes = has_each known.causes causes && are_apart causes
+
+abbrev pub has_message : Known → Msg → Bool
+has_message known message = nat_lt message.port known.ports && has_causes known message.causes
+
+abbrev pub has_task : Known → Task → Bool
+has_task known task = has_spot known task.spot && nat_lt task.arbiter known.arbiters && nat_lt task.queue known.queues && has_causes known task.causes
+
+-- whether all numbers in the ask are among these, and no cause stands twice in its message or task
+abbrev pub is_known : Known → Ask → Bool
+is_known known (asks.Post message) = has_message known message
+is_known known (asks.Claim task slot) = nat_lt slot.port known.ports
+is_known known (asks.Commit task messages) = has_task known task
+is_known known (asks.Suspend task) = has_task known task
+is_known known (asks.Put task) = has_task known task
+is_known known _ = true
+
+-- the branch, or the site, is one of the wiring's
+abbrev pub IsSpotOf : Parts → Spot → Type 0
+IsSpotOf wiring (Branch branch) = branch < length (seats wiring)
+IsSpotOf wiring (Site branch site) = is_some (site_port wiring branch site) ≡ true
+
+-- each cause is one of the wiring's, and none stands twice
+abbrev pub AreCausesOf : Parts → List ℕ → Type 0
+AreCausesOf wiring causes = All (λ cause. cause < length wiring.causes) causes × (are_apart causes ≡ true)
+
+abbrev pub IsMessageOf : Parts → Msg → Type 0
+IsMessageOf wiring message = (message.port < length wiring.ports) × AreCausesOf wiring message.causes
+
+abbrev pub IsTaskOf : Parts → Task → Type 0
+IsTaskOf wiring task = IsSpotOf wiring task.spot × (task.arbiter < length wiring.arbiters) × (task.queue < length wiring.queues) × AreCausesOf wiring task.causes
+
+-- all numbers in the ask are the wiring's, and no cause stands twice in its message or task
+abbrev pub IsKnown : Parts → Ask → Type 0
+IsKnown wiring (asks.Post message) = IsMessageOf wiring message
+IsKnown wiring (asks.Claim task slot) = slot.port < length wiring.ports
+IsKnown wiring (asks.Commit task messages) = IsTaskOf wiring task
+IsKnown wiring (asks.Suspend task) = IsTaskOf wiring task
+IsKnown wiring (asks.Put task) = IsTaskOf wiring task
+IsKnown wiring _ = Unit {0}

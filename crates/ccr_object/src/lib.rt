@@ -1,0 +1,17 @@
+//! The object of a place: it tests the condition of an ask, and what it does follows from its value and the ask.
+#![tactic(auto)]
+
+mod deed;
+mod making;
+mod numbers;
+mod object;
+mod starting;
+
+pub use deed::{Answer, Deed};
+pub use making::place_objects;
+pub use numbers::Numbers;
+pub use object::{Object, PlaceObject, Placed};
+pub use starting::{object_at, places_of};
+
+#[cfg(test)]
+mod tests;

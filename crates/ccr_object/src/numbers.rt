@@ -1,0 +1,169 @@
+//! The numbers of a wiring, and the asks that name no others.
+
+ghost use Rattle.std.specs.Prelude.{◌≡◌, ◌↔◌, true, ◌++◌, length, map, IfOk, OnOk};
+ghost use Rattle.ccr_wiring.specs.Repeats.{has_port, are_apart};
+ghost use Rattle.ccr_wiring.specs.Wirings.{actions_of, awaited};
+ghost use Rattle.ccr_object.specs.Numbers.{numbers_of, site_count, site_counts, has_spot, has_each, has_causes, has_message, has_task, is_known, IsKnown};
+ghost use Rattle.ccr_claim.specs.declared.asks.Ask.{Ask};
+
+use ccr_base::{Action, HandlerNo, Msg, OutOfMemory, Spot, Task};
+use ccr_claim::Ask;
+use ccr_wiring::{BranchPart, Parts, Wiring};
+use std::alloc::Global;
+use std::marker::Model;
+
+/// How many ports, queues, causes and arbiters there are, and of each branch how many sites it has. All places share
+/// it, so it is made once.
+#[derive(Drop)]
+pub struct Numbers {
+    ports: usize,
+    queues: usize,
+    causes: usize,
+    arbiters: usize,
+    sites: Vec<usize>,
+}
+
+impl Model for Numbers {
+    ghost use Rattle.ccr_object.specs.Numbers.{Known};
+
+    ghost Value = { Known };
+
+    ghost view = { λ numbers. record { ports = numbers.ports; queues = numbers.queues; causes = numbers.causes; arbiters = numbers.arbiters; sites = numbers.sites.items } };
+}
+
+impl Numbers {
+    /// Those of the wiring.
+    pub fn of(alloc: Global, wiring: &Wiring) -> Result<Numbers, OutOfMemory>
+        ensures numbers { IfOk result (λ numbers. numbers ≡ numbers_of wiring.now) }
+        ensures exact { (ask : Ask) → (is_known (numbers_of wiring.now) ask ≡ true) ↔ IsKnown wiring.now ask }
+    {
+        let parts = wiring.parts();
+        let sites = site_counts(alloc, parts)?;
+        Ok(Numbers {
+            ports: parts.ports.as_slice().len(),
+            queues: parts.queues.as_slice().len(),
+            causes: parts.causes.as_slice().len(),
+            arbiters: parts.arbiters.as_slice().len(),
+            sites,
+        })
+    }
+
+    /// Whether all numbers in the ask are among these, and no cause stands twice in its message or task.
+    pub fn knows(&self, ask: &Ask) -> bool
+        ensures { result ≡ is_known self.now ask.now }
+    {
+        match ask {
+            Ask::Post(message) => self.has_message(message),
+            Ask::Claim(_, slot) => (slot.port as usize) < self.ports,
+            Ask::Commit(task, _) => self.has_task(task),
+            Ask::Suspend(task) => self.has_task(task),
+            Ask::Put(task) => self.has_task(task),
+            _ => true,
+        }
+    }
+
+    fn has_message(&self, message: &Msg) -> bool
+        ensures { result ≡ has_message self.now message.now }
+    {
+        (message.port as usize) < self.ports && self.has_causes(message.causes.as_slice())
+    }
+
+    fn has_task(&self, task: &Task) -> bool
+        ensures { result ≡ has_task self.now task.now }
+    {
+        self.has_spot(task.spot)
+            && (task.arbiter as usize) < self.arbiters
+            && (task.queue as usize) < self.queues
+            && self.has_causes(task.causes.as_slice())
+    }
+
+    fn has_spot(&self, spot: Spot) -> bool
+        ensures { result ≡ has_spot self.now spot }
+    {
+        match spot {
+            Spot::Branch(branch) => (branch as usize) < self.sites.len(),
+            Spot::Site(branch, site) => match self.sites.get(branch as usize) {
+                Some(count) => (site as usize) < *count,
+                None => false,
+            },
+        }
+    }
+
+    fn has_causes(&self, causes: &[u32]) -> bool
+        ensures { result ≡ has_causes self.now causes.now }
+    {
+        has_each(self.causes, causes) && are_apart(causes)
+    }
+}
+
+fn has_each(count: usize, causes: &[u32]) -> bool
+    ensures { result ≡ has_each count causes.now }
+{
+    for cause in causes {
+        if (*cause as usize) >= count {
+            return false;
+        }
+    }
+    true
+}
+
+fn has_number(numbers: &[u32], number: u32) -> bool
+    ensures { result ≡ has_port numbers.now number }
+{
+    numbers.contains(&number)
+}
+
+fn are_apart(numbers: &[u32]) -> bool
+    ensures { result ≡ are_apart numbers.now }
+{
+    for (place, number) in numbers.iter().enumerate() {
+        if has_number(&numbers[place + 1..], *number) {
+            return false;
+        }
+    }
+    true
+}
+
+fn actions_of(parts: &Parts, handler: HandlerNo) -> &[Action]
+    ensures { result.now ≡ actions_of parts.now handler }
+{
+    match parts.handlers.as_slice().get(handler as usize) {
+        Some(part) => part.handler.actions.as_slice(),
+        None => &[],
+    }
+}
+
+fn count_awaits(actions: &[Action]) -> usize
+    ensures { result ≡ length (awaited actions.now) }
+{
+    let mut count = 0;
+    for action in actions {
+        if let Action::Await(_) = *action {
+            count += 1;
+        }
+    }
+    count
+}
+
+fn add_counts(
+    counts: &mut Vec<usize>,
+    parts: &Parts,
+    branches: &[BranchPart],
+) -> Result<(), OutOfMemory>
+    ensures { OnOk result (counts.new.items ≡ counts.old.items ++ map (site_count parts.now) branches.now) }
+{
+    for branch in branches {
+        counts.push(count_awaits(actions_of(parts, branch.handler)))?;
+    }
+    Ok(())
+}
+
+fn site_counts(alloc: Global, parts: &Parts) -> Result<Vec<usize>, OutOfMemory>
+    ensures { IfOk result (λ counts. counts.items ≡ site_counts parts.now) }
+{
+    let mut counts = Vec::new(alloc);
+    for arbiter in parts.arbiters.as_slice() {
+        add_counts(&mut counts, parts, arbiter.branches.as_slice())?;
+    }
+    Ok(counts)
+}

@@ -1,0 +1,5 @@
+use Rattle.ccr_runs.proofs.Telling.{run_of_logs}
+use Rattle.ccr_runs.proofs.laws.proper_logs_make_a_run.Goals as goal
+
+pub returns : goal.returns
+returns g c = record { run = λ rules seats scene cast entries merged logs. run_of_logs rules seats scene cast entries merged logs }

@@ -1,0 +1,19 @@
+-- What a list of entries tells of each seat.
+use Rattle.std.specs.Prelude.{ℕ, ◌==◌, cond, List, [], ◌∷◌}
+use Rattle.ccr_turns.specs.Logs.{mark}
+use Rattle.ccr_turns.specs.declared.history.Mark.{Mark}
+use Rattle.ccr_runs.specs.declared.acts.Act.{Act}
+
+-- at each place, the object's value and the last stamp
+abbrev pub Scene : Type 0 → Type 0
+Scene X = ℕ → X × ℕ
+
+module _ {N X : Type 0} (after : X → N → X) where
+  -- the scene after the entry
+  abbrev pub moved : Scene X → Act N → Scene X
+  moved v e p = cond (e.place == p) (after (v p).0 e.note, e.stamp) (v p)
+
+  -- the entries of the seat, each with what was at its place before
+  abbrev pub story : ℕ → Scene X → List (Act N) → List (Mark N X)
+  story k v [] = []
+  story k v (e ∷ es) = cond (e.seat == k) (mark e.place e.stamp e.note (v e.place).0 (v e.place).1 ∷ story k (moved v e) es) (story k (moved v e) es)

@@ -1,0 +1,10 @@
+//! An entry of a place's history, with its place.
+
+/// What a seat did at a place.
+#[derive(Drop)]
+pub struct Act<N> {
+    pub place: u32,
+    pub seat: u32,
+    pub stamp: u128,
+    pub note: N,
+}

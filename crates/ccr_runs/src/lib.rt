@@ -1,0 +1,10 @@
+//! The entries of all places in one list, by stamp, and what makes them a run.
+#![tactic(auto)]
+
+mod acts;
+mod laws;
+mod merging;
+
+pub use acts::Act;
+pub use laws::{logs_are_stories, proper_logs_make_a_run};
+pub use merging::merge;
