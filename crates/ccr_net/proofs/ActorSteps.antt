@@ -16,7 +16,7 @@ use Rattle.ccr_model.specs.declared.history.Event.{Event}
 use Rattle.ccr_model.specs.declared.history.Event.TheVariants as events
 use Rattle.ccr_model.specs.Firings.{fired, put}
 use Rattle.ccr_model.proofs.Booleans.{same_number, eq-self}
-use Rattle.ccr_model.proofs.FiredTasks.{IsFired, IsFired-append, seat_stays}
+use Rattle.ccr_model.proofs.FiredTasks.{IsFired, IsFired-append, placement_stays}
 use Rattle.ccr_model.proofs.Members.{Among, Among-left, Among-right, Among-either}
 use Rattle.ccr_model.proofs.Pushes.{fired-fire, put-push}
 use Rattle.ccr_model.proofs.SameNames.{same_task-is, same_task-self}
@@ -223,7 +223,7 @@ ActorMatches-ports w h port port' a st came stays match = record {
     had p c own (inr other) = absurd (other (ap (λ (t : TaskId). t.actor) own))
 
 queue_stays : (w : Parts) (h es : List Event) (t : TaskId) → IsFired h t → queue_of w (h ++ es) t ≡ queue_of w h t
-queue_stays w h es t fires = rw (seat_stays w h es t fires) refl
+queue_stays w h es t fires = rw (placement_stays w h es t fires) refl
 
 -- one more event, which says the same of the actor's own tasks
 pub owed_later : (w : Parts) (h es : List Event) (a bound : ℕ) → ((t : TaskId) → t.actor ≡ a → has_task (fired (h ++ es)) t ≡ has_task (fired h) t) → ((t : TaskId) → t.actor ≡ a → has_task (put (h ++ es)) t ≡ has_task (put h) t) → (place : Place) (ask : Ask) → IsOwed w h a bound place ask → IsOwed w (h ++ es) a bound place ask

@@ -14,18 +14,18 @@ use Rattle.ccr_base.specs.declared.names.TaskId.{TaskId}
 use Rattle.ccr_base.specs.Names.{same_task, has_task, same_lists, same_options}
 use Rattle.ccr_wiring.specs.declared.parts.Parts.{Parts}
 use Rattle.ccr_wiring.specs.declared.parts.PosterPart.{PosterPart}
-use Rattle.ccr_wiring.specs.Wirings.{Seat, seat, branch_of, policy_of, site_port}
+use Rattle.ccr_wiring.specs.Wirings.{Placement, placement, branch_of, policy_of, site_port}
 use Rattle.ccr_model.specs.declared.history.Event.{Event}
 use Rattle.ccr_model.specs.declared.history.Event.TheVariants as events
 use Rattle.ccr_model.specs.declared.history.EndHow.{EndHow}
 use Rattle.ccr_model.specs.declared.history.EndHow.TheVariants as ends
 use Rattle.ccr_model.specs.Choice.{is_choice, is_choice_of, are_oldest}
-use Rattle.ccr_model.specs.Firings.{Firing, fired, firing_named, cut, put, let_in}
+use Rattle.ccr_model.specs.Firings.{Firing, fired, firing_named, cut, put, ever_admitted}
 use Rattle.ccr_model.specs.Legal.{IsAllowed}
 use Rattle.ccr_model.specs.Live.{is_live, has_room}
 use Rattle.ccr_model.specs.Posts.{posts_of_poster, posts_of_task, posts_of_tasks, held}
 use Rattle.ccr_model.specs.Rules.{refused, is_new, cuts_at, is_script_line, is_play_post, is_post, has_budget, may_put, drop_at, needs_no_admission, is_oldest_queued, may_start, may_end, ends_so, is_shed}
-use Rattle.ccr_model.specs.TaskData.{seat_of, play_of}
+use Rattle.ccr_model.specs.TaskData.{placement_of, play_of}
 use Rattle.ccr_model.specs.Tasks.{queued, running, running_by, has_post_left, count_unfinished}
 use Rattle.ccr_model.proofs.Booleans.{eq-self}
 use Rattle.ccr_model.proofs.SameNames.{same_task-self, same_value-self}
@@ -34,7 +34,7 @@ use Rattle.ccr_net.proofs.PlainFacts.{PlainFacts, room_free}
 pub refused_pass : (b : Bool) (n : ℕ) (o : Option ℕ) → b ≡ true → o ≡ None → refused b n o ≡ None
 refused_pass b n o is rest = rw (is, rest) refl
 
-pub fire_allowed : (w : Parts) (first : PlainFacts w) (h : List Event) (t : TaskId) (b : ℕ) (s : Seat) (names : List MsgId) → seat w b ≡ Some s → has_task (fired h) t ≡ false → t.actor ≤ 32 → is_live w h (Branch b) ≡ true → is_choice_of (held h) s.branch.pattern names ≡ true → IsAllowed w h (events.Fire t (Branch b) names [])
+pub fire_allowed : (w : Parts) (first : PlainFacts w) (h : List Event) (t : TaskId) (b : ℕ) (s : Placement) (names : List MsgId) → placement w b ≡ Some s → has_task (fired h) t ≡ false → t.actor ≤ 32 → is_live w h (Branch b) ≡ true → is_choice_of (held h) s.branch.pattern names ≡ true → IsAllowed w h (events.Fire t (Branch b) names [])
 fire_allowed w first h t b s names sits fresh low live chosen =
     let new : is_new h t ≡ true = grind (arith, nat_tests, fresh, low) in
     let choice : is_choice w h (Branch b) names ≡ true = rw sits chosen in
@@ -72,17 +72,17 @@ same_drop : (d : Option TaskId) → same_options same_task d d ≡ true
 same_drop None = refl
 same_drop (Some x) = same_task-self x
 
-pub put_allowed : (w : Parts) (first : PlainFacts w) (h : List Event) (t : TaskId) (d : Option TaskId) (f : Firing) (s : Seat) → firing_named h t ≡ Some f → seat w (branch_of f.spot) ≡ Some s → has_task (put h) t ≡ false → has_task (cut h) t ≡ false → drop_at w h t ≡ d → IsAllowed w h (events.Put t d)
+pub put_allowed : (w : Parts) (first : PlainFacts w) (h : List Event) (t : TaskId) (d : Option TaskId) (f : Firing) (s : Placement) → firing_named h t ≡ Some f → placement w (branch_of f.spot) ≡ Some s → has_task (put h) t ≡ false → has_task (cut h) t ≡ false → drop_at w h t ≡ d → IsAllowed w h (events.Put t d)
 put_allowed w first h t d f s fires sits not_put not_cut drops =
     let may : may_put w h t ≡ true = rw (not_put, not_cut, fires) (needs f.spot sits) in
     let drop : same_options same_task d (drop_at w h t) ≡ true = subst (λ o. same_options same_task d o ≡ true) (sym drops) (same_drop d) in
     refused_pass (may_put w h t) 11 _ may (refused_pass (same_options same_task d (drop_at w h t)) 12 None drop refl)
   where
-    needs : (spot : Spot) → seat w (branch_of spot) ≡ Some s → needs_no_admission w spot || has_task (let_in h) t ≡ true
-    needs (Branch b) is = rw (is, first.seats_free b s is) refl
+    needs : (spot : Spot) → placement w (branch_of spot) ≡ Some s → needs_no_admission w spot || has_task (ever_admitted h) t ≡ true
+    needs (Branch b) is = rw (is, first.placements_free b s is) refl
     needs (Site b k) is = refl
 
-pub start_allowed : (w : Parts) (h : List Event) (t : TaskId) (a : ℕ) (s : Seat) (rest : List TaskId) → seat_of w h t ≡ Some s → queued w h s.branch.queue ≡ t ∷ rest → length w.posters ≤ a → a ≤ 32 → running_by h a ≡ [] → IsAllowed w h (events.Start t a)
+pub start_allowed : (w : Parts) (h : List Event) (t : TaskId) (a : ℕ) (s : Placement) (rest : List TaskId) → placement_of w h t ≡ Some s → queued w h s.branch.queue ≡ t ∷ rest → length w.posters ≤ a → a ≤ 32 → running_by h a ≡ [] → IsAllowed w h (events.Start t a)
 start_allowed w h t a s rest sits head above below idle =
     let oldest : is_oldest_queued w h t ≡ true = rw (sits, head, same_task-self t) refl in
     let may : may_start w h a ≡ true = grind (arith, nat_tests, above, below, idle) in

@@ -18,7 +18,7 @@ use Rattle.ccr_wiring.specs.declared.parts.ArbiterPart.{ArbiterPart}
 use Rattle.ccr_wiring.specs.declared.parts.Kind.{Kind}
 use Rattle.ccr_wiring.specs.declared.parts.Kind.TheVariants as kinds
 use Rattle.ccr_wiring.specs.declared.parts.Parts.{Parts}
-use Rattle.ccr_wiring.specs.Wirings.{Seat, seat, site_port}
+use Rattle.ccr_wiring.specs.Wirings.{Placement, placement, site_port}
 use Rattle.ccr_model.specs.declared.history.Event.{Event}
 use Rattle.ccr_model.specs.declared.history.Event.TheVariants as events
 use Rattle.ccr_model.specs.Choice.{is_choice_of, are_oldest}
@@ -174,7 +174,7 @@ module _ (w : Parts) (n : ℕ) (first : PlainFacts w) (few : n ≤ 33) (lacks : 
           note = (rw (is, choosable) at note_so) ∙ ap (λ j. notes.Claim (name_at e.actor before) slot (Got j)) (sym facts.whole)
 
   -- the commit at a receiver or a choice
-  commit_arbiter : (b : ℕ) (s : Seat) (more : List Spot) (had : List Had) (i : ℕ) (part : ArbiterPart) → seat w b ≡ Some s → s.arbiter ≡ i → slice_get w.arbiters i ≡ Some part → turn before ≡ drive (Branch b) more → before.phase ≡ claiming [] had → Fits s.branch.pattern [] had → e.place ≡ places.Arbiter i → arbiter_note (arbiter_after (first_branch w i) part (notes_at es (places.Arbiter i))) (asks.Commit (firing_task (plan_of w (Branch b)) (name_at e.actor before) (in_pattern s.branch.pattern had)) (names_of (in_pattern s.branch.pattern had))) ≡ Some e.note → Done
+  commit_arbiter : (b : ℕ) (s : Placement) (more : List Spot) (had : List Had) (i : ℕ) (part : ArbiterPart) → placement w b ≡ Some s → s.arbiter ≡ i → slice_get w.arbiters i ≡ Some part → turn before ≡ drive (Branch b) more → before.phase ≡ claiming [] had → Fits s.branch.pattern [] had → e.place ≡ places.Arbiter i → arbiter_note (arbiter_after (first_branch w i) part (notes_at es (places.Arbiter i))) (asks.Commit (firing_task (plan_of w (Branch b)) (name_at e.actor before) (in_pattern s.branch.pattern had)) (names_of (in_pattern s.branch.pattern had))) ≡ Some e.note → Done
   commit_arbiter b s more had i part sits at_its there_part turns phase fits there gives = by_dead (arbiters.dead_by arbiter) refl
     where
       task : Task
@@ -213,7 +213,7 @@ module _ (w : Parts) (n : ℕ) (first : PlainFacts w) (few : n ≤ 33) (lacks : 
         no_port = refl;
         no_queue = refl;
         no_meter = refl;
-        at_once = rw (sits, first.seats_free b s sits) refl;
+        at_once = rw (sits, first.placements_free b s sits) refl;
         note = note;
         turns = turns;
         even = even;
@@ -251,7 +251,7 @@ module _ (w : Parts) (n : ℕ) (first : PlainFacts w) (few : n ≤ 33) (lacks : 
           note : e.note ≡ notes.Dead (name_at e.actor before) (Branch b) by
           note = given_so.1 ∙ ap (λ o. commit_note task (names_of (in_pattern s.branch.pattern had)) o (notes.Fired task.id task.spot (names_of (in_pattern s.branch.pattern had)) [])) is
 
-  commit_by : (b : ℕ) (s : Seat) (more : List Spot) (had : List Had) → seat w b ≡ Some s → turn before ≡ drive (Branch b) more → before.phase ≡ claiming [] had → Fits s.branch.pattern [] had → Given w es e (at_place (places.Arbiter (arbiter_at w (Branch b))) (asks.Commit (firing_task (plan_of w (Branch b)) (name_at e.actor before) (in_pattern s.branch.pattern had)) (names_of (in_pattern s.branch.pattern had)))) → Done
+  commit_by : (b : ℕ) (s : Placement) (more : List Spot) (had : List Had) → placement w b ≡ Some s → turn before ≡ drive (Branch b) more → before.phase ≡ claiming [] had → Fits s.branch.pattern [] had → Given w es e (at_place (places.Arbiter (arbiter_at w (Branch b))) (asks.Commit (firing_task (plan_of w (Branch b)) (name_at e.actor before) (in_pattern s.branch.pattern had)) (names_of (in_pattern s.branch.pattern had)))) → Done
   commit_by b s more had sits turns phase fits got = by_part (slice_get w.arbiters i) refl got.gives
     where
       i : ℕ
@@ -370,7 +370,7 @@ module _ (w : Parts) (n : ℕ) (first : PlainFacts w) (few : n ≤ 33) (lacks : 
       by_spot : (x : Spot) → spot ≡ x → SpotFits w spot → Done
       by_spot (Branch b) is fits = by_phase (λ had phase. commit_by b found.0 more had found.1 branch_turns phase (fits_so had phase) (given_now had phase)) before.phase refl
         where
-          found : (s : Seat) × (seat w b ≡ Some s)
+          found : (s : Placement) × (placement w b ≡ Some s)
           found = subst (SpotFits w) is fits
 
           branch_turns : turn before ≡ drive (Branch b) more

@@ -9,7 +9,7 @@ use Rattle.ccr_base.specs.declared.patterns.Pattern.TheVariants.{Slots, Gather}
 use Rattle.ccr_base.specs.declared.patterns.Slot.{Slot}
 use Rattle.ccr_wiring.specs.declared.parts.Parts.{Parts}
 use Rattle.ccr_base.specs.declared.names.Spot.TheVariants.{Branch, Site}
-use Rattle.ccr_wiring.specs.Wirings.{Seat, seat, site_port}
+use Rattle.ccr_wiring.specs.Wirings.{Placement, placement, site_port}
 use Rattle.ccr_model.proofs.Members.{Among}
 use Rattle.ccr_claim.specs.declared.plan.Had.{Had}
 use Rattle.ccr_claim.specs.Plans.{sort_slots, slots_in, any_slot, gather_slots, narrowed, rest_narrowed}
@@ -80,7 +80,7 @@ PhaseFits w n (claiming slots had) (spot ∷ more) = (nat_lt n (2 ^ 32) ≡ true
 
 -- a branch, or a site that awaits a port
 abbrev pub SpotFits : Parts → Spot → Type 0
-SpotFits w (Branch b) = (s : Seat) × (seat w b ≡ Some s)
+SpotFits w (Branch b) = (s : Placement) × (placement w b ≡ Some s)
 SpotFits w (Site b k) = (port : ℕ) × (site_port w b k ≡ Some port)
 
 -- an actor's drive is over spots of the wiring

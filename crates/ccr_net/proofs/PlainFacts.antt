@@ -20,7 +20,7 @@ use Rattle.ccr_base.specs.Names.{same_task, has_task, same_lists}
 use Rattle.ccr_handler.specs.declared.segments.PlayEnd.TheVariants as plays
 use Rattle.ccr_wiring.specs.declared.parts.ArbiterPart.{ArbiterPart}
 use Rattle.ccr_wiring.specs.declared.parts.Parts.{Parts}
-use Rattle.ccr_wiring.specs.Wirings.{Seat, seat, spots, policy_of, next_site}
+use Rattle.ccr_wiring.specs.Wirings.{Placement, placement, spots, policy_of, next_site}
 use Rattle.ccr_model.specs.declared.history.Event.{Event}
 use Rattle.ccr_model.specs.declared.history.Event.TheVariants as events
 use Rattle.ccr_model.specs.Firings.{cut, firing_of, started}
@@ -50,16 +50,16 @@ IsEven (Slots slots) = (slot : Slot) → Among slot slots → slot.least ≡ slo
 IsEven (Gather total first second) = Unit {0}
 
 -- a branch fires always, or one firing retires its arbiter
-abbrev pub Retires : Parts → Seat → ArbiterPart → Type 0
+abbrev pub Retires : Parts → Placement → ArbiterPart → Type 0
 Retires w s part = (s.branch.group ≡ groups.Always) ⊎ (((arbiter_after (first_branch w s.arbiter) part []).once ≡ true) × ((s.branch.group ≡ groups.Once) ⊎ (s.branch.group ≡ groups.Choice)))
 
 -- what the proofs use of a valid wiring that is plain
 pub record PlainFacts (w : Parts) : Type 0 where
-  pub no_teardown : (b : ℕ) (s : Seat) → seat w b ≡ Some s → is_teardown s.branch.group ≡ false
-  pub retires : (b : ℕ) (s : Seat) (part : ArbiterPart) → seat w b ≡ Some s → slice_get w.arbiters s.arbiter ≡ Some part → arbiters.has_spot (arbiter_after (first_branch w s.arbiter) part []) (Branch b) ≡ true → Retires w s part
-  pub even : (b : ℕ) (s : Seat) → seat w b ≡ Some s → IsEven s.branch.pattern
-  pub seats_free : (b : ℕ) (s : Seat) → seat w b ≡ Some s → is_interleave s.kind ≡ false
-  pub no_interleaves : (b : ℕ) (s : Seat) → seat w b ≡ Some s → is_interleave_number w s.arbiter ≡ false
+  pub no_teardown : (b : ℕ) (s : Placement) → placement w b ≡ Some s → is_teardown s.branch.group ≡ false
+  pub retires : (b : ℕ) (s : Placement) (part : ArbiterPart) → placement w b ≡ Some s → slice_get w.arbiters s.arbiter ≡ Some part → arbiters.has_spot (arbiter_after (first_branch w s.arbiter) part []) (Branch b) ≡ true → Retires w s part
+  pub even : (b : ℕ) (s : Placement) → placement w b ≡ Some s → IsEven s.branch.pattern
+  pub placements_free : (b : ℕ) (s : Placement) → placement w b ≡ Some s → is_interleave s.kind ≡ false
+  pub no_interleaves : (b : ℕ) (s : Placement) → placement w b ≡ Some s → is_interleave_number w s.arbiter ≡ false
   pub no_throttles : (q : ℕ) → is_throttle (policy_of w q) ≡ false
   pub places_so : (spot : Spot) → Among spot (spots w) → SpotFits w spot
   pub sites_so : (task : Task) (site : ℕ) → (play_in w task).end ≡ plays.Yield site → SpotFits w (next_site task.spot)
@@ -98,11 +98,11 @@ no_cuts_kept w first h (events.Fire t s ms cs) is allowed =
   where
     at_spot : (s : Spot) → cuts_at w h s ≡ []
     at_spot (Site b k) = refl
-    at_spot (Branch b) = of_seat (seat w b) refl
+    at_spot (Branch b) = of_placement (placement w b) refl
       where
-        of_seat : (o : Option Seat) → seat w b ≡ o → cuts_at w h (Branch b) ≡ []
-        of_seat None e = rw e refl
-        of_seat (Some x) e = rw (e, first.no_teardown b x e) refl
+        of_placement : (o : Option Placement) → placement w b ≡ o → cuts_at w h (Branch b) ≡ []
+        of_placement None e = rw e refl
+        of_placement (Some x) e = rw (e, first.no_teardown b x e) refl
 
     empty : (cs ds : List TaskId) → ds ≡ [] → same_lists same_task cs ds ≡ true → cs ≡ []
     empty [] ds none now = refl

@@ -22,9 +22,9 @@ use Rattle.ccr_wiring.specs.declared.parts.Kind.TheVariants as kinds
 use Rattle.ccr_wiring.specs.declared.parts.Parts.{Parts}
 use Rattle.ccr_wiring.specs.Groups.{may_have, is_receive, is_one_named, is_misgrouped, has_strange_group}
 use Rattle.ccr_wiring.specs.Valid.{IsValid, IsSound, IsPatternFilled}
-use Rattle.ccr_wiring.specs.Wirings.{Seat, seat, seats, seats_from, in_domain, spots_from, sites_from, site_port, actions_of, awaited, branch_of, segment_of, exception_port}
+use Rattle.ccr_wiring.specs.Wirings.{Placement, placement, placements, placements_from, in_domain, spots_from, sites_from, site_port, actions_of, awaited, branch_of, segment_of, exception_port}
 use Rattle.ccr_wiring.proofs.Lists.{neither, none_at}
-use Rattle.ccr_wiring.proofs.SeatPlaces.{seat-here, seat-later, seat-domain}
+use Rattle.ccr_wiring.proofs.Positions.{placement-here, placement-later, placement-domain}
 use Rattle.ccr_wiring.proofs.Soundness.{sound}
 use Rattle.ccr_wiring.proofs.Validity.{no_codes}
 use Rattle.ccr_model.specs.Tasks.{is_interleave, is_teardown}
@@ -78,15 +78,15 @@ no_teardown_in kinds.Choice groups.Concurrent free may = refl
 no_teardown_in kinds.Interleave group free may = absurd (cc)
 
 -- where an arbiter has one branch, that is the branch of its first number
-first_seat : (n i : ℕ) (arbiters : List ArbiterPart) (part : ArbiterPart) (one : BranchPart) → slice_get arbiters i ≡ Some part → part.branches ≡ one ∷ [] → option_map (λ (s : Seat). s.branch) (slice_get (seats_from n arbiters) (branches_before i arbiters)) ≡ Some one
-first_seat n i [] part one at is = absurd (cc)
-first_seat n zero (a ∷ arbiters) part one at is =
+first_placement : (n i : ℕ) (arbiters : List ArbiterPart) (part : ArbiterPart) (one : BranchPart) → slice_get arbiters i ≡ Some part → part.branches ≡ one ∷ [] → option_map (λ (s : Placement). s.branch) (slice_get (placements_from n arbiters) (branches_before i arbiters)) ≡ Some one
+first_placement n i [] part one at is = absurd (cc)
+first_placement n zero (a ∷ arbiters) part one at is =
     let same : a ≡ part = cc in
-    ap (option_map (λ (s : Seat). s.branch)) (seat-here n a arbiters 0 one (rw (same, is) refl))
-first_seat n (suc i) (a ∷ arbiters) part one at is =
+    ap (option_map (λ (s : Placement). s.branch)) (placement-here n a arbiters 0 one (rw (same, is) refl))
+first_placement n (suc i) (a ∷ arbiters) part one at is =
     let low : length a.branches ≤ length a.branches + branches_before i arbiters = omega arith in
     let rest : (length a.branches + branches_before i arbiters) - length a.branches ≡ branches_before i arbiters = omega arith in
-    ap (option_map (λ (s : Seat). s.branch)) (seat-later n a arbiters (length a.branches + branches_before i arbiters) low ∙ ap (slice_get (seats_from (n + 1) arbiters)) rest) ∙ first_seat (n + 1) i arbiters part one at is
+    ap (option_map (λ (s : Placement). s.branch)) (placement-later n a arbiters (length a.branches + branches_before i arbiters) low ∙ ap (slice_get (placements_from (n + 1) arbiters)) rest) ∙ first_placement (n + 1) i arbiters part one at is
 
 -- a receive has one branch
 one_branch : (w : Parts) → IsValid w → (i : ℕ) (part : ArbiterPart) → slice_get w.arbiters i ≡ Some part → part.kind ≡ kinds.Receive → (one : BranchPart) × (part.branches ≡ one ∷ [])
@@ -105,20 +105,20 @@ one_branch w valid i part at kind =
     of_list (one ∷ other ∷ more) is named = absurd (let so : is_one_named part.name (one ∷ other ∷ more) ≡ true = subst (λ l. is_one_named part.name l ≡ true) is named in let some : (length (other ∷ more) == 0) ≡ false = grind (arith, nat_tests) in let two = (both (length (other ∷ more) == 0) _ so).0 in cc)
 
 -- the branch that stands at the first number of its receive is that one
-its_branch : (w : Parts) (b i : ℕ) (s : Seat) (part : ArbiterPart) (one : BranchPart) → seat w b ≡ Some s → slice_get w.arbiters i ≡ Some part → part.branches ≡ one ∷ [] → b ≡ first_branch w i → s.branch ≡ one
-its_branch w b i s part one sits at is number = of_seat (slice_get (seats_from 0 w.arbiters) b) (seat-domain w b ∙ sits) (ap (λ k. option_map (λ (r : Seat). r.branch) (slice_get (seats_from 0 w.arbiters) k)) number ∙ first_seat 0 i w.arbiters part one at is)
+its_branch : (w : Parts) (b i : ℕ) (s : Placement) (part : ArbiterPart) (one : BranchPart) → placement w b ≡ Some s → slice_get w.arbiters i ≡ Some part → part.branches ≡ one ∷ [] → b ≡ first_branch w i → s.branch ≡ one
+its_branch w b i s part one sits at is number = of_placement (slice_get (placements_from 0 w.arbiters) b) (placement-domain w b ∙ sits) (ap (λ k. option_map (λ (r : Placement). r.branch) (slice_get (placements_from 0 w.arbiters) k)) number ∙ first_placement 0 i w.arbiters part one at is)
   where
-    of_seat : (o : Option Seat) → option_map (in_domain w.domains) o ≡ Some s → option_map (λ (r : Seat). r.branch) o ≡ Some one → s.branch ≡ one
-    of_seat None here there = absurd (cc)
-    of_seat (Some r) here there = sym (inside _ s here) ∙ same _ one there
+    of_placement : (o : Option Placement) → option_map (in_domain w.domains) o ≡ Some s → option_map (λ (r : Placement). r.branch) o ≡ Some one → s.branch ≡ one
+    of_placement None here there = absurd (cc)
+    of_placement (Some r) here there = sym (inside _ s here) ∙ same _ one there
       where
-        inside : (x y : Seat) → Some x ≡ Some y → x.branch ≡ y.branch
-        inside x y e = let one' : x ≡ y = cc in ap (λ (z : Seat). z.branch) one'
+        inside : (x y : Placement) → Some x ≡ Some y → x.branch ≡ y.branch
+        inside x y e = let one' : x ≡ y = cc in ap (λ (z : Placement). z.branch) one'
 
         same : (x y : BranchPart) → Some x ≡ Some y → x ≡ y
         same x y e = cc
 
-retires_so : (w : Parts) → IsValid w → IsPlain w → (b : ℕ) (s : Seat) (part : ArbiterPart) → seat w b ≡ Some s → slice_get w.arbiters s.arbiter ≡ Some part → arbiters.has_spot (arbiter_after (first_branch w s.arbiter) part []) (Branch b) ≡ true → Retires w s part
+retires_so : (w : Parts) → IsValid w → IsPlain w → (b : ℕ) (s : Placement) (part : ArbiterPart) → placement w b ≡ Some s → slice_get w.arbiters s.arbiter ≡ Some part → arbiters.has_spot (arbiter_after (first_branch w s.arbiter) part []) (Branch b) ≡ true → Retires w s part
 retires_so w valid plain b s part sits at here = by s.kind s.branch.group refl refl (all.groups b s sits) (plain.no_interleaves b s sits)
   where
     all : IsSound w
@@ -185,26 +185,26 @@ yields_awaits port_of values segment (actions.Await port ∷ acts) site causes i
 
 -- so there is a site for the task
 pub yields_at_site : (w : Parts) (task : Task) (site : ℕ) → (play_in w task).end ≡ plays.Yield site → (port : ℕ) × (site_port w (branch_of task.spot) (segment_of task.spot) ≡ Some port)
-yields_at_site w task site is = of_seat (seat w (branch_of task.spot)) refl
+yields_at_site w task site is = of_placement (placement w (branch_of task.spot)) refl
   where
     k : ℕ
     k = segment_of task.spot
 
-    acts : Option Seat → List Action
-    acts o = option_map_or (λ (s : Seat). actions_of w s.branch.handler) o []
+    acts : Option Placement → List Action
+    acts o = option_map_or (λ (s : Placement). actions_of w s.branch.handler) o []
 
-    found : (port : ℕ) × (rest : List ℕ) × (awaited (actions_from k (acts (seat w (branch_of task.spot)))) ≡ port ∷ rest)
-    found = yields_awaits (exception_port w) task.values k (actions_from k (acts (seat w (branch_of task.spot)))) site task.causes is
+    found : (port : ℕ) × (rest : List ℕ) × (awaited (actions_from k (acts (placement w (branch_of task.spot)))) ≡ port ∷ rest)
+    found = yields_awaits (exception_port w) task.values k (actions_from k (acts (placement w (branch_of task.spot)))) site task.causes is
 
-    there : slice_get (awaited (acts (seat w (branch_of task.spot)))) k ≡ Some found.0
-    there = (drop-next k (awaited (acts (seat w (branch_of task.spot)))) found.0 found.1 (sym found.2 ∙ awaited-from k (acts (seat w (branch_of task.spot))))).0
+    there : slice_get (awaited (acts (placement w (branch_of task.spot)))) k ≡ Some found.0
+    there = (drop-next k (awaited (acts (placement w (branch_of task.spot)))) found.0 found.1 (sym found.2 ∙ awaited-from k (acts (placement w (branch_of task.spot))))).0
 
-    of_seat : (o : Option Seat) → seat w (branch_of task.spot) ≡ o → (port : ℕ) × (site_port w (branch_of task.spot) k ≡ Some port)
-    of_seat None none = absurd (let nothing : slice_get (awaited (acts None)) k ≡ Some found.0 = subst (λ o. slice_get (awaited (acts o)) k ≡ Some found.0) none there in nobody nothing)
+    of_placement : (o : Option Placement) → placement w (branch_of task.spot) ≡ o → (port : ℕ) × (site_port w (branch_of task.spot) k ≡ Some port)
+    of_placement None none = absurd (let nothing : slice_get (awaited (acts None)) k ≡ Some found.0 = subst (λ o. slice_get (awaited (acts o)) k ≡ Some found.0) none there in nobody nothing)
       where
         nobody : slice_get {X = ℕ} [] k ≡ Some found.0 → ⊥
         nobody e = absurd (cc)
-    of_seat (Some s) some = (found.0, ap (λ o. option_map_or (λ (r : Seat). slice_get (awaited (actions_of w r.branch.handler)) k) o None) some ∙ (subst (λ o. slice_get (awaited (acts o)) k ≡ Some found.0) some there))
+    of_placement (Some s) some = (found.0, ap (λ o. option_map_or (λ (r : Placement). slice_get (awaited (actions_of w r.branch.handler)) k) o None) some ∙ (subst (λ o. slice_get (awaited (acts o)) k ≡ Some found.0) some there))
 
 -- ---- each spot of the wiring is a branch or a site
 
@@ -216,16 +216,16 @@ sites_in b n (port ∷ ports) spot (inr more) =
     let same : (n + 1) + found.0 ≡ n + suc found.0 = omega arith in
     (suc found.0, found.1, found.2 ∙ ap (Site b) same, found.3)
 
-spots_fit : (w : Parts) (k : ℕ) (ss : List Seat) (spot : Spot) → ((i : ℕ) (s : Seat) → slice_get ss i ≡ Some s → seat w (k + i) ≡ Some s) → Among spot (spots_from w k ss) → SpotFits w spot
+spots_fit : (w : Parts) (k : ℕ) (ss : List Placement) (spot : Spot) → ((i : ℕ) (s : Placement) → slice_get ss i ≡ Some s → placement w (k + i) ≡ Some s) → Among spot (spots_from w k ss) → SpotFits w spot
 spots_fit w k [] spot known is = absurd is
 spots_fit w k (s ∷ ss) spot known (inl e) = subst (SpotFits w) (sym e) (s, here)
   where
-    here : seat w k ≡ Some s
-    here = ap (seat w) (let same : k ≡ k + 0 = omega arith in same) ∙ known 0 s refl
-spots_fit w k (s ∷ ss) spot known (inr more) = by (Among-either spot (sites_from k 0 (awaited (actions_of w s.branch.handler))) (spots_from w (k + 1) ss) more) (spots_fit w (k + 1) ss spot (λ i r at_i. ap (seat w) (let same : (k + 1) + i ≡ k + suc i = omega arith in same) ∙ known (suc i) r at_i))
+    here : placement w k ≡ Some s
+    here = ap (placement w) (let same : k ≡ k + 0 = omega arith in same) ∙ known 0 s refl
+spots_fit w k (s ∷ ss) spot known (inr more) = by (Among-either spot (sites_from k 0 (awaited (actions_of w s.branch.handler))) (spots_from w (k + 1) ss) more) (spots_fit w (k + 1) ss spot (λ i r at_i. ap (placement w) (let same : (k + 1) + i ≡ k + suc i = omega arith in same) ∙ known (suc i) r at_i))
   where
-    here : seat w k ≡ Some s
-    here = ap (seat w) (let same : k ≡ k + 0 = omega arith in same) ∙ known 0 s refl
+    here : placement w k ≡ Some s
+    here = ap (placement w) (let same : k ≡ k + 0 = omega arith in same) ∙ known 0 s refl
 
     by : Among spot (sites_from k 0 (awaited (actions_of w s.branch.handler))) ⊎ Among spot (spots_from w (k + 1) ss) → (Among spot (spots_from w (k + 1) ss) → SpotFits w spot) → SpotFits w spot
     by (inl site) later =
@@ -239,10 +239,10 @@ plain_facts w valid plain = record {
   no_teardown = λ b s is. no_teardown_in s.kind s.branch.group (plain.no_interleaves b s is) (all.groups b s is);
   retires = retires_so w valid plain;
   even = λ b s is. even_filled s.branch.pattern (all.patterns b s is);
-  seats_free = plain.no_interleaves;
+  placements_free = plain.no_interleaves;
   no_interleaves = λ b s is. no_number (slice_get w.arbiters s.arbiter) s.kind (plain.no_interleaves b s is) (all.domains b s is);
   no_throttles = plain.no_throttles;
-  places_so = λ spot is. spots_fit w 0 (seats w) spot (λ i r at_i. ap (seat w) (from_none i) ∙ at_i) is;
+  places_so = λ spot is. spots_fit w 0 (placements w) spot (λ i r at_i. ap (placement w) (from_none i) ∙ at_i) is;
   sites_so = λ task site is. yields_at_site w task site is;
 }
   where

@@ -9,13 +9,13 @@ use Rattle.ccr_base.specs.declared.policies.Policy.{Policy}
 use Rattle.ccr_base.specs.declared.policies.Policy.TheVariants.{Unbounded, Discard, Throttle}
 use Rattle.ccr_base.specs.Names.{same_task, has_task, without}
 use Rattle.ccr_wiring.specs.declared.parts.Parts.{Parts}
-use Rattle.ccr_wiring.specs.Wirings.{Seat, policy_of}
+use Rattle.ccr_wiring.specs.Wirings.{Placement, policy_of}
 use Rattle.ccr_model.specs.declared.history.Event.{Event}
 use Rattle.ccr_model.specs.declared.history.Event.TheVariants as events
 use Rattle.ccr_model.specs.Consequences.{are_distinct_tasks}
 use Rattle.ccr_model.specs.Firings.{firing_of, firings, fired, put, put_by, started, started_by, dropped, dropped_by}
 use Rattle.ccr_model.specs.Rules.{drop_at, drop_by}
-use Rattle.ccr_model.specs.TaskData.{seat_of}
+use Rattle.ccr_model.specs.TaskData.{placement_of}
 use Rattle.ccr_model.specs.Tasks.{queued, is_for_queue}
 use Rattle.ccr_model.specs.Legal.{IsLegal}
 use Rattle.ccr_model.proofs.Booleans.{same_number, eq-self, refuted}
@@ -79,12 +79,12 @@ queued_once w h q legal = distinct-filter (is_for_queue w h q) (without (put h) 
 -- a task is queued at one queue
 pub one_queue : (w : Parts) (h : List Event) (q k : ℕ) (t : TaskId) → has_task (queued w h q) t ≡ true → has_task (queued w h k) t ≡ true → q ≡ k
 one_queue w h q k t at_q at_k =
-    let one = some_of (λ (s : Seat). s.branch.queue == q) (seat_of w h t) (QueuedFacts-queued w h q t at_q).for_queue in
-    let two = some_of (λ (s : Seat). s.branch.queue == k) (seat_of w h t) (QueuedFacts-queued w h k t at_k).for_queue in
+    let one = some_of (λ (s : Placement). s.branch.queue == q) (placement_of w h t) (QueuedFacts-queued w h q t at_q).for_queue in
+    let two = some_of (λ (s : Placement). s.branch.queue == k) (placement_of w h t) (QueuedFacts-queued w h k t at_k).for_queue in
     let same : one.0 ≡ two.0 = inside one.0 two.0 (sym one.1 ∙ two.1) in
-    sym (same_number one.0.branch.queue q one.2) ∙ ap (λ (s : Seat). s.branch.queue) same ∙ same_number two.0.branch.queue k two.2
+    sym (same_number one.0.branch.queue q one.2) ∙ ap (λ (s : Placement). s.branch.queue) same ∙ same_number two.0.branch.queue k two.2
   where
-    inside : (s r : Seat) → Some s ≡ Some r → s ≡ r
+    inside : (s r : Placement) → Some s ≡ Some r → s ≡ r
     inside s r is = cc
 
 -- ---- the steps
@@ -152,7 +152,7 @@ drop_same (Discard n) qs = rw (length-map qs task_queued) (of_test (nat_le n (le
     of_test true = heads qs
     of_test false = refl
 
-pub drop_at-note : (w : Parts) (h : List Event) (queue : ℕ → QueueState) (q : ℕ) (t : TaskId) (s : Seat) → QueuesMatch w h queue → seat_of w h t ≡ Some s → s.branch.queue ≡ q → drop_at w h t ≡ queues.put_note (queue q)
+pub drop_at-note : (w : Parts) (h : List Event) (queue : ℕ → QueueState) (q : ℕ) (t : TaskId) (s : Placement) → QueuesMatch w h queue → placement_of w h t ≡ Some s → s.branch.queue ≡ q → drop_at w h t ≡ queues.put_note (queue q)
 drop_at-note w h queue q t s match sits at_q = rw (sits, at_q, sym (match.queued_so q), sym (match.policy_so q)) (drop_same (queue q).policy (queue q).queued)
 
 pub QueuesMatch-put : (w : Parts) (h : List Event) (queue queue' : ℕ → QueueState) (q : ℕ) (t : TaskId) → IsLegal w h → has_task (put h) t ≡ false → ((k : ℕ) → is_for_queue w h k t ≡ (q == k)) → QueueChanges queue queue' q (notes.Put t (queues.put_note (queue q))) → QueuesMatch w h queue → QueuesMatch w (h ++ events.Put t (queues.put_note (queue q)) ∷ []) queue'

@@ -17,7 +17,7 @@ use Rattle.ccr_base.specs.declared.patterns.Slot.{Slot}
 use Rattle.ccr_base.specs.declared.tasks.Task.{Task}
 use Rattle.ccr_base.specs.Names.{same_task, has_task, has_message}
 use Rattle.ccr_wiring.specs.declared.parts.Parts.{Parts}
-use Rattle.ccr_wiring.specs.Wirings.{Seat, seat, policy_of, branch_of, segment_of, next_site}
+use Rattle.ccr_wiring.specs.Wirings.{Placement, placement, policy_of, branch_of, segment_of, next_site}
 use Rattle.ccr_model.specs.declared.history.Event.{Event}
 use Rattle.ccr_model.specs.declared.history.Event.TheVariants as events
 use Rattle.ccr_model.specs.declared.history.EndHow.{EndHow}
@@ -26,7 +26,7 @@ use Rattle.ccr_model.specs.Choice.{is_choice_of, are_first, are_oldest}
 use Rattle.ccr_model.specs.Firings.{Firing, fired, firings, put, ended, yielded_by}
 use Rattle.ccr_model.specs.Legal.{IsAllowed}
 use Rattle.ccr_model.specs.Posts.{posts, posts_of_task, held, taken}
-use Rattle.ccr_model.specs.TaskData.{seat_of}
+use Rattle.ccr_model.specs.TaskData.{placement_of}
 use Rattle.ccr_model.specs.Tasks.{queued, is_for_queue, running_by}
 use Rattle.ccr_model.proofs.Booleans.{same_number, eq-self, refuted, no_both}
 use Rattle.ccr_model.proofs.FiredTasks.{IsFired, IsFired-append}
@@ -38,7 +38,7 @@ use Rattle.ccr_model.proofs.Pushes.{posts-push, put-push}
 use Rattle.ccr_model.proofs.SameNames.{same_task-self}
 use Rattle.ccr_model.proofs.TaskSteps.{queued-fire}
 use Rattle.ccr_model.proofs.FiringFacts.{firing_named-new}
-use Rattle.ccr_model.proofs.Seated.{firing_seated}
+use Rattle.ccr_model.proofs.FiringPlacements.{firing_with_placement}
 use Rattle.ccr_model.proofs.TaskLists.{without-append, has_oldest}
 use Rattle.ccr_model.proofs.TaskPlaces.{ArePlaced-legal, QueuedFacts, QueuedFacts-queued}
 use Rattle.ccr_places.specs.declared.notes.Note.TheVariants as notes
@@ -207,9 +207,9 @@ module _ (w : Parts) (n : ℕ) (first : PlainFacts w) (few : n ≤ 33) (lacks : 
   -- the arbiter of a fired task is no Interleave
   free_arbiter : (t : TaskId) → IsFired h t → is_interleave_number w (arbiter_of w h t) ≡ false
   free_arbiter t fires =
-      let seated = firing_seated w h holds.legal fires.0 (found_member (λ (f : Firing). same_task f.task t) (firings h) fires.0 fires.1).0 in
-      let its : arbiter_of w h t ≡ seated.0.arbiter = rw (fires.1, seated.1) refl in
-      ap (is_interleave_number w) its ∙ first.no_interleaves (branch_of (fires.0).spot) seated.0 seated.1
+      let with_placement = firing_with_placement w h holds.legal fires.0 (found_member (λ (f : Firing). same_task f.task t) (firings h) fires.0 fires.1).0 in
+      let its : arbiter_of w h t ≡ with_placement.0.arbiter = rw (fires.1, with_placement.1) refl in
+      ap (is_interleave_number w) its ∙ first.no_interleaves (branch_of (fires.0).spot) with_placement.0 with_placement.1
 
   -- ---- a put
 
@@ -217,7 +217,7 @@ module _ (w : Parts) (n : ℕ) (first : PlainFacts w) (few : n ≤ 33) (lacks : 
   step_put q t x more place note turns is_put mine fires unput at_queue = Holds-kept w n lacks es e (next dropped) (h ++ event ∷ []) (record {
     shows = shows_so;
     goes = rw (shows_so, turns, note) refl;
-    legal = legal_push w [] h event holds.legal (put_allowed w first h t d fires.0 seated.0 fires.1 seated.1 unput (rw (no_cuts w first h holds.legal) refl) (drop_at-note w h (queue_at w es) q t seated.0 holds.queues (rw fires.1 seated.1) at_its));
+    legal = legal_push w [] h event holds.legal (put_allowed w first h t d fires.0 with_placement.0 fires.1 with_placement.1 unput (rw (no_cuts w first h holds.legal) refl) (drop_at-note w h (queue_at w es) q t with_placement.0 holds.queues (rw fires.1 with_placement.1) at_its));
     ports = rw same (PortsMatch-event h event (port_at es) (rw (posts-push, append-nil) refl) taken_so fired_so holds.ports);
     queues = QueuesMatch-put w h (queue_at w es) (queue_at w (es ++ e ∷ [])) q t holds.legal unput at_own (subst (QueueChanges (queue_at w es) (queue_at w (es ++ e ∷ [])) q) note (queue_changes w es e q place)) holds.queues;
     own = rw same (of_dropped dropped outside);
@@ -288,14 +288,14 @@ module _ (w : Parts) (n : ℕ) (first : PlainFacts w) (few : n ≤ 33) (lacks : 
       says : (a : ℕ) → SaysSame h event a
       says a = quiet_says h event a (rw (posts-push, append-nil) refl) (λ c. refl) refl
 
-      seated : (s : Seat) × (seat w (branch_of (fires.0).spot) ≡ Some s)
-      seated = firing_seated w h holds.legal fires.0 (found_member (λ (f : Firing). same_task f.task t) (firings h) fires.0 fires.1).0
+      with_placement : (s : Placement) × (placement w (branch_of (fires.0).spot) ≡ Some s)
+      with_placement = firing_with_placement w h holds.legal fires.0 (found_member (λ (f : Firing). same_task f.task t) (firings h) fires.0 fires.1).0
 
-      at_its : seated.0.branch.queue ≡ q
-      at_its = sym (at_queue ∙ rw (fires.1, seated.1) refl)
+      at_its : with_placement.0.branch.queue ≡ q
+      at_its = sym (at_queue ∙ rw (fires.1, with_placement.1) refl)
 
       at_own : (k : ℕ) → is_for_queue w h k t ≡ (q == k)
-      at_own k = rw (at_queue, fires.1, seated.1) refl
+      at_own k = rw (at_queue, fires.1, with_placement.1) refl
 
       base : ActorMatches w (h ++ event ∷ []) (port_at es) e.actor (record before { hand = more })
       base = record {
@@ -352,8 +352,8 @@ module _ (w : Parts) (n : ℕ) (first : PlainFacts w) (few : n ≤ 33) (lacks : 
       facts : QueuedFacts w h q t
       facts = QueuedFacts-queued w h q t (has_oldest (queued w h q) (map task_queued found.others) t list)
 
-      its : (s : Seat) × (seat_of w h t ≡ Some s) × ((s.branch.queue == q) ≡ true)
-      its = some_of (λ (s : Seat). s.branch.queue == q) (seat_of w h t) facts.for_queue
+      its : (s : Placement) × (placement_of w h t ≡ Some s) × ((s.branch.queue == q) ≡ true)
+      its = some_of (λ (s : Placement). s.branch.queue == q) (placement_of w h t) facts.for_queue
 
       fires : IsFired h t
       fires = (ArePlaced-legal w h holds.legal).all_fired t facts.put_so

@@ -1,7 +1,7 @@
 -- The wiring in which a worker takes is plain, so its history is legal by the theorem too.
 use Rattle.std.proofs.Common.{◌≡◌, ℕ, zero, suc, false, Option, Some, refl, sym, ap, arith}
 use Rattle.std.specs.Option.{option_map_or}
-use Rattle.ccr_wiring.specs.Wirings.{Seat, seat, policy_of}
+use Rattle.ccr_wiring.specs.Wirings.{Placement, placement, policy_of}
 use Rattle.ccr_model.specs.Legal.{IsLegal}
 use Rattle.ccr_model.specs.Tasks.{is_interleave}
 use Rattle.ccr_net.specs.Plain.{IsPlain, is_throttle}
@@ -12,8 +12,8 @@ use Rattle.ccr_net.proofs.WorkedTaker.{net, run, is_run, is_valid}
 is_plain : IsPlain net
 is_plain = record { no_interleaves = free; no_throttles = rule }
   where
-    free : (b : ℕ) (s : Seat) → seat net b ≡ Some s → is_interleave s.kind ≡ false
-    free zero s is = ap (λ (o : Option Seat). option_map_or (λ (x : Seat). is_interleave x.kind) o false) (sym is)
+    free : (b : ℕ) (s : Placement) → placement net b ≡ Some s → is_interleave s.kind ≡ false
+    free zero s is = ap (λ (o : Option Placement). option_map_or (λ (x : Placement). is_interleave x.kind) o false) (sym is)
     free (suc b) s is = absurd (cc)
 
     rule : (q : ℕ) → is_throttle (policy_of net q) ≡ false

@@ -14,8 +14,8 @@ use Rattle.ccr_wiring.specs.declared.parts.BranchPart.{BranchPart}
 use Rattle.ccr_wiring.specs.declared.parts.Kind.{Kind}
 use Rattle.ccr_wiring.specs.declared.parts.Kind.TheVariants as kinds
 use Rattle.ccr_wiring.specs.declared.parts.Parts.{Parts}
-use Rattle.ccr_wiring.specs.Wirings.{Seat, seats, policy_of}
-use Rattle.ccr_model.specs.Interleaves.{is_seat_in}
+use Rattle.ccr_wiring.specs.Wirings.{Placement, placements, policy_of}
+use Rattle.ccr_model.specs.Interleaves.{is_placement_in}
 use Rattle.ccr_places.specs.declared.notes.Note.{Note}
 use Rattle.ccr_places.specs.declared.notes.Note.TheVariants as notes
 use Rattle.ccr_places.specs.Ports.{PortState}
@@ -69,17 +69,17 @@ arbiter_after first part earlier = arbiters.kept (by_kind part.kind) earlier
     by_kind kinds.Interleave = arbiters.receiver first false
 
 -- the numbers of those that are branches of the domain, of which the first has this number
-abbrev pub branches_from : ℕ → ℕ → List Seat → List ℕ
+abbrev pub branches_from : ℕ → ℕ → List Placement → List ℕ
 branches_from domain branch [] = []
-branches_from domain branch (s ∷ ss) = if is_seat_in domain s then branch ∷ branches_from domain (branch + 1) ss else branches_from domain (branch + 1) ss
+branches_from domain branch (s ∷ ss) = if is_placement_in domain s then branch ∷ branches_from domain (branch + 1) ss else branches_from domain (branch + 1) ss
 
 -- the groups of the domain's branches
 abbrev pub groups_in : Parts → ℕ → List Group
-groups_in wiring domain = map (λ (s : Seat). s.branch.group) (filter (is_seat_in domain) (seats wiring))
+groups_in wiring domain = map (λ (s : Placement). s.branch.group) (filter (is_placement_in domain) (placements wiring))
 
 -- a domain of Interleaves, which has the branches of all that are combined
 abbrev pub interleave_after : Parts → ℕ → List Note → InterleaveState
-interleave_after wiring domain earlier = interleaves.kept (interleaves.start (branches_from domain 0 (seats wiring)) (groups_in wiring domain)) earlier
+interleave_after wiring domain earlier = interleaves.kept (interleaves.start (branches_from domain 0 (placements wiring)) (groups_in wiring domain)) earlier
 
 abbrev pub site_after : ℕ → ℕ → List Note → SiteState
 site_after branch site earlier = sites.kept (sites.start branch site) earlier

@@ -5,7 +5,7 @@ use Rattle.ccr_base.specs.declared.names.Place.TheVariants as places
 use Rattle.ccr_base.specs.declared.names.Spot.{Spot}
 use Rattle.ccr_base.specs.declared.patterns.Slot.{Slot}
 use Rattle.ccr_wiring.specs.declared.parts.Parts.{Parts}
-use Rattle.ccr_wiring.specs.Wirings.{Seat}
+use Rattle.ccr_wiring.specs.Wirings.{Placement}
 use Rattle.ccr_model.specs.declared.history.Event.{Event}
 use Rattle.ccr_model.specs.Tasks.{is_interleave, is_branch_where}
 use Rattle.ccr_places.specs.declared.notes.ClaimNote.{ClaimNote}
@@ -46,7 +46,7 @@ port_at entries number = port_after number (notes_at entries (places.Port number
 
 -- whether a firing at the spot waits in an Interleave
 abbrev pub waits : Parts → Spot → Bool
-waits wiring spot = is_branch_where wiring (λ (s : Seat). is_interleave s.kind) spot
+waits wiring spot = is_branch_where wiring (λ (s : Placement). is_interleave s.kind) spot
 
 -- a claim that got its messages hands them out
 abbrev pub claim_reply : Slot → PortState → ClaimNote → Reply

@@ -6,7 +6,7 @@ use Rattle.ccr_wiring.specs.declared.parts.DomainPart.{DomainPart}
 use Rattle.ccr_wiring.specs.declared.parts.Parts.{Parts}
 use Rattle.ccr_wiring.specs.Domains.{domain_of}
 use Rattle.ccr_wiring.specs.Valid.{IsValid, HasFewActions}
-use Rattle.ccr_wiring.specs.Wirings.{Seat, seats, actions_of, awaited, await_port, sites_from, spots_from, spots}
+use Rattle.ccr_wiring.specs.Wirings.{Placement, placements, actions_of, awaited, await_port, sites_from, spots_from, spots}
 use Rattle.ccr_wiring.proofs.Soundness.{sound}
 use Rattle.ccr_object.specs.Starts.{port_places, queue_places, arbiter_places, site_place, site_places, places_of, member_at, members}
 
@@ -31,19 +31,19 @@ module _ (wiring : Parts) (few : HasFewActions wiring) where
       let most = few handler in
       omega (arith, all, some, most)
 
-  spots_of_seats : (branch : ℕ) (ss : List Seat) → length (spots_from wiring branch ss) ≤ length ss * 17
-  spots_of_seats branch [] = omega arith
-  spots_of_seats branch (s ∷ ss) =
+  spots_of_placements : (branch : ℕ) (ss : List Placement) → length (spots_from wiring branch ss) ≤ length ss * 17
+  spots_of_placements branch [] = omega arith
+  spots_of_placements branch (s ∷ ss) =
       let sites = sites_from branch 0 (awaited (actions_of wiring s.branch.handler)) in
       let here = few_sites branch s.branch.handler in
-      let more = spots_of_seats (branch + 1) ss in
+      let more = spots_of_placements (branch + 1) ss in
       let all = length-append sites (spots_from wiring (branch + 1) ss) in
       omega (arith, here, more, all)
 
 pub few_spots : (wiring : Parts) → IsValid wiring → length (spots wiring) ≤ 4352
 few_spots wiring valid =
     let s = sound wiring valid in
-    let listed = spots_of_seats wiring s.few_actions 0 (seats wiring) in
+    let listed = spots_of_placements wiring s.few_actions 0 (placements wiring) in
     let branches = s.small.branches in
     omega (arith, listed, branches)
 

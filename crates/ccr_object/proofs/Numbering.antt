@@ -16,33 +16,33 @@ use Rattle.ccr_wiring.specs.declared.parts.BranchPart.{BranchPart}
 use Rattle.ccr_wiring.specs.declared.parts.Kind.{Kind}
 use Rattle.ccr_wiring.specs.declared.parts.Parts.{Parts}
 use Rattle.ccr_wiring.specs.Repeats.{are_apart}
-use Rattle.ccr_wiring.specs.Wirings.{Seat, seats, seats_from, in_domain, awaited, actions_of}
+use Rattle.ccr_wiring.specs.Wirings.{Placement, placements, placements_from, in_domain, awaited, actions_of}
 use Rattle.ccr_claim.specs.declared.asks.Ask.{Ask}
 use Rattle.ccr_claim.specs.declared.asks.Ask.TheVariants as asks
 use Rattle.ccr_object.specs.Numbers.{numbers_of, site_count, site_counts, arbiter_sites, has_spot, has_each, has_causes, has_message, has_task, is_known, IsSpotOf, AreCausesOf, IsMessageOf, IsTaskOf, IsKnown}
 
 module _ (wiring : Parts) where
-  one_arbiter : (arbiter : ℕ) (kind : Kind) (branches : List BranchPart) (rest : List Seat)
-      → map (λ (s : Seat). site_count wiring s.branch) (map (λ branch. record { arbiter = arbiter; kind = kind; branch = branch }) branches ++ rest) ≡ map (site_count wiring) branches ++ map (λ (s : Seat). site_count wiring s.branch) rest
+  one_arbiter : (arbiter : ℕ) (kind : Kind) (branches : List BranchPart) (rest : List Placement)
+      → map (λ (s : Placement). site_count wiring s.branch) (map (λ branch. record { arbiter = arbiter; kind = kind; branch = branch }) branches ++ rest) ≡ map (site_count wiring) branches ++ map (λ (s : Placement). site_count wiring s.branch) rest
   one_arbiter arbiter kind [] rest = refl
   one_arbiter arbiter kind (b ∷ bs) rest = ap (λ (l : List ℕ). site_count wiring b ∷ l) (one_arbiter arbiter kind bs rest)
 
-  counted : (number : ℕ) (arbiters : List ArbiterPart) → map (λ (s : Seat). site_count wiring s.branch) (seats_from number arbiters) ≡ flat_map (arbiter_sites wiring) arbiters
+  counted : (number : ℕ) (arbiters : List ArbiterPart) → map (λ (s : Placement). site_count wiring s.branch) (placements_from number arbiters) ≡ flat_map (arbiter_sites wiring) arbiters
   counted number [] = refl
-  counted number (a ∷ more) = one_arbiter number a.kind a.branches (seats_from (number + 1) more)
+  counted number (a ∷ more) = one_arbiter number a.kind a.branches (placements_from (number + 1) more)
       ∙ (ap (λ (l : List ℕ). map (site_count wiring) a.branches ++ l) (counted (number + 1) more) ∙ sym (flat_map-cons (arbiter_sites wiring) a more))
 
   -- the domain of a branch doesn't count
-  in_domains : (ss : List Seat) → map (λ (s : Seat). site_count wiring s.branch) (map (in_domain wiring.domains) ss) ≡ map (λ (s : Seat). site_count wiring s.branch) ss
+  in_domains : (ss : List Placement) → map (λ (s : Placement). site_count wiring s.branch) (map (in_domain wiring.domains) ss) ≡ map (λ (s : Placement). site_count wiring s.branch) ss
   in_domains [] = refl
   in_domains (s ∷ ss) = ap (λ (l : List ℕ). site_count wiring s.branch ∷ l) (in_domains ss)
 
   -- the counts are those of the branches
-  counts_are : site_counts wiring ≡ map (λ (s : Seat). site_count wiring s.branch) (seats wiring)
-  counts_are = sym (in_domains (seats_from 0 wiring.arbiters) ∙ counted 0 wiring.arbiters)
+  counts_are : site_counts wiring ≡ map (λ (s : Placement). site_count wiring s.branch) (placements wiring)
+  counts_are = sym (in_domains (placements_from 0 wiring.arbiters) ∙ counted 0 wiring.arbiters)
 
-  many : length (site_counts wiring) ≡ length (seats wiring)
-  many = ap length counts_are ∙ length-map (seats wiring) (λ (s : Seat). site_count wiring s.branch)
+  many : length (site_counts wiring) ≡ length (placements wiring)
+  many = ap length counts_are ∙ length-map (placements wiring) (λ (s : Placement). site_count wiring s.branch)
 
   none_below : (n : ℕ) → nat_lt n 0 ≡ false
   none_below n = grind (arith, nat_tests)
@@ -60,19 +60,19 @@ module _ (wiring : Parts) where
   in_list (x ∷ xs) (suc i) = next_below i (length xs) ∙ in_list xs i
 
   -- a site is counted where it awaits a port
-  site_in : (ss : List Seat) (branch site : ℕ) → option_map_or (λ count. nat_lt site count) (slice_get (map (λ (s : Seat). site_count wiring s.branch) ss) branch) false
-      ≡ is_some (option_map_or (λ (s : Seat). slice_get (awaited (actions_of wiring s.branch.handler)) site) (slice_get ss branch) None)
+  site_in : (ss : List Placement) (branch site : ℕ) → option_map_or (λ count. nat_lt site count) (slice_get (map (λ (s : Placement). site_count wiring s.branch) ss) branch) false
+      ≡ is_some (option_map_or (λ (s : Placement). slice_get (awaited (actions_of wiring s.branch.handler)) site) (slice_get ss branch) None)
   site_in [] branch site = refl
   site_in (s ∷ ss) zero site = in_list (awaited (actions_of wiring s.branch.handler)) site
   site_in (s ∷ ss) (suc branch) site = site_in ss branch site
 
   spot_to : (spot : Spot) → has_spot (numbers_of wiring) spot ≡ true → IsSpotOf wiring spot
   spot_to (Branch branch) e = subst (λ n. branch < n) many (ltb-true branch (length (site_counts wiring)) e)
-  spot_to (Site branch site) e = sym (site_in (seats wiring) branch site) ∙ (ap (λ (l : List ℕ). option_map_or (λ count. nat_lt site count) (slice_get l branch) false) (sym counts_are) ∙ e)
+  spot_to (Site branch site) e = sym (site_in (placements wiring) branch site) ∙ (ap (λ (l : List ℕ). option_map_or (λ count. nat_lt site count) (slice_get l branch) false) (sym counts_are) ∙ e)
 
   spot_from : (spot : Spot) → IsSpotOf wiring spot → has_spot (numbers_of wiring) spot ≡ true
   spot_from (Branch branch) l = lt-ltb branch (length (site_counts wiring)) (subst (λ n. branch < n) (sym many) l)
-  spot_from (Site branch site) e = ap (λ (l : List ℕ). option_map_or (λ count. nat_lt site count) (slice_get l branch) false) counts_are ∙ (site_in (seats wiring) branch site ∙ e)
+  spot_from (Site branch site) e = ap (λ (l : List ℕ). option_map_or (λ count. nat_lt site count) (slice_get l branch) false) counts_are ∙ (site_in (placements wiring) branch site ∙ e)
 
   each_to : (n : ℕ) (causes : List ℕ) → has_each n causes ≡ true → All (λ cause. cause < n) causes
   each_to n [] e = All-nil (λ cause. cause < n)

@@ -10,7 +10,7 @@ use Rattle.ccr_wiring.specs.declared.parts.ArbiterPart.{ArbiterPart}
 use Rattle.ccr_wiring.specs.declared.parts.BranchPart.{BranchPart}
 use Rattle.ccr_wiring.specs.declared.parts.Parts.{Parts}
 use Rattle.ccr_wiring.specs.Repeats.{are_apart}
-use Rattle.ccr_wiring.specs.Wirings.{actions_of, awaited, seats, site_port}
+use Rattle.ccr_wiring.specs.Wirings.{actions_of, awaited, placements, site_port}
 use Rattle.ccr_claim.specs.declared.asks.Ask.{Ask}
 use Rattle.ccr_claim.specs.declared.asks.Ask.TheVariants as asks
 
@@ -75,7 +75,7 @@ is_known known _ = true
 
 -- the branch, or the site, is one of the wiring's
 abbrev pub IsSpotOf : Parts → Spot → Type 0
-IsSpotOf wiring (Branch branch) = branch < length (seats wiring)
+IsSpotOf wiring (Branch branch) = branch < length (placements wiring)
 IsSpotOf wiring (Site branch site) = is_some (site_port wiring branch site) ≡ true
 
 -- each cause is one of the wiring's, and none stands twice

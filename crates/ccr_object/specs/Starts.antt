@@ -13,7 +13,7 @@ use Rattle.ccr_wiring.specs.declared.parts.Kind.{Kind}
 use Rattle.ccr_wiring.specs.declared.parts.Kind.TheVariants as kinds
 use Rattle.ccr_wiring.specs.declared.parts.Parts.{Parts}
 use Rattle.ccr_wiring.specs.Domains.{domain_of}
-use Rattle.ccr_wiring.specs.Wirings.{Seat, seat, spots, policy_of}
+use Rattle.ccr_wiring.specs.Wirings.{Placement, placement, spots, policy_of}
 use Rattle.ccr_places.specs.Ports as port_words
 use Rattle.ccr_places.specs.Arbiters as arbiter_words
 use Rattle.ccr_places.specs.Interleaves as interleave_words
@@ -56,11 +56,11 @@ places_of wiring = port_places (length wiring.ports) ++ arbiter_places wiring.do
 -- ---- what stands there
 
 -- the branch's number and group, where it is one of the domain
-abbrev pub member_of : ℕ → ℕ → Seat → Option (ℕ × Group)
+abbrev pub member_of : ℕ → ℕ → Placement → Option (ℕ × Group)
 member_of domain branch s = if s.arbiter == domain then Some (branch, s.branch.group) else None
 
 abbrev pub member_at : Parts → ℕ → Spot → Option (ℕ × Group)
-member_at wiring domain (Branch branch) = option_and_then (member_of domain branch) (seat wiring branch)
+member_at wiring domain (Branch branch) = option_and_then (member_of domain branch) (placement wiring branch)
 member_at wiring domain (SiteOf branch site) = None
 
 -- the branches of the domain, rising, each with its group

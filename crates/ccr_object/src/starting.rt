@@ -156,9 +156,9 @@ fn member_at(wiring: &Wiring, domain: ArbiterNo, spot: Spot) -> Option<(BranchNo
     let Spot::Branch(branch) = spot else {
         return None;
     };
-    let seat = wiring.seat(branch)?;
-    if seat.arbiter == domain as usize {
-        Some((branch, seat.branch.group))
+    let placement = wiring.placement(branch)?;
+    if placement.arbiter == domain as usize {
+        Some((branch, placement.branch.group))
     } else {
         None
     }
