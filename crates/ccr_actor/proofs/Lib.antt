@@ -5,3 +5,6 @@ mod Steps
 mod Plied
 pub mod Bounds
 mod Worked
+mod Kept
+mod Acted
+pub mod Followed
