@@ -5,6 +5,6 @@ mod Steps
 mod Plied
 pub mod Bounds
 mod Worked
-mod Kept
+pub mod Kept
 mod Acted
 pub mod Followed

@@ -1,0 +1,7 @@
+//! Drives an actor over a net, from step to step until it is at rest.
+#![tactic(auto)]
+
+mod driving;
+mod points;
+
+pub use driving::drive;
