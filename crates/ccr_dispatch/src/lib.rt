@@ -2,6 +2,8 @@
 #![tactic(auto)]
 
 mod driving;
+mod laws;
 mod points;
 
 pub use driving::drive;
+pub use laws::actors_rest;
