@@ -1,5 +1,5 @@
 -- An attempt that runs, after an answer: where it stands, and which state of the actor that is.
-use Rattle.std.proofs.Common.{◌≡◌, ◌⊎◌, ℕ, Bool, true, false, List, [], ◌∷◌, ◌++◌, Option, Some, None, Ok, Err, refl, sym, ap, subst, inl, inr, ◌∙◌}
+use Rattle.std.proofs.Common.{◌≡◌, ℕ, Bool, true, false, List, [], ◌∷◌, Some, None, Ok, Err, refl, sym, subst, inl, inr, ◌∙◌}
 use Rattle.ccr_base.specs.declared.list.OutOfMemory.{OutOfMemory}
 use Rattle.ccr_base.specs.declared.messages.Msg.{Msg}
 use Rattle.ccr_base.specs.declared.names.Spot.{Spot}
@@ -12,7 +12,6 @@ use Rattle.ccr_wiring.specs.declared.parts.Parts.{Parts}
 use Rattle.ccr_claim.specs.declared.asks.Due.{Due}
 use Rattle.ccr_claim.specs.declared.asks.Reply.{Reply}
 use Rattle.ccr_claim.specs.declared.asks.Reply.TheVariants as replies
-use Rattle.ccr_claim.specs.declared.outcomes.Outcome.{Outcome}
 use Rattle.ccr_claim.specs.declared.outcomes.Outcome.TheVariants as outcomes
 use Rattle.ccr_claim.specs.declared.outcomes.Why.{Why}
 use Rattle.ccr_claim.specs.declared.outcomes.Why.TheVariants as whys
@@ -20,7 +19,7 @@ use Rattle.ccr_claim.specs.declared.plan.ClaimPlan.{ClaimPlan}
 use Rattle.ccr_claim.specs.declared.plan.Had.{Had}
 use Rattle.ccr_claim.specs.Asks.{Answer, due_of, fits, may_come}
 use Rattle.ccr_claim.specs.Plans.{slots_in}
-use Rattle.ccr_claim.specs.Attempts.{AttemptState, Phase, booking, claiming, had_in, attempt_ask, release, firing_hand, claimed, progress_of, IsAfter}
+use Rattle.ccr_claim.specs.Attempts.{AttemptState, Phase, booking, claiming, had_in, attempt_ask, release, claimed, progress_of, IsAfter}
 use Rattle.ccr_actor.specs.Actors.{State, name_at, after_attempt}
 use Rattle.ccr_actor.specs.Courses.{HasEnded, RunsAt, owed, heard, IsHeard}
 use Rattle.ccr_actor.specs.Plans.{plan_of}

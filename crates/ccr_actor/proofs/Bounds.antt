@@ -1,10 +1,9 @@
 -- A drive has fewer firings than so many, and a run of admissions fewer admissions, whatever is replied.
-use Rattle.std.proofs.Common.{◌≡◌, ℕ, ◌+◌, ◌^◌, ◌<◌, Bool, true, false, List, [], ◌∷◌, Option, Some, None, refl, sym, subst, cond, arith}
+use Rattle.std.proofs.Common.{◌≡◌, ℕ, ◌+◌, ◌^◌, ◌<◌, Bool, true, false, List, [], ◌∷◌, Some, None, refl, subst, cond, arith}
 use Rattle.std.specs.Prelude.{nat_lt}
 use Rattle.std.proofs.lemmas.Bool.Decides.{nat_tests}
 use Rattle.ccr_base.specs.declared.messages.Sent.{Sent}
 use Rattle.ccr_base.specs.declared.names.Spot.{Spot}
-use Rattle.ccr_base.specs.declared.tasks.Cut.{Cut}
 use Rattle.ccr_base.specs.declared.tasks.Task.{Task}
 use Rattle.ccr_handler.specs.declared.segments.Play.{Play}
 use Rattle.ccr_handler.specs.declared.segments.PlayEnd.{PlayEnd}

@@ -5,3 +5,6 @@ mod Steps
 mod Plied
 pub mod Bounds
 mod Worked
+pub mod Kept
+mod Acted
+pub mod Followed

@@ -15,7 +15,7 @@ use Rattle.ccr_handler.specs.declared.segments.PlayEnd.{PlayEnd}
 use Rattle.ccr_handler.specs.declared.segments.PlayEnd.TheVariants as plays
 use Rattle.ccr_base.specs.declared.messages.Sent.{Sent}
 use Rattle.ccr_base.specs.declared.tasks.Task.{Task}
-use Rattle.ccr_actor.specs.Actors.{end_ask, play_ask}
+use Rattle.ccr_actor.specs.Actors.{play_ask}
 use Rattle.ccr_actor.specs.Inside.{how_over, suspend_ask}
 
 -- no actions have no later segment

@@ -1,5 +1,5 @@
 -- What an actor has in hand settles, whatever it is replied; once short it asks nothing else.
-use Rattle.std.proofs.Common.{◌≡◌, ℕ, ◌+◌, ◌≤◌, Bool, true, false, List, [], ◌∷◌, ◌++◌, length, map, take, drop, reverse, Option, Some, None, refl, sym, ap, subst, cond, ◌∙◌}
+use Rattle.std.proofs.Common.{◌≡◌, ℕ, ◌+◌, ◌≤◌, Bool, true, false, List, [], ◌∷◌, ◌++◌, length, map, take, drop, reverse, Option, Some, None, refl, sym, subst, cond, ◌∙◌}
 use Rattle.std.specs.Prelude.{nat_le}
 use Rattle.std.proofs.lemmas.Bool.{le-leb}
 use Rattle.ccr_base.specs.declared.names.Spot.{Spot}
@@ -18,7 +18,7 @@ use Rattle.ccr_claim.specs.declared.asks.Reply.TheVariants as replies
 use Rattle.ccr_claim.specs.declared.plan.ClaimPlan.{ClaimPlan}
 use Rattle.ccr_claim.specs.declared.plan.Had.{Had}
 use Rattle.ccr_claim.specs.Asks.{is_settling}
-use Rattle.ccr_claim.specs.Attempts.{Phase, booking, claiming, had_in, free_ask, consume_ask, unbook_ask, cut_ask, put_ask, put_asks, over_dropped, release, firing_hand}
+use Rattle.ccr_claim.specs.Attempts.{Phase, booking, claiming, had_in, free_ask, consume_ask, unbook_ask, cut_ask, put_asks, release, firing_hand}
 use Rattle.ccr_actor.specs.Plans.{plan_of}
 use Rattle.ccr_actor.specs.Actors.{State, Work, lines, round, taking, playing, posting, shedding, resting, Turn, settle, admit, drive, go_on, stop, turn, turn_of, spots_left, name_at, asked, ask_in, settled, after_admit, after_attempt, after_work, after_line, after_round, after_take, after_play, after_end, take_from, after_in, after, after_all, in_attempt, shorten, start, state_after, next}
 use Rattle.ccr_actor.specs.Hands.{AreSettling}

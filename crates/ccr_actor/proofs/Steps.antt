@@ -1,5 +1,5 @@
 -- Steps of the course: what follows from where the attempt stands.
-use Rattle.std.proofs.Common.{◌≡◌, ℕ, ◌^◌, cond, arith, Bool, true, false, List, [], ◌∷◌, ◌++◌, Option, Some, None, Result, Ok, Err, refl, sym, ap, subst, ◌∙◌, drop}
+use Rattle.std.proofs.Common.{◌≡◌, ℕ, ◌^◌, cond, arith, Bool, true, false, List, [], ◌∷◌, Option, Some, None, Result, Ok, Err, refl, sym, ap, subst, ◌∙◌, drop}
 use Rattle.std.specs.Prelude.{OnOk, OnErr, nat_lt, slice_index_or}
 use Rattle.std.proofs.lemmas.Bool.Decides.{nat_tests}
 use Rattle.std.proofs.lemmas.List.{append-nil}
@@ -12,12 +12,12 @@ use Rattle.ccr_base.specs.declared.tasks.Task.{Task}
 use Rattle.ccr_claim.specs.declared.asks.Reply.{Reply}
 use Rattle.ccr_claim.specs.declared.asks.Reply.TheVariants as replies
 use Rattle.ccr_claim.specs.Asks.{Answer, may_come}
-use Rattle.ccr_claim.specs.Attempts.{AttemptState, booking, over_dropped, progress_of, put_asks, IsAfter}
+use Rattle.ccr_claim.specs.Attempts.{AttemptState, booking, over_dropped, progress_of, IsAfter}
 use Rattle.ccr_actor.specs.declared.course.Course.{Course}
 use Rattle.ccr_actor.specs.declared.course.Part.TheVariants as parts
 use Rattle.ccr_actor.specs.Acting.{kept}
-use Rattle.ccr_actor.specs.Actors.{State, turn_of, drive, after_in, admit_too, settled, in_attempt, end_attempt, name_at}
-use Rattle.ccr_actor.specs.Courses.{HasEnded, IsUnderWay, target, dropped_by, phase_of, RunsAt, Runs, IsPast, IsHeard, IsStep, owed, heard, fired_on, state_of, hand_of, due_at, due_next, dropped_asks}
+use Rattle.ccr_actor.specs.Actors.{State, turn_of, drive, after_in, admit_too, settled, in_attempt, end_attempt}
+use Rattle.ccr_actor.specs.Courses.{IsUnderWay, target, dropped_by, phase_of, RunsAt, Runs, IsPast, IsHeard, IsStep, owed, heard, fired_on, state_of, hand_of, due_at, due_next}
 use Rattle.ccr_actor.proofs.Attempted.{heard_at}
 
 -- nothing is owed where no attempt is under way

@@ -1,6 +1,5 @@
 -- An actor as its contracts see it: its state as far as it counts, and whether an ask of it is unanswered.
-use Rattle.std.specs.Prelude.{◌≡◌, ◌⊎◌, ℕ, Bool, true, false, List, [], ◌∷◌, Option, Some, None, Result, Ok, Err}
-use Rattle.ccr_base.specs.declared.list.OutOfMemory.{OutOfMemory}
+use Rattle.std.specs.Prelude.{◌≡◌, ◌⊎◌, ℕ, Bool, true, false, List, [], Option, Some, None, Ok, Err}
 use Rattle.ccr_base.specs.declared.messages.Sent.{Sent}
 use Rattle.ccr_base.specs.declared.names.Place.{Place}
 use Rattle.ccr_base.specs.declared.tasks.Task.{Task}
@@ -14,7 +13,7 @@ use Rattle.ccr_claim.specs.declared.asks.Due.{Due}
 use Rattle.ccr_claim.specs.declared.asks.Due.TheVariants as dues
 use Rattle.ccr_claim.specs.declared.asks.Reply.{Reply}
 use Rattle.ccr_claim.specs.Asks.{Answer, due_of}
-use Rattle.ccr_actor.specs.Actors.{State, Work, lines, round, taking, playing, posting, shedding, resting, Turn, settle, admit, drive, go_on, stop, turn, asked, settled, after, shorten, fresh_state, start}
+use Rattle.ccr_actor.specs.Actors.{State, Work, playing, posting, resting, Turn, settle, go_on, turn, asked, settled, after, shorten, fresh_state, start}
 
 -- what is unanswered: nothing, an ask of the hand, or another, with the replies that it may have
 pub data Asking : Type 0 where
@@ -110,3 +109,13 @@ shortened a = at_state a.wiring a.actor (shorten a.wiring a.actor a.state)
 abbrev pub IsAfter : Acting → Answer → Acting → Type 0
 IsAfter a (Ok reply) new = (new ≡ answered a reply) ⊎ ((a.state.is_short ≡ false) × (new ≡ shortened (answered a reply)))
 IsAfter a (Err refused) new = new ≡ shortened a
+
+-- ---- rest
+
+abbrev pub rests_by : Asking → Option Asked → Bool
+rests_by quiet None = true
+rests_by asking one = false
+
+-- whether it asks nothing, and has nothing more to ask
+abbrev pub is_at_rest : Acting → Bool
+is_at_rest a = rests_by a.asking (next a)

@@ -6,6 +6,7 @@ use Rattle.ccr_base.specs.declared.names.Spot.{Spot}
 use Rattle.ccr_base.specs.declared.names.TaskId.{TaskId}
 use Rattle.ccr_base.specs.declared.tasks.Task.{Task}
 use Rattle.ccr_wiring.specs.declared.parts.Parts.{Parts}
+use Rattle.ccr_wiring.specs.Valid.{IsValid}
 use Rattle.ccr_wiring.specs.Wirings.{segment_of}
 use Rattle.ccr_claim.specs.declared.asks.Asked.{Asked}
 use Rattle.ccr_claim.specs.declared.asks.Due.{Due}
@@ -25,8 +26,8 @@ use Rattle.ccr_actor.specs.declared.course.Part.TheVariants as parts
 use Rattle.ccr_actor.specs.declared.work.Playing.{Playing}
 use Rattle.ccr_actor.specs.declared.work.Work.{Work as Works}
 use Rattle.ccr_actor.specs.declared.work.Work.TheVariants as works
-use Rattle.ccr_actor.specs.Acting.{Asking, quiet, settling, going, kept}
-use Rattle.ccr_actor.specs.Actors.{State, Turn, settle, admit, drive, go_on, stop, spots_left, settled, after, in_attempt, end_attempt, driven_on, after_attempt}
+use Rattle.ccr_actor.specs.Acting.{Acting, Asking, quiet, settling, going, kept}
+use Rattle.ccr_actor.specs.Actors.{State, spots_left, settled, after, in_attempt, end_attempt, driven_on, after_attempt}
 use Rattle.ccr_actor.specs.Inside.{work_of}
 use Rattle.ccr_actor.specs.Plans.{plan_of, arbiter_at}
 use Rattle.ccr_actor.specs.Hands.{AreSettling}
@@ -312,3 +313,25 @@ IsCounted (works.Playing p) taken empty = IsPlayCounted p (length p.posts.items)
 IsCounted (works.Posting p sent) taken empty = IsPlayCounted p (length p.posts.items + 1) × (empty < 10000)
 IsCounted (works.Shedding task) taken empty = empty < 10000
 IsCounted works.Resting taken empty = Unit {0}
+
+-- ---- the actor
+
+abbrev pub asking_at : Option (Part × Due) → Asking
+asking_at None = quiet
+asking_at (Some unanswered) = asking_in unanswered.0 unanswered.1
+
+-- what contracts see of the fields of an actor
+abbrev pub seen : Course → Option (Part × Due) → Acting
+seen course unanswered = record { wiring = course.wiring.now; actor = course.number; state = kept (state_of course); asking = asking_at unanswered }
+
+-- the ask of which part is unanswered, if any
+abbrev pub IsUnanswered : Course → Option (Part × Due) → Type 0
+IsUnanswered course None = IsReady course × (due_at course.attempt ≡ dues.Nothing)
+IsUnanswered course (Some unanswered) = IsAsked course unanswered.0 unanswered.1 × (due_at course.attempt ≡ attempt_due unanswered.0 unanswered.1)
+
+-- what holds of the fields of an actor
+pub record IsHeld (course : Course) (unanswered : Option (Part × Due)) : Type 0 where
+  pub valid : IsValid course.wiring.now
+  pub asked : IsUnanswered course unanswered
+  pub counted : course.short ≡ false → IsCounted course.work course.taken course.empty
+  pub bounded : course.short ≡ false → IsBounded (state_of course)

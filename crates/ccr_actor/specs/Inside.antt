@@ -1,6 +1,5 @@
 -- What the fields of an actor stand for.
-use Rattle.std.specs.Prelude.{◌≡◌, ◌<◌, ◌+◌, ◌^◌, ℕ, Bool, true, false, List, [], ◌∷◌, ◌++◌, length, Option, Some, None, IsSome}
-use Rattle.ccr_base.specs.declared.messages.Msg.{Msg}
+use Rattle.std.specs.Prelude.{Option, Some, None}
 use Rattle.ccr_base.specs.declared.messages.Sent.{Sent}
 use Rattle.ccr_base.specs.declared.tasks.How.{How}
 use Rattle.ccr_base.specs.declared.names.Place.TheVariants as places
@@ -9,20 +8,17 @@ use Rattle.ccr_base.specs.declared.tasks.How.TheVariants as hows
 use Rattle.ccr_handler.specs.declared.segments.Play.{Play}
 use Rattle.ccr_handler.specs.declared.segments.PlayEnd.{PlayEnd}
 use Rattle.ccr_handler.specs.declared.segments.PlayEnd.TheVariants as plays
-use Rattle.ccr_wiring.specs.declared.parts.Parts.{Parts}
 use Rattle.ccr_wiring.specs.Wirings.{branch_of, segment_of}
 use Rattle.ccr_claim.specs.declared.asks.Ask.TheVariants as asks
 use Rattle.ccr_claim.specs.declared.asks.Asked.{Asked}
 use Rattle.ccr_claim.specs.declared.asks.Due.{Due}
 use Rattle.ccr_claim.specs.declared.asks.Due.TheVariants as dues
 use Rattle.ccr_claim.specs.Asks.{due_of}
-use Rattle.ccr_claim.specs.Attempts.{AttemptState, Phase, booking, at_place, put_asks, over_dropped}
+use Rattle.ccr_claim.specs.Attempts.{at_place}
 use Rattle.ccr_actor.specs.declared.work.Playing.{Playing}
 use Rattle.ccr_actor.specs.declared.work.Work.{Work as Works}
 use Rattle.ccr_actor.specs.declared.work.Work.TheVariants as works
-use Rattle.ccr_actor.specs.Actors.{State, Work, lines, round, taking, playing, posting, shedding, resting, Turn, settle, admit, drive, go_on, stop, script_message, name_at}
-use Rattle.ccr_actor.specs.Plans.{plan_of}
-use Rattle.ccr_actor.specs.Hands.{AreSettling}
+use Rattle.ccr_actor.specs.Actors.{Work, lines, round, taking, playing, posting, shedding, resting}
 
 abbrev pub over_ask : Task → How → Asked
 over_ask task how = at_place (places.Arbiter task.arbiter) (asks.Over task.id task.root how)

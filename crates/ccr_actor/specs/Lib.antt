@@ -5,3 +5,5 @@ pub mod Inside
 pub mod Courses
 pub mod Hands
 pub mod Nets
+pub mod Following
+pub mod Within

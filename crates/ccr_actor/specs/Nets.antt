@@ -1,9 +1,9 @@
 -- Lists of an actor's steps at a net: which are proper, and which ask may follow.
-use Rattle.std.specs.Prelude.{◌≡◌, ℕ, ◌+◌, Bool, true, false, nat_le, List, [], ◌∷◌, ◌++◌, length, map, Option, Some, None}
+use Rattle.std.specs.Prelude.{◌≡◌, ℕ, List, [], ◌∷◌, ◌++◌, map, Option, Some}
 use Rattle.ccr_wiring.specs.declared.parts.Parts.{Parts}
 use Rattle.ccr_claim.specs.declared.asks.Asked.{Asked}
 use Rattle.ccr_claim.specs.declared.asks.Reply.{Reply}
-use Rattle.ccr_actor.specs.Actors.{State, asked, next}
+use Rattle.ccr_actor.specs.Actors.{next}
 
 -- a step: an ask, and what it was replied
 pub record Step : Type 0 where

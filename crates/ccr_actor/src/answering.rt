@@ -1,6 +1,6 @@
 //! What an actor does with an answer.
 
-ghost use Rattle.std.specs.Prelude.{◌≡◌, ◌⊎◌, false, OnOk, OnErr};
+ghost use Rattle.std.specs.Prelude.{◌≡◌, ◌⊎◌, false, OnOk, OnErr, IsErr};
 ghost use Rattle.ccr_claim.specs.declared.asks.Due.TheVariants as dues;
 ghost use Rattle.ccr_actor.specs.Acting.{kept};
 ghost use Rattle.ccr_actor.specs.Actors.{State, shorten};
@@ -25,6 +25,8 @@ impl Course<'_> {
         ensures past { OnErr result (IsPast self.new.attempt) }
         ensures quiet { due_at self.new.attempt ≡ dues.Nothing }
         ensures counted { OnOk result (self.new.short ≡ false → IsCounted self.new.work self.new.taken self.new.empty) }
+        ensures long { OnErr result (self.old.short ≡ false) }
+        ensures refused { OnErr reply (IsErr result) }
         ensures beside { IsBeside self.old self.new }
     {
         if let Part::Drive = part {
@@ -49,6 +51,7 @@ impl Course<'_> {
         requires refused { OnErr made (self.old.short ≡ false) }
         requires counted { OnOk made (self.old.short ≡ false → IsCounted self.old.work self.old.taken self.old.empty) }
         ensures state { (target : State) → target.is_short ≡ self.old.short → IsStep made self.old.wiring.now self.old.number target (state_of self.old) → (kept (state_of self.new) ≡ kept target) ⊎ ((target.is_short ≡ false) × (kept (state_of self.new) ≡ kept (shorten self.old.wiring.now self.old.number target))) }
+        ensures refused { (target : State) → OnErr made (self.old.short ≡ false → IsStep made self.old.wiring.now self.old.number target (state_of self.old) → kept (state_of self.new) ≡ kept (shorten self.old.wiring.now self.old.number target)) }
         ensures ready { IsReady self.new }
         ensures quiet { due_at self.new.attempt ≡ dues.Nothing }
         ensures counted { self.new.short ≡ false → IsCounted self.new.work self.new.taken self.new.empty }

@@ -1,6 +1,6 @@
 //! What an actor asks next, and what it makes ready for that.
 
-ghost use Rattle.std.specs.Prelude.{◌≡◌, ◌⊎◌, ◌==◌, true, false, [], not, length, OnOk, OnErr, MatchOption, IfSome, IfNone, option_map};
+ghost use Rattle.std.specs.Prelude.{◌≡◌, ◌⊎◌, ◌==◌, true, false, [], not, is_some, length, OnOk, OnErr, MatchOption, IfSome, IfNone, option_map};
 ghost use Rattle.ccr_claim.specs.declared.asks.Due.TheVariants as dues;
 ghost use Rattle.ccr_actor.specs.Acting.{asking_of, sent_state, sent_work};
 ghost use Rattle.ccr_actor.specs.Actors.{asked, line_ask, spots_left, turn, work_ask};
@@ -156,7 +156,7 @@ impl Course<'_> {
     }
 
     /// Whether anything is in hand.
-    fn has_anything(&self) -> bool
+    pub fn has_anything(&self) -> bool
         ensures idle { (result ≡ false → IsIdle self.now) × (result ≡ true → IsIdle self.now → ⊥) }
     {
         self.dropped.is_some() || self.has_hand() || self.put.is_some()
@@ -183,6 +183,19 @@ impl Course<'_> {
         } else {
             self.make_line()
         }
+    }
+
+    /// Whether nothing is to be asked.
+    pub fn is_done(&self) -> bool
+        ensures { result ≡ not (is_some (asked self.now.wiring.now self.now.number (state_of self.now))) }
+    {
+        if self.has_anything() {
+            return false;
+        }
+        if self.short {
+            return true;
+        }
+        self.arbiters.is_empty() && !self.drives() && matches!(self.work, Work::Resting)
     }
 
     /// Moves out what is asked next, and tells which part asks.

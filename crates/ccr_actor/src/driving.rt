@@ -1,6 +1,6 @@
 //! The drive of an actor: an attempt after the other at its spots.
 
-ghost use Rattle.std.specs.Prelude.{◌≡◌, ◌<◌, ◌==◌, ◌⊎◌, ◌^◌, ◌∷◌, drop, not, IsTrue, OnOk, OnErr, length, List};
+ghost use Rattle.std.specs.Prelude.{◌≡◌, ◌<◌, ◌==◌, ◌⊎◌, ◌^◌, ◌∷◌, drop, not, IsTrue, OnOk, OnErr, IsErr, length, List};
 ghost use Rattle.ccr_base.specs.declared.names.Spot.{Spot};
 ghost use Rattle.ccr_claim.specs.declared.asks.Due.TheVariants as dues;
 ghost use Rattle.ccr_claim.specs.Asks.{may_come};
@@ -71,6 +71,7 @@ impl Course<'_> {
         ensures step { (spot : Spot) (more : List Spot) → self.old.spots.items ≡ spot ∷ more → IsStep result self.old.wiring.now self.old.number (heard self.old.wiring.now self.old.number (state_of self.old) spot more reply) (state_of self.new) }
         ensures attempt { OnOk result (IsPast self.new.attempt ⊎ IsUnderWay self.new) }
         ensures past { OnErr result (IsPast self.new.attempt) }
+        ensures refused { OnErr reply (IsErr result) }
         ensures counts { OnOk result ((self.new.taken ≡ self.old.taken) × (self.new.empty ≡ self.old.empty)) }
         ensures quiet { due_at self.new.attempt ≡ dues.Nothing }
         ensures work { self.new.work ≡ self.old.work }

@@ -1,6 +1,7 @@
 //! Actors: what posters and workers ask next, after the replies that they got.
 #![tactic(auto)]
 
+mod actor;
 mod answering;
 mod asking;
 mod attempting;
@@ -13,5 +14,6 @@ mod wired;
 mod work;
 mod working;
 
-pub use laws::actors_settle;
+pub use actor::Actor;
+pub use laws::{actors_follow, actors_settle};
 pub use net::Net;

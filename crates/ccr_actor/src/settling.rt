@@ -1,6 +1,6 @@
 //! What an actor has in hand.
 
-ghost use Rattle.std.specs.Prelude.{◌≡◌, ◌∷◌, None, IfSome, IfNone, OnOk, OnErr, option_map};
+ghost use Rattle.std.specs.Prelude.{◌≡◌, ◌∷◌, false, None, IfSome, IfNone, OnOk, OnErr, option_map};
 ghost use Rattle.ccr_claim.specs.declared.asks.Due.TheVariants as dues;
 ghost use Rattle.ccr_claim.specs.Asks.{due_of};
 ghost use Rattle.ccr_claim.specs.Attempts.{over_dropped, put_ask};
@@ -98,6 +98,7 @@ impl Course<'_> {
         requires { self.old.dropped ≡ None }
         ensures ok { OnOk result (kept (state_of self.new) ≡ kept (record (state_of self.old) { hand = over_dropped task ∷ (state_of self.old).hand; arbiters = admit_too self.old.wiring.now (state_of self.old) task })) }
         ensures err { OnErr result ((state_of self.new).hand ≡ over_dropped task ∷ (state_of self.old).hand) }
+        ensures long { OnErr result (self.old.short ≡ false) }
         ensures attempt { self.new.attempt ≡ self.old.attempt }
         ensures work { self.new.work ≡ self.old.work }
         ensures beside { IsBeside self.old self.new }
@@ -116,6 +117,7 @@ impl Course<'_> {
         requires past { IsPast self.old.attempt }
         requires told { IsTold part (due_at self.old.attempt) reply }
         ensures step { IsStep result self.old.wiring.now self.old.number (settled self.old.wiring.now (state_of self.old) (state_of self.old).hand reply) (state_of self.new) }
+        ensures long { OnErr result (self.old.short ≡ false) }
         ensures past { IsPast self.new.attempt }
         ensures quiet { due_at self.new.attempt ≡ dues.Nothing }
         ensures work { self.new.work ≡ self.old.work }

@@ -1,4 +1,4 @@
-use Rattle.std.proofs.Common.{◌≡◌, sym, subst, ◌∙◌}
+use Rattle.std.proofs.Common.{sym, subst}
 use Rattle.ccr_actor.specs.declared.course.Part.{Part}
 use Rattle.ccr_actor.specs.declared.course.Part.TheVariants as parts
 use Rattle.ccr_actor.specs.Actors.{State}

@@ -1,7 +1,6 @@
-use Rattle.std.proofs.Common.{◌≡◌, true, false, Bool, List, ◌∷◌, Some, refl, sym, ap, subst, inl, ◌∙◌}
+use Rattle.std.proofs.Common.{◌≡◌, true, false, List, ◌∷◌, Some, refl, sym, ap, subst, inl, ◌∙◌}
 use Rattle.std.specs.Prelude.{OnOk, OnErr}
 use Rattle.ccr_base.specs.declared.names.Spot.{Spot}
-use Rattle.ccr_claim.specs.declared.outcomes.Progress.{Progress}
 use Rattle.ccr_claim.specs.declared.outcomes.Progress.TheVariants as progresses
 use Rattle.ccr_claim.specs.Attempts.{progress_of}
 use Rattle.ccr_actor.specs.Acting.{kept}

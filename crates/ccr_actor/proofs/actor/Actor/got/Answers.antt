@@ -1,0 +1,31 @@
+use Rattle.std.proofs.Common.{◌≡◌, None, Some, subst}
+use Rattle.ccr_actor.specs.Acting.{Acting, IsAfter}
+use Rattle.ccr_actor.specs.Courses.{IsHeld, IsUnanswered, seen}
+use Rattle.ccr_actor.proofs.Acted.{IsFinished, got_after, got_held, may_so, within}
+use Rattle.ccr_actor.proofs.actor.Actor.got.Goals as goal
+
+finished : (c : goal.After-finish) → IsFinished c.answer-made.result c.answer-made.new.self c.finish.new.self
+finished c = record { state = c.finish.ensures.state; refused = c.finish.ensures.refused; same = c.finish.ensures.same }
+
+held : (c : goal.After-finish) → IsHeld c.finish.new.self None
+held c =
+    let e = c.answer-made.ensures in
+    got_held c.answer-made.result c.self.inside.course c.answer-made.new.self c.finish.new.self c.self.inside.unanswered c.in-Some.part c.args.reply c.self.invariant e.beside e.step (finished c) c.finish.ensures.ready c.finish.ensures.quiet c.finish.ensures.counted
+
+pub invariant_of-self : goal.invariant_of-self
+invariant_of-self c = held c
+
+pub returns-clause-after : goal.returns-clause-after
+returns-clause-after c =
+    let old = c.self.inside.course in
+    let u = c.self.inside.unanswered in
+    let part = c.in-Some.part in
+    let due = c.in-Some.field-0-1 in
+    let e = c.answer-made.ensures in
+    let asked : IsUnanswered old (Some (part, due)) = subst (IsUnanswered old) c.in-Some.is c.self.invariant.asked in
+    let may = may_so old u c.args.self.now part due c.args.reply c.self.view_is c.in-Some.is c.requires in
+    let view : seen old (Some (part, due)) ≡ c.args.self.now = subst (λ v. seen old v ≡ c.args.self.now) c.in-Some.is c.self.view_is in
+    subst (λ (a : Acting). IsAfter a c.args.reply (seen c.finish.new.self None)) view (got_after c.answer-made.result old c.answer-made.new.self c.finish.new.self part due c.args.reply asked.0 may e.beside e.step e.refused (finished c))
+
+pub returns-clause-within : goal.returns-clause-within
+returns-clause-within c = within c.finish.new.self (held c)

@@ -1,0 +1,78 @@
+-- One step over a net.
+use Rattle.std.proofs.Common.{◌≡◌, ℕ, ◌+◌, ◌-◌, ◌^◌, Bool, true, false, List, [], ◌∷◌, ◌++◌, length, min, Option, Some, None, Ok, Err, refl, sym, ap, subst, cond, arith, ◌∙◌}
+use Rattle.std.specs.Prelude.{IfOk, OnErr, IsOk, nat_lt}
+use Rattle.std.specs.Option.{option_map}
+use Rattle.std.proofs.lemmas.Bool.Decides.{nat_tests}
+use Rattle.std.proofs.lemmas.List.{length-append, append-nil, append_assoc}
+use Rattle.ccr_base.specs.declared.names.Place.{Place}
+use Rattle.ccr_wiring.specs.declared.parts.Parts.{Parts}
+use Rattle.ccr_claim.specs.declared.asks.Ask.{Ask}
+use Rattle.ccr_claim.specs.declared.asks.Ask.TheVariants as kinds
+use Rattle.ccr_claim.specs.declared.asks.Asked.{Asked}
+use Rattle.ccr_claim.specs.Asks.{Answer, due_of, fits, is_settling, may_come}
+use Rattle.ccr_actor.specs.Acting.{Acting, due_in, next, pair_of, sent, IsAfter}
+use Rattle.ccr_actor.specs.Nets.{Step}
+use Rattle.ccr_actor.specs.Following.{Follows}
+use Rattle.ccr_actor.proofs.Followed.{follows_reply, follows_refusal}
+use Rattle.ccr_dispatch.specs.Driving.{Adds, counted}
+
+pub asks_of : (o : Option Asked) (place : Place) (ask : Ask) → Some (place, ask) ≡ option_map pair_of o → o ≡ Some (record { place = place; ask = ask })
+asks_of None place ask is = cc is
+asks_of (Some one) place ask is =
+    let same : pair_of one ≡ (place, ask) = cc is in
+    let P : (Place × Ask) → Option Asked = λ p. Some (record { place = p.0; ask = p.1 }) in
+    ap P same
+
+-- a reply that the ask may have, or want of memory where it doesn't settle
+pub may_answer : (ask : Ask) (answer : Answer) → IfOk answer (λ reply. fits (due_of ask) reply ≡ true) → (is_settling ask ≡ true → IsOk answer) → may_come (due_of ask) answer ≡ true
+may_answer ask (Ok reply) fit ok = fit
+may_answer (kinds.Post m) (Err refused) fit ok = refl
+may_answer (kinds.Claim t slot) (Err refused) fit ok = refl
+may_answer (kinds.Consume t) (Err refused) fit ok = cc (ok refl)
+may_answer (kinds.Free t) (Err refused) fit ok = cc (ok refl)
+may_answer (kinds.Commit t m) (Err refused) fit ok = refl
+may_answer kinds.Admit (Err refused) fit ok = refl
+may_answer (kinds.Over t r how) (Err refused) fit ok = cc (ok refl)
+may_answer (kinds.Suspend t) (Err refused) fit ok = refl
+may_answer (kinds.Book t r) (Err refused) fit ok = refl
+may_answer (kinds.Unbook t) (Err refused) fit ok = cc (ok refl)
+may_answer (kinds.Put t) (Err refused) fit ok = cc (ok refl)
+may_answer kinds.Take (Err refused) fit ok = refl
+may_answer kinds.Draw (Err refused) fit ok = refl
+may_answer kinds.Leave (Err refused) fit ok = refl
+may_answer kinds.Left (Err refused) fit ok = refl
+
+-- the actor follows the net's list after the answer
+pub stepped : (wiring : Parts) (actor : ℕ) (old new : List Step) (a b : Acting) (one : Asked) (answer : Answer) → Follows wiring actor old a → next a ≡ Some one → may_come (due_in (sent a).asking) answer ≡ true → IsAfter (sent a) answer b
+    → IfOk answer (λ reply. new ≡ old ++ (record { asked = one; reply = reply }) ∷ []) → OnErr answer (new ≡ old) → Follows wiring actor new b
+stepped wiring actor old new a b one (Ok reply) follows asks may so added refused = subst (λ steps. Follows wiring actor steps b) (sym added) (follows_reply wiring actor old a b one reply follows asks so)
+stepped wiring actor old new a b one (Err e) follows asks may so added refused = subst (λ steps. Follows wiring actor steps b) (sym refused) (follows_refusal wiring actor old a b one e follows asks may so)
+
+pub actor_is : (wiring : Parts) (actor : ℕ) (steps : List Step) (a : Acting) → Follows wiring actor steps a → a.actor ≡ actor
+actor_is wiring actor steps a (lack, (all, (is, from))) = ap (λ (x : Acting). x.actor) is
+
+by-test : (b c d : Bool) (n m : ℕ) → nat_lt n (2 ^ 64) ≡ b → nat_lt m (2 ^ 64) ≡ c → nat_lt (n + m) (2 ^ 64) ≡ d → cond d (n + m) (2 ^ 64 - 1) ≡ min (cond b n (2 ^ 64 - 1) + cond c m (2 ^ 64 - 1)) (2 ^ 64 - 1)
+by-test true true true n m one two all = grind (arith, nat_tests, one, two, all)
+by-test true true false n m one two all = grind (arith, nat_tests, one, two, all)
+by-test true false true n m one two all = grind (arith, nat_tests, one, two, all)
+by-test true false false n m one two all = grind (arith, nat_tests, one, two, all)
+by-test false true true n m one two all = grind (arith, nat_tests, one, two, all)
+by-test false true false n m one two all = grind (arith, nat_tests, one, two, all)
+by-test false false true n m one two all = grind (arith, nat_tests, one, two, all)
+by-test false false false n m one two all = grind (arith, nat_tests, one, two, all)
+
+counts-join : (n m : ℕ) → counted (n + m) ≡ min (counted n + counted m) (2 ^ 64 - 1)
+counts-join n m = by-test (nat_lt n (2 ^ 64)) (nat_lt m (2 ^ 64)) (nat_lt (n + m) (2 ^ 64)) n m refl refl refl
+
+-- steps that were added after others
+pub adds_join : (old mid new : List Step) (one two both : ℕ) → Adds old mid one → Adds mid new two → both ≡ min (one + two) (2 ^ 64 - 1) → Adds old new both
+adds_join old mid new one two both (first, (at, n)) (second, (then_at, m)) is = (
+  first ++ second,
+  (
+    then_at ∙ (ap (λ (l : List Step). l ++ second) at ∙ append_assoc old first second),
+    is ∙ (rw (n, m) (sym (counts-join (length first) (length second))) ∙ sym (ap counted (length-append first second))),
+  ),
+)
+
+pub adds_none : (old : List Step) → Adds old old 0
+adds_none old = ([], (sym (append-nil old), refl))
