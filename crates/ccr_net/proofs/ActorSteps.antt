@@ -126,7 +126,7 @@ release_owed w h port a st plan match = of_phase st.phase
     of_phase (claiming slots had) x is = owed_both w h a (st.attempt + 1) (map (free_ask (name_at a st)) (reverse had)) (unbook_ask plan.queue (name_at a st) ∷ []) (owed_all w h a (st.attempt + 1) (free_ask (name_at a st)) (λ d. (refl, omega arith, unfired w h port a st match)) (reverse had)) (λ y one. last y one) x is
       where
         last : (y : Asked) → Among y (unbook_ask plan.queue (name_at a st) ∷ []) → IsOwed w h a (st.attempt + 1) y.place y.ask
-        last y (inl e) = subst (λ (z : Asked). IsOwed w h a (st.attempt + 1) z.place z.ask) (sym e) tt
+        last y (inl e) = subst (λ (z : Asked). IsOwed w h a (st.attempt + 1) z.place z.ask) (sym e) (refl, omega arith, unfired w h port a st match)
         last y (inr is) = absurd is
 
 -- Busy, Short, Full and Dead
@@ -136,7 +136,7 @@ ActorMatches-give_up w h port a st spot more match = ActorMatches-ended w h port
 owed_more : (w : Parts) (h : List Event) (a b c : ℕ) → b ≤ c → (place : Place) (ask : Ask) → IsOwed w h a b place ask → IsOwed w h a c place ask
 owed_more w h a b c le place (asks.Consume t) is = is
 owed_more w h a b c le place (asks.Free t) is = (is.0, (let below = is.1 in omega arith), is.2)
-owed_more w h a b c le place (asks.Unbook t) is = is
+owed_more w h a b c le place (asks.Unbook t) is = (is.0, (let below = is.1 in omega arith), is.2)
 owed_more w h a b c le place (asks.Put t) is = is
 owed_more w h a b c le place (asks.Post m) is = absurd is
 owed_more w h a b c le place (asks.Claim t s) is = absurd is
@@ -229,7 +229,7 @@ queue_stays w h es t fires = rw (placement_stays w h es t fires) refl
 pub owed_later : (w : Parts) (h es : List Event) (a bound : ℕ) → ((t : TaskId) → t.actor ≡ a → has_task (fired (h ++ es)) t ≡ has_task (fired h) t) → ((t : TaskId) → t.actor ≡ a → has_task (put (h ++ es)) t ≡ has_task (put h) t) → (place : Place) (ask : Ask) → IsOwed w h a bound place ask → IsOwed w (h ++ es) a bound place ask
 owed_later w h es a bound fires puts place (asks.Consume t) is = (is.0, fires t is.0 ∙ is.1)
 owed_later w h es a bound fires puts place (asks.Free t) is = (is.0, is.1, fires t is.0 ∙ is.2)
-owed_later w h es a bound fires puts place (asks.Unbook t) is = is
+owed_later w h es a bound fires puts place (asks.Unbook t) is = (is.0, is.1, fires t is.0 ∙ is.2)
 owed_later w h es a bound fires puts place (asks.Put t) is = (is.0, IsFired-append h es t.id is.1, puts t.id is.0 ∙ is.2, is.3 ∙ ap places.Queue (sym (queue_stays w h es t.id is.1)))
 owed_later w h es a bound fires puts place (asks.Post m) is = absurd is
 owed_later w h es a bound fires puts place (asks.Claim t s) is = absurd is
@@ -315,16 +315,16 @@ put-fire : (h : List Event) (t : TaskId) (s : Spot) (ms : List MsgId) (cs : List
 put-fire h t s ms cs = rw (put-push, append-nil) refl
 
 -- a state like the fired one in what the invariant reads
-pub ActorMatches-fire : (w : Parts) (h : List Event) (port : ℕ → PortState) (a : ℕ) (st : State) (spot s : Spot) (more : List Spot) (names : List MsgId) (cs : List TaskId) (task : Option Task) (cuts : List Cut) → ((t : Task) → task ≡ Some t → (t.id ≡ name_at a st) × (t.queue ≡ queue_of w (h ++ events.Fire (name_at a st) s names cs ∷ []) (name_at a st))) → IsFired (h ++ events.Fire (name_at a st) s names cs ∷ []) (name_at a st) → has_task (put h) (name_at a st) ≡ false → ActorMatches w h port a st → ActorMatches w (h ++ events.Fire (name_at a st) s names cs ∷ []) port a (fire w a st spot more task cuts)
-ActorMatches-fire w h port a st spot s more names cs task cuts whole fires fresh match = record {
+pub ActorMatches-fire : (w : Parts) (h : List Event) (port : ℕ → PortState) (a : ℕ) (st : State) (spot s : Spot) (more : List Spot) (names : List MsgId) (cs : List TaskId) (task : Option Task) → ((t : Task) → task ≡ Some t → (t.id ≡ name_at a st) × (t.queue ≡ queue_of w (h ++ events.Fire (name_at a st) s names cs ∷ []) (name_at a st))) → IsFired (h ++ events.Fire (name_at a st) s names cs ∷ []) (name_at a st) → has_task (put h) (name_at a st) ≡ false → ActorMatches w h port a st → ActorMatches w (h ++ events.Fire (name_at a st) s names cs ∷ []) port a (fire w a st spot more task [])
+ActorMatches-fire w h port a st spot s more names cs task whole fires fresh match = record {
   fired_below = λ t is f. below t is (has_task (fired h) t) refl (sym (has_task-append (fired h) (name_at a st ∷ []) t) ∙ (rw (fired-fire h (name_at a st) s names cs) at f));
   claims_below = λ p c is own. (let old = match.claims_below p c is own in omega arith);
   claims_had = λ p c is own. (let old = match.claims_below p c is (ap (λ (t : TaskId). t.actor) own) in let same = ap (λ (t : TaskId). t.attempt) own in absurd (omega (arith, old, same)));
   had_claimed = λ d is. absurd is;
   had_marked = λ d is. absurd is;
   had_enough = λ d is. absurd is;
-  owed = owed_both w after a (st.attempt + 1) (map (consume_ask (name_at a st)) (had_in st.phase)) (map cut_ask cuts ++ put_asks task) (owed_all w after a (st.attempt + 1) (consume_ask (name_at a st)) (λ d. (refl, now)) (had_in st.phase)) (owed_both w after a (st.attempt + 1) (map cut_ask cuts) (put_asks task) (owed_all w after a (st.attempt + 1) cut_ask (λ c. tt) cuts) (put_owed task whole));
-  one_put = puts-fire (name_at a st) (had_in st.phase) task cuts;
+  owed = owed_both w after a (st.attempt + 1) (map (consume_ask (name_at a st)) (had_in st.phase)) (put_asks task) (owed_all w after a (st.attempt + 1) (consume_ask (name_at a st)) (λ d. (refl, now)) (had_in st.phase)) (put_owed task whole);
+  one_put = puts-fire (name_at a st) (had_in st.phase) task [];
 }
   where
     after : List Event

@@ -22,23 +22,23 @@ use Rattle.ccr_model.specs.declared.history.EndHow.TheVariants as ends
 use Rattle.ccr_model.specs.Choice.{is_choice, is_choice_of, are_oldest}
 use Rattle.ccr_model.specs.Firings.{Firing, fired, firing_named, cut, put, ever_admitted}
 use Rattle.ccr_model.specs.Legal.{IsAllowed}
-use Rattle.ccr_model.specs.Live.{is_live, has_room}
+use Rattle.ccr_model.specs.Live.{is_live, has_room, has_room_in}
 use Rattle.ccr_model.specs.Posts.{posts_of_poster, posts_of_task, posts_of_tasks, held}
 use Rattle.ccr_model.specs.Rules.{refused, is_new, cuts_at, is_script_line, is_play_post, is_post, has_budget, may_put, drop_at, needs_no_admission, is_oldest_queued, may_start, may_end, ends_so, is_shed}
 use Rattle.ccr_model.specs.TaskData.{placement_of, play_of}
 use Rattle.ccr_model.specs.Tasks.{queued, running, running_by, has_post_left, count_unfinished}
 use Rattle.ccr_model.proofs.Booleans.{eq-self}
 use Rattle.ccr_model.proofs.SameNames.{same_task-self, same_value-self}
-use Rattle.ccr_net.proofs.PlainFacts.{PlainFacts, room_free}
+use Rattle.ccr_net.proofs.PlainFacts.{PlainFacts}
 
 pub refused_pass : (b : Bool) (n : ℕ) (o : Option ℕ) → b ≡ true → o ≡ None → refused b n o ≡ None
 refused_pass b n o is rest = rw (is, rest) refl
 
-pub fire_allowed : (w : Parts) (first : PlainFacts w) (h : List Event) (t : TaskId) (b : ℕ) (s : Placement) (names : List MsgId) → placement w b ≡ Some s → has_task (fired h) t ≡ false → t.actor ≤ 32 → is_live w h (Branch b) ≡ true → is_choice_of (held h) s.branch.pattern names ≡ true → IsAllowed w h (events.Fire t (Branch b) names [])
-fire_allowed w first h t b s names sits fresh low live chosen =
+pub fire_allowed : (w : Parts) (first : PlainFacts w) (h : List Event) (t : TaskId) (b : ℕ) (s : Placement) (names : List MsgId) → placement w b ≡ Some s → has_task (fired h) t ≡ false → t.actor ≤ 32 → is_live w h (Branch b) ≡ true → has_room_in w h s.branch.queue (policy_of w s.branch.queue) ≡ true → is_choice_of (held h) s.branch.pattern names ≡ true → IsAllowed w h (events.Fire t (Branch b) names [])
+fire_allowed w first h t b s names sits fresh low live left chosen =
     let new : is_new h t ≡ true = grind (arith, nat_tests, fresh, low) in
     let choice : is_choice w h (Branch b) names ≡ true = rw sits chosen in
-    let room : has_room w h (Branch b) ≡ true = rw sits (room_free w h s.branch.queue (policy_of w s.branch.queue) (first.no_throttles s.branch.queue)) in
+    let room : has_room w h (Branch b) ≡ true = rw sits left in
     let cuts : same_lists same_task [] (cuts_at w h (Branch b)) ≡ true = rw (sits, first.no_teardown b s sits) refl in
     refused_pass (is_new h t) 4 _ new (refused_pass (is_live w h (Branch b)) 5 _ live (refused_pass (is_choice w h (Branch b) names) 6 _ choice (refused_pass (has_room w h (Branch b)) 7 _ room (refused_pass (same_lists same_task [] (cuts_at w h (Branch b))) 8 None cuts refl))))
 

@@ -6,18 +6,20 @@ use Rattle.std.proofs.lemmas.Grind.{common_steps}
 use Rattle.ccr_base.specs.declared.names.Place.{Place}
 use Rattle.ccr_base.specs.declared.names.Place.TheVariants as places
 use Rattle.ccr_base.specs.declared.names.Spot.{Spot}
+use Rattle.ccr_base.specs.declared.names.TaskId.{TaskId}
 use Rattle.ccr_wiring.specs.declared.parts.Parts.{Parts}
 use Rattle.ccr_model.specs.declared.history.Event.{Event}
 use Rattle.ccr_model.specs.Legal.{IsLegal}
 use Rattle.ccr_model.proofs.Booleans.{same_number, eq-self}
 use Rattle.ccr_model.proofs.Members.{Among}
 use Rattle.ccr_places.specs.Ports.{PortState}
+use Rattle.ccr_places.specs.Queues.{QueueState}
 use Rattle.ccr_places.specs.Meters.{MeterState}
 use Rattle.ccr_places.specs.Meters as meters
 use Rattle.ccr_claim.specs.declared.asks.Reply.{Reply}
 use Rattle.ccr_claim.specs.declared.asks.Asked.{Asked}
 use Rattle.ccr_claim.specs.Attempts.{had_in}
-use Rattle.ccr_actor.specs.Actors.{State, Work, settle, admit, drive, go_on, turn, turn_of, after_in, shorten, start, state_after, work_of}
+use Rattle.ccr_actor.specs.Actors.{State, Work, name_at, settle, admit, drive, go_on, turn, turn_of, after_in, shorten, start, state_after, work_of}
 use Rattle.ccr_net.specs.declared.entries.Entry.{Entry}
 use Rattle.ccr_net.specs.Places.{meter_after}
 use Rattle.ccr_net.specs.Runs.{Lacks, state_of, port_at, notes_at, reply_of, same_place}
@@ -28,7 +30,8 @@ use Rattle.ccr_net.proofs.PortSteps.{Changes}
 use Rattle.ccr_net.proofs.ActorSteps.{ActorMatches-same, ActorMatches-short}
 use Rattle.ccr_net.proofs.ArbiterPart.{ArbitersMatch}
 use Rattle.ccr_net.proofs.SitePart.{SitesMatch}
-use Rattle.ccr_net.proofs.QueuePart.{QueuesMatch, QueueChanges}
+use Rattle.ccr_net.proofs.QueuePart.{QueueChanges}
+use Rattle.ccr_net.proofs.RoomPart.{QueuesHold, IsBooked, IsBookedAt-stays, Stays}
 use Rattle.ccr_net.proofs.WorkPart.{WorkMatches}
 use Rattle.ccr_net.proofs.MeterPart.{MeterMatches, OneWorks}
 use Rattle.ccr_net.proofs.Phases.{StateFits}
@@ -104,11 +107,25 @@ meter_at w es = meter_after w.budget (notes_at es places.Meter)
 abbrev pub works_of : Parts → Lacks → List Entry → ℕ → Work
 works_of w lacks es a = (state_of w lacks es a).work
 
+-- attempts stay booked: those of others, and that of the entry's actor, whose state then is `next`
+pub record UnderWay (w : Parts) (lacks : Lacks) (es : List Entry) (e : Entry) (next : State) : Type 0 where
+  pub own : IsBooked w (queue_at w (es ++ e ∷ [])) e.actor next
+  pub others : (a : ℕ) → e.actor ≢ a → Stays (queue_at w es) (queue_at w (es ++ e ∷ [])) (name_at a (state_of w lacks es a))
+
+pub IsBooked-begun : (w : Parts) (queue : ℕ → QueueState) (a : ℕ) (st : State) → IsBegun w a st → IsBooked w queue a st
+IsBooked-begun w queue a st (inl is) = subst (IsBooked w queue a) (sym is) tt
+IsBooked-begun w queue a st (inr is) = subst (IsBooked w queue a) (sym is) tt
+
+booked_next : (w : Parts) (queue : ℕ → QueueState) (a : ℕ) (st next new : State) (r : Reply) → after_in w a st (turn st) r ≡ next → IsNextState w a st r new → IsBooked w queue a next → IsBooked w queue a new
+booked_next w queue a st next new r is (inl one) booked = subst (IsBooked w queue a) (sym is ∙ sym one) booked
+booked_next w queue a st next new r is (inr one) booked = subst (IsBooked w queue a) (ap (shorten w a) (sym is) ∙ sym one) tt
+
 -- the invariant over the entries, of this number of actors
 pub record Holds (w : Parts) (n : ℕ) (lacks : Lacks) (es : List Entry) : Type 0 where
   pub legal : IsLegal w (visible es)
   pub ports : PortsMatch (visible es) (port_at es)
-  pub queues : QueuesMatch w (visible es) (queue_at w es)
+  pub queues : QueuesHold w (visible es) (queue_at w es)
+  pub under_way : (a : ℕ) → IsBooked w (queue_at w es) a (state_of w lacks es a)
   pub actors : (a : ℕ) → ActorHolds w (visible es) (port_at es) a (state_of w lacks es a)
   pub meter : MeterMatches w n (visible es) (meter_at w es).drawn (works_of w lacks es)
   pub budget : (meter_at w es).budget ≡ w.budget
@@ -121,7 +138,8 @@ pub record Keeps (w : Parts) (n : ℕ) (lacks : Lacks) (es : List Entry) (e : En
   pub goes : after_in w e.actor (state_of w lacks es e.actor) (turn (state_of w lacks es e.actor)) (reply_of w es e) ≡ next
   pub legal : IsLegal w h
   pub ports : PortsMatch h (port_at (es ++ e ∷ []))
-  pub queues : QueuesMatch w h (queue_at w (es ++ e ∷ []))
+  pub queues : QueuesHold w h (queue_at w (es ++ e ∷ []))
+  pub under_way : UnderWay w lacks es e next
   pub own : ActorHolds w h (port_at (es ++ e ∷ [])) e.actor next
   pub others : (a : ℕ) → e.actor ≢ a → ActorHolds w h (port_at (es ++ e ∷ [])) a (state_of w lacks es a)
   pub meter : (works' : ℕ → Work) → OneWorks (works_of w lacks es) works' e.actor next.work → MeterMatches w n h (meter_at w (es ++ e ∷ [])).drawn works'
@@ -132,11 +150,12 @@ pub record Keeps (w : Parts) (n : ℕ) (lacks : Lacks) (es : List Entry) (e : En
 differ : (a b : ℕ) → (a == b) ≡ false → a ≢ b
 differ a b is same = let k : (a == b) ≡ true = subst (λ r. (a == r) ≡ true) same (eq-self a) in absurd (cc)
 
-pub Holds-kept : (w : Parts) (n : ℕ) (lacks : Lacks) (es : List Entry) (e : Entry) (next : State) (h : List Event) → Keeps w n lacks es e next h → Holds w n lacks (es ++ e ∷ [])
-Holds-kept w n lacks es e next h keeps = record {
+pub Holds-kept : (w : Parts) (n : ℕ) (lacks : Lacks) (es : List Entry) (e : Entry) (next : State) (h : List Event) → ((a : ℕ) → IsBooked w (queue_at w es) a (state_of w lacks es a)) → Keeps w n lacks es e next h → Holds w n lacks (es ++ e ∷ [])
+Holds-kept w n lacks es e next h under_way keeps = record {
   legal = rw keeps.shows keeps.legal;
   ports = rw keeps.shows keeps.ports;
   queues = rw keeps.shows keeps.queues;
+  under_way = λ a. booked_of a (e.actor == a) refl;
   actors = λ a. rw keeps.shows (of_actor a (e.actor == a) refl);
   meter = rw keeps.shows (keeps.meter (works_of w lacks (es ++ e ∷ [])) (record { own = own_work; others = λ b other. other_work b other }));
   budget = keeps.budget;
@@ -166,6 +185,10 @@ Holds-kept w n lacks es e next h keeps = record {
     of_actor : (a : ℕ) (c : Bool) → (e.actor == a) ≡ c → ActorHolds w h (port_at (es ++ e ∷ [])) a (state_of w lacks (es ++ e ∷ []) a)
     of_actor a true is = subst (λ b. ActorHolds w h (port_at (es ++ e ∷ [])) b (state_of w lacks (es ++ e ∷ []) b)) (same_number e.actor a is) own
     of_actor a false is = subst (λ (x : State). ActorHolds w h (port_at (es ++ e ∷ [])) a x) (sym (state_of-other w lacks es e a is)) (keeps.others a (differ e.actor a is))
+
+    booked_of : (a : ℕ) (c : Bool) → (e.actor == a) ≡ c → IsBooked w (queue_at w (es ++ e ∷ [])) a (state_of w lacks (es ++ e ∷ []) a)
+    booked_of a true is = subst (λ b. IsBooked w (queue_at w (es ++ e ∷ [])) b (state_of w lacks (es ++ e ∷ []) b)) (same_number e.actor a is) (booked_next w (queue_at w (es ++ e ∷ [])) e.actor (state_of w lacks es e.actor) next (state_of w lacks (es ++ e ∷ []) e.actor) (reply_of w es e) keeps.goes moved keeps.under_way.own)
+    booked_of a false is = subst (IsBooked w (queue_at w (es ++ e ∷ [])) a) (sym (state_of-other w lacks es e a is)) (IsBookedAt-stays w (queue_at w es) (queue_at w (es ++ e ∷ [])) (name_at a (state_of w lacks es a)) (state_of w lacks es a).phase (state_of w lacks es a).spots (keeps.under_way.others a (differ e.actor a is)) (under_way a))
 
 -- ---- which place changes
 
@@ -226,6 +249,19 @@ same_meter w es e place is other = rw (meter_at-push w es e, is, elsewhere place
     elsewhere (places.Site b k) out = refl
     elsewhere (places.Queue k) out = refl
     elsewhere places.Meter out = absurd (cc)
+
+-- where the place is no queue
+pub same_stays : (w : Parts) (es : List Entry) (e : Entry) (place : Place) → e.place ≡ place → is_queue_place place ≡ false → (name : ℕ → TaskId) (a : ℕ) → Stays (queue_at w es) (queue_at w (es ++ e ∷ [])) (name a)
+same_stays w es e place there other name a = subst (λ (queue : ℕ → QueueState). Stays (queue_at w es) queue (name a)) (sym (same_queues w es e place there other)) (λ q is. is)
+
+pub same_under_way : (w : Parts) (lacks : Lacks) (es : List Entry) (e : Entry) (place : Place) (next : State) → e.place ≡ place → is_queue_place place ≡ false → IsBooked w (queue_at w es) e.actor next → UnderWay w lacks es e next
+same_under_way w lacks es e place next there other booked = record {
+  own = subst (λ (queue : ℕ → QueueState). IsBooked w queue e.actor next) (sym same) booked;
+  others = λ a differs. same_stays w es e place there other (λ b. name_at b (state_of w lacks es b)) a;
+}
+  where
+    same : queue_at w (es ++ e ∷ []) ≡ queue_at w es
+    same = same_queues w es e place there other
 
 -- ---- what a turn says of the state
 

@@ -187,7 +187,7 @@ pub owed_unput : (w : Parts) (h : List Event) (t : TaskId) (d : Option TaskId) (
 owed_unput w h t d a bound place (asks.Put u) none is = absurd (cc)
 owed_unput w h t d a bound place (asks.Consume u) none is = (is.0, grind (arith, common_steps, is.1))
 owed_unput w h t d a bound place (asks.Free u) none is = (is.0, is.1, grind (arith, common_steps, is.2))
-owed_unput w h t d a bound place (asks.Unbook u) none is = is
+owed_unput w h t d a bound place (asks.Unbook u) none is = (is.0, is.1, grind (arith, common_steps, is.2))
 owed_unput w h t d a bound place (asks.Post m) none is = absurd is
 owed_unput w h t d a bound place (asks.Claim u s) none is = absurd is
 owed_unput w h t d a bound place (asks.Commit u ms) none is = absurd is

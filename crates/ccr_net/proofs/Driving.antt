@@ -3,11 +3,11 @@ use Rattle.std.proofs.Common.{inl, inr, ◌≡◌, ◌≤◌, ◌<◌, ℕ, ◌+
 use Rattle.std.specs.Prelude.{◌==◌, if◌then◌else◌, nat_lt, nat_le}
 use Rattle.std.specs.List.{slice_get}
 use Rattle.std.specs.Option.{option_map_or}
+use Rattle.std.specs.FinSet as set
 use Rattle.ccr_base.specs.declared.names.Place.{Place}
 use Rattle.ccr_base.specs.declared.names.Place.TheVariants as places
 use Rattle.ccr_base.specs.declared.names.Spot.{Spot}
 use Rattle.ccr_base.specs.declared.names.Spot.TheVariants.{Branch, Site}
-use Rattle.ccr_base.specs.declared.names.TaskId.{TaskId}
 use Rattle.ccr_base.specs.declared.patterns.Slot.{Slot}
 use Rattle.ccr_base.specs.declared.tasks.By.{By}
 use Rattle.ccr_base.specs.declared.tasks.How.TheVariants as hows
@@ -28,7 +28,7 @@ use Rattle.ccr_model.specs.Posts.{held}
 use Rattle.ccr_model.specs.Sites.{suspended}
 use Rattle.ccr_model.specs.Live.{is_live, is_live_in}
 use Rattle.ccr_model.specs.Tasks.{fired_by}
-use Rattle.ccr_model.proofs.Booleans.{both}
+use Rattle.ccr_model.proofs.Booleans.{both, same_number}
 use Rattle.ccr_model.proofs.Members.{Among}
 use Rattle.ccr_places.specs.declared.claims.StandingClaim.{StandingClaim}
 use Rattle.ccr_places.specs.declared.notes.ClaimNote.TheVariants.{Got, Busy, Short}
@@ -60,6 +60,7 @@ use Rattle.ccr_net.proofs.Invariant.{IsOwed, put_in}
 use Rattle.ccr_net.proofs.ActorSteps.{unfired}
 use Rattle.ccr_net.proofs.SitePart.{site_at, SitesMatch-branch, SitesMatch-resume, someone_waits}
 use Rattle.ccr_net.proofs.ArbiterPart.{FiresAlike-fire, FiresAlike-resume, KeepsShape, kept_shape, fired_there, is_of, none_fired, none_at_branch, none_at_first}
+use Rattle.ccr_net.proofs.RoomPart.{IsBookedAt, has_room-left}
 use Rattle.ccr_net.proofs.Phases.{SpotFits, Fits}
 use Rattle.ccr_net.proofs.Assembly.{ActorHolds, Holds, hand_settles}
 use Rattle.ccr_net.proofs.Silent.{step_consume, step_free, step_unbook, step_over, step_full, step_booked, step_refused, step_dead, step_dead_site, step_got, claims_by, drives, got_facts, GotFacts}
@@ -98,12 +99,12 @@ module _ (w : Parts) (n : ℕ) (first : PlainFacts w) (few : n ≤ 33) (lacks : 
   settle_by x more turns (places.Site b k) (asks.Free t) there gives owed same = absurd (cc)
   settle_by x more turns (places.Queue q) (asks.Free t) there gives owed same = absurd (cc)
   settle_by x more turns places.Meter (asks.Free t) there gives owed same = absurd (cc)
-  settle_by x more turns (places.Queue q) (asks.Unbook t) there gives owed same = step_unbook w n lacks es e low holds q t x more there (given_some _ (notes.Unbook t) e.note gives).1 turns
+  settle_by x more turns (places.Queue q) (asks.Unbook t) there gives owed same = step_unbook w n lacks es e low holds q t x more there (given_some _ (notes.Unbook t) e.note gives).1 turns owed
   settle_by x more turns (places.Port p) (asks.Unbook t) there gives owed same = absurd (cc)
   settle_by x more turns (places.Arbiter i) (asks.Unbook t) there gives owed same = absurd (no_some _ e.note (none_at w (asks.Unbook t) (λ a. refl) (λ a. refl) i (slice_get w.arbiters i) (notes_at es (places.Arbiter i))) gives)
   settle_by x more turns (places.Site b k) (asks.Unbook t) there gives owed same = absurd (cc)
   settle_by x more turns places.Meter (asks.Unbook t) there gives owed same = absurd (cc)
-  settle_by x more turns (places.Queue q) (asks.Put t) there gives owed same = step_put w n first few lacks es e low holds q t.id x more there (given_some _ (notes.Put t.id (queues.put_note (queue_at w es q))) e.note gives).1 turns same owed.0 owed.1 owed.2 (at_queue owed.3)
+  settle_by x more turns (places.Queue q) (asks.Put t) there gives owed same = step_put w n first few lacks es e low holds q t.id x more there (given_some (queues.may_put (queue_at w es q) t.id) _ e.note gives).0 (given_some _ (notes.Put t.id (queues.put_note (queue_at w es q))) e.note gives).1 turns same owed.0 owed.1 owed.2 (at_queue owed.3)
     where
       at_queue : places.Queue q ≡ places.Queue (queue_of w h t.id) → q ≡ queue_of w h t.id
       at_queue is = cc
@@ -219,6 +220,7 @@ module _ (w : Parts) (n : ℕ) (first : PlainFacts w) (few : n ≤ 33) (lacks : 
         even = even;
         fits = fits_now;
         allowed = allowed;
+        booked = λ q is. subst (λ k. set.contains (queue_at w es k).fresh (name_at e.actor before) ≡ true) (same_number s.branch.queue q (rw sits at is)) booked;
         arbiters = FiresAlike-fire w e i b s (name_at e.actor before) _ [] sits at_its there note;
         sites = SitesMatch-branch w es e i b (name_at e.actor before) _ [] holds.legal there holds.sites;
       })
@@ -235,11 +237,14 @@ module _ (w : Parts) (n : ℕ) (first : PlainFacts w) (few : n ≤ 33) (lacks : 
           fits_now : Fits (pattern_at w (Branch b)) [] (had_in before.phase)
           fits_now = subst (λ p. Fits p [] (had_in before.phase)) (sym pattern) (subst (λ hs. Fits s.branch.pattern [] hs) (sym (ap had_in phase)) fits)
 
+          booked : set.contains (queue_at w es s.branch.queue).fresh (name_at e.actor before) ≡ true
+          booked = subst (λ o. set.contains (queue_at w es (option_map_or (λ (r : Placement). r.branch.queue) o 0)).fresh (name_at e.actor before) ≡ true) sits (subst (λ ss. IsBookedAt w (queue_at w es) (name_at e.actor before) (claiming [] had) ss) (drives w n lacks es e low holds (Branch b) more turns).spots_so (subst (λ ph. IsBookedAt w (queue_at w es) (name_at e.actor before) ph before.spots) phase (holds.under_way e.actor)))
+
           fresh_name : has_task (fired h) (name_at e.actor before) ≡ false
           fresh_name = unfired w h (port_at es) e.actor before own.claims
 
           allowed : IsAllowed w h (events.Fire (name_at e.actor before) (Branch b) names [])
-          allowed = fire_allowed w first h (name_at e.actor before) b s names sits fresh_name (omega (arith, low, few)) (live is) (subst (λ p. is_choice_of (held h) p names ≡ true) pattern (chosen_now w n first few lacks es e low holds (pattern_at w (Branch b)) even fits_now))
+          allowed = fire_allowed w first h (name_at e.actor before) b s names sits fresh_name (omega (arith, low, few)) (live is) (has_room-left w h (queue_at w es) s.branch.queue (name_at e.actor before) holds.legal holds.queues.listed holds.queues.booked booked fresh_name) (subst (λ p. is_choice_of (held h) p names ≡ true) pattern (chosen_now w n first few lacks es e low holds (pattern_at w (Branch b)) even fits_now))
 
           had_note : e.note ≡ notes.Fired (name_at e.actor before) (Branch b) (names_of (in_pattern s.branch.pattern had)) []
           had_note = given_so.1 ∙ ap (λ o. commit_note task (names_of (in_pattern s.branch.pattern had)) o (notes.Fired task.id task.spot (names_of (in_pattern s.branch.pattern had)) [])) is
@@ -308,6 +313,7 @@ module _ (w : Parts) (n : ℕ) (first : PlainFacts w) (few : n ≤ 33) (lacks : 
         even = even;
         fits = fits_now;
         allowed = allowed;
+        booked = λ q is. absurd (cc);
         arbiters = FiresAlike-resume w e b k (name_at e.actor before) names [] got.there note;
         sites = SitesMatch-resume w es e b k (name_at e.actor before) names holds.legal allowed got.there note holds.sites;
       })
@@ -340,12 +346,15 @@ module _ (w : Parts) (n : ℕ) (first : PlainFacts w) (few : n ≤ 33) (lacks : 
           note : e.note ≡ notes.Fired (name_at e.actor before) (Site b k) names []
           note = noted None is ∙ ap (λ hs. notes.Fired (name_at e.actor before) (Site b k) (names_of (in_pattern (pattern_at w (Site b k)) hs)) []) (sym (ap had_in phase))
 
-  book_by : (q : ℕ) (t : TaskId) (resumes : Bool) (spot : Spot) (more : List Spot) → turn before ≡ drive spot more → before.phase ≡ booking → Given w es e (at_place (places.Queue q) (asks.Book t resumes)) → Done
-  book_by q t resumes spot more turns phase got = by_full (queues.book_note (queue_at w es q) resumes) ((given_some _ _ e.note got.gives).1)
+  book_by : (spot : Spot) (more : List Spot) → turn before ≡ drive spot more → before.phase ≡ booking → Given w es e (at_place (places.Queue (queue_number w spot)) (asks.Book (name_at e.actor before) (resumes spot))) → Done
+  book_by spot more turns phase got = by_full (queues.book_note (queue_at w es (queue_number w spot)) (resumes spot)) refl given_so.1
     where
-      by_full : (o : Option ℕ) → e.note ≡ notes.Book t resumes o → Done
-      by_full None note = step_booked w n lacks es e low holds q t resumes spot more got.there note turns phase
-      by_full (Some k) note = step_full w n lacks es e low holds q k t resumes spot more got.there note turns
+      given_so : (queues.may_book (queue_at w es (queue_number w spot)) (name_at e.actor before) ≡ true) × (e.note ≡ notes.Book (name_at e.actor before) (resumes spot) (queues.book_note (queue_at w es (queue_number w spot)) (resumes spot)))
+      given_so = given_some (queues.may_book (queue_at w es (queue_number w spot)) (name_at e.actor before)) _ e.note got.gives
+
+      by_full : (o : Option ℕ) → queues.book_note (queue_at w es (queue_number w spot)) (resumes spot) ≡ o → e.note ≡ notes.Book (name_at e.actor before) (resumes spot) o → Done
+      by_full None room note = step_booked w n lacks es e low holds spot more got.there given_so.0 room note turns phase
+      by_full (Some k) room note = step_full w n lacks es e low holds (queue_number w spot) k (name_at e.actor before) (resumes spot) spot more got.there note turns
 
   pub drive_kept : (spot : Spot) (more : List Spot) → turn before ≡ drive spot more → Done
   drive_kept spot more turns = by_spot spot refl (own.fits.spots_so spot (rw spots_are (inl refl)))
@@ -363,7 +372,7 @@ module _ (w : Parts) (n : ℕ) (first : PlainFacts w) (few : n ≤ 33) (lacks : 
           both_of is = is.1
 
       by_phase : ((had : List Had) → before.phase ≡ claiming [] had → Done) → (ph : Phase) → before.phase ≡ ph → Done
-      by_phase commits booking phase = book_by (queue_number w spot) (name_at e.actor before) (resumes spot) spot more turns phase (asked_in booking phase)
+      by_phase commits booking phase = book_by spot more turns phase (asked_in booking phase)
       by_phase commits (claiming (slot ∷ slots) had) phase = claim_by slot slots had spot more turns phase (asked_in (claiming (slot ∷ slots) had) phase)
       by_phase commits (claiming [] had) phase = commits had phase
 

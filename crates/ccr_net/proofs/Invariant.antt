@@ -48,7 +48,7 @@ IsOwedOver _ = ⊥
 abbrev pub IsOwed : Parts → List Event → ℕ → ℕ → Place → Ask → Type 0
 IsOwed w history actor bound place (asks.Consume task) = (task.actor ≡ actor) × (has_task (fired history) task ≡ true)
 IsOwed w history actor bound place (asks.Free task) = (task.actor ≡ actor) × (task.attempt < bound) × (has_task (fired history) task ≡ false)
-IsOwed w history actor bound place (asks.Unbook task) = Unit {0}
+IsOwed w history actor bound place (asks.Unbook task) = (task.actor ≡ actor) × (task.attempt < bound) × (has_task (fired history) task ≡ false)
 IsOwed w history actor bound place (asks.Put task) = (task.id.actor ≡ actor) × IsFired history task.id × (has_task (put history) task.id ≡ false) × (place ≡ places.Queue (queue_of w history task.id))
 IsOwed w history actor bound place (asks.Over task root how) = IsOwedOver how
 IsOwed w history actor bound place _ = ⊥

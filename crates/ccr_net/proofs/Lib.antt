@@ -8,6 +8,7 @@ pub mod Patterns
 pub mod Starts
 pub mod WorkPart
 pub mod QueuePart
+pub mod RoomPart
 pub mod ArbiterPart
 pub mod SitePart
 pub mod MeterPart
@@ -18,6 +19,7 @@ pub mod PlainFacts
 pub mod PlainWirings
 pub mod Allowed
 pub mod Shown
+pub mod BookingPart
 pub mod Choices
 pub mod Steps
 pub mod Noted

@@ -13,19 +13,17 @@ use Rattle.ccr_base.specs.declared.patterns.Pattern.{Pattern}
 use Rattle.ccr_base.specs.declared.patterns.Pattern.TheVariants.{Slots, Gather}
 use Rattle.ccr_base.specs.declared.patterns.Slot.{Slot}
 use Rattle.ccr_base.specs.declared.policies.Group.TheVariants as groups
-use Rattle.ccr_base.specs.declared.policies.Policy.{Policy}
-use Rattle.ccr_base.specs.declared.policies.Policy.TheVariants.{Unbounded, Discard, Throttle}
 use Rattle.ccr_base.specs.declared.tasks.Task.{Task}
 use Rattle.ccr_base.specs.Names.{same_task, has_task, same_lists}
 use Rattle.ccr_handler.specs.declared.segments.PlayEnd.TheVariants as plays
 use Rattle.ccr_wiring.specs.declared.parts.ArbiterPart.{ArbiterPart}
 use Rattle.ccr_wiring.specs.declared.parts.Parts.{Parts}
-use Rattle.ccr_wiring.specs.Wirings.{Placement, placement, spots, policy_of, next_site}
+use Rattle.ccr_wiring.specs.Wirings.{Placement, placement, spots, next_site}
 use Rattle.ccr_model.specs.declared.history.Event.{Event}
 use Rattle.ccr_model.specs.declared.history.Event.TheVariants as events
 use Rattle.ccr_model.specs.Firings.{cut, firing_of, started}
 use Rattle.ccr_model.specs.Legal.{IsAllowed, IsLegal}
-use Rattle.ccr_model.specs.Live.{is_live, has_room, has_room_in}
+use Rattle.ccr_model.specs.Live.{is_live, has_room}
 use Rattle.ccr_model.specs.Posts.{posts, posts_of_task, is_message_of}
 use Rattle.ccr_model.specs.Rules.{is_new, cuts_at, is_play_post, refusal_of_post}
 use Rattle.ccr_model.specs.Choice.{is_choice}
@@ -37,8 +35,7 @@ use Rattle.ccr_model.proofs.Pushes.{cut-push, posts-push, started-push}
 use Rattle.ccr_model.proofs.SameNames.{same_task-is}
 use Rattle.ccr_model.proofs.TasksLeft.{of_without}
 use Rattle.ccr_model.proofs.TaskLists.{among_left}
-use Rattle.ccr_actor.specs.Plans.{is_interleave_number, throttled}
-use Rattle.ccr_net.specs.Plain.{is_throttle}
+use Rattle.ccr_actor.specs.Plans.{is_interleave_number}
 use Rattle.ccr_net.proofs.Phases.{SpotFits}
 use Rattle.ccr_places.specs.Arbiters as arbiters
 use Rattle.ccr_actor.specs.Actors.{play_in}
@@ -60,21 +57,8 @@ pub record PlainFacts (w : Parts) : Type 0 where
   pub even : (b : ℕ) (s : Placement) → placement w b ≡ Some s → IsEven s.branch.pattern
   pub placements_free : (b : ℕ) (s : Placement) → placement w b ≡ Some s → is_interleave s.kind ≡ false
   pub no_interleaves : (b : ℕ) (s : Placement) → placement w b ≡ Some s → is_interleave_number w s.arbiter ≡ false
-  pub no_throttles : (q : ℕ) → is_throttle (policy_of w q) ≡ false
   pub places_so : (spot : Spot) → Among spot (spots w) → SpotFits w spot
   pub sites_so : (task : Task) (site : ℕ) → (play_in w task).end ≡ plays.Yield site → SpotFits w (next_site task.spot)
-
--- ---- where no queue is a throttle
-
-pub room_free : (w : Parts) (h : List Event) (q : ℕ) (p : Policy) → is_throttle p ≡ false → has_room_in w h q p ≡ true
-room_free w h q Unbounded out = refl
-room_free w h q (Discard n) out = refl
-room_free w h q (Throttle n) out = absurd (cc)
-
-pub throttled_none : (w : Parts) (q : ℕ) (p : Policy) → is_throttle p ≡ false → throttled w q p ≡ []
-throttled_none w q Unbounded out = refl
-throttled_none w q (Discard n) out = refl
-throttled_none w q (Throttle n) out = absurd (cc)
 
 -- ---- no task is cut
 

@@ -241,7 +241,6 @@ plain_facts w valid plain = record {
   even = λ b s is. even_filled s.branch.pattern (all.patterns b s is);
   placements_free = plain.no_interleaves;
   no_interleaves = λ b s is. no_number (slice_get w.arbiters s.arbiter) s.kind (plain.no_interleaves b s is) (all.domains b s is);
-  no_throttles = plain.no_throttles;
   places_so = λ spot is. spots_fit w 0 (placements w) spot (λ i r at_i. ap (placement w) (from_none i) ∙ at_i) is;
   sites_so = λ task site is. yields_at_site w task site is;
 }

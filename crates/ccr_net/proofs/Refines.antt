@@ -7,6 +7,7 @@ use Rattle.std.specs.Option.{option_map_or}
 use Rattle.ccr_wiring.specs.declared.parts.Parts.{Parts}
 use Rattle.ccr_wiring.specs.declared.parts.PosterPart.{PosterPart}
 use Rattle.ccr_wiring.specs.Valid.{IsValid}
+use Rattle.ccr_wiring.specs.Wirings.{policy_of}
 use Rattle.ccr_wiring.proofs.Soundness.{sound}
 use Rattle.ccr_model.specs.Legal.{IsLegal, has_shed, is_covered}
 use Rattle.ccr_model.specs.Posts.{posts_of_tasks}
@@ -17,11 +18,12 @@ use Rattle.ccr_actor.specs.Actors.{Work, lines, round, work_of, fresh_state}
 use Rattle.ccr_net.specs.declared.entries.Entry.{Entry}
 use Rattle.ccr_net.specs.Runs.{Lacks, IsRun, port_at, state_of}
 use Rattle.ccr_net.specs.Visible.{visible}
-use Rattle.ccr_net.proofs.Pushes.{along_run, Step-made}
+use Rattle.ccr_net.proofs.BookingPart.{QueueSound-start}
+use Rattle.ccr_net.proofs.Pushes.{queue_at, along_run, Step-made}
 use Rattle.ccr_net.proofs.Invariant.{ActorMatches}
 use Rattle.ccr_net.proofs.WorkPart.{WorkMatches}
 use Rattle.ccr_net.proofs.MeterPart.{count, count-same, is_posting, is_shedding}
-use Rattle.ccr_net.proofs.Assembly.{ActorHolds-begun, begins, begun_work, Holds, works_of}
+use Rattle.ccr_net.proofs.Assembly.{ActorHolds-begun, IsBooked-begun, begins, begun_work, Holds, works_of}
 use Rattle.ccr_net.specs.Plain.{IsPlain}
 use Rattle.ccr_net.proofs.PlainFacts.{PlainFacts}
 use Rattle.ccr_net.proofs.PlainWirings.{plain_facts}
@@ -68,7 +70,11 @@ pub Holds-begins : (w : Parts) (n : ℕ) (lacks : Lacks) → Holds w n lacks []
 Holds-begins w n lacks = record {
   legal = tt;
   ports = record { holds_so = λ p. refl; enough = λ p c is. absurd (cc); items_posted = λ p name is. absurd (cc); taken_posted = λ name is. absurd (cc) };
-  queues = record { queued_so = λ q. refl; policy_so = λ q. refl };
+  queues = record {
+    listed = record { queued_so = λ q. refl; policy_so = λ q. refl };
+    booked = record { sound = λ q. QueueSound-start q (policy_of w q); fired_booked = λ q t is. absurd (cc); queued_fresh = λ q x is. absurd is };
+  };
+  under_way = λ a. IsBooked-begun w (queue_at w []) a (state_of w lacks [] a) (begins w lacks a);
   actors = λ a. ActorHolds-begun w [] (port_at []) a (state_of w lacks [] a) (begins w lacks a) (record { claims = fresh_claims w a (work_of w a); work = fresh_work w a; fits = record { no_arbiters = refl; spots_so = λ s is. absurd is; phase_so = tt } });
   meter = record {
     low = omega arith;

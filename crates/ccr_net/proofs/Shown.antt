@@ -21,8 +21,9 @@ use Rattle.ccr_places.specs.declared.claims.StandingClaim.{StandingClaim}
 use Rattle.ccr_places.specs.declared.notes.Note.TheVariants as notes
 use Rattle.ccr_places.specs.Ports.{PortState, first_fitting}
 use Rattle.ccr_places.specs.Ports as ports
+use Rattle.ccr_places.specs.Queues.{QueueState}
 use Rattle.ccr_claim.specs.Attempts.{Phase, had_in, booking, claiming}
-use Rattle.ccr_actor.specs.Actors.{State, Work, turn, go_on, after_in, spots_left}
+use Rattle.ccr_actor.specs.Actors.{State, Work, name_at, turn, go_on, after_in, spots_left}
 use Rattle.ccr_net.specs.declared.entries.Entry.{Entry}
 use Rattle.ccr_net.specs.Runs.{Lacks, state_of, port_at, reply_of}
 use Rattle.ccr_net.specs.Visible.{visible, event_of}
@@ -34,11 +35,12 @@ use Rattle.ccr_net.proofs.ActorSteps.{ActorMatches-same, ActorMatches-ports, Act
 use Rattle.ccr_net.proofs.HeldApart.{post_fresh}
 use Rattle.ccr_net.proofs.SitePart.{SitesMatch, SitesMatch-other}
 use Rattle.ccr_net.proofs.ArbiterPart.{ArbitersMatch-push, FiresAlike-other}
-use Rattle.ccr_net.proofs.QueuePart.{QueuesMatch, QueuesMatch-event, queued-other}
+use Rattle.ccr_net.proofs.QueuePart.{queued-other}
+use Rattle.ccr_net.proofs.RoomPart.{QueuesHold, QueuesHold-event, IsBooked, Stays}
 use Rattle.ccr_net.proofs.WorkPart.{WorkMatches, WorkMatches-same, SaysSame}
 use Rattle.ccr_net.proofs.MeterPart.{MeterMatches, OneWorks}
 use Rattle.ccr_net.proofs.Phases.{StateFits, PhaseFits, SpotFits}
-use Rattle.ccr_net.proofs.Assembly.{ActorHolds, Holds, Holds-kept, meter_at, works_of, port_changes, same_queues, same_meter, none_go_on}
+use Rattle.ccr_net.proofs.Assembly.{ActorHolds, Holds, Holds-kept, UnderWay, same_under_way, meter_at, works_of, port_changes, is_queue_place, same_queues, same_meter, none_go_on}
 
 -- names stand once in a legal history
 pub named_legal : (w : Parts) (h : List Event) → IsLegal w h → AreNamed (posts h)
@@ -79,6 +81,13 @@ module _ (w : Parts) (n : ℕ) (lacks : Lacks) (es : List Entry) (e : Entry) (lo
     phase_so = rw (on.phase, idle_phase turns) tt;
   }
 
+  -- so none is booked
+  pub goes_booked : (next : State) → turn before ≡ go_on → GoesOn next → (queue : ℕ → QueueState) → IsBooked w queue e.actor next
+  goes_booked next turns on queue = rw (on.phase, idle_phase turns) tt
+
+  pub goes_under_way : (place : Place) (next : State) → e.place ≡ place → is_queue_place place ≡ false → turn before ≡ go_on → GoesOn next → UnderWay w lacks es e next
+  goes_under_way place next there other turns on = same_under_way w lacks es e place next there other (goes_booked next turns on (queue_at w es))
+
   -- ---- an event of another actor
 
   pub ActorHolds-event : (ev : Event) (port : ℕ → PortState) (a : ℕ) (st : State) → ((t : TaskId) → t.actor ≡ a → has_task (fired (h ++ ev ∷ [])) t ≡ has_task (fired h) t) → ((t : TaskId) → t.actor ≡ a → has_task (put (h ++ ev ∷ [])) t ≡ has_task (put h) t) → SaysSame h ev a → ActorHolds w h port a st → ActorHolds w (h ++ ev ∷ []) port a st
@@ -117,17 +126,18 @@ module _ (w : Parts) (n : ℕ) (lacks : Lacks) (es : List Entry) (e : Entry) (lo
       → ((a : ℕ) → e.actor ≢ a → SaysSame h (events.Post m) a)
       → ((works' : ℕ → Work) → OneWorks (works_of w lacks es) works' e.actor next.work → MeterMatches w n (h ++ events.Post m ∷ []) (meter_at w es).drawn works')
       → Holds w n lacks (es ++ e ∷ [])
-  step_post m next place note turns goes on allowed named work says meter = Holds-kept w n lacks es e next (h ++ events.Post m ∷ []) (record {
+  step_post m next place note turns goes on allowed named work says meter = Holds-kept w n lacks es e next (h ++ events.Post m ∷ []) holds.under_way (record {
     shows = shows (events.Post m) (rw note refl);
     goes = goes;
     legal = legal_push w [] h (events.Post m) holds.legal allowed;
     ports = PortsMatch-post h (port_at es) (port_at (es ++ e ∷ [])) m (post_fresh (posts h) m.id (named_legal w h holds.legal) named) (subst (Changes (port_at es) (port_at (es ++ e ∷ [])) m.port) note (port_changes es e m.port place)) holds.ports;
-    queues = rw (same_queues w es e (places.Port m.port) place refl) (QueuesMatch-event w h (events.Post m) (queue_at w es) (λ q. queued-other w h q (events.Post m) refl refl refl refl) holds.queues);
+    queues = rw (same_queues w es e (places.Port m.port) place refl) (QueuesHold-event w h (events.Post m) (queue_at w es) refl (λ q. queued-other w h q (events.Post m) refl refl refl refl) holds.queues);
     own = record {
       claims = post_ports m place note e.actor (h ++ events.Post m ∷ []) next (ActorMatches-same w (h ++ events.Post m ∷ []) (port_at es) e.actor before next on.hand (ap had_in on.phase) on.attempt (ActorMatches-history w h (events.Post m ∷ []) (port_at es) e.actor before (λ t own. rw (fired-post h m) refl) (λ t own. rw (put-push, append-nil) refl) (holds.actors e.actor).claims));
       work = work;
       fits = goes_fits next turns on;
     };
+    under_way = same_under_way w lacks es e (places.Port m.port) next place refl (goes_booked next turns on (queue_at w es));
     others = λ a other. (let known = ActorHolds-event (events.Post m) (port_at es) a (state_of w lacks es a) (λ t own. rw (fired-post h m) refl) (λ t own. rw (put-push, append-nil) refl) (says a other) (holds.actors a) in record { claims = post_ports m place note a (h ++ events.Post m ∷ []) (state_of w lacks es a) known.claims; work = known.work; fits = known.fits });
     meter = λ works' one. rw (same_meter w es e (places.Port m.port) place refl) (meter works' one);
     budget = rw (same_meter w es e (places.Port m.port) place refl) holds.budget;
@@ -140,19 +150,21 @@ module _ (w : Parts) (n : ℕ) (lacks : Lacks) (es : List Entry) (e : Entry) (lo
   pub step_other : (ev : Event) (place : Place) (next : State) → e.place ≡ place → event_of e ≡ ev ∷ [] → firing_of ev ≡ [] → port_at (es ++ e ∷ []) ≡ port_at es → turn before ≡ go_on → after_in w e.actor before (turn before) (reply_of w es e) ≡ next → GoesOn next
       → posts (h ++ ev ∷ []) ≡ posts h → taken (h ++ ev ∷ []) ≡ taken h → fired (h ++ ev ∷ []) ≡ fired h → put (h ++ ev ∷ []) ≡ put h
       → IsAllowed w h ev
-      → QueuesMatch w (h ++ ev ∷ []) (queue_at w (es ++ e ∷ []))
+      → QueuesHold w (h ++ ev ∷ []) (queue_at w (es ++ e ∷ []))
+      → ((a : ℕ) → Stays (queue_at w es) (queue_at w (es ++ e ∷ [])) (name_at a (state_of w lacks es a)))
       → WorkMatches w (h ++ ev ∷ []) e.actor next.work
       → ((a : ℕ) → e.actor ≢ a → SaysSame h ev a)
       → meter_at w (es ++ e ∷ []) ≡ meter_at w es
       → ((works' : ℕ → Work) → OneWorks (works_of w lacks es) works' e.actor next.work → MeterMatches w n (h ++ ev ∷ []) (meter_at w es).drawn works')
       → SitesMatch (h ++ ev ∷ []) (es ++ e ∷ [])
       → Holds w n lacks (es ++ e ∷ [])
-  step_other ev place next there is unfired same turns goes on p t f u allowed queues work says drawn meter sited = Holds-kept w n lacks es e next (h ++ ev ∷ []) (record {
+  step_other ev place next there is unfired same turns goes on p t f u allowed queues stays work says drawn meter sited = Holds-kept w n lacks es e next (h ++ ev ∷ []) holds.under_way (record {
     shows = shows ev is;
     goes = goes;
     legal = legal_push w [] h ev holds.legal allowed;
     ports = rw same (PortsMatch-event h ev (port_at es) p t f holds.ports);
     queues = queues;
+    under_way = record { own = goes_booked next turns on (queue_at w (es ++ e ∷ [])); others = λ a other. stays a };
     own = rw same (record {
       claims = ActorMatches-same w (h ++ ev ∷ []) (port_at es) e.actor before next on.hand (ap had_in on.phase) on.attempt (ActorMatches-history w h (ev ∷ []) (port_at es) e.actor before (λ x own. rw f refl) (λ x own. rw u refl) (holds.actors e.actor).claims);
       work = work;

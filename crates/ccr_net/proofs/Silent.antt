@@ -21,16 +21,17 @@ use Rattle.ccr_model.proofs.Members.{Among}
 use Rattle.ccr_model.proofs.SameNames.{same_task-is}
 use Rattle.ccr_places.specs.declared.claims.StandingClaim.{StandingClaim}
 use Rattle.ccr_places.specs.declared.notes.ClaimNote.TheVariants.{Got}
+use Rattle.ccr_places.specs.declared.notes.Note.{Note}
 use Rattle.ccr_places.specs.declared.notes.Note.TheVariants as notes
 use Rattle.ccr_places.specs.Ports.{PortState, is_claimed_by, first_fitting}
 use Rattle.ccr_places.specs.Ports as ports
 use Rattle.ccr_places.specs.Queues as queues
 use Rattle.ccr_claim.specs.declared.asks.Reply.TheVariants as replies
 use Rattle.ccr_claim.specs.declared.plan.Had.{Had}
-use Rattle.ccr_claim.specs.Plans.{narrowed, slots_in}
+use Rattle.ccr_claim.specs.Plans.{narrowed, slots_in, resumes}
 use Rattle.ccr_claim.specs.declared.asks.Asked.{Asked}
 use Rattle.ccr_claim.specs.Attempts.{booking, claiming, had_in}
-use Rattle.ccr_actor.specs.Plans.{pattern_at}
+use Rattle.ccr_actor.specs.Plans.{pattern_at, queue_at as queue_number}
 use Rattle.ccr_actor.specs.Actors.{State, Work, settle, drive, turn, name_at, after_in, spots_left, give_up}
 use Rattle.ccr_net.specs.declared.entries.Entry.{Entry}
 use Rattle.ccr_net.specs.Runs.{Lacks, state_of, port_at, reply_of}
@@ -41,10 +42,11 @@ use Rattle.ccr_net.proofs.PortSteps.{Changes, PortsMatch-consume, PortsMatch-fre
 use Rattle.ccr_net.proofs.ActorSteps.{ActorMatches-same, ActorMatches-ports, ActorMatches-settled, ActorMatches-give_up, ActorMatches-got, unfired}
 use Rattle.ccr_net.proofs.SitePart.{SitesMatch-silent}
 use Rattle.ccr_net.proofs.ArbiterPart.{ArbitersMatch-push, FiresAlike-silent}
-use Rattle.ccr_net.proofs.QueuePart.{QueuesMatch, QueuesMatch-note}
+use Rattle.ccr_net.proofs.QueuePart.{QueueChanges, QueuesMatch-note}
+use Rattle.ccr_net.proofs.RoomPart.{QueuesHold, BookingsMatch, BookingsMatch-booked, BookingsMatch-full, BookingsMatch-unbook, IsBooked, IsBookedAt, IsBookedAt-booked, IsBookedAt-claimed, IsBookedAt-stays, Stays-book, Stays-unbook}
 use Rattle.ccr_net.proofs.MeterPart.{MeterMatches, MeterMatches-quiet, OneWorks, is_posting, is_shedding}
 use Rattle.ccr_net.proofs.Phases.{Fits, Fits-begins, Fits-claimed}
-use Rattle.ccr_net.proofs.Assembly.{ActorHolds, Holds, Holds-kept, meter_at, works_of, port_changes, queue_changes, same_ports, same_queues, same_meter, is_port_place, is_meter_place, hand_settles, spots_drive}
+use Rattle.ccr_net.proofs.Assembly.{ActorHolds, Holds, Holds-kept, UnderWay, same_under_way, meter_at, works_of, port_changes, queue_changes, same_ports, same_queues, same_meter, is_port_place, is_meter_place, hand_settles, spots_drive}
 
 -- ---- an entry that shows nothing
 
@@ -57,13 +59,14 @@ module _ (w : Parts) (n : ℕ) (lacks : Lacks) (es : List Entry) (e : Entry) (lo
 
   -- with what the meter keeps
   pub silent_metered : (next : State) → event_of e ≡ [] → after_in w e.actor before (turn before) (reply_of w es e) ≡ next
-      → PortsMatch h (port_at (es ++ e ∷ [])) → QueuesMatch w h (queue_at w (es ++ e ∷ []))
+      → PortsMatch h (port_at (es ++ e ∷ [])) → QueuesHold w h (queue_at w (es ++ e ∷ []))
       → ActorHolds w h (port_at (es ++ e ∷ [])) e.actor next
       → ((a : ℕ) → e.actor ≢ a → ActorHolds w h (port_at (es ++ e ∷ [])) a (state_of w lacks es a))
+      → UnderWay w lacks es e next
       → ((works' : ℕ → Work) → OneWorks (works_of w lacks es) works' e.actor next.work → MeterMatches w n h (meter_at w (es ++ e ∷ [])).drawn works')
       → (meter_at w (es ++ e ∷ [])).budget ≡ (meter_at w es).budget
       → Holds w n lacks (es ++ e ∷ [])
-  silent_metered next none goes ports queues own others meter budget = Holds-kept w n lacks es e next h (record {
+  silent_metered next none goes ports queues own others under meter budget = Holds-kept w n lacks es e next h holds.under_way (record {
     shows = rw (visible-push es e, none, append-nil (visible es)) refl;
     goes = goes;
     legal = holds.legal;
@@ -71,6 +74,7 @@ module _ (w : Parts) (n : ℕ) (lacks : Lacks) (es : List Entry) (e : Entry) (lo
     queues = queues;
     own = own;
     others = others;
+    under_way = under;
     meter = meter;
     budget = budget ∙ holds.budget;
     arbiters = ArbitersMatch-push w es e h (rw (visible-push es e, none, append-nil (visible es)) refl) (FiresAlike-silent w e none) holds.arbiters;
@@ -85,41 +89,50 @@ module _ (w : Parts) (n : ℕ) (lacks : Lacks) (es : List Entry) (e : Entry) (lo
   unmetered place there other = rw (same_meter w es e place there other) (refl, refl)
 
   pub silent : (next : State) → event_of e ≡ [] → after_in w e.actor before (turn before) (reply_of w es e) ≡ next
-      → PortsMatch h (port_at (es ++ e ∷ [])) → QueuesMatch w h (queue_at w (es ++ e ∷ []))
+      → PortsMatch h (port_at (es ++ e ∷ [])) → QueuesHold w h (queue_at w (es ++ e ∷ []))
       → ActorHolds w h (port_at (es ++ e ∷ [])) e.actor next
       → ((a : ℕ) → e.actor ≢ a → ActorHolds w h (port_at (es ++ e ∷ [])) a (state_of w lacks es a))
+      → UnderWay w lacks es e next
       → Metered
       → is_posting next.work ≡ is_posting before.work → (is_shedding next.work ≡ true → is_shedding before.work ≡ true)
       → Holds w n lacks (es ++ e ∷ [])
-  silent next none goes ports queues own others same posts shed = silent_metered next none goes ports queues own others (λ works' one. rw same.0 (MeterMatches-quiet w n h h (meter_at w es).drawn e.actor (works_of w lacks es) works' next.work low refl posts shed one holds.meter)) same.1
+  silent next none goes ports queues own others under same posts shed = silent_metered next none goes ports queues own others under (λ works' one. rw same.0 (MeterMatches-quiet w n h h (meter_at w es).drawn e.actor (works_of w lacks es) works' next.work low refl posts shed one holds.meter)) same.1
 
   -- at a port
   pub silent_port : (p : ℕ) (next : State) → e.place ≡ places.Port p → event_of e ≡ [] → after_in w e.actor before (turn before) (reply_of w es e) ≡ next
       → PortsMatch h (port_at (es ++ e ∷ []))
       → ActorHolds w h (port_at (es ++ e ∷ [])) e.actor next
       → ((a : ℕ) → e.actor ≢ a → ActorHolds w h (port_at (es ++ e ∷ [])) a (state_of w lacks es a))
+      → IsBooked w (queue_at w es) e.actor next
       → is_posting next.work ≡ is_posting before.work → (is_shedding next.work ≡ true → is_shedding before.work ≡ true)
       → Holds w n lacks (es ++ e ∷ [])
-  silent_port p next place none goes ports own others posts shed = silent next none goes ports (rw (same_queues w es e (places.Port p) place refl) holds.queues) own others (unmetered (places.Port p) place refl) posts shed
+  silent_port p next place none goes ports own others booked posts shed = silent next none goes ports (rw (same_queues w es e (places.Port p) place refl) holds.queues) own others (same_under_way w lacks es e (places.Port p) next place refl booked) (unmetered (places.Port p) place refl) posts shed
 
   -- where no port changes
   pub silent_else : (place : Place) (next : State) → e.place ≡ place → is_port_place place ≡ false → event_of e ≡ [] → after_in w e.actor before (turn before) (reply_of w es e) ≡ next
-      → QueuesMatch w h (queue_at w (es ++ e ∷ []))
+      → QueuesHold w h (queue_at w (es ++ e ∷ []))
       → ActorHolds w h (port_at es) e.actor next
+      → UnderWay w lacks es e next
       → Metered
       → is_posting next.work ≡ is_posting before.work → (is_shedding next.work ≡ true → is_shedding before.work ≡ true)
       → Holds w n lacks (es ++ e ∷ [])
-  silent_else place next there other none goes queues own same posts shed =
+  silent_else place next there other none goes queues own under same posts shed =
       let ports = same_ports es e place there other in
-      silent next none goes (rw ports holds.ports) queues (rw ports own) (λ a differs. rw ports (holds.actors a)) same posts shed
+      silent next none goes (rw ports holds.ports) queues (rw ports own) (λ a differs. rw ports (holds.actors a)) under same posts shed
 
   -- at a queue, where nobody comes or goes
   pub silent_queue : (q : ℕ) (next : State) → e.place ≡ places.Queue q → event_of e ≡ [] → after_in w e.actor before (turn before) (reply_of w es e) ≡ next
       → ((k : ℕ) → (queues.after (queue_at w es k) e.note).queued ≡ (queue_at w es k).queued) → ((k : ℕ) → (queues.after (queue_at w es k) e.note).policy ≡ (queue_at w es k).policy)
+      → BookingsMatch w h (queue_at w (es ++ e ∷ []))
       → ActorHolds w h (port_at es) e.actor next
+      → UnderWay w lacks es e next
       → is_posting next.work ≡ is_posting before.work → (is_shedding next.work ≡ true → is_shedding before.work ≡ true)
       → Holds w n lacks (es ++ e ∷ [])
-  silent_queue q next place none goes queued rule own posts shed = silent_else (places.Queue q) next place refl none goes (QueuesMatch-note w h (queue_at w es) (queue_at w (es ++ e ∷ [])) q e.note (queue_changes w es e q place) queued rule holds.queues) own (unmetered (places.Queue q) place refl) posts shed
+  silent_queue q next place none goes queued rule booked own under posts shed = silent_else (places.Queue q) next place refl none goes (record { listed = QueuesMatch-note w h (queue_at w es) (queue_at w (es ++ e ∷ [])) q e.note (queue_changes w es e q place) queued rule holds.queues.listed; booked = booked }) own under (unmetered (places.Queue q) place refl) posts shed
+
+  -- the queue takes this note
+  taken_by : (q : ℕ) (note : Note) → e.place ≡ places.Queue q → e.note ≡ note → QueueChanges (queue_at w es) (queue_at w (es ++ e ∷ [])) q note
+  taken_by q note place is = subst (QueueChanges (queue_at w es) (queue_at w (es ++ e ∷ [])) q) is (queue_changes w es e q place)
 
   -- ---- what is settled
 
@@ -174,7 +187,7 @@ module _ (w : Parts) (n : ℕ) (lacks : Lacks) (es : List Entry) (e : Entry) (lo
       silent_port p (record before { hand = more }) place (rw note refl) (rw (turns, note) refl)
       (PortsMatch-consume h (port_at es) (port_at (es ++ e ∷ [])) p found.claim t found.stands (subst (λ u. has_task (fired h) u ≡ true) found.own owed.1) (subst (Changes (port_at es) (port_at (es ++ e ∷ [])) p) note (port_changes es e p place)) holds.ports)
       (ActorHolds-settled (port_at (es ++ e ∷ [])) e.actor before x more (hand_settles before.is_short before.hand before.arbiters (spots_left before) x more turns) (all e.actor))
-      (λ a other. all a) refl (λ is. is)
+      (λ a other. all a) (holds.under_way e.actor) refl (λ is. is)
     where
       all : (a : ℕ) → ActorHolds w h (port_at (es ++ e ∷ [])) a (state_of w lacks es a)
       all a = claim_ends p t place found (λ k. rw note refl) a (λ same. apart (unfired w h (port_at es) a (state_of w lacks es a) (holds.actors a).claims) same)
@@ -187,7 +200,7 @@ module _ (w : Parts) (n : ℕ) (lacks : Lacks) (es : List Entry) (e : Entry) (lo
       silent_port p (record before { hand = more }) place (rw note refl) (rw (turns, note) refl)
       (PortsMatch-free h (port_at es) (port_at (es ++ e ∷ [])) p found.claim t found.stands (subst (λ u. has_task (fired h) u ≡ false) found.own owed.2) (subst (Changes (port_at es) (port_at (es ++ e ∷ [])) p) note (port_changes es e p place)) holds.ports)
       (ActorHolds-settled (port_at (es ++ e ∷ [])) e.actor before x more (hand_settles before.is_short before.hand before.arbiters (spots_left before) x more turns) (all e.actor))
-      (λ a other. all a) refl (λ is. is)
+      (λ a other. all a) (holds.under_way e.actor) refl (λ is. is)
     where
       old : (a : ℕ) → t.actor ≡ a → t.attempt ≡ (state_of w lacks es a).attempt → ⊥
       old a actor attempt =
@@ -199,15 +212,26 @@ module _ (w : Parts) (n : ℕ) (lacks : Lacks) (es : List Entry) (e : Entry) (lo
       all : (a : ℕ) → ActorHolds w h (port_at (es ++ e ∷ [])) a (state_of w lacks es a)
       all a = claim_ends p t place found (λ k. rw note refl) a (λ same. old a (ap (λ (u : TaskId). u.actor) same) (ap (λ (u : TaskId). u.attempt) same))
 
-  pub step_unbook : (q : ℕ) (t : TaskId) (x : Asked) (more : List Asked) → e.place ≡ places.Queue q → e.note ≡ notes.Unbook t → turn before ≡ settle x more → Holds w n lacks (es ++ e ∷ [])
-  step_unbook q t x more place note turns =
+  pub step_unbook : (q : ℕ) (t : TaskId) (x : Asked) (more : List Asked) → e.place ≡ places.Queue q → e.note ≡ notes.Unbook t → turn before ≡ settle x more → (t.actor ≡ e.actor) × (t.attempt < before.attempt) × (has_task (fired h) t ≡ false) → Holds w n lacks (es ++ e ∷ [])
+  step_unbook q t x more place note turns owed =
       silent_queue q (record before { hand = more }) place (rw note refl) (rw (turns, note) refl) (λ k. rw note refl) (λ k. rw note refl)
-      (ActorHolds-settled (port_at es) e.actor before x more (hand_settles before.is_short before.hand before.arbiters (spots_left before) x more turns) (holds.actors e.actor)) refl (λ is. is)
+      (BookingsMatch-unbook w h (queue_at w es) (queue_at w (es ++ e ∷ [])) q t owed.2 changes holds.queues.booked)
+      (ActorHolds-settled (port_at es) e.actor before x more (hand_settles before.is_short before.hand before.arbiters (spots_left before) x more turns) (holds.actors e.actor))
+      (record {
+        own = IsBookedAt-stays w (queue_at w es) (queue_at w (es ++ e ∷ [])) (name_at e.actor before) before.phase before.spots (Stays-unbook (queue_at w es) (queue_at w (es ++ e ∷ [])) q t (name_at e.actor before) changes old) (holds.under_way e.actor);
+        others = λ a other. Stays-unbook (queue_at w es) (queue_at w (es ++ e ∷ [])) q t (name_at a (state_of w lacks es a)) changes (λ same. other (sym owed.0 ∙ ap (λ (u : TaskId). u.actor) same));
+      }) refl (λ is. is)
+    where
+      changes : QueueChanges (queue_at w es) (queue_at w (es ++ e ∷ [])) q (notes.Unbook t)
+      changes = taken_by q (notes.Unbook t) place note
+
+      old : t ≢ name_at e.actor before
+      old same = let k : t.attempt ≡ before.attempt = ap (λ (u : TaskId). u.attempt) same in let below = owed.1 in absurd (omega (arith, k, below))
 
   pub step_over : (i : ℕ) (t r : TaskId) (x : Asked) (more : List Asked) → e.place ≡ places.Arbiter i → e.note ≡ notes.Over t r hows.Dropped → turn before ≡ settle x more → Holds w n lacks (es ++ e ∷ [])
   step_over i t r x more place note turns =
       silent_else (places.Arbiter i) (record before { hand = more }) place refl (rw note refl) (rw (turns, note) refl) (rw (same_queues w es e (places.Arbiter i) place refl) holds.queues)
-      (ActorHolds-settled (port_at es) e.actor before x more (hand_settles before.is_short before.hand before.arbiters (spots_left before) x more turns) (holds.actors e.actor)) (unmetered (places.Arbiter i) place refl) refl (λ is. is)
+      (ActorHolds-settled (port_at es) e.actor before x more (hand_settles before.is_short before.hand before.arbiters (spots_left before) x more turns) (holds.actors e.actor)) (same_under_way w lacks es e (places.Arbiter i) (record before { hand = more }) place refl (holds.under_way e.actor)) (unmetered (places.Arbiter i) place refl) refl (λ is. is)
 
   -- ---- the attempt
 
@@ -232,8 +256,13 @@ module _ (w : Parts) (n : ℕ) (lacks : Lacks) (es : List Entry) (e : Entry) (lo
   pub step_full : (q k : ℕ) (t : TaskId) (resumes : Bool) (spot : Spot) (more : List Spot) → e.place ≡ places.Queue q → e.note ≡ notes.Book t resumes (Some k) → turn before ≡ drive spot more → Holds w n lacks (es ++ e ∷ [])
   step_full q k t resumes spot more place note turns =
       silent_queue q (give_up w e.actor before spot more) place (rw note refl) (rw (turns, note) refl) (λ j. rw note (by_full resumes j)) (λ j. rw note (by_rule resumes j))
-      (ActorHolds-give_up (port_at es) spot more (drives spot more turns) (holds.actors e.actor)) refl (λ is. is)
+      (BookingsMatch-full w h (queue_at w es) (queue_at w (es ++ e ∷ [])) q k t resumes changes holds.queues.booked)
+      (ActorHolds-give_up (port_at es) spot more (drives spot more turns) (holds.actors e.actor))
+      (record { own = tt; others = λ a other. Stays-book (queue_at w es) (queue_at w (es ++ e ∷ [])) q t (name_at a (state_of w lacks es a)) resumes (Some k) changes }) refl (λ is. is)
     where
+      changes : QueueChanges (queue_at w es) (queue_at w (es ++ e ∷ [])) q (notes.Book t resumes (Some k))
+      changes = taken_by q (notes.Book t resumes (Some k)) place note
+
       by_full : (r : Bool) (j : ℕ) → (queues.after_book (queue_at w es j) t r (Some k)).queued ≡ (queue_at w es j).queued
       by_full true j = refl
       by_full false j = refl
@@ -242,9 +271,11 @@ module _ (w : Parts) (n : ℕ) (lacks : Lacks) (es : List Entry) (e : Entry) (lo
       by_rule true j = refl
       by_rule false j = refl
 
-  pub step_booked : (q : ℕ) (t : TaskId) (resumes : Bool) (spot : Spot) (more : List Spot) → e.place ≡ places.Queue q → e.note ≡ notes.Book t resumes None → turn before ≡ drive spot more → before.phase ≡ booking → Holds w n lacks (es ++ e ∷ [])
-  step_booked q t resumes spot more place note turns phase =
-      silent_queue q next place (rw note refl) (rw (turns, note) refl) (λ j. rw note (by_full resumes j)) (λ j. rw note (by_rule resumes j)) (record {
+  pub step_booked : (spot : Spot) (more : List Spot) → e.place ≡ places.Queue (queue_number w spot) → queues.may_book (queue_at w es (queue_number w spot)) (name_at e.actor before) ≡ true → queues.book_note (queue_at w es (queue_number w spot)) (resumes spot) ≡ None → e.note ≡ notes.Book (name_at e.actor before) (resumes spot) None → turn before ≡ drive spot more → before.phase ≡ booking → Holds w n lacks (es ++ e ∷ [])
+  step_booked spot more place may room note turns phase =
+      silent_queue (queue_number w spot) next place (rw note refl) (rw (turns, note) refl) (λ j. rw note (by_full (resumes spot) j)) (λ j. rw note (by_rule (resumes spot) j))
+      (BookingsMatch-booked w h (queue_at w es) (queue_at w (es ++ e ∷ [])) (queue_number w spot) t (resumes spot) may room changes holds.queues.booked)
+      (record {
         claims = ActorMatches-same w h (port_at es) e.actor before next refl (rw phase refl) refl (holds.actors e.actor).claims;
         work = (holds.actors e.actor).work;
         fits = record {
@@ -252,8 +283,18 @@ module _ (w : Parts) (n : ℕ) (lacks : Lacks) (es : List Entry) (e : Entry) (lo
           spots_so = (holds.actors e.actor).fits.spots_so;
           phase_so = rw drive_so.spots_so (drive_so.numbered, Fits-begins (pattern_at w spot));
         };
+      })
+      (record {
+        own = rw drive_so.spots_so (IsBookedAt-booked w (queue_at w es) (queue_at w (es ++ e ∷ [])) t (slots_in (pattern_at w spot)) [] spot more changes);
+        others = λ a other. Stays-book (queue_at w es) (queue_at w (es ++ e ∷ [])) (queue_number w spot) t (name_at a (state_of w lacks es a)) (resumes spot) None changes;
       }) refl (λ is. is)
     where
+      t : TaskId
+      t = name_at e.actor before
+
+      changes : QueueChanges (queue_at w es) (queue_at w (es ++ e ∷ [])) (queue_number w spot) (notes.Book t (resumes spot) None)
+      changes = taken_by (queue_number w spot) (notes.Book t (resumes spot) None) place note
+
       next : State
       next = record before { phase = claiming (slots_in (pattern_at w spot)) [] }
 
@@ -271,7 +312,7 @@ module _ (w : Parts) (n : ℕ) (lacks : Lacks) (es : List Entry) (e : Entry) (lo
   -- a claim that got nothing changes no port
   pub step_refused : (p : ℕ) (spot : Spot) (more : List Spot) → e.place ≡ places.Port p → event_of e ≡ [] → ((k : ℕ) → ports.after (port_at es k) e.note ≡ port_at es k) → turn before ≡ drive spot more → after_in w e.actor before (turn before) (reply_of w es e) ≡ give_up w e.actor before spot more → Holds w n lacks (es ++ e ∷ [])
   step_refused p spot more place none keeps turns goes =
-      silent_port p (give_up w e.actor before spot more) place none goes (rw same holds.ports) (rw same (ActorHolds-give_up (port_at es) spot more (drives spot more turns) (holds.actors e.actor))) (λ a other. rw same (holds.actors a)) refl (λ is. is)
+      silent_port p (give_up w e.actor before spot more) place none goes (rw same holds.ports) (rw same (ActorHolds-give_up (port_at es) spot more (drives spot more turns) (holds.actors e.actor))) (λ a other. rw same (holds.actors a)) tt refl (λ is. is)
     where
       same : port_at (es ++ e ∷ []) ≡ port_at es
       same = λ j q. (one q) j
@@ -286,11 +327,11 @@ module _ (w : Parts) (n : ℕ) (lacks : Lacks) (es : List Entry) (e : Entry) (lo
   -- a dead commit
   pub step_dead : (i : ℕ) (spot : Spot) (more : List Spot) → e.place ≡ places.Arbiter i → event_of e ≡ [] → turn before ≡ drive spot more → after_in w e.actor before (turn before) (reply_of w es e) ≡ give_up w e.actor before spot more → Holds w n lacks (es ++ e ∷ [])
   step_dead i spot more place none turns goes =
-      silent_else (places.Arbiter i) (give_up w e.actor before spot more) place refl none goes (rw (same_queues w es e (places.Arbiter i) place refl) holds.queues) (ActorHolds-give_up (port_at es) spot more (drives spot more turns) (holds.actors e.actor)) (unmetered (places.Arbiter i) place refl) refl (λ is. is)
+      silent_else (places.Arbiter i) (give_up w e.actor before spot more) place refl none goes (rw (same_queues w es e (places.Arbiter i) place refl) holds.queues) (ActorHolds-give_up (port_at es) spot more (drives spot more turns) (holds.actors e.actor)) (same_under_way w lacks es e (places.Arbiter i) (give_up w e.actor before spot more) place refl tt) (unmetered (places.Arbiter i) place refl) refl (λ is. is)
 
   pub step_dead_site : (b k : ℕ) (more : List Spot) → e.place ≡ places.Site b k → event_of e ≡ [] → turn before ≡ drive (Site b k) more → after_in w e.actor before (turn before) (reply_of w es e) ≡ give_up w e.actor before (Site b k) more → Holds w n lacks (es ++ e ∷ [])
   step_dead_site b k more place none turns goes =
-      silent_else (places.Site b k) (give_up w e.actor before (Site b k) more) place refl none goes (rw (same_queues w es e (places.Site b k) place refl) holds.queues) (ActorHolds-give_up (port_at es) (Site b k) more (drives (Site b k) more turns) (holds.actors e.actor)) (unmetered (places.Site b k) place refl) refl (λ is. is)
+      silent_else (places.Site b k) (give_up w e.actor before (Site b k) more) place refl none goes (rw (same_queues w es e (places.Site b k) place refl) holds.queues) (ActorHolds-give_up (port_at es) (Site b k) more (drives (Site b k) more turns) (holds.actors e.actor)) (same_under_way w lacks es e (places.Site b k) (give_up w e.actor before (Site b k) more) place refl tt) (unmetered (places.Site b k) place refl) refl (λ is. is)
 
   -- ---- a claim that got its messages
 
@@ -298,7 +339,7 @@ module _ (w : Parts) (n : ℕ) (lacks : Lacks) (es : List Entry) (e : Entry) (lo
   step_got d spot more slots had place note turns phase none marked fits enough =
       silent_port d.slot.port next place (rw note refl) goes
       (PortsMatch-got h (port_at es) (port_at (es ++ e ∷ [])) d.slot.port t d.slot (length d.messages) none fresh fits changes holds.ports)
-      own others refl (λ is. is)
+      own others (IsBookedAt-claimed w (queue_at w es) t (d.slot ∷ slots) left had (had_in before.phase ++ d ∷ []) before.spots (subst (λ ph. IsBookedAt w (queue_at w es) t ph before.spots) phase (holds.under_way e.actor))) refl (λ is. is)
     where
       t : TaskId
       t = name_at e.actor before

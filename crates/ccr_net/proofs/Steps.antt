@@ -1,6 +1,7 @@
 -- Firings, puts, takes, ends and posts, each as a whole step.
 use Rattle.std.proofs.Common.{inl, inr, ◌≡◌, ◌≤◌, ◌<◌, ℕ, suc, ◌+◌, Bool, true, false, List, [], ◌∷◌, ◌++◌, length, map, flat_map, take, Option, option_map, Some, None, refl, sym, arith, ap, ◌∙◌, subst, append-nil}
 use Rattle.std.specs.Prelude.{◌==◌, if◌then◌else◌, nat_lt}
+use Rattle.std.specs.FinSet as set
 use Rattle.std.proofs.lemmas.Grind.{common_steps}
 use Rattle.std.proofs.lemmas.List.{length-map}
 use Rattle.std.proofs.lemmas.Bool.Decides.{nat_tests}
@@ -14,10 +15,12 @@ use Rattle.ccr_base.specs.declared.names.TaskId.{TaskId}
 use Rattle.ccr_base.specs.declared.patterns.Pattern.{Pattern}
 use Rattle.ccr_base.specs.declared.patterns.Pred.TheVariants.{Any}
 use Rattle.ccr_base.specs.declared.patterns.Slot.{Slot}
+use Rattle.ccr_base.specs.declared.policies.Policy.{Policy}
+use Rattle.ccr_base.specs.declared.policies.Policy.TheVariants.{Unbounded, Discard, Throttle}
 use Rattle.ccr_base.specs.declared.tasks.Task.{Task}
 use Rattle.ccr_base.specs.Names.{same_task, has_task, has_message}
 use Rattle.ccr_wiring.specs.declared.parts.Parts.{Parts}
-use Rattle.ccr_wiring.specs.Wirings.{Placement, placement, policy_of, branch_of, segment_of, next_site}
+use Rattle.ccr_wiring.specs.Wirings.{Placement, placement, spots, policy_of, branch_of, segment_of, next_site}
 use Rattle.ccr_model.specs.declared.history.Event.{Event}
 use Rattle.ccr_model.specs.declared.history.Event.TheVariants as events
 use Rattle.ccr_model.specs.declared.history.EndHow.{EndHow}
@@ -27,9 +30,9 @@ use Rattle.ccr_model.specs.Firings.{Firing, fired, firings, put, ended, yielded_
 use Rattle.ccr_model.specs.Legal.{IsAllowed}
 use Rattle.ccr_model.specs.Posts.{posts, posts_of_task, held, taken}
 use Rattle.ccr_model.specs.TaskData.{placement_of}
-use Rattle.ccr_model.specs.Tasks.{queued, is_for_queue, running_by}
+use Rattle.ccr_model.specs.Tasks.{queued, is_for_queue, is_branch_where, running_by}
 use Rattle.ccr_model.proofs.Booleans.{same_number, eq-self, refuted, no_both}
-use Rattle.ccr_model.proofs.FiredTasks.{IsFired, IsFired-append}
+use Rattle.ccr_model.proofs.FiredTasks.{IsFired, IsFired-append, fired_has}
 use Rattle.ccr_model.proofs.LegalParts.{legal_push}
 use Rattle.ccr_model.proofs.Members.{Among}
 use Rattle.ccr_model.proofs.Options.{some_of}
@@ -48,7 +51,7 @@ use Rattle.ccr_claim.specs.declared.plan.Had.{Had}
 use Rattle.ccr_claim.specs.Plans.{any_slot, had_at, ports_in, in_pattern, names_of}
 use Rattle.ccr_claim.specs.declared.asks.Asked.{Asked}
 use Rattle.ccr_claim.specs.Attempts.{had_in}
-use Rattle.ccr_actor.specs.Plans.{is_interleave_number, pattern_at, one_of}
+use Rattle.ccr_actor.specs.Plans.{is_interleave_number, pattern_at, one_of, throttled, is_for as is_branch_for}
 use Rattle.ccr_actor.specs.Actors.{State, round, playing, resting, turn, settle, drive, go_on, after_in, name_at, spots_left, fire, begin_play, play_in, after_over, next_round, driving, settled, admit_too, add_arbiter}
 use Rattle.ccr_net.specs.declared.entries.Entry.{Entry}
 use Rattle.ccr_net.specs.Runs.{Lacks, state_of, port_at, reply_of, waits}
@@ -63,13 +66,15 @@ use Rattle.ccr_net.proofs.Patterns.{touched, taken_there, found_member, had_at-i
 use Rattle.ccr_net.proofs.SitePart.{SitesMatch, SitesMatch-other, SitesMatch-suspend}
 use Rattle.ccr_net.proofs.ArbiterPart.{ArbitersMatch-push, FiresAlike, FiresAlike-other}
 use Rattle.ccr_net.proofs.QueuePart.{QueuesMatch-event, QueuesMatch-put, QueuesMatch-take, QueueChanges, Drops, drops_none, drops_first, drops, drop_at-note, queued-other, new_unput, Takes, task_queued}
+use Rattle.ccr_net.proofs.RoomPart.{QueuesHold-event, BookingsMatch-event, BookingsMatch-fire, BookingsMatch-put, BookingsMatch-take, IsBooked, IsBookedAt-stays, Stays, Stays-note, Stays-put, is_for}
 use Rattle.ccr_net.proofs.Starts.{starts, running_by-push, AreStarted-legal}
 use Rattle.ccr_net.proofs.WorkPart.{WorkMatches, WorkMatches-same, SaysSame, RunsTask, Idle, view-stays, quiet_says, start_says, end_says, running_by-end}
 use Rattle.ccr_net.proofs.MeterPart.{MeterMatches-quiet, is_posting, is_shedding}
 use Rattle.ccr_net.proofs.Phases.{SpotFits, Fits, slot_had}
-use Rattle.ccr_net.proofs.Assembly.{ActorHolds, Holds, Holds-kept, is_port_place, is_queue_place, is_meter_place, meter_at, works_of, queue_changes, same_ports, same_queues, same_meter, hand_settles}
+use Rattle.ccr_net.proofs.Assembly.{ActorHolds, Holds, Holds-kept, is_port_place, is_queue_place, is_meter_place, meter_at, works_of, queue_changes, same_under_way, same_stays, same_ports, same_queues, same_meter, hand_settles}
 use Rattle.ccr_net.proofs.Silent.{drives}
-use Rattle.ccr_net.proofs.PlainFacts.{PlainFacts, IsEven, no_cuts, no_posts, throttled_none}
+use Rattle.ccr_net.proofs.Noted.{filter_among}
+use Rattle.ccr_net.proofs.PlainFacts.{PlainFacts, IsEven, no_cuts, no_posts}
 use Rattle.ccr_net.proofs.Allowed.{put_allowed, start_allowed}
 use Rattle.ccr_net.proofs.Shown.{named_legal, ActorHolds-event, step_other}
 use Rattle.ccr_net.proofs.Choices.{first_takes, all_fit, in_ports, chosen, whole_ports, fired_other, put_other, owed_unput, none_put}
@@ -136,18 +141,20 @@ module _ (w : Parts) (n : ℕ) (first : PlainFacts w) (few : n ≤ 33) (lacks : 
     pub even : IsEven (pattern_at w spot)
     pub fits : Fits (pattern_at w spot) [] (had_in before.phase)
     pub allowed : IsAllowed w h (events.Fire (name_at e.actor before) spot (names_of (in_pattern (pattern_at w spot) (had_in before.phase))) [])
+    pub booked : (q : ℕ) → is_branch_where w (is_for q) spot ≡ true → set.contains (queue_at w es q).fresh (name_at e.actor before) ≡ true
     pub arbiters : FiresAlike w e (event_of e)
     pub sites : SitesMatch (h ++ events.Fire (name_at e.actor before) spot (names_of (in_pattern (pattern_at w spot) (had_in before.phase))) [] ∷ []) (es ++ e ∷ [])
 
   pub step_fire : (spot : Spot) (more : List Spot) → FiresAt spot more → Holds w n lacks (es ++ e ∷ [])
-  step_fire spot more at_spot = Holds-kept w n lacks es e (fire w e.actor before spot more (Some task) []) (h ++ event ∷ []) (record {
+  step_fire spot more at_spot = Holds-kept w n lacks es e (fire w e.actor before spot more (Some task) []) (h ++ event ∷ []) holds.under_way (record {
     shows = shows_so;
     goes = rw (at_spot.turns, replied) refl;
     legal = legal_push w [] h event holds.legal at_spot.allowed;
     ports = rw same (PortsMatch-fire h (port_at es) t spot ms [] named fresh (subst (λ xs. (q : ℕ) → IsTouched h (port_at es) t (names_of xs) q) (sym in_order) (touched w h (port_at es) e.actor before named holds.ports own fresh (ports_in (pattern_at w spot)) (whole_ports (pattern_at w spot) at_spot.even (had_in before.phase) at_spot.fits))) (subst (λ xs. (name : MsgId) → has_message (names_of xs) name ≡ true → has_name (posts h) name ≡ true) (sym in_order) (taken_there w h (port_at es) e.actor before named holds.ports own fresh (ports_in (pattern_at w spot)))) holds.ports);
-    queues = rw (same_queues w es e at_spot.place at_spot.there at_spot.no_queue) (QueuesMatch-event w h event (queue_at w es) (λ q. queued-fire w h q t spot ms [] unput) holds.queues);
+    queues = rw (same_queues w es e at_spot.place at_spot.there at_spot.no_queue) (record { listed = QueuesMatch-event w h event (queue_at w es) (λ q. queued-fire w h q t spot ms [] unput) holds.queues.listed; booked = BookingsMatch-fire w h t spot ms [] (queue_at w es) unput at_spot.booked holds.queues.listed holds.queues.booked });
+    under_way = same_under_way w lacks es e at_spot.place (fire w e.actor before spot more (Some task) []) at_spot.there at_spot.no_queue tt;
     own = rw same (record {
-      claims = ActorMatches-fire w h (port_at es) e.actor before spot spot more ms [] (Some task) [] whole (_, firing_named-new h t spot ms [] fresh) unput own;
+      claims = ActorMatches-fire w h (port_at es) e.actor before spot spot more ms [] (Some task) whole (_, firing_named-new h t spot ms [] fresh) unput own;
       work = WorkMatches-same w h event e.actor before.work (says e.actor) (holds.actors e.actor).work;
       fits = record { no_arbiters = refl; spots_so = λ x is. driven x (nat_lt (before.fired + 1) 32768) is; phase_so = tt };
     });
@@ -213,13 +220,14 @@ module _ (w : Parts) (n : ℕ) (first : PlainFacts w) (few : n ≤ 33) (lacks : 
 
   -- ---- a put
 
-  pub step_put : (q : ℕ) (t : TaskId) (x : Asked) (more : List Asked) → e.place ≡ places.Queue q → e.note ≡ notes.Put t (queues.put_note (queue_at w es q)) → turn before ≡ settle x more → put_in x.ask ≡ t ∷ [] → t.actor ≡ e.actor → IsFired h t → has_task (put h) t ≡ false → q ≡ queue_of w h t → Holds w n lacks (es ++ e ∷ [])
-  step_put q t x more place note turns is_put mine fires unput at_queue = Holds-kept w n lacks es e (next dropped) (h ++ event ∷ []) (record {
+  pub step_put : (q : ℕ) (t : TaskId) (x : Asked) (more : List Asked) → e.place ≡ places.Queue q → queues.may_put (queue_at w es q) t ≡ true → e.note ≡ notes.Put t (queues.put_note (queue_at w es q)) → turn before ≡ settle x more → put_in x.ask ≡ t ∷ [] → t.actor ≡ e.actor → IsFired h t → has_task (put h) t ≡ false → q ≡ queue_of w h t → Holds w n lacks (es ++ e ∷ [])
+  step_put q t x more place may note turns is_put mine fires unput at_queue = Holds-kept w n lacks es e (next dropped) (h ++ event ∷ []) holds.under_way (record {
     shows = shows_so;
     goes = rw (shows_so, turns, note) refl;
-    legal = legal_push w [] h event holds.legal (put_allowed w first h t d fires.0 with_placement.0 fires.1 with_placement.1 unput (rw (no_cuts w first h holds.legal) refl) (drop_at-note w h (queue_at w es) q t with_placement.0 holds.queues (rw fires.1 with_placement.1) at_its));
+    legal = legal_push w [] h event holds.legal (put_allowed w first h t d fires.0 with_placement.0 fires.1 with_placement.1 unput (rw (no_cuts w first h holds.legal) refl) (drop_at-note w h (queue_at w es) q t with_placement.0 holds.queues.listed (rw fires.1 with_placement.1) at_its));
     ports = rw same (PortsMatch-event h event (port_at es) (rw (posts-push, append-nil) refl) taken_so fired_so holds.ports);
-    queues = QueuesMatch-put w h (queue_at w es) (queue_at w (es ++ e ∷ [])) q t holds.legal unput at_own (subst (QueueChanges (queue_at w es) (queue_at w (es ++ e ∷ [])) q) note (queue_changes w es e q place)) holds.queues;
+    queues = record { listed = QueuesMatch-put w h (queue_at w es) (queue_at w (es ++ e ∷ [])) q t holds.legal unput at_own changes holds.queues.listed; booked = BookingsMatch-put w h (queue_at w es) (queue_at w (es ++ e ∷ [])) q t d may unput changes holds.queues.booked };
+    under_way = record { own = booked_of dropped; others = λ a other. Stays-put (queue_at w es) (queue_at w (es ++ e ∷ [])) q t (name_at a (state_of w lacks es a)) d changes (λ is. other (sym mine ∙ ap (λ (u : TaskId). u.actor) is)) };
     own = rw same (of_dropped dropped outside);
     others = λ a other. rw same (ActorHolds-event w n lacks es e low holds event (port_at es) a (state_of w lacks es a) (λ u own_u. ap (λ ts. has_task ts u) fired_so) (λ u own_u. put_other h t u d (λ is. other (sym mine ∙ is ∙ own_u))) (says a) (holds.actors a));
     meter = λ works' one. rw (same_meter w es e (places.Queue q) place refl) (MeterMatches-quiet w n h (h ++ event ∷ []) (meter_at w es).drawn e.actor (works_of w lacks es) works' (next dropped).work low (rw (posts-push, append-nil) refl) (ap is_posting (same_work dropped)) (λ is. sym (ap is_shedding (same_work dropped)) ∙ is) one holds.meter);
@@ -233,6 +241,15 @@ module _ (w : Parts) (n : ℕ) (first : PlainFacts w) (few : n ≤ 33) (lacks : 
 
       event : Event
       event = events.Put t d
+
+      changes : QueueChanges (queue_at w es) (queue_at w (es ++ e ∷ [])) q (notes.Put t d)
+      changes = subst (QueueChanges (queue_at w es) (queue_at w (es ++ e ∷ [])) q) note (queue_changes w es e q place)
+
+      stays : Stays (queue_at w es) (queue_at w (es ++ e ∷ [])) (name_at e.actor before)
+      stays = Stays-put (queue_at w es) (queue_at w (es ++ e ∷ [])) q t (name_at e.actor before) d changes (λ is. new is (unfired w h (port_at es) e.actor before (holds.actors e.actor).claims))
+        where
+          new : t ≡ name_at e.actor before → has_task (fired h) (name_at e.actor before) ≡ false → ⊥
+          new is out = let there : has_task (fired h) (name_at e.actor before) ≡ true = subst (λ u. has_task (fired h) u ≡ true) is (fired_has h t fires) in absurd (cc)
 
       dropped : Option Task
       dropped = option_map (view w (h ++ event ∷ [])) d
@@ -250,6 +267,10 @@ module _ (w : Parts) (n : ℕ) (first : PlainFacts w) (few : n ≤ 33) (lacks : 
       same_work None = refl
       same_work (Some task) = refl
 
+      booked_of : (o : Option Task) → IsBooked w (queue_at w (es ++ e ∷ [])) e.actor (next o)
+      booked_of None = IsBookedAt-stays w (queue_at w es) (queue_at w (es ++ e ∷ [])) (name_at e.actor before) before.phase before.spots stays (holds.under_way e.actor)
+      booked_of (Some task) = IsBookedAt-stays w (queue_at w es) (queue_at w (es ++ e ∷ [])) (name_at e.actor before) before.phase before.spots stays (holds.under_way e.actor)
+
       -- the task that is dropped is of no Interleave
       outside : (task : Task) → dropped ≡ Some task → is_interleave_number w task.arbiter ≡ false
       outside task is = of_drops (drops (queue_at w es q))
@@ -262,7 +283,7 @@ module _ (w : Parts) (n : ℕ) (first : PlainFacts w) (few : n ≤ 33) (lacks : 
 
           of_drops : Drops (queue_at w es q) → is_interleave_number w task.arbiter ≡ false
           of_drops (drops_none none rest) = absurd (let nothing : option_map (view w (h ++ event ∷ [])) None ≡ Some task = subst (λ o. option_map (view w (h ++ event ∷ [])) o ≡ Some task) none is in cc)
-          of_drops (drops_first oldest others qs some rest) = inside oldest.task (subst (λ o. option_map (view w (h ++ event ∷ [])) o ≡ Some task) some is) ((ArePlaced-legal w h holds.legal).all_fired oldest.task (QueuedFacts-queued w h q oldest.task (has_oldest (queued w h q) (map task_queued others) oldest.task (sym (holds.queues.queued_so q) ∙ ap (map task_queued) qs))).put_so)
+          of_drops (drops_first oldest others qs some rest) = inside oldest.task (subst (λ o. option_map (view w (h ++ event ∷ [])) o ≡ Some task) some is) ((ArePlaced-legal w h holds.legal).all_fired oldest.task (QueuedFacts-queued w h q oldest.task (has_oldest (queued w h q) (map task_queued others) oldest.task (sym (holds.queues.listed.queued_so q) ∙ ap (map task_queued) qs))).put_so)
 
       same : port_at (es ++ e ∷ []) ≡ port_at es
       same = same_ports es e (places.Queue q) place refl
@@ -330,10 +351,14 @@ module _ (w : Parts) (n : ℕ) (first : PlainFacts w) (few : n ≤ 33) (lacks : 
   pub step_start : (q : ℕ) (t : TaskId) → e.place ≡ places.Queue q → e.note ≡ notes.Take (Some t) → Takes (queue_at w es q) t → turn before ≡ go_on → Idle w h e.actor → is_posting before.work ≡ false → is_shedding before.work ≡ false → after_in w e.actor before (turn before) (reply_of w es e) ≡ begin_play w before q (view w (h ++ events.Start t e.actor ∷ []) t) → Holds w n lacks (es ++ e ∷ [])
   step_start q t place note found turns idle unposting unshedding goes =
       step_other w n lacks es e low holds event (places.Queue q) (begin_play w before q task) place (rw note refl) refl (same_ports es e (places.Queue q) place refl) turns goes
-      (record { hand = refl; arbiters = refl; phase = refl; attempt = refl; spots_so = λ x is. absurd (subst (Among x) (throttled_none w q (policy_of w q) (first.no_throttles q)) is) })
+      (record { hand = refl; arbiters = refl; phase = refl; attempt = refl; spots_so = λ x is. throttled_fit (policy_of w q) x is })
       (rw (posts-push, append-nil) refl) taken_so fired_so (rw (put-push, append-nil) refl)
       (start_allowed w h t e.actor its.0 (map task_queued found.others) its.1 (ap (queued w h) (same_number its.0.branch.queue q its.2) ∙ list) idle.worker (omega (arith, low, few)) idle.none)
-      (QueuesMatch-take w h (queue_at w es) (queue_at w (es ++ e ∷ [])) q e.actor t holds.legal found (subst (QueueChanges (queue_at w es) (queue_at w (es ++ e ∷ [])) q) note (queue_changes w es e q place)) holds.queues)
+      (record {
+        listed = QueuesMatch-take w h (queue_at w es) (queue_at w (es ++ e ∷ [])) q e.actor t holds.legal found changes holds.queues.listed;
+        booked = BookingsMatch-event w h event (queue_at w (es ++ e ∷ [])) refl (BookingsMatch-take w h (queue_at w es) (queue_at w (es ++ e ∷ [])) q (Some t) changes holds.queues.booked);
+      })
+      (λ a. Stays-note (queue_at w es) (queue_at w (es ++ e ∷ [])) q (notes.Take (Some t)) (name_at a (state_of w lacks es a)) changes (λ k is. is))
       (record { worker = idle.worker; alone = alone; fires = IsFired-more; as_seen = refl; place_so = sym none_posted; left_so = refl }, refl)
       (λ a other. start_says h t a e.actor other)
       (same_meter w es e (places.Queue q) place refl)
@@ -346,8 +371,17 @@ module _ (w : Parts) (n : ℕ) (first : PlainFacts w) (few : n ≤ 33) (lacks : 
       task : Task
       task = view w (h ++ event ∷ []) t
 
+      changes : QueueChanges (queue_at w es) (queue_at w (es ++ e ∷ [])) q (notes.Take (Some t))
+      changes = subst (QueueChanges (queue_at w es) (queue_at w (es ++ e ∷ [])) q) note (queue_changes w es e q place)
+
+      -- the branches of a throttle queue are spots of the wiring
+      throttled_fit : (p : Policy) (x : Spot) → Among x (throttled w q p) → SpotFits w x
+      throttled_fit Unbounded x is = absurd is
+      throttled_fit (Discard k) x is = absurd is
+      throttled_fit (Throttle k) x is = first.places_so x (filter_among (is_branch_for w q) (spots w) x is)
+
       list : queued w h q ≡ t ∷ map task_queued found.others
-      list = sym (holds.queues.queued_so q) ∙ rw found.queued_so (ap (λ x. x ∷ map task_queued found.others) found.is_first)
+      list = sym (holds.queues.listed.queued_so q) ∙ rw found.queued_so (ap (λ x. x ∷ map task_queued found.others) found.is_first)
 
       facts : QueuedFacts w h q t
       facts = QueuedFacts-queued w h q t (has_oldest (queued w h q) (map task_queued found.others) t list)
@@ -383,7 +417,8 @@ module _ (w : Parts) (n : ℕ) (first : PlainFacts w) (few : n ≤ 33) (lacks : 
       step_other w n lacks es e low holds event (places.Arbiter i) (after_over w before task) there is refl (same_ports es e (places.Arbiter i) there refl) turns goes
       (record { hand = refl; arbiters = rw free refl; phase = refl; attempt = refl; spots_so = (holds.actors e.actor).fits.spots_so })
       (rw (posts-push, append-nil) refl) taken_so fired_so (rw (put-push, append-nil) refl) allowed
-      (rw (same_queues w es e (places.Arbiter i) there refl) (QueuesMatch-event w h event (queue_at w es) (λ q. queued-other w h q event refl refl refl refl) holds.queues))
+      (rw (same_queues w es e (places.Arbiter i) there refl) (QueuesHold-event w h event (queue_at w es) refl (λ q. queued-other w h q event refl refl refl refl) holds.queues))
+      (same_stays w es e (places.Arbiter i) there refl (λ a. name_at a (state_of w lacks es a)))
       (rests (nat_lt before.taken 32768))
       (λ a other. end_says h task.id how a e.actor (AreStarted-legal w h holds.legal) run.alone other)
       (same_meter w es e (places.Arbiter i) there refl)
@@ -424,7 +459,8 @@ module _ (w : Parts) (n : ℕ) (first : PlainFacts w) (few : n ≤ 33) (lacks : 
       step_other w n lacks es e low holds event here next there (rw note refl) refl (same_ports es e here there refl) turns goes
       (record { hand = refl; arbiters = refl; phase = refl; attempt = refl; spots_so = λ x is. one_spot x is })
       (rw (posts-push, append-nil) refl) taken_so fired_so (rw (put-push, append-nil) refl) allowed
-      (rw (same_queues w es e here there refl) (QueuesMatch-event w h event (queue_at w es) (λ q. queued-other w h q event refl refl refl refl) holds.queues))
+      (rw (same_queues w es e here there refl) (QueuesHold-event w h event (queue_at w es) refl (λ q. queued-other w h q event refl refl refl refl) holds.queues))
+      (same_stays w es e here there refl (λ a. name_at a (state_of w lacks es a)))
       (rests (nat_lt before.taken 32768))
       (λ a other. end_says h task.id ends.Yield a e.actor (AreStarted-legal w h holds.legal) run.alone other)
       (same_meter w es e here there refl)

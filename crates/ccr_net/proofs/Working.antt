@@ -38,13 +38,14 @@ use Rattle.ccr_places.specs.Meters as meters
 use Rattle.ccr_claim.specs.declared.asks.Ask.TheVariants as asks
 use Rattle.ccr_claim.specs.Attempts.{at_place, had_in}
 use Rattle.ccr_actor.specs.Plans.{spots_at, names_port}
-use Rattle.ccr_actor.specs.Actors.{State, Work, lines, round, taking, playing, posting, shedding, resting, go_on, turn, ask_in, after_in, play_in, take_from, after_over, driving, work_ask, script_message, task_message}
+use Rattle.ccr_actor.specs.Actors.{State, Work, name_at, lines, round, taking, playing, posting, shedding, resting, go_on, turn, ask_in, after_in, play_in, take_from, after_over, driving, work_ask, script_message, task_message}
 use Rattle.ccr_net.specs.declared.entries.Entry.{Entry}
 use Rattle.ccr_net.specs.Runs.{Lacks, state_of, port_at, notes_at, reply_of}
 use Rattle.ccr_net.specs.Visible.{visible, event_of}
 use Rattle.ccr_net.proofs.Pushes.{visible-push, queue_at, Step}
 use Rattle.ccr_net.proofs.ActorSteps.{ActorMatches-same}
 use Rattle.ccr_net.proofs.QueuePart.{QueueChanges, takes}
+use Rattle.ccr_net.proofs.RoomPart.{BookingsMatch-take, Stays-note}
 use Rattle.ccr_net.proofs.Starts.{AreStarted-legal, run_apart, runs, starts, running_by-push}
 use Rattle.ccr_net.proofs.WorkPart.{WorkMatches, RunsTask, Scripted, Idle, script_says, task_says, script_own, task_own, drop-next, drop-end, play-view, view-stays}
 use Rattle.ccr_net.proofs.MeterPart.{MeterMatches, MeterMatches-quiet, MeterMatches-drawn, MeterMatches-spent, MeterMatches-post, is_posting, is_shedding, count, bit, count-one, count-some, count-within}
@@ -52,7 +53,7 @@ use Rattle.ccr_net.proofs.Assembly.{ActorHolds, Holds, meter_at, meter_at-push, 
 use Rattle.ccr_net.proofs.Silent.{silent_metered, silent_else, unmetered}
 use Rattle.ccr_net.proofs.PlainFacts.{PlainFacts}
 use Rattle.ccr_net.proofs.Allowed.{script_allowed, play_allowed, end_allowed, shed_allowed}
-use Rattle.ccr_net.proofs.Shown.{GoesOn, goes_fits, step_post}
+use Rattle.ccr_net.proofs.Shown.{GoesOn, goes_fits, goes_booked, goes_under_way, step_post}
 use Rattle.ccr_net.proofs.Steps.{step_start, step_end, step_suspend}
 use Rattle.ccr_net.proofs.Noted.{given_some, over_note, filter_among, no_some, posts_script, posts_task, Given, given_to}
 
@@ -83,7 +84,7 @@ module _ (w : Parts) (n : ℕ) (first : PlainFacts w) (few : n ≤ 33) (lacks : 
 
   at_meter_quiet : (next : State) (note : Note) → e.place ≡ places.Meter → e.note ≡ note → event_of e ≡ [] → turn before ≡ go_on → after_in w e.actor before (turn before) (reply_of w es e) ≡ next → GoesOn w n lacks es e low holds next → WorkMatches w h e.actor next.work → (meters.after (meter_at w es) note).drawn ≡ (meter_at w es).drawn → (meters.after (meter_at w es) note).budget ≡ (meter_at w es).budget → is_posting next.work ≡ is_posting before.work → (is_shedding next.work ≡ true → is_shedding before.work ≡ true) → Done
   at_meter_quiet next note there is none turns goes on work drawn budget posts shed =
-      silent_else w n lacks es e low holds places.Meter next there refl none goes (rw (same_queues w es e places.Meter there refl) holds.queues) (go_on_own next turns on work) (rw (at_meter note there is) (drawn, budget)) posts shed
+      silent_else w n lacks es e low holds places.Meter next there refl none goes (rw (same_queues w es e places.Meter there refl) holds.queues) (go_on_own next turns on work) (goes_under_way w n lacks es e low holds places.Meter next there refl turns on) (rw (at_meter note there is) (drawn, budget)) posts shed
 
   -- a worker goes on to a queue, to a round or to rest
   pub record Looks (next : State) : Type 0 where
@@ -171,8 +172,11 @@ module _ (w : Parts) (n : ℕ) (first : PlainFacts w) (few : n ≤ 33) (lacks : 
           by_note None is note =
               let looks = looks_on left (q + 1) parts in
               silent_else w n lacks es e low holds (places.Queue q) (take_from w before left (q + 1) parts) got.there refl (rw note refl) (rw (turns, work, note) refl)
-              (record { queued_so = λ k. rw (changes k) (by k (q == k) refl) ∙ holds.queues.queued_so k; policy_so = λ k. rw (changes k) (rule k (q == k)) ∙ holds.queues.policy_so k })
-              (go_on_own (take_from w before left (q + 1) parts) turns looks.on (looks.work idle)) (unmetered w n lacks es e low holds (places.Queue q) got.there refl) (looks.unposting ∙ rw work refl) (λ shed. absurd (let out = looks.unshedding in cc))
+              (record {
+                listed = record { queued_so = λ k. rw (changes k) (by k (q == k) refl) ∙ holds.queues.listed.queued_so k; policy_so = λ k. rw (changes k) (rule k (q == k)) ∙ holds.queues.listed.policy_so k };
+                booked = BookingsMatch-take w h (queue_at w es) (queue_at w (es ++ e ∷ [])) q None changes holds.queues.booked;
+              })
+              (go_on_own (take_from w before left (q + 1) parts) turns looks.on (looks.work idle)) (record { own = goes_booked w n lacks es e low holds (take_from w before left (q + 1) parts) turns looks.on (queue_at w (es ++ e ∷ [])); others = λ a other. Stays-note (queue_at w es) (queue_at w (es ++ e ∷ [])) q (notes.Take None) (name_at a (state_of w lacks es a)) changes (λ k is. is) }) (unmetered w n lacks es e low holds (places.Queue q) got.there refl) (looks.unposting ∙ rw work refl) (λ shed. absurd (let out = looks.unshedding in cc))
             where
               use_changes : QueueChanges (queue_at w es) (queue_at w (es ++ e ∷ [])) q (notes.Take None)
               use_changes = subst (QueueChanges (queue_at w es) (queue_at w (es ++ e ∷ [])) q) note (queue_changes w es e q got.there)
@@ -260,6 +264,7 @@ module _ (w : Parts) (n : ℕ) (first : PlainFacts w) (few : n ≤ 33) (lacks : 
               by_room : (c : Bool) → nat_lt (meter_at w es).drawn (meter_at w es).budget ≡ c → e.note ≡ notes.Draw (if nat_lt (meter_at w es).drawn (meter_at w es).budget then Some (meter_at w es).drawn else None) → Done
               by_room true room note_so =
                   silent_metered w n lacks es e low holds next (rw note refl) (rw (turns, work, note, some) refl) (rw (same_ports es e places.Meter got.there refl) holds.ports) (rw (same_queues w es e places.Meter got.there refl) holds.queues) (rw (same_ports es e places.Meter got.there refl) (go_on_own next turns (record { hand = refl; arbiters = refl; phase = refl; attempt = refl; spots_so = own.fits.spots_so }) (posting_run, is.1))) (λ a other. rw (same_ports es e places.Meter got.there refl) (holds.actors a))
+                  (goes_under_way w n lacks es e low holds places.Meter next got.there refl turns (record { hand = refl; arbiters = refl; phase = refl; attempt = refl; spots_so = own.fits.spots_so }))
                   (λ works' one. subst (λ k. MeterMatches w n h k works') (sym (ap (λ (m : meters.MeterState). m.drawn) (at_meter _ got.there note))) (MeterMatches-drawn w n h (meter_at w es).drawn e.actor (works_of w lacks es) works' next.work low below (rw work refl) refl refl one holds.meter))
                   (ap (λ (m : meters.MeterState). m.budget) (at_meter _ got.there note))
                 where
@@ -273,6 +278,7 @@ module _ (w : Parts) (n : ℕ) (first : PlainFacts w) (few : n ≤ 33) (lacks : 
                   below = let same = holds.budget in let less : (meter_at w es).drawn < (meter_at w es).budget = grind (arith, nat_tests, room) in omega (arith, less, same)
               by_room false room note_so =
                   silent_metered w n lacks es e low holds next (rw note refl) (rw (turns, work, note, some) refl) (rw (same_ports es e places.Meter got.there refl) holds.ports) (rw (same_queues w es e places.Meter got.there refl) holds.queues) (rw (same_ports es e places.Meter got.there refl) (go_on_own next turns (record { hand = refl; arbiters = refl; phase = refl; attempt = refl; spots_so = own.fits.spots_so }) (place, sent, ps, posting_run))) (λ a other. rw (same_ports es e places.Meter got.there refl) (holds.actors a))
+                  (goes_under_way w n lacks es e low holds places.Meter next got.there refl turns (record { hand = refl; arbiters = refl; phase = refl; attempt = refl; spots_so = own.fits.spots_so }))
                   (λ works' one. subst (λ k. MeterMatches w n h k works') (sym (ap (λ (m : meters.MeterState). m.drawn) (at_meter _ got.there note))) (MeterMatches-spent w n h (meter_at w es).drawn e.actor (works_of w lacks es) works' next.work low full (rw work refl) refl one holds.meter))
                   (ap (λ (m : meters.MeterState). m.budget) (at_meter _ got.there note))
                 where

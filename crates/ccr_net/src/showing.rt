@@ -75,7 +75,7 @@ fn show(alloc: Global, history: &mut History, entry: &Entry) -> Result<(), OutOf
 }
 
 /// The history that the entries show: bookings, claims, the meter's entries and what was answered with nothing vanish.
-/// Where the entries are a run, and the wiring has no Interleaves and no throttle queues, it is legal and covered;
+/// Where the entries are a run, and the wiring has no Interleaves, it is legal and covered;
 /// `docs/MODEL.md` has the rules.
 pub fn visible(alloc: Global, wiring: &Wiring, full: &Full) -> Result<History, OutOfMemory>
     ensures exact { IfOk result (λ history. history ≡ visible full.now.entries) }
