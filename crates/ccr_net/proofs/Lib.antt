@@ -31,3 +31,4 @@ mod WorkedNets
 mod WorkedRivals
 mod WorkedTaker
 mod WorkedPlain
+mod WorkedThrottle

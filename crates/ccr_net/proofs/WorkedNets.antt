@@ -1,5 +1,5 @@
 -- The words of the worked runs: wirings, messages and entries in short.
-use Rattle.std.proofs.Common.{◌≡◌, ℕ, false, List, [], ◌∷◌, map, ◌||◌, not, ◌&&◌}
+use Rattle.std.proofs.Common.{◌≡◌, ℕ, ◌+◌, ◌-◌, cond, false, List, [], ◌∷◌, map, ◌||◌, not, ◌&&◌}
 use Rattle.std.specs.FinSet as set
 use Rattle.std.specs.Ordering.{eq_by_cmp}
 use Rattle.ccr_base.specs.declared.names.TaskId.{TaskId}
@@ -32,6 +32,15 @@ in-more = set.contains-insert task_cmp_total
 
 pub in-less : (tasks : TaskSet) (t u : TaskId) → set.contains (set.remove tasks t) u ≡ (not (eq_by_cmp task_cmp u t) && set.contains tasks u)
 in-less = set.contains-remove task_cmp_total
+
+pub len-none : set.len (set.empty {R = task_cmp}) ≡ 0
+len-none = set.len-empty task_cmp
+
+pub len-more : (tasks : TaskSet) (t : TaskId) → set.len (set.insert tasks t) ≡ cond (set.contains tasks t) (set.len tasks) (set.len tasks + 1)
+len-more = set.len-insert task_cmp_total
+
+pub len-less : (tasks : TaskSet) (t : TaskId) → set.len (set.remove tasks t) ≡ cond (set.contains tasks t) (set.len tasks - 1) (set.len tasks)
+len-less = set.len-remove task_cmp_total
 
 abbrev pub task : ℕ → ℕ → TaskId
 task a k = record { actor = a; attempt = k }
