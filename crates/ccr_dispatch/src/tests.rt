@@ -1,12 +1,15 @@
 //! Actors over scripted replies: what is asked, step by step.
 
+mod drives;
+mod script;
+
 ghost use Rattle.std.specs.Prelude.{◌≡◌};
-ghost use Rattle.ccr_actor.specs.Acting.{quiet};
+ghost use Rattle.ccr_actor.specs.Acting.{quiet, started};
 
 use ccr_actor::Actor;
 use ccr_base::{By, How, List, Msg, MsgId, OutOfMemory, Place, Spot, Task, TaskId, Value};
 use ccr_claim::{Ask, Reply, may_come};
-use ccr_samples::{one_post, one_receiver};
+use ccr_samples::{one_post, one_receiver, only};
 use ccr_wiring::{Parts, Wiring};
 use std::alloc::Global;
 use std::process::Abort;
@@ -82,17 +85,13 @@ fn task(alloc: Global) -> Task {
 }
 
 /// The message of the script's first line.
-fn message(rt: &impl Abort, alloc: Global) -> List<Msg> {
-    let mut messages = List::new(alloc);
-    messages
-        .add(Msg {
-            id: MsgId::Script { actor: 0, place: 0 },
-            port: 0,
-            value: Value::one(7),
-            causes: List::new(alloc),
-        })
-        .expect(rt, "memory");
-    messages
+fn message(alloc: Global) -> Msg {
+    Msg {
+        id: MsgId::Script { actor: 0, place: 0 },
+        port: 0,
+        value: Value::one(7),
+        causes: List::new(alloc),
+    }
 }
 
 fn answer(rt: &impl Abort, alloc: Global, says: Says) -> Result<Reply, OutOfMemory> {
@@ -102,7 +101,7 @@ fn answer(rt: &impl Abort, alloc: Global, says: Says) -> Result<Reply, OutOfMemo
         Says::Task => Reply::Taken(Some(task(alloc))),
         Says::NoTask => Reply::Taken(None),
         Says::Booked => Reply::Booked,
-        Says::Got => Reply::Got(message(rt, alloc)),
+        Says::Got => Reply::Got(only(alloc, message(alloc)).expect(rt, "memory")),
         Says::Short => Reply::Short(0),
         Says::Dead => Reply::Dead(By::Fired(RIVAL)),
         Says::Fired => Reply::Fired {
@@ -196,7 +195,7 @@ static POSTERS: [(&[(Asks, Says)], bool); 5] = [
 
 /// The actor of this number, before its first step.
 fn first<'w>(rt: &impl Abort, alloc: Global, wiring: &'w Wiring, number: u32) -> Actor<'w>
-    ensures { result.asking ≡ quiet }
+    ensures { result ≡ started wiring.now number }
 {
     let posters = wiring.parts().posters.as_slice().len();
     if (number as usize) < posters {
