@@ -10,20 +10,29 @@ use ccr_claim::{Ask, Asked, Reply, due_of, fits, settles};
 use ccr_samples::only;
 use ccr_wiring::Wiring;
 use std::alloc::Global;
+use std::cell::Cell;
 use std::process::Abort;
 
-/// What settles settles. To another ask the script's next reply comes where it fits; else no memory is found.
+/// What settles settles. To another ask the script's next reply comes where it fits; else no memory is found. It counts the
+/// asks that were made of it.
 #[derive(Drop)]
 pub struct Script<'w, R: Abort> {
     rt: &'w R,
     alloc: Global,
     wiring: &'w Wiring,
     says: &'w [Says],
+    asks: &'w Cell<u64>,
     made: List<(ActorNo, Asked, Reply)>,
 }
 
 impl<'w, R: Abort> Script<'w, R> {
-    pub fn new(rt: &'w R, alloc: Global, wiring: &'w Wiring, says: &'w [Says]) -> Self
+    pub fn new(
+        rt: &'w R,
+        alloc: Global,
+        wiring: &'w Wiring,
+        says: &'w [Says],
+        asks: &'w Cell<u64>,
+    ) -> Self
         ensures wiring { result.wiring.now ≡ wiring.now }
         ensures made { result.made ≡ [] }
     {
@@ -32,6 +41,7 @@ impl<'w, R: Abort> Script<'w, R> {
             alloc,
             wiring,
             says,
+            asks,
             made: List::new(alloc),
         }
     }
@@ -70,6 +80,7 @@ impl<'w, R: Abort> Net for Script<'w, R> {
     ghost steps = { λ net actor. map (λ row. record { asked = row.1; reply = row.2 }) (filter (λ row. row.0 == actor) net.made) };
 
     fn act(&mut self, actor: ActorNo, place: Place, ask: Ask) -> Result<Reply, OutOfMemory> {
+        self.asks.set(self.asks.get().saturating_add(1));
         let (reply, kept) = self.reply(&ask)?;
         let row = (actor, Asked { place, ask }, kept);
         self.made.add(row).expect(self.rt, "memory");
