@@ -1,5 +1,6 @@
 //! Actors over scripted replies: what is asked, step by step.
 
+mod attempts;
 mod drives;
 mod script;
 
@@ -20,7 +21,7 @@ const RIVAL: TaskId = TaskId {
     attempt: 1,
 };
 
-/// An ask in short: its kind, and the number of its place.
+/// An ask in short: its kind, the number of its place, whether a booking resumes, and how many messages a claim wants.
 #[derive(Clone, Copy, PartialEq, Eq)]
 enum Asks {
     Post(u32),
@@ -28,9 +29,10 @@ enum Asks {
     Left,
     Take(u32),
     Done(u32),
-    Book(u32),
-    Claim(u32),
+    Book(u32, bool),
+    Claim(u32, u32, u32),
     Commit(u32),
+    Resume(u32, u32),
     Consume(u32),
     Free(u32),
     Unbook(u32),
@@ -45,9 +47,10 @@ fn short(place: Place, ask: &Ask) -> Asks {
         (Place::Meter, Ask::Left) => Asks::Left,
         (Place::Queue(n), Ask::Take) => Asks::Take(n),
         (Place::Arbiter(n), Ask::Over { how: How::Done, .. }) => Asks::Done(n),
-        (Place::Queue(n), Ask::Book(..)) => Asks::Book(n),
-        (Place::Port(n), Ask::Claim(..)) => Asks::Claim(n),
+        (Place::Queue(n), Ask::Book(_, resumes)) => Asks::Book(n, *resumes),
+        (Place::Port(n), Ask::Claim(_, slot)) => Asks::Claim(n, slot.least, slot.most),
         (Place::Arbiter(n), Ask::Commit(..)) => Asks::Commit(n),
+        (Place::Site(branch, site), Ask::Commit(..)) => Asks::Resume(branch, site),
         (Place::Port(n), Ask::Consume(_)) => Asks::Consume(n),
         (Place::Port(n), Ask::Free(_)) => Asks::Free(n),
         (Place::Queue(n), Ask::Unbook(_)) => Asks::Unbook(n),
@@ -140,9 +143,9 @@ fn one_line(rt: &impl Abort, alloc: Global) -> Wiring {
 
 const POST: (Asks, Says) = (Asks::Post(0), Says::Done);
 
-const BOOK: (Asks, Says) = (Asks::Book(0), Says::Booked);
+const BOOK: (Asks, Says) = (Asks::Book(0, false), Says::Booked);
 
-const GET: (Asks, Says) = (Asks::Claim(0), Says::Got);
+const GET: (Asks, Says) = (Asks::Claim(0, 1, 1), Says::Got);
 
 const UNBOOK: (Asks, Says) = (Asks::Unbook(0), Says::Done);
 
@@ -158,7 +161,7 @@ static POSTERS: [(&[(Asks, Says)], bool); 5] = [
             (Asks::Consume(0), Says::Done),
             (Asks::Put(0), Says::Dropped),
             BOOK,
-            (Asks::Claim(0), Says::Short),
+            (Asks::Claim(0, 1, 1), Says::Short),
             UNBOOK,
             (Asks::Leave, Says::Done),
         ],
@@ -168,7 +171,7 @@ static POSTERS: [(&[(Asks, Says)], bool); 5] = [
         &[
             POST,
             BOOK,
-            (Asks::Claim(0), Says::Short),
+            (Asks::Claim(0, 1, 1), Says::Short),
             UNBOOK,
             (Asks::Leave, Says::Done),
         ],
@@ -187,7 +190,7 @@ static POSTERS: [(&[(Asks, Says)], bool); 5] = [
         false,
     ),
     (
-        &[POST, BOOK, (Asks::Claim(0), Says::NoMemory), UNBOOK],
+        &[POST, BOOK, (Asks::Claim(0, 1, 1), Says::NoMemory), UNBOOK],
         true,
     ),
     (&[(Asks::Post(0), Says::NoMemory)], true),
