@@ -7,3 +7,6 @@ mod points;
 
 pub use driving::drive;
 pub use laws::actors_rest;
+
+#[cfg(test)]
+mod tests;
