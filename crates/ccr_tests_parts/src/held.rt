@@ -1,7 +1,7 @@
 //! What a port holds, by predicate and in order.
 
 use ccr_base::{List, Msg, MsgId, Pred, Value};
-use ccr_held::Held;
+use ccr_held::HeldMessages;
 use std::alloc::Global;
 use std::process::Abort;
 use std::test::*;
@@ -10,7 +10,7 @@ fn name(place: u32) -> MsgId {
     MsgId::Script { actor: 0, place }
 }
 
-fn post(rt: &impl Abort, alloc: Global, port: &mut Held, place: u32, value: u64) {
+fn post(rt: &impl Abort, alloc: Global, port: &mut HeldMessages, place: u32, value: u64) {
     let message = Msg {
         id: name(place),
         port: 2,
@@ -21,8 +21,8 @@ fn post(rt: &impl Abort, alloc: Global, port: &mut Held, place: u32, value: u64)
 }
 
 /// A port with messages of the values 3, 12, 4 and 15, named by their places.
-fn filled(rt: &impl Abort, alloc: Global) -> Held {
-    let mut port = Held::new(alloc);
+fn filled(rt: &impl Abort, alloc: Global) -> HeldMessages {
+    let mut port = HeldMessages::new(alloc);
     for (place, value) in [(0, 3), (1, 12), (2, 4), (3, 15)] {
         post(rt, alloc, &mut port, place, value);
     }
@@ -50,7 +50,7 @@ fn places(names: &[MsgId]) -> [Option<u32>; 4] {
     ]
 }
 
-fn held(rt: &impl Abort, mut port: Held) -> [Option<u32>; 4] {
+fn held(rt: &impl Abort, mut port: HeldMessages) -> [Option<u32>; 4] {
     let names = port.oldest_names(4).expect(rt, "memory");
     places(&names)
 }
