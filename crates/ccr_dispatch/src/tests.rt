@@ -2,6 +2,7 @@
 
 mod attempts;
 mod drives;
+mod plays;
 mod script;
 
 ghost use Rattle.std.specs.Prelude.{◌≡◌};
@@ -28,7 +29,12 @@ enum Asks {
     Leave,
     Left,
     Take(u32),
+    Draw,
     Done(u32),
+    Shed(u32),
+    Dropped(u32),
+    Suspend(u32, u32),
+    Admit(u32),
     Book(u32, bool),
     Claim(u32, u32, u32),
     Commit(u32),
@@ -40,13 +46,25 @@ enum Asks {
     Other,
 }
 
+fn over(arbiter: u32, how: How) -> Asks {
+    match how {
+        How::Done => Asks::Done(arbiter),
+        How::Shed => Asks::Shed(arbiter),
+        How::Dropped => Asks::Dropped(arbiter),
+        How::Failed(_) => Asks::Other,
+    }
+}
+
 fn short(place: Place, ask: &Ask) -> Asks {
     match (place, ask) {
         (Place::Port(n), Ask::Post(_)) => Asks::Post(n),
         (Place::Meter, Ask::Leave) => Asks::Leave,
         (Place::Meter, Ask::Left) => Asks::Left,
+        (Place::Meter, Ask::Draw) => Asks::Draw,
         (Place::Queue(n), Ask::Take) => Asks::Take(n),
-        (Place::Arbiter(n), Ask::Over { how: How::Done, .. }) => Asks::Done(n),
+        (Place::Arbiter(n), Ask::Over { how, .. }) => over(n, *how),
+        (Place::Arbiter(n), Ask::Admit) => Asks::Admit(n),
+        (Place::Site(branch, site), Ask::Suspend(_)) => Asks::Suspend(branch, site),
         (Place::Queue(n), Ask::Book(_, resumes)) => Asks::Book(n, *resumes),
         (Place::Port(n), Ask::Claim(_, slot)) => Asks::Claim(n, slot.least, slot.most),
         (Place::Arbiter(n), Ask::Commit(..)) => Asks::Commit(n),
@@ -66,12 +84,19 @@ enum Says {
     Left(u32),
     Task,
     NoTask,
+    Drawn,
+    Spent,
     Booked,
+    Full,
     Got,
     Short,
     Dead,
     Fired,
+    Kept,
     Dropped,
+    Displaced,
+    Admitted,
+    NoneAdmitted,
     NoMemory,
 }
 
@@ -103,7 +128,10 @@ fn answer(rt: &impl Abort, alloc: Global, says: Says) -> Result<Reply, OutOfMemo
         Says::Left(n) => Reply::Left(n),
         Says::Task => Reply::Taken(Some(task(alloc))),
         Says::NoTask => Reply::Taken(None),
+        Says::Drawn => Reply::Drawn(4),
+        Says::Spent => Reply::Spent,
         Says::Booked => Reply::Booked,
+        Says::Full => Reply::Full(1),
         Says::Got => Reply::Got(only(alloc, message(alloc)).expect(rt, "memory")),
         Says::Short => Reply::Short(0),
         Says::Dead => Reply::Dead(By::Fired(RIVAL)),
@@ -111,7 +139,14 @@ fn answer(rt: &impl Abort, alloc: Global, says: Says) -> Result<Reply, OutOfMemo
             task: Some(task(alloc)),
             cuts: List::new(alloc),
         },
+        Says::Kept => Reply::Fired {
+            task: None,
+            cuts: List::new(alloc),
+        },
         Says::Dropped => Reply::Dropped(None),
+        Says::Displaced => Reply::Dropped(Some(task(alloc))),
+        Says::Admitted => Reply::Admitted(Some(task(alloc))),
+        Says::NoneAdmitted => Reply::Admitted(None),
         Says::NoMemory => return Err(OutOfMemory),
     })
 }
@@ -209,9 +244,14 @@ fn first<'w>(rt: &impl Abort, alloc: Global, wiring: &'w Wiring, number: u32) ->
 }
 
 /// Whether the actor of this number is short after the rows, at rest.
-fn course(rt: &impl Abort, alloc: Global, number: u32, rows: &[(Asks, Says)]) -> Option<bool> {
-    let wiring = one_line(rt, alloc);
-    let mut actor = first(rt, alloc, &wiring, number);
+fn course(
+    rt: &impl Abort,
+    alloc: Global,
+    wiring: &Wiring,
+    number: u32,
+    rows: &[(Asks, Says)],
+) -> Option<bool> {
+    let mut actor = first(rt, alloc, wiring, number);
     if follow(rt, alloc, &mut actor, rows) {
         Some(actor.short())
     } else {
@@ -223,7 +263,8 @@ fn course(rt: &impl Abort, alloc: Global, number: u32, rows: &[(Asks, Says)]) ->
 fn a_poster_posts_and_leaves(rt: HostRuntime) {
     let alloc = rt.alloc();
     for (rows, short) in &POSTERS {
-        assert!(rt; course(&rt, alloc, 0, rows) == Some(*short));
+        let wiring = one_line(&rt, alloc);
+        assert!(rt; course(&rt, alloc, &wiring, 0, rows) == Some(*short));
     }
 }
 
@@ -248,6 +289,7 @@ static WORKERS: [(&[(Asks, Says)], bool); 2] = [
 fn a_worker_takes_and_rests(rt: HostRuntime) {
     let alloc = rt.alloc();
     for (rows, short) in &WORKERS {
-        assert!(rt; course(&rt, alloc, 1, rows) == Some(*short));
+        let wiring = one_line(&rt, alloc);
+        assert!(rt; course(&rt, alloc, &wiring, 1, rows) == Some(*short));
     }
 }

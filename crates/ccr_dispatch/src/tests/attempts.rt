@@ -15,11 +15,10 @@ const NAME: TaskId = TaskId {
     attempt: 9,
 };
 
-/// An answer in short: one that an actor's course has too, no room, another that was faster, or so many messages of the port.
+/// An answer in short: one that an actor's course has too, another that was faster, or so many messages of the port.
 #[derive(Clone, Copy)]
 enum Tells {
     Plain(Says),
-    Full,
     Busy,
     Gives(u32, u32),
 }
@@ -41,7 +40,6 @@ fn messages(rt: &impl Abort, alloc: Global, port: u32, count: u32) -> List<Msg> 
 fn told(rt: &impl Abort, alloc: Global, tells: Tells) -> Result<Reply, OutOfMemory> {
     match tells {
         Tells::Plain(says) => answer(rt, alloc, says),
-        Tells::Full => Ok(Reply::Full(1)),
         Tells::Busy => Ok(Reply::Busy(RIVAL)),
         Tells::Gives(port, count) => Ok(Reply::Got(messages(rt, alloc, port, count))),
     }
@@ -70,6 +68,8 @@ fn follow(
         None
     }
 }
+
+const FULL: Tells = Tells::Plain(Says::Full);
 
 const DONE: Tells = Tells::Plain(Says::Done);
 
@@ -114,7 +114,7 @@ const FREE_HIGH: (Asks, Tells) = (Asks::Free(4), DONE);
 /// A gather: the lower port is never short, and the higher one is asked for the rest.
 static GATHERS: [(&[(Asks, Tells)], Progress); 11] = [
     (
-        &[(Asks::Book(6, false), Tells::Full)],
+        &[(Asks::Book(6, false), FULL)],
         Progress::GaveUp(Why::Full(1)),
     ),
     (&[(Asks::Book(6, false), NO_MEMORY)], LOST),
@@ -213,7 +213,7 @@ const GOT: (Asks, Tells) = (ONE, Tells::Gives(2, 1));
 /// A site: it commits there, and not at an arbiter.
 static SITES: [(&[(Asks, Tells)], Progress); 8] = [
     (
-        &[(Asks::Book(6, true), Tells::Full)],
+        &[(Asks::Book(6, true), FULL)],
         Progress::GaveUp(Why::Full(1)),
     ),
     (&[(Asks::Book(6, true), NO_MEMORY)], LOST),

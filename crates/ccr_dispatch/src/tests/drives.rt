@@ -1,9 +1,11 @@
 //! Drives over scripted replies: how many steps they have, and when the gate is asked.
 
+use super::plays::one_wait;
 use super::script::Script;
 use super::{Says, first, one_line};
 use crate::drive;
 use ccr_base::{ActorNo, Gate, Point};
+use ccr_wiring::Wiring;
 use std::alloc::Global;
 use std::cell::Cell;
 use std::process::Abort;
@@ -55,11 +57,16 @@ struct Shown {
 }
 
 /// The drive of the actor of this number over these replies.
-fn drive_over<R: Abort>(rt: &R, alloc: Global, number: ActorNo, says: &[Says]) -> Shown {
-    let wiring = one_line(rt, alloc);
-    let mut actor = first(rt, alloc, &wiring, number);
+fn drive_over<R: Abort>(
+    rt: &R,
+    alloc: Global,
+    wiring: &Wiring,
+    number: ActorNo,
+    says: &[Says],
+) -> Shown {
+    let mut actor = first(rt, alloc, wiring, number);
     let asks = Cell::new(0);
-    let mut net = Script::new(rt, alloc, &wiring, says, &asks);
+    let mut net = Script::new(rt, alloc, wiring, says, &asks);
     let watch = Watch {
         asks: &asks,
         claimed: Cell::new(NEVER),
@@ -92,7 +99,8 @@ const POSTS: [Says; 7] = [
 
 #[test]
 fn a_poster_passes_the_gate(rt: HostRuntime) {
-    let shown = drive_over(&rt, rt.alloc(), 0, &POSTS);
+    let wiring = one_line(&rt, rt.alloc());
+    let shown = drive_over(&rt, rt.alloc(), &wiring, 0, &POSTS);
     let wanted = Shown {
         steps: 10,
         left: 0,
@@ -116,7 +124,8 @@ const TAKES: [Says; 6] = [
 
 #[test]
 fn a_worker_passes_the_gate(rt: HostRuntime) {
-    let shown = drive_over(&rt, rt.alloc(), 1, &TAKES);
+    let wiring = one_line(&rt, rt.alloc());
+    let shown = drive_over(&rt, rt.alloc(), &wiring, 1, &TAKES);
     let wanted = Shown {
         steps: 7,
         left: 0,
@@ -128,11 +137,41 @@ fn a_worker_passes_the_gate(rt: HostRuntime) {
     assert!(rt; shown == wanted);
 }
 
+/// It takes a task, which posts; then no spot has room, and the task is suspended; its site has no room, and the poster has left.
+const WAITS: [Says; 10] = [
+    Says::Left(0),
+    Says::Task,
+    Says::Drawn,
+    Says::Done,
+    Says::Full,
+    Says::Full,
+    Says::Done,
+    Says::Full,
+    Says::Left(1),
+    Says::NoTask,
+];
+
+#[test]
+fn a_suspension_passes_the_gate(rt: HostRuntime) {
+    let wiring = one_wait(&rt, rt.alloc());
+    let shown = drive_over(&rt, rt.alloc(), &wiring, 1, &WAITS);
+    let wanted = Shown {
+        steps: 10,
+        left: 0,
+        claimed: NEVER,
+        committed: NEVER,
+        started: Held { times: 1, asks: 2 },
+        before_end: Held { times: 1, asks: 6 },
+    };
+    assert!(rt; shown == wanted);
+}
+
 /// Where nothing is replied the first ask is refused, which is no step, and the actor rests.
 #[test]
 fn a_refused_ask_is_no_step(rt: HostRuntime) {
     for number in [0, 1] {
-        let shown = drive_over(&rt, rt.alloc(), number, &[]);
+        let wiring = one_line(&rt, rt.alloc());
+        let shown = drive_over(&rt, rt.alloc(), &wiring, number, &[]);
         let wanted = Shown {
             steps: 0,
             left: 0,

@@ -129,6 +129,30 @@ fn fired(rt: &impl Abort, alloc: Global) -> (Reply, Reply)
     )
 }
 
+/// A firing whose task waits, twice.
+fn kept(alloc: Global) -> (Reply, Reply)
+    ensures { result.1 ≡ result.0 }
+{
+    let cuts = List::new(alloc);
+    let other = List::new(alloc);
+    (
+        Reply::Fired { task: None, cuts },
+        Reply::Fired {
+            task: None,
+            cuts: other,
+        },
+    )
+}
+
+/// The task that is admitted, twice.
+fn admitted(rt: &impl Abort, alloc: Global) -> (Reply, Reply)
+    ensures { result.1 ≡ result.0 }
+{
+    let first = task(alloc);
+    let second = first.copy(alloc).expect(rt, "memory");
+    (Reply::Admitted(Some(first)), Reply::Admitted(Some(second)))
+}
+
 /// The message that is claimed, twice.
 fn got(rt: &impl Abort, alloc: Global) -> (Reply, Reply)
     ensures { result.1 ≡ result.0 }
@@ -141,7 +165,7 @@ fn got(rt: &impl Abort, alloc: Global) -> (Reply, Reply)
     )
 }
 
-/// The reply, twice. Want of memory stands for one that fits no ask.
+/// The reply, twice. What settles needs none of the script's: so puts drop nothing, and want of memory can't be said.
 fn twice(rt: &impl Abort, alloc: Global, says: Says) -> (Reply, Reply)
     ensures { result.1 ≡ result.0 }
 {
@@ -150,7 +174,10 @@ fn twice(rt: &impl Abort, alloc: Global, says: Says) -> (Reply, Reply)
         Says::Left(n) => (Reply::Left(n), Reply::Left(n)),
         Says::Task => taken(rt, alloc),
         Says::NoTask => (Reply::Taken(None), Reply::Taken(None)),
+        Says::Drawn => (Reply::Drawn(4), Reply::Drawn(4)),
+        Says::Spent => (Reply::Spent, Reply::Spent),
         Says::Booked => (Reply::Booked, Reply::Booked),
+        Says::Full => (Reply::Full(1), Reply::Full(1)),
         Says::Got => got(rt, alloc),
         Says::Short => (Reply::Short(0), Reply::Short(0)),
         Says::Dead => (
@@ -158,6 +185,9 @@ fn twice(rt: &impl Abort, alloc: Global, says: Says) -> (Reply, Reply)
             Reply::Dead(By::Fired(super::RIVAL)),
         ),
         Says::Fired => fired(rt, alloc),
-        Says::Dropped => (Reply::Dropped(None), Reply::Dropped(None)),
+        Says::Kept => kept(alloc),
+        Says::Dropped | Says::Displaced => (Reply::Dropped(None), Reply::Dropped(None)),
+        Says::Admitted => admitted(rt, alloc),
+        Says::NoneAdmitted => (Reply::Admitted(None), Reply::Admitted(None)),
     }
 }
