@@ -4,6 +4,3 @@
 mod arbiter;
 
 pub use arbiter::ArbiterObject;
-
-#[cfg(test)]
-mod tests;

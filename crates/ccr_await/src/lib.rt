@@ -5,6 +5,3 @@ mod resume;
 mod site;
 
 pub use site::SiteObject;
-
-#[cfg(test)]
-mod tests;

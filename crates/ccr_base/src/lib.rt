@@ -24,6 +24,3 @@ pub use patterns::{Pattern, Pred, Slot};
 pub use policies::{Group, Policy};
 pub use tasks::{By, Commit, Cut, How, Task};
 pub use values::{MAX_VALUE_NUMBERS, Value};
-
-#[cfg(test)]
-mod tests;

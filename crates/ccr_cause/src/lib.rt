@@ -4,6 +4,3 @@
 mod lists;
 
 pub use lists::{add, remove, union};
-
-#[cfg(test)]
-mod tests;

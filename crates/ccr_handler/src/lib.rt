@@ -6,6 +6,3 @@ mod segments;
 mod values;
 
 pub use segments::{Play, PlayEnd, plays};
-
-#[cfg(test)]
-mod tests;

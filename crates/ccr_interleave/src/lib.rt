@@ -6,6 +6,3 @@ mod interleave;
 mod standing;
 
 pub use interleave::InterleaveObject;
-
-#[cfg(test)]
-mod tests;

@@ -10,6 +10,3 @@ pub use memory::{MemorySink, MemorySource};
 pub use sink::{Sink, write_all};
 pub use source::{Failed, ReadEnd, Source, read_all};
 pub use standard::{StdSink, StdSource};
-
-#[cfg(test)]
-mod tests;

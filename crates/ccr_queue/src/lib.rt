@@ -7,6 +7,3 @@ mod standing;
 
 pub use meter::Meter;
 pub use queue::{Booked, QueueObject};
-
-#[cfg(test)]
-mod tests;

@@ -6,6 +6,3 @@ mod wirings;
 
 pub use lists::{name, only};
 pub use wirings::{one_cause, one_handler, one_post, one_queue, one_receiver};
-
-#[cfg(test)]
-mod tests;

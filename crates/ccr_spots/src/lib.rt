@@ -6,6 +6,3 @@ mod words;
 
 pub use names::{branch_names, name_at};
 pub use words::{put_spot_word, spot_text};
-
-#[cfg(test)]
-mod tests;

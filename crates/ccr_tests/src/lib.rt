@@ -8,9 +8,9 @@ mod json;
 #[cfg(test)]
 mod model;
 #[cfg(test)]
-mod port;
-#[cfg(test)]
 mod report;
+#[cfg(test)]
+mod spots;
 #[cfg(test)]
 mod steps;
 #[cfg(test)]

@@ -29,6 +29,3 @@ pub use parts::{
 pub use seats::SeatOf;
 pub use unfit::Unfit;
 pub use wiring::Wiring;
-
-#[cfg(test)]
-mod tests;
