@@ -31,6 +31,7 @@ fn place(rt: &impl Abort, alloc: Global) -> InterleaveObject {
     let groups = [Group::Exclusive, Group::Concurrent, Group::Teardown];
     let groups = listed(rt, alloc, &groups);
     let branches = listed(rt, alloc, &[4, 5, 8]);
+    assert!(rt; branches.as_slice().len() == groups.as_slice().len());
     InterleaveObject::new(alloc, branches, groups)
 }
 
