@@ -1,0 +1,78 @@
+//! An object of one's own under locks that keep its history: a sum that threads add to.
+
+ghost use Rattle.std.specs.Prelude.{◌≡◌, ◌+◌, ◌<◌};
+ghost use Rattle.ccr_turns.specs.Locks.{place_count, IsSeatOf};
+
+use ccr_base::{List, OutOfMemory};
+use ccr_turns::{Kept, Seat, Turns};
+use std::sync::Wait;
+use std::thread::{self, Threads};
+
+#[derive(Drop)]
+pub struct Tally(u64);
+
+/// What a tally is asked: to add this number. It answers the new sum, and notes it.
+#[derive(Clone, Copy, Debug, PartialEq, Eq)]
+pub struct Add(pub u64);
+
+impl Kept for Tally {
+    type Ask = Add;
+
+    type Reply = u64;
+
+    type Note = u64;
+
+    type Value = u64;
+
+    ghost value = { λ tally. tally.0 };
+
+    ghost may = { λ sum ask reply note. (reply ≡ sum + ask.0) × (note ≡ sum + ask.0) };
+
+    ghost after = { λ sum note. note };
+
+    fn act(&mut self, ask: Add) -> Result<(u64, u64), OutOfMemory> {
+        let Some(sum) = self.0.checked_add(ask.0) else {
+            return Err(OutOfMemory);
+        };
+        self.0 = sum;
+        Ok((sum, sum))
+    }
+}
+
+// So many times 2 is added, at the lock of place 0.
+fn raise<R: Wait>(rt: &R, turns: &Turns<Tally>, mut seat: Seat<Tally>, times: u32) -> Seat<Tally>
+    requires seat { IsSeatOf turns.now seat }
+    requires place { 0 < place_count turns.now }
+    ensures { IsSeatOf turns.now result }
+{
+    for _ in 0..times {
+        let _ = turns.act(rt, &mut seat, 0, Add(2));
+    }
+    seat
+}
+
+/// Two threads add 2 so many times each: the sum, and how many entries the lock's history has.
+pub fn raise_by_two<R: AllocGlobal + Threads + Wait + Sync>(
+    rt: &R,
+    times: u32,
+) -> Result<(u64, usize), OutOfMemory> {
+    let alloc = rt.alloc();
+    let mut tallies = Vec::new(alloc);
+    tallies.push(Tally(0))?;
+    let (turns, seats) = Turns::make(alloc, List::from_vec(tallies), 2)?;
+    let seats = thread::map_vec(
+        rt,
+        seats.into_vec(),
+        &|seat: Seat<Tally>| -> Seat<Tally>
+            requires { IsSeatOf turns seat × (0 < place_count turns) }
+            ensures { IsSeatOf turns result }
+        { raise(rt, &turns, seat, times) },
+    )?;
+    let Ok(kept) = turns.close(alloc, List::from_vec(seats)) else {
+        return Err(OutOfMemory);
+    };
+    match kept.as_slice().first() {
+        Some((tally, history)) => Ok((tally.0, history.as_slice().len())),
+        None => Ok((0, 0)),
+    }
+}
