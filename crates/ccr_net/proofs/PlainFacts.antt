@@ -1,4 +1,4 @@
--- What plain wirings have, and what their legal histories have.
+-- What valid wirings have, and what their legal histories have.
 use Rattle.std.proofs.Common.{◌⊎◌, inl, inr, ◌≡◌, ◌<◌, ℕ, Bool, true, false, ◌&&◌, List, [], ◌∷◌, ◌++◌, length, filter, Option, Some, None, refl, sym, arith, ◌∙◌, subst, append-nil}
 use Rattle.std.specs.Prelude.{slice_get, ◌==◌, nat_lt}
 use Rattle.std.proofs.lemmas.Grind.{common_steps}

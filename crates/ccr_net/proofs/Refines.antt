@@ -1,4 +1,4 @@
--- What is visible of a run is legal and covered, for plain wirings.
+-- What is visible of a run is legal and covered.
 use Rattle.std.proofs.Common.{inl, inr, ◌≡◌, ◌≤◌, ℕ, zero, suc, ◌+◌, Bool, true, false, List, [], length, Option, Some, None, refl, arith, ap, ◌∙◌}
 use Rattle.std.specs.Prelude.{nat_le}
 use Rattle.std.specs.List.{slice_get}
@@ -26,7 +26,6 @@ use Rattle.ccr_net.proofs.Invariant.{puts_in, ActorMatches}
 use Rattle.ccr_net.proofs.WorkPart.{WorkMatches}
 use Rattle.ccr_net.proofs.MeterPart.{count, count-same, is_posting, is_shedding}
 use Rattle.ccr_net.proofs.Assembly.{IsBegun, ActorHolds-begun, IsBooked-begun, begins, begun_work, Holds, works_of}
-use Rattle.ccr_net.specs.Plain.{IsPlain}
 use Rattle.ccr_net.proofs.PlainFacts.{PlainFacts}
 use Rattle.ccr_net.proofs.PlainWirings.{plain_facts}
 use Rattle.ccr_net.proofs.Theorem.{step_kept}
@@ -106,13 +105,13 @@ visible_holds w workers first few es run = along_run w workers run.lacks (Holds 
     (Holds-begins w (length w.posters + workers) run.lacks) es run.steps
 
 -- each visible history of a run is legal
-pub visible_legal : (w : Parts) (workers : ℕ) (es : List Entry) → IsValid w → IsPlain w → workers ≤ 16 → IsRun w workers es → IsLegal w (visible es)
-visible_legal w workers es valid plain few run = (visible_holds w workers (plain_facts w valid) (let posters = (sound w valid).small.posters in omega (arith, posters, few)) es run).legal
+pub visible_legal : (w : Parts) (workers : ℕ) (es : List Entry) → IsValid w → workers ≤ 16 → IsRun w workers es → IsLegal w (visible es)
+visible_legal w workers es valid few run = (visible_holds w workers (plain_facts w valid) (let posters = (sound w valid).small.posters in omega (arith, posters, few)) es run).legal
 
 -- and covered
-pub visible_covered : (w : Parts) (workers : ℕ) (es : List Entry) → IsValid w → IsPlain w → workers ≤ 16 → IsRun w workers es → is_covered w (visible es) ≡ true
-visible_covered w workers es valid plain few run = by (has_shed (visible es)) refl
+pub visible_covered : (w : Parts) (workers : ℕ) (es : List Entry) → IsValid w → workers ≤ 16 → IsRun w workers es → is_covered w (visible es) ≡ true
+visible_covered w workers es valid few run = by (has_shed (visible es)) refl
   where
     by : (b : Bool) → has_shed (visible es) ≡ b → is_covered w (visible es) ≡ true
     by false none = rw none refl
-    by true some = let paid = IsCovered-legal w (visible es) (visible_legal w workers es valid plain few run) some in let le : nat_le w.budget (posts_of_tasks (visible es) + count_unfinished w (visible es)) ≡ true = grind (arith, nat_tests, paid) in rw (some, le) refl
+    by true some = let paid = IsCovered-legal w (visible es) (visible_legal w workers es valid few run) some in let le : nat_le w.budget (posts_of_tasks (visible es) + count_unfinished w (visible es)) ≡ true = grind (arith, nat_tests, paid) in rw (some, le) refl
