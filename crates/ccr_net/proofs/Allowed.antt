@@ -29,18 +29,22 @@ use Rattle.ccr_model.specs.TaskData.{placement_of, play_of}
 use Rattle.ccr_model.specs.Tasks.{queued, running, running_by, has_post_left, count_unfinished}
 use Rattle.ccr_model.proofs.Booleans.{eq-self}
 use Rattle.ccr_model.proofs.SameNames.{same_task-self, same_value-self}
-use Rattle.ccr_net.proofs.PlainFacts.{PlainFacts}
+use Rattle.ccr_net.proofs.Invariant.{IsToPut}
 
 pub refused_pass : (b : Bool) (n : ℕ) (o : Option ℕ) → b ≡ true → o ≡ None → refused b n o ≡ None
 refused_pass b n o is rest = rw (is, rest) refl
 
-pub fire_allowed : (w : Parts) (first : PlainFacts w) (h : List Event) (t : TaskId) (b : ℕ) (s : Placement) (names : List MsgId) → placement w b ≡ Some s → has_task (fired h) t ≡ false → t.actor ≤ 32 → is_live w h (Branch b) ≡ true → has_room_in w h s.branch.queue (policy_of w s.branch.queue) ≡ true → is_choice_of (held h) s.branch.pattern names ≡ true → IsAllowed w h (events.Fire t (Branch b) names [])
-fire_allowed w first h t b s names sits fresh low live left chosen =
+same_all : (ts : List TaskId) → same_lists same_task ts ts ≡ true
+same_all [] = refl
+same_all (t ∷ ts) = rw (same_task-self t) (same_all ts)
+
+pub fire_allowed : (w : Parts) (h : List Event) (t : TaskId) (b : ℕ) (s : Placement) (names : List MsgId) (cs : List TaskId) → placement w b ≡ Some s → has_task (fired h) t ≡ false → t.actor ≤ 32 → is_live w h (Branch b) ≡ true → has_room_in w h s.branch.queue (policy_of w s.branch.queue) ≡ true → is_choice_of (held h) s.branch.pattern names ≡ true → cs ≡ cuts_at w h (Branch b) → IsAllowed w h (events.Fire t (Branch b) names cs)
+fire_allowed w h t b s names cs sits fresh low live left chosen cut_so =
     let new : is_new h t ≡ true = grind (arith, nat_tests, fresh, low) in
     let choice : is_choice w h (Branch b) names ≡ true = rw sits chosen in
     let room : has_room w h (Branch b) ≡ true = rw sits left in
-    let cuts : same_lists same_task [] (cuts_at w h (Branch b)) ≡ true = rw (sits, first.no_teardown b s sits) refl in
-    refused_pass (is_new h t) 4 _ new (refused_pass (is_live w h (Branch b)) 5 _ live (refused_pass (is_choice w h (Branch b) names) 6 _ choice (refused_pass (has_room w h (Branch b)) 7 _ room (refused_pass (same_lists same_task [] (cuts_at w h (Branch b))) 8 None cuts refl))))
+    let cuts : same_lists same_task cs (cuts_at w h (Branch b)) ≡ true = subst (λ ts. same_lists same_task cs ts ≡ true) cut_so (same_all cs) in
+    refused_pass (is_new h t) 4 _ new (refused_pass (is_live w h (Branch b)) 5 _ live (refused_pass (is_choice w h (Branch b) names) 6 _ choice (refused_pass (has_room w h (Branch b)) 7 _ room (refused_pass (same_lists same_task cs (cuts_at w h (Branch b))) 8 None cuts refl))))
 
 pub resume_allowed : (w : Parts) (h : List Event) (t : TaskId) (b k port : ℕ) (names : List MsgId) → site_port w b k ≡ Some port → has_task (fired h) t ≡ false → t.actor ≤ 32 → is_live w h (Site b k) ≡ true → are_oldest (held h port) names ≡ true → IsAllowed w h (events.Fire t (Site b k) names [])
 resume_allowed w h t b k port names awaits fresh low live oldest =
@@ -72,15 +76,11 @@ same_drop : (d : Option TaskId) → same_options same_task d d ≡ true
 same_drop None = refl
 same_drop (Some x) = same_task-self x
 
-pub put_allowed : (w : Parts) (first : PlainFacts w) (h : List Event) (t : TaskId) (d : Option TaskId) (f : Firing) (s : Placement) → firing_named h t ≡ Some f → placement w (branch_of f.spot) ≡ Some s → has_task (put h) t ≡ false → has_task (cut h) t ≡ false → drop_at w h t ≡ d → IsAllowed w h (events.Put t d)
-put_allowed w first h t d f s fires sits not_put not_cut drops =
-    let may : may_put w h t ≡ true = rw (not_put, not_cut, fires) (needs f.spot sits) in
+pub put_allowed : (w : Parts) (h : List Event) (t : TaskId) (d : Option TaskId) → IsToPut w h t → drop_at w h t ≡ d → IsAllowed w h (events.Put t d)
+put_allowed w h t d is drops =
+    let may : may_put w h t ≡ true = rw (is.unput, is.uncut, is.fires.1) is.entered in
     let drop : same_options same_task d (drop_at w h t) ≡ true = subst (λ o. same_options same_task d o ≡ true) (sym drops) (same_drop d) in
     refused_pass (may_put w h t) 11 _ may (refused_pass (same_options same_task d (drop_at w h t)) 12 None drop refl)
-  where
-    needs : (spot : Spot) → placement w (branch_of spot) ≡ Some s → needs_no_admission w spot || has_task (ever_admitted h) t ≡ true
-    needs (Branch b) is = rw (is, first.placements_free b s is) refl
-    needs (Site b k) is = refl
 
 pub start_allowed : (w : Parts) (h : List Event) (t : TaskId) (a : ℕ) (s : Placement) (rest : List TaskId) → placement_of w h t ≡ Some s → queued w h s.branch.queue ≡ t ∷ rest → length w.posters ≤ a → a ≤ 32 → running_by h a ≡ [] → IsAllowed w h (events.Start t a)
 start_allowed w h t a s rest sits head above below idle =

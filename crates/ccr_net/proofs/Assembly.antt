@@ -7,10 +7,11 @@ use Rattle.ccr_base.specs.declared.names.Place.{Place}
 use Rattle.ccr_base.specs.declared.names.Place.TheVariants as places
 use Rattle.ccr_base.specs.declared.names.Spot.{Spot}
 use Rattle.ccr_base.specs.declared.names.TaskId.{TaskId}
+use Rattle.ccr_base.specs.Names.{has_task}
 use Rattle.ccr_wiring.specs.declared.parts.Parts.{Parts}
 use Rattle.ccr_model.specs.declared.history.Event.{Event}
 use Rattle.ccr_model.specs.Legal.{IsLegal}
-use Rattle.ccr_model.proofs.Booleans.{same_number, eq-self}
+use Rattle.ccr_model.proofs.Booleans.{same_number, eq-self, refuted, no_both}
 use Rattle.ccr_model.proofs.Members.{Among}
 use Rattle.ccr_places.specs.Ports.{PortState}
 use Rattle.ccr_places.specs.Queues.{QueueState}
@@ -25,9 +26,10 @@ use Rattle.ccr_net.specs.Places.{meter_after}
 use Rattle.ccr_net.specs.Runs.{Lacks, state_of, port_at, notes_at, reply_of, same_place}
 use Rattle.ccr_net.specs.Visible.{visible}
 use Rattle.ccr_net.proofs.Pushes.{port_at-push, queue_at, queue_at-push, IsNextState, state_of-own, state_of-other}
-use Rattle.ccr_net.proofs.Invariant.{PortsMatch, ActorMatches}
+use Rattle.ccr_net.proofs.Invariant.{PortsMatch, ActorMatches, puts_in}
 use Rattle.ccr_net.proofs.PortSteps.{Changes}
-use Rattle.ccr_net.proofs.ActorSteps.{ActorMatches-same, ActorMatches-short}
+use Rattle.ccr_net.proofs.ActorSteps.{ActorMatches-same, ActorMatches-short, puts-short}
+use Rattle.ccr_net.proofs.DomainPart.{DomainsMatch}
 use Rattle.ccr_net.proofs.ArbiterPart.{ArbitersMatch}
 use Rattle.ccr_net.proofs.SitePart.{SitesMatch}
 use Rattle.ccr_net.proofs.QueuePart.{QueueChanges}
@@ -45,7 +47,6 @@ pub record ActorHolds (w : Parts) (h : List Event) (port : ℕ → PortState) (a
 -- a state with the same parts
 pub record SameParts (st st' : State) : Type 0 where
   pub hand : st'.hand ≡ st.hand
-  pub arbiters : st'.arbiters ≡ st.arbiters
   pub spots : st'.spots ≡ st.spots
   pub phase : st'.phase ≡ st.phase
   pub attempt : st'.attempt ≡ st.attempt
@@ -56,7 +57,6 @@ ActorHolds-same w h port a st st' same holds = record {
   claims = ActorMatches-same w h port a st st' same.hand (ap had_in same.phase) same.attempt holds.claims;
   work = subst (WorkMatches w h a) (sym same.work) holds.work;
   fits = record {
-    no_arbiters = same.arbiters ∙ holds.fits.no_arbiters;
     spots_so = λ s is. holds.fits.spots_so s (subst (Among s) same.spots is);
     phase_so = rw (same.attempt, same.phase, same.spots) holds.fits.phase_so;
   };
@@ -66,7 +66,7 @@ pub ActorHolds-short : (w : Parts) (h : List Event) (port : ℕ → PortState) (
 ActorHolds-short w h port a st holds = record {
   claims = ActorMatches-short w h port a st holds.claims;
   work = holds.work;
-  fits = record { no_arbiters = holds.fits.no_arbiters; spots_so = λ s is. absurd is; phase_so = tt };
+  fits = record { spots_so = λ s is. absurd is; phase_so = tt };
 }
 
 -- an actor before its first step, which may find no memory then
@@ -100,6 +100,10 @@ next_work : (w : Parts) (a : ℕ) (st new : State) (r : Reply) → IsNextState w
 next_work w a st new r (inl is) = ap (λ (s : State). s.work) is
 next_work w a st new r (inr is) = ap (λ (s : State). s.work) is
 
+puts_next : (w : Parts) (a : ℕ) (st next new : State) (r : Reply) → after_in w a st (turn st) r ≡ next → IsNextState w a st r new → puts_in new.hand ≡ puts_in next.hand
+puts_next w a st next new r is (inl one) = ap (λ (s : State). puts_in s.hand) (one ∙ is)
+puts_next w a st next new r is (inr one) = ap (λ (s : State). puts_in s.hand) (one ∙ ap (shorten w a) is) ∙ puts-short w a next
+
 -- the meter after these entries
 abbrev pub meter_at : Parts → List Entry → MeterState
 meter_at w es = meter_after w.budget (notes_at es places.Meter)
@@ -131,6 +135,8 @@ pub record Holds (w : Parts) (n : ℕ) (lacks : Lacks) (es : List Entry) : Type 
   pub budget : (meter_at w es).budget ≡ w.budget
   pub arbiters : ArbitersMatch w (visible es) es
   pub sites : SitesMatch (visible es) es
+  pub domains : DomainsMatch w (visible es) es
+  pub apart : (a b : ℕ) → a ≢ b → (t : TaskId) → has_task (puts_in (state_of w lacks es a).hand) t ≡ true → has_task (puts_in (state_of w lacks es b).hand) t ≡ false
 
 -- what the entry must be shown to keep, where the actor's state then is `next` and the history `h`
 pub record Keeps (w : Parts) (n : ℕ) (lacks : Lacks) (es : List Entry) (e : Entry) (next : State) (h : List Event) : Type 0 where
@@ -146,12 +152,14 @@ pub record Keeps (w : Parts) (n : ℕ) (lacks : Lacks) (es : List Entry) (e : En
   pub budget : (meter_at w (es ++ e ∷ [])).budget ≡ w.budget
   pub arbiters : ArbitersMatch w h (es ++ e ∷ [])
   pub sites : SitesMatch h (es ++ e ∷ [])
+  pub domains : DomainsMatch w h (es ++ e ∷ [])
+  pub apart : (a : ℕ) → e.actor ≢ a → (t : TaskId) → has_task (puts_in next.hand) t ≡ true → has_task (puts_in (state_of w lacks es a).hand) t ≡ false
 
 differ : (a b : ℕ) → (a == b) ≡ false → a ≢ b
 differ a b is same = let k : (a == b) ≡ true = subst (λ r. (a == r) ≡ true) same (eq-self a) in absurd (cc)
 
-pub Holds-kept : (w : Parts) (n : ℕ) (lacks : Lacks) (es : List Entry) (e : Entry) (next : State) (h : List Event) → ((a : ℕ) → IsBooked w (queue_at w es) a (state_of w lacks es a)) → Keeps w n lacks es e next h → Holds w n lacks (es ++ e ∷ [])
-Holds-kept w n lacks es e next h under_way keeps = record {
+pub Holds-kept : (w : Parts) (n : ℕ) (lacks : Lacks) (es : List Entry) (e : Entry) (next : State) (h : List Event) → Holds w n lacks es → Keeps w n lacks es e next h → Holds w n lacks (es ++ e ∷ [])
+Holds-kept w n lacks es e next h holds keeps = record {
   legal = rw keeps.shows keeps.legal;
   ports = rw keeps.shows keeps.ports;
   queues = rw keeps.shows keeps.queues;
@@ -161,6 +169,8 @@ Holds-kept w n lacks es e next h under_way keeps = record {
   budget = keeps.budget;
   arbiters = rw keeps.shows keeps.arbiters;
   sites = rw keeps.shows keeps.sites;
+  domains = rw keeps.shows keeps.domains;
+  apart = λ a b other t is. put_apart a b other t is (e.actor == a) refl (e.actor == b) refl;
 }
   where
     moved : IsNextState w e.actor (state_of w lacks es e.actor) (reply_of w es e) (state_of w lacks (es ++ e ∷ []) e.actor)
@@ -188,7 +198,19 @@ Holds-kept w n lacks es e next h under_way keeps = record {
 
     booked_of : (a : ℕ) (c : Bool) → (e.actor == a) ≡ c → IsBooked w (queue_at w (es ++ e ∷ [])) a (state_of w lacks (es ++ e ∷ []) a)
     booked_of a true is = subst (λ b. IsBooked w (queue_at w (es ++ e ∷ [])) b (state_of w lacks (es ++ e ∷ []) b)) (same_number e.actor a is) (booked_next w (queue_at w (es ++ e ∷ [])) e.actor (state_of w lacks es e.actor) next (state_of w lacks (es ++ e ∷ []) e.actor) (reply_of w es e) keeps.goes moved keeps.under_way.own)
-    booked_of a false is = subst (IsBooked w (queue_at w (es ++ e ∷ [])) a) (sym (state_of-other w lacks es e a is)) (IsBookedAt-stays w (queue_at w es) (queue_at w (es ++ e ∷ [])) (name_at a (state_of w lacks es a)) (state_of w lacks es a).phase (state_of w lacks es a).spots (keeps.under_way.others a (differ e.actor a is)) (under_way a))
+    booked_of a false is = subst (IsBooked w (queue_at w (es ++ e ∷ [])) a) (sym (state_of-other w lacks es e a is)) (IsBookedAt-stays w (queue_at w es) (queue_at w (es ++ e ∷ [])) (name_at a (state_of w lacks es a)) (state_of w lacks es a).phase (state_of w lacks es a).spots (keeps.under_way.others a (differ e.actor a is)) (holds.under_way a))
+
+    puts_own : (a : ℕ) → (e.actor == a) ≡ true → puts_in (state_of w lacks (es ++ e ∷ []) a).hand ≡ puts_in next.hand
+    puts_own a is = ap (λ b. puts_in (state_of w lacks (es ++ e ∷ []) b).hand) (sym (same_number e.actor a is)) ∙ puts_next w e.actor (state_of w lacks es e.actor) next (state_of w lacks (es ++ e ∷ []) e.actor) (reply_of w es e) keeps.goes moved
+
+    puts_other : (a : ℕ) → (e.actor == a) ≡ false → puts_in (state_of w lacks (es ++ e ∷ []) a).hand ≡ puts_in (state_of w lacks es a).hand
+    puts_other a is = ap (λ (s : State). puts_in s.hand) (state_of-other w lacks es e a is)
+
+    put_apart : (a b : ℕ) → a ≢ b → (t : TaskId) → has_task (puts_in (state_of w lacks (es ++ e ∷ []) a).hand) t ≡ true → (c : Bool) → (e.actor == a) ≡ c → (d : Bool) → (e.actor == b) ≡ d → has_task (puts_in (state_of w lacks (es ++ e ∷ []) b).hand) t ≡ false
+    put_apart a b other t is true at_a true at_b = absurd (other (sym (same_number e.actor a at_a) ∙ same_number e.actor b at_b))
+    put_apart a b other t is true at_a false at_b = ap (λ ts. has_task ts t) (puts_other b at_b) ∙ keeps.apart b (differ e.actor b at_b) t (ap (λ ts. has_task ts t) (sym (puts_own a at_a)) ∙ is)
+    put_apart a b other t is false at_a true at_b = refuted (has_task (puts_in (state_of w lacks (es ++ e ∷ []) b).hand) t) (λ also. no_both (ap (λ ts. has_task ts t) (sym (puts_other a at_a)) ∙ is) (keeps.apart a (differ e.actor a at_a) t (ap (λ ts. has_task ts t) (sym (puts_own b at_b)) ∙ also)))
+    put_apart a b other t is false at_a false at_b = ap (λ ts. has_task ts t) (puts_other b at_b) ∙ holds.apart a b other t (ap (λ ts. has_task ts t) (sym (puts_other a at_a)) ∙ is)
 
 -- ---- which place changes
 

@@ -168,37 +168,12 @@ whole_ports (Gather total first second) even had fits d is = by ((both_got first
     by (inr e) = inr (inl e)
 whole_ports (Slots all) even had fits d is = Among-map (λ (s : Slot). s.port) all d.slot (sorted_among all d.slot (subst (Among d.slot) (sym (append-nil (map slot_had had)) ∙ fits) (Among-map slot_had had d is)))
 
-pub fired_other : (h : List Event) (t u : TaskId) (s : Spot) (ms : List MsgId) → t.actor ≢ u.actor → has_task (fired (h ++ events.Fire t s ms [] ∷ [])) u ≡ has_task (fired h) u
-fired_other h t u s ms other = rw (fired-fire h t s ms []) (of_test (same_task u t) refl)
+pub fired_other : (h : List Event) (t u : TaskId) (s : Spot) (ms : List MsgId) (cs : List TaskId) → t.actor ≢ u.actor → has_task (fired (h ++ events.Fire t s ms cs ∷ [])) u ≡ has_task (fired h) u
+fired_other h t u s ms cs other = rw (fired-fire h t s ms cs) (of_test (same_task u t) refl)
   where
     of_test : (b : Bool) → same_task u t ≡ b → has_task (fired h ++ t ∷ []) u ≡ has_task (fired h) u
     of_test true e = absurd (other (ap (λ (x : TaskId). x.actor) (sym (same_task-is u t e))))
     of_test false e = grind (arith, common_steps, e)
-
-pub put_other : (h : List Event) (t u : TaskId) (d : Option TaskId) → t.actor ≢ u.actor → has_task (put (h ++ events.Put t d ∷ [])) u ≡ has_task (put h) u
-put_other h t u d other = rw put-push (of_test (same_task u t) refl)
-  where
-    of_test : (b : Bool) → same_task u t ≡ b → has_task (put h ++ t ∷ []) u ≡ has_task (put h) u
-    of_test true e = absurd (other (ap (λ (x : TaskId). x.actor) (sym (same_task-is u t e))))
-    of_test false e = grind (arith, common_steps, e)
-
--- what isn't a put stays owed, whatever is put
-pub owed_unput : (w : Parts) (h : List Event) (t : TaskId) (d : Option TaskId) (a bound : ℕ) (place : Place) (ask : Ask) → put_in ask ≡ [] → IsOwed w h a bound place ask → IsOwed w (h ++ events.Put t d ∷ []) a bound place ask
-owed_unput w h t d a bound place (asks.Put u) none is = absurd (cc)
-owed_unput w h t d a bound place (asks.Consume u) none is = (is.0, grind (arith, common_steps, is.1))
-owed_unput w h t d a bound place (asks.Free u) none is = (is.0, is.1, grind (arith, common_steps, is.2))
-owed_unput w h t d a bound place (asks.Unbook u) none is = (is.0, is.1, grind (arith, common_steps, is.2))
-owed_unput w h t d a bound place (asks.Post m) none is = absurd is
-owed_unput w h t d a bound place (asks.Claim u s) none is = absurd is
-owed_unput w h t d a bound place (asks.Commit u ms) none is = absurd is
-owed_unput w h t d a bound place asks.Admit none is = absurd is
-owed_unput w h t d a bound place (asks.Over u r how) none is = is
-owed_unput w h t d a bound place (asks.Suspend u) none is = absurd is
-owed_unput w h t d a bound place (asks.Book u r) none is = absurd is
-owed_unput w h t d a bound place asks.Take none is = absurd is
-owed_unput w h t d a bound place asks.Draw none is = absurd is
-owed_unput w h t d a bound place asks.Leave none is = absurd is
-owed_unput w h t d a bound place asks.Left none is = absurd is
 
 pub none_put : (hand : List Asked) → length (puts_in hand) ≤ 0 → (y : Asked) → Among y hand → put_in y.ask ≡ []
 none_put [] few y is = absurd is

@@ -7,6 +7,7 @@ use Rattle.std.specs.FinSet as set
 use Rattle.ccr_base.specs.declared.names.Place.{Place}
 use Rattle.ccr_base.specs.declared.names.Place.TheVariants as places
 use Rattle.ccr_base.specs.declared.names.Spot.{Spot}
+use Rattle.ccr_base.specs.declared.names.TaskId.{TaskId}
 use Rattle.ccr_base.specs.declared.names.Spot.TheVariants.{Branch, Site}
 use Rattle.ccr_base.specs.declared.patterns.Slot.{Slot}
 use Rattle.ccr_base.specs.declared.tasks.By.{By}
@@ -26,9 +27,18 @@ use Rattle.ccr_model.specs.Firings.{fired}
 use Rattle.ccr_model.specs.Legal.{IsAllowed}
 use Rattle.ccr_model.specs.Posts.{held}
 use Rattle.ccr_model.specs.Sites.{suspended}
-use Rattle.ccr_model.specs.Live.{is_live, is_live_in}
-use Rattle.ccr_model.specs.Tasks.{fired_by}
-use Rattle.ccr_model.proofs.Booleans.{both, same_number}
+use Rattle.ccr_model.specs.Live.{is_live, is_live_in, is_none_of}
+use Rattle.ccr_model.specs.Interleaves.{is_placement_in}
+use Rattle.ccr_model.specs.Rules.{cuts_at}
+use Rattle.ccr_model.specs.Tasks.{is_interleave, is_teardown, fired_by}
+use Rattle.ccr_wiring.specs.Groups.{may_have}
+use Rattle.ccr_base.specs.declared.policies.Group.{Group}
+use Rattle.ccr_base.specs.declared.policies.Group.TheVariants as groups
+use Rattle.ccr_base.specs.declared.tasks.By.TheVariants.{Fired as ByFired}
+use Rattle.ccr_places.specs.Interleaves.{InterleaveState}
+use Rattle.ccr_places.specs.Interleaves as interleaves
+use Rattle.ccr_model.proofs.Booleans.{both, same_number, eq-self, not_false}
+use Rattle.ccr_model.proofs.Options.{none_map}
 use Rattle.ccr_model.proofs.Members.{Among}
 use Rattle.ccr_places.specs.declared.claims.StandingClaim.{StandingClaim}
 use Rattle.ccr_places.specs.declared.notes.ClaimNote.TheVariants.{Got, Busy, Short}
@@ -51,7 +61,7 @@ use Rattle.ccr_claim.specs.Attempts.{at_place, Phase, booking, claiming, had_in,
 use Rattle.ccr_actor.specs.Plans.{one_of, no_pattern, plan_of, pattern_at, is_interleave_number, queue_at as queue_number, arbiter_at}
 use Rattle.ccr_actor.specs.Actors.{State, settle, drive, turn, name_at, spots_left}
 use Rattle.ccr_net.specs.declared.entries.Entry.{Entry}
-use Rattle.ccr_net.specs.Places.{note_of, note_at_arbiter, note_by_kind, arbiter_note, first_branch, arbiter_after, commit_note}
+use Rattle.ccr_net.specs.Places.{note_of, note_at_arbiter, note_by_kind, arbiter_note, interleave_note, first_branch, arbiter_after, commit_note}
 use Rattle.ccr_net.specs.Runs.{Lacks, state_of, port_at, notes_at}
 use Rattle.ccr_net.specs.Views.{queue_of}
 use Rattle.ccr_net.specs.Visible.{visible}
@@ -61,6 +71,7 @@ use Rattle.ccr_net.proofs.ActorSteps.{unfired}
 use Rattle.ccr_net.proofs.SitePart.{site_at, SitesMatch-branch, SitesMatch-resume, someone_waits}
 use Rattle.ccr_net.proofs.ArbiterPart.{FiresAlike-fire, FiresAlike-resume, KeepsShape, kept_shape, fired_there, is_of, none_fired, none_at_branch, none_at_first}
 use Rattle.ccr_net.proofs.RoomPart.{IsBookedAt, has_room-left}
+use Rattle.ccr_net.proofs.DomainPart.{DomainMatches, DomainsMatch, domain_at, tears, cuts_so, DomainsMatch-branch, DomainsMatch-fire, DomainsMatch-resume}
 use Rattle.ccr_net.proofs.Phases.{SpotFits, Fits}
 use Rattle.ccr_net.proofs.Assembly.{ActorHolds, Holds, hand_settles}
 use Rattle.ccr_net.proofs.Silent.{step_consume, step_free, step_unbook, step_over, step_full, step_booked, step_refused, step_dead, step_dead_site, step_got, claims_by, drives, got_facts, GotFacts}
@@ -104,7 +115,7 @@ module _ (w : Parts) (n : ℕ) (first : PlainFacts w) (few : n ≤ 33) (lacks : 
   settle_by x more turns (places.Arbiter i) (asks.Unbook t) there gives owed same = absurd (no_some _ e.note (none_at w (asks.Unbook t) (λ a. refl) (λ a. refl) i (slice_get w.arbiters i) (notes_at es (places.Arbiter i))) gives)
   settle_by x more turns (places.Site b k) (asks.Unbook t) there gives owed same = absurd (cc)
   settle_by x more turns places.Meter (asks.Unbook t) there gives owed same = absurd (cc)
-  settle_by x more turns (places.Queue q) (asks.Put t) there gives owed same = step_put w n first few lacks es e low holds q t.id x more there (given_some (queues.may_put (queue_at w es q) t.id) _ e.note gives).0 (given_some _ (notes.Put t.id (queues.put_note (queue_at w es q))) e.note gives).1 turns same owed.0 owed.1 owed.2 (at_queue owed.3)
+  settle_by x more turns (places.Queue q) (asks.Put t) there gives owed same = step_put w n first few lacks es e low holds q t.id x more there (given_some (queues.may_put (queue_at w es q) t.id) _ e.note gives).0 (given_some _ (notes.Put t.id (queues.put_note (queue_at w es q))) e.note gives).1 turns same owed.0 (at_queue owed.1)
     where
       at_queue : places.Queue q ≡ places.Queue (queue_of w h t.id) → q ≡ queue_of w h t.id
       at_queue is = cc
@@ -117,7 +128,7 @@ module _ (w : Parts) (n : ℕ) (first : PlainFacts w) (few : n ≤ 33) (lacks : 
   settle_by x more turns place (asks.Commit t ms) there gives owed same = absurd owed
   settle_by x more turns place asks.Admit there gives owed same = absurd owed
   settle_by x more turns (places.Port p) (asks.Over t r how) there gives owed same = absurd (cc)
-  settle_by x more turns (places.Arbiter i) (asks.Over t r hows.Dropped) there gives owed same = step_over w n lacks es e low holds i t r x more there (over_note w t r hows.Dropped i (slice_get w.arbiters i) (notes_at es (places.Arbiter i)) e.note gives) turns
+  settle_by x more turns (places.Arbiter i) (asks.Over t r hows.Dropped) there gives owed same = step_over w n lacks es e low holds i t r x more there (over_note w t r hows.Dropped i (slice_get w.arbiters i) (notes_at es (places.Arbiter i)) e.note gives) turns owed
   settle_by x more turns (places.Arbiter i) (asks.Over t r hows.Done) there gives owed same = absurd owed
   settle_by x more turns (places.Arbiter i) (asks.Over t r (hows.Failed v)) there gives owed same = absurd owed
   settle_by x more turns (places.Arbiter i) (asks.Over t r hows.Shed) there gives owed same = absurd owed
@@ -174,9 +185,65 @@ module _ (w : Parts) (n : ℕ) (first : PlainFacts w) (few : n ≤ 33) (lacks : 
           note : e.note ≡ notes.Claim (name_at e.actor before) slot (Got (length d.messages))
           note = (rw (is, choosable) at note_so) ∙ ap (λ j. notes.Claim (name_at e.actor before) slot (Got j)) (sym facts.whole)
 
+  -- a firing at a branch, with these cuts
+  fires_branch : (b : ℕ) (s : Placement) (more : List Spot) (had : List Had) (i : ℕ) (cs : List TaskId) → placement w b ≡ Some s → s.arbiter ≡ i → turn before ≡ drive (Branch b) more → before.phase ≡ claiming [] had → Fits s.branch.pattern [] had → e.place ≡ places.Arbiter i → is_live w h (Branch b) ≡ true → cs ≡ cuts_at w h (Branch b) → e.note ≡ notes.Fired (name_at e.actor before) (Branch b) (names_of (in_pattern s.branch.pattern had)) cs → ((ms : List MsgId) → IsAllowed w h (events.Fire (name_at e.actor before) (Branch b) ms cs) → e.note ≡ notes.Fired (name_at e.actor before) (Branch b) ms cs → DomainsMatch w (h ++ events.Fire (name_at e.actor before) (Branch b) ms cs ∷ []) (es ++ e ∷ [])) → Done
+  fires_branch b s more had i cs sits at_its turns phase fits there live cut_so had_note domains = step_fire w n first few lacks es e low holds (Branch b) more (record {
+    place = places.Arbiter i;
+    there = there;
+    no_port = refl;
+    no_queue = refl;
+    no_meter = refl;
+    cuts = cs;
+    free = λ is. rw sits (not_false (is_interleave s.kind) (rw sits at is));
+    note = note;
+    turns = turns;
+    even = even;
+    fits = fits_now;
+    allowed = allowed;
+    booked = λ q is. subst (λ k. set.contains (queue_at w es k).fresh (name_at e.actor before) ≡ true) (same_number s.branch.queue q (rw sits at is)) booked;
+    arbiters = FiresAlike-fire w e i b s (name_at e.actor before) _ cs sits at_its there note;
+    sites = SitesMatch-branch w es e i b (name_at e.actor before) _ cs holds.legal there holds.sites;
+    domains = domains names allowed note;
+  })
+    where
+      pattern : pattern_at w (Branch b) ≡ s.branch.pattern
+      pattern = rw sits refl
+
+      names : List MsgId
+      names = names_of (in_pattern (pattern_at w (Branch b)) (had_in before.phase))
+
+      even : IsEven (pattern_at w (Branch b))
+      even = subst IsEven (sym pattern) (first.even b s sits)
+
+      fits_now : Fits (pattern_at w (Branch b)) [] (had_in before.phase)
+      fits_now = subst (λ p. Fits p [] (had_in before.phase)) (sym pattern) (subst (λ hs. Fits s.branch.pattern [] hs) (sym (ap had_in phase)) fits)
+
+      booked : set.contains (queue_at w es s.branch.queue).fresh (name_at e.actor before) ≡ true
+      booked = subst (λ o. set.contains (queue_at w es (option_map_or (λ (r : Placement). r.branch.queue) o 0)).fresh (name_at e.actor before) ≡ true) sits (subst (λ ss. IsBookedAt w (queue_at w es) (name_at e.actor before) (claiming [] had) ss) (drives w n lacks es e low holds (Branch b) more turns).spots_so (subst (λ ph. IsBookedAt w (queue_at w es) (name_at e.actor before) ph before.spots) phase (holds.under_way e.actor)))
+
+      fresh_name : has_task (fired h) (name_at e.actor before) ≡ false
+      fresh_name = unfired w h (port_at es) e.actor before own.claims
+
+      allowed : IsAllowed w h (events.Fire (name_at e.actor before) (Branch b) names cs)
+      allowed = fire_allowed w h (name_at e.actor before) b s names cs sits fresh_name (omega (arith, low, few)) live (has_room-left w h (queue_at w es) s.branch.queue (name_at e.actor before) holds.legal holds.queues.listed holds.queues.booked booked fresh_name) (subst (λ p. is_choice_of (held h) p names ≡ true) pattern (chosen_now w n first few lacks es e low holds (pattern_at w (Branch b)) even fits_now)) cut_so
+
+      note : e.note ≡ notes.Fired (name_at e.actor before) (Branch b) names cs
+      note = had_note ∙ ap (λ ms. notes.Fired (name_at e.actor before) (Branch b) (names_of ms) cs) ((λ q. in_pattern (sym pattern q) had) ∙ ap (in_pattern (pattern_at w (Branch b))) (sym (ap had_in phase)))
+
+  -- outside Interleaves nothing is cut
+  no_teardown_in : (kind : Kind) (group : Group) → is_interleave kind ≡ false → may_have kind group ≡ true → is_teardown group ≡ false
+  no_teardown_in kind groups.Once outside may = refl
+  no_teardown_in kind groups.Always outside may = refl
+  no_teardown_in kind groups.Choice outside may = refl
+  no_teardown_in kind groups.Exclusive outside may = refl
+  no_teardown_in kind groups.Concurrent outside may = refl
+  no_teardown_in kinds.Receive groups.Teardown outside may = absurd (cc)
+  no_teardown_in kinds.Choice groups.Teardown outside may = absurd (cc)
+  no_teardown_in kinds.Interleave groups.Teardown outside may = absurd (cc)
+
   -- the commit at a receiver or a choice
-  commit_arbiter : (b : ℕ) (s : Placement) (more : List Spot) (had : List Had) (i : ℕ) (part : ArbiterPart) → placement w b ≡ Some s → s.arbiter ≡ i → slice_get w.arbiters i ≡ Some part → turn before ≡ drive (Branch b) more → before.phase ≡ claiming [] had → Fits s.branch.pattern [] had → e.place ≡ places.Arbiter i → arbiter_note (arbiter_after (first_branch w i) part (notes_at es (places.Arbiter i))) (asks.Commit (firing_task (plan_of w (Branch b)) (name_at e.actor before) (in_pattern s.branch.pattern had)) (names_of (in_pattern s.branch.pattern had))) ≡ Some e.note → Done
-  commit_arbiter b s more had i part sits at_its there_part turns phase fits there gives = by_dead (arbiters.dead_by arbiter) refl
+  commit_arbiter : (b : ℕ) (s : Placement) (more : List Spot) (had : List Had) (i : ℕ) (part : ArbiterPart) → placement w b ≡ Some s → s.arbiter ≡ i → slice_get w.arbiters i ≡ Some part → is_interleave s.kind ≡ false → is_interleave_number w i ≡ false → turn before ≡ drive (Branch b) more → before.phase ≡ claiming [] had → Fits s.branch.pattern [] had → e.place ≡ places.Arbiter i → arbiter_note (arbiter_after (first_branch w i) part (notes_at es (places.Arbiter i))) (asks.Commit (firing_task (plan_of w (Branch b)) (name_at e.actor before) (in_pattern s.branch.pattern had)) (names_of (in_pattern s.branch.pattern had))) ≡ Some e.note → Done
+  commit_arbiter b s more had i part sits at_its there_part outside plain turns phase fits there gives = by_dead (arbiters.dead_by arbiter) refl
     where
       task : Task
       task = firing_task (plan_of w (Branch b)) (name_at e.actor before) (in_pattern s.branch.pattern had)
@@ -197,7 +264,7 @@ module _ (w : Parts) (n : ℕ) (first : PlainFacts w) (few : n ≤ 33) (lacks : 
       here = ap (λ k. arbiters.has_spot (arbiter_after (first_branch w k) part []) (Branch b)) at_its ∙ (λ j. nat_le (sym shape.first j) b && nat_lt b (sym shape.first j + sym shape.count j)) ∙ (both (arbiters.has_spot arbiter (Branch b)) _ given_so.0).0
 
       live : arbiters.dead_by arbiter ≡ None → is_live w h (Branch b) ≡ true
-      live alive = rw sits (by (first.retires b s part sits (ap (slice_get w.arbiters) at_its ∙ there_part) here))
+      live alive = rw sits (by (first.retires b s part sits (ap (slice_get w.arbiters) at_its ∙ there_part) outside here))
         where
           none_there : (arbiter_after (first_branch w s.arbiter) part []).once ≡ true → fired_by w (is_of i) h ≡ []
           none_there once = sym (holds.arbiters i) ∙ (sym (ap (λ ts. ts ++ fired_there (notes_at es (places.Arbiter i))) (none_at_first (first_branch w i) part)) ∙ sym shape.fired ∙ none_fired arbiter (shape.once ∙ ap (λ k. (arbiter_after (first_branch w k) part []).once) (sym at_its) ∙ once) alive)
@@ -207,54 +274,49 @@ module _ (w : Parts) (n : ℕ) (first : PlainFacts w) (few : n ≤ 33) (lacks : 
           by (inr (once, inl group)) = rw (group, none_at_branch w h b i s sits at_its (none_there once)) refl
           by (inr (once, inr group)) = rw (group, at_its, none_there once) refl
 
+      noted : (o : Option By) → arbiters.dead_by arbiter ≡ o → e.note ≡ commit_note task (names_of (in_pattern s.branch.pattern had)) o (notes.Fired task.id task.spot (names_of (in_pattern s.branch.pattern had)) [])
+      noted o is = given_so.1 ∙ ap (λ x. commit_note task (names_of (in_pattern s.branch.pattern had)) x (notes.Fired task.id task.spot (names_of (in_pattern s.branch.pattern had)) [])) is
+
       by_dead : (o : Option By) → arbiters.dead_by arbiter ≡ o → Done
-      by_dead None is = step_fire w n first few lacks es e low holds (Branch b) more (record {
-        place = places.Arbiter i;
-        there = there;
-        no_port = refl;
-        no_queue = refl;
-        no_meter = refl;
-        at_once = rw (sits, first.placements_free b s sits) refl;
-        note = note;
-        turns = turns;
-        even = even;
-        fits = fits_now;
-        allowed = allowed;
-        booked = λ q is. subst (λ k. set.contains (queue_at w es k).fresh (name_at e.actor before) ≡ true) (same_number s.branch.queue q (rw sits at is)) booked;
-        arbiters = FiresAlike-fire w e i b s (name_at e.actor before) _ [] sits at_its there note;
-        sites = SitesMatch-branch w es e i b (name_at e.actor before) _ [] holds.legal there holds.sites;
-      })
-        where
-          pattern : pattern_at w (Branch b) ≡ s.branch.pattern
-          pattern = rw sits refl
+      by_dead None is = fires_branch b s more had i [] sits at_its turns phase fits there (live is) (sym (rw (sits, no_teardown_in s.kind s.branch.group outside (first.groups_so b s sits)) refl)) (noted None is) (λ ms allowed note. DomainsMatch-branch w h es e (name_at e.actor before) b i s ms holds.legal allowed sits at_its plain there note holds.domains)
+      by_dead (Some by) is = step_dead w n lacks es e low holds i (Branch b) more (name_at e.actor before) (Branch b) by there (noted (Some by) is) turns (rw (turns, noted (Some by) is) refl)
 
-          names : List MsgId
-          names = names_of (in_pattern (pattern_at w (Branch b)) (had_in before.phase))
+  -- the commit at an Interleave
+  commit_interleave : (b : ℕ) (s : Placement) (more : List Spot) (had : List Had) (i : ℕ) → placement w b ≡ Some s → s.arbiter ≡ i → s.kind ≡ kinds.Interleave → is_interleave_number w i ≡ true → turn before ≡ drive (Branch b) more → before.phase ≡ claiming [] had → Fits s.branch.pattern [] had → e.place ≡ places.Arbiter i → interleave_note (domain_at w es i) (asks.Commit (firing_task (plan_of w (Branch b)) (name_at e.actor before) (in_pattern s.branch.pattern had)) (names_of (in_pattern s.branch.pattern had))) ≡ Some e.note → Done
+  commit_interleave b s more had i sits at_its kind number turns phase fits there gives = by_dead (interleaves.dead_by place) refl
+    where
+      place : InterleaveState
+      place = domain_at w es i
 
-          even : IsEven (pattern_at w (Branch b))
-          even = subst IsEven (sym pattern) (first.even b s sits)
+      task : Task
+      task = firing_task (plan_of w (Branch b)) (name_at e.actor before) (in_pattern s.branch.pattern had)
 
-          fits_now : Fits (pattern_at w (Branch b)) [] (had_in before.phase)
-          fits_now = subst (λ p. Fits p [] (had_in before.phase)) (sym pattern) (subst (λ hs. Fits s.branch.pattern [] hs) (sym (ap had_in phase)) fits)
+      fires_note : Note
+      fires_note = notes.Fired task.id task.spot (names_of (in_pattern s.branch.pattern had)) (interleaves.cut_note place task.spot)
 
-          booked : set.contains (queue_at w es s.branch.queue).fresh (name_at e.actor before) ≡ true
-          booked = subst (λ o. set.contains (queue_at w es (option_map_or (λ (r : Placement). r.branch.queue) o 0)).fresh (name_at e.actor before) ≡ true) sits (subst (λ ss. IsBookedAt w (queue_at w es) (name_at e.actor before) (claiming [] had) ss) (drives w n lacks es e low holds (Branch b) more turns).spots_so (subst (λ ph. IsBookedAt w (queue_at w es) (name_at e.actor before) ph before.spots) phase (holds.under_way e.actor)))
+      noted : (o : Option By) → interleaves.dead_by place ≡ o → e.note ≡ commit_note task (names_of (in_pattern s.branch.pattern had)) o fires_note
+      noted o is = (given_some (interleaves.may_commit place task) _ e.note gives).1 ∙ ap (λ x. commit_note task (names_of (in_pattern s.branch.pattern had)) x fires_note) is
 
-          fresh_name : has_task (fired h) (name_at e.actor before) ≡ false
-          fresh_name = unfired w h (port_at es) e.actor before own.claims
+      match : DomainMatches w h i place
+      match = holds.domains i number
 
-          allowed : IsAllowed w h (events.Fire (name_at e.actor before) (Branch b) names [])
-          allowed = fire_allowed w first h (name_at e.actor before) b s names sits fresh_name (omega (arith, low, few)) (live is) (has_room-left w h (queue_at w es) s.branch.queue (name_at e.actor before) holds.legal holds.queues.listed holds.queues.booked booked fresh_name) (subst (λ p. is_choice_of (held h) p names ≡ true) pattern (chosen_now w n first few lacks es e low holds (pattern_at w (Branch b)) even fits_now))
+      within : is_placement_in i s ≡ true
+      within = rw (kind, at_its) (eq-self i)
 
-          had_note : e.note ≡ notes.Fired (name_at e.actor before) (Branch b) (names_of (in_pattern s.branch.pattern had)) []
-          had_note = given_so.1 ∙ ap (λ o. commit_note task (names_of (in_pattern s.branch.pattern had)) o (notes.Fired task.id task.spot (names_of (in_pattern s.branch.pattern had)) [])) is
+      live_in : (g : Group) → may_have kinds.Interleave g ≡ true → is_none_of (fired_by w (tears s.arbiter) h) ≡ true → is_live_in w h b s.arbiter g ≡ true
+      live_in groups.Teardown may none = none
+      live_in groups.Exclusive may none = none
+      live_in groups.Concurrent may none = none
+      live_in groups.Once may none = absurd (cc)
+      live_in groups.Always may none = absurd (cc)
+      live_in groups.Choice may none = absurd (cc)
 
-          note : e.note ≡ notes.Fired (name_at e.actor before) (Branch b) names []
-          note = had_note ∙ ap (λ ms. notes.Fired (name_at e.actor before) (Branch b) (names_of ms) []) ((λ q. in_pattern (sym pattern q) had) ∙ ap (in_pattern (pattern_at w (Branch b))) (sym (ap had_in phase)))
-      by_dead (Some by) is = step_dead w n lacks es e low holds i (Branch b) more there (rw note refl) turns (rw (turns, note) refl)
-        where
-          note : e.note ≡ notes.Dead (name_at e.actor before) (Branch b) by
-          note = given_so.1 ∙ ap (λ o. commit_note task (names_of (in_pattern s.branch.pattern had)) o (notes.Fired task.id task.spot (names_of (in_pattern s.branch.pattern had)) [])) is
+      live : interleaves.dead_by place ≡ None → is_live w h (Branch b) ≡ true
+      live alive = rw sits (live_in s.branch.group (subst (λ k. may_have k s.branch.group ≡ true) kind (first.groups_so b s sits)) (ap is_none_of (ap (λ k. fired_by w (tears k) h) at_its ∙ match.torn_so (none_map ByFired place.teardown alive))))
+
+      by_dead : (o : Option By) → interleaves.dead_by place ≡ o → Done
+      by_dead None is = fires_branch b s more had i (interleaves.cut_note place (Branch b)) sits at_its turns phase fits there (live is) (cuts_so w h i b place s sits at_its within match) (noted None is) (λ ms allowed note. DomainsMatch-fire w h es e (name_at e.actor before) b i s ms holds.legal allowed sits within number there note holds.domains)
+      by_dead (Some by) is = step_dead w n lacks es e low holds i (Branch b) more (name_at e.actor before) (Branch b) by there (noted (Some by) is) turns (rw (turns, noted (Some by) is) refl)
 
   commit_by : (b : ℕ) (s : Placement) (more : List Spot) (had : List Had) → placement w b ≡ Some s → turn before ≡ drive (Branch b) more → before.phase ≡ claiming [] had → Fits s.branch.pattern [] had → Given w es e (at_place (places.Arbiter (arbiter_at w (Branch b))) (asks.Commit (firing_task (plan_of w (Branch b)) (name_at e.actor before) (in_pattern s.branch.pattern had)) (names_of (in_pattern s.branch.pattern had)))) → Done
   commit_by b s more had sits turns phase fits got = by_part (slice_get w.arbiters i) refl got.gives
@@ -275,10 +337,13 @@ module _ (w : Parts) (n : ℕ) (first : PlainFacts w) (few : n ≤ 33) (lacks : 
       by_part None is gives = absurd (cc)
       by_part (Some part) is gives = by_kind part.kind refl gives
         where
+          its_kind : part.kind ≡ s.kind
+          its_kind = first.kinds_so b s part sits (ap (slice_get w.arbiters) at_its ∙ is)
+
           by_kind : (kind : Kind) → part.kind ≡ kind → note_by_kind w i kind part earlier ask ≡ Some e.note → Done
-          by_kind kinds.Receive k now = commit_arbiter b s more had i part sits at_its is turns phase fits got.there now
-          by_kind kinds.Choice k now = commit_arbiter b s more had i part sits at_its is turns phase fits got.there now
-          by_kind kinds.Interleave k now = absurd (let none : is_interleave_number w i ≡ false = rw sits (first.no_interleaves b s sits) in let some : is_interleave_number w i ≡ true = rw (is, k) refl in cc)
+          by_kind kinds.Receive k now = commit_arbiter b s more had i part sits at_its is (rw (sym its_kind, k) refl) (rw (is, k) refl) turns phase fits got.there now
+          by_kind kinds.Choice k now = commit_arbiter b s more had i part sits at_its is (rw (sym its_kind, k) refl) (rw (is, k) refl) turns phase fits got.there now
+          by_kind kinds.Interleave k now = commit_interleave b s more had i sits at_its (sym its_kind ∙ k) (rw (is, k) refl) turns phase fits got.there now
 
   -- the commit at a site
   commit_site : (b k port : ℕ) (more : List Spot) (had : List Had) → site_port w b k ≡ Some port → turn before ≡ drive (Site b k) more → before.phase ≡ claiming [] had → Fits (pattern_at w (Site b k)) [] had → Given w es e (at_place (places.Site b k) (asks.Commit (firing_task (plan_of w (Site b k)) (name_at e.actor before) (in_pattern (pattern_at w (Site b k)) had)) (names_of (in_pattern (pattern_at w (Site b k)) had)))) → Done
@@ -307,7 +372,8 @@ module _ (w : Parts) (n : ℕ) (first : PlainFacts w) (few : n ≤ 33) (lacks : 
         no_port = refl;
         no_queue = refl;
         no_meter = refl;
-        at_once = refl;
+        cuts = [];
+        free = λ is. refl;
         note = note;
         turns = turns;
         even = even;
@@ -316,6 +382,7 @@ module _ (w : Parts) (n : ℕ) (first : PlainFacts w) (few : n ≤ 33) (lacks : 
         booked = λ q is. absurd (cc);
         arbiters = FiresAlike-resume w e b k (name_at e.actor before) names [] got.there note;
         sites = SitesMatch-resume w es e b k (name_at e.actor before) names holds.legal allowed got.there note holds.sites;
+        domains = DomainsMatch-resume w h es e (name_at e.actor before) b k names holds.legal allowed got.there holds.domains;
       })
         where
           pattern : pattern_at w (Site b k) ≡ one_of port

@@ -1,5 +1,5 @@
 -- What ties ports, claims and hands after some entries to the history that they show.
-use Rattle.std.proofs.Common.{◌≡◌, ◌<◌, ◌≤◌, ℕ, true, false, List, [], ◌∷◌, length, flat_map, Some}
+use Rattle.std.proofs.Common.{◌≡◌, ◌<◌, ◌≤◌, ℕ, ◌⊎◌, ◌||◌, true, false, List, [], ◌∷◌, length, flat_map, Some}
 use Rattle.std.specs.Prelude.{if◌then◌else◌}
 use Rattle.std.specs.Option.{option_map_or}
 use Rattle.ccr_base.specs.declared.names.MsgId.{MsgId}
@@ -14,7 +14,9 @@ use Rattle.ccr_base.specs.Choice.{fitting}
 use Rattle.ccr_wiring.specs.declared.parts.Parts.{Parts}
 use Rattle.ccr_model.specs.declared.history.Event.{Event}
 use Rattle.ccr_model.specs.Posts.{posts, taken, held}
-use Rattle.ccr_model.specs.Firings.{fired, put}
+use Rattle.ccr_model.specs.Firings.{fired, put, cut, ever_admitted}
+use Rattle.ccr_model.specs.Rules.{needs_no_admission}
+use Rattle.ccr_model.specs.Tasks.{is_over}
 use Rattle.ccr_model.proofs.Members.{Among}
 use Rattle.ccr_model.proofs.FiredTasks.{IsFired}
 use Rattle.ccr_places.specs.declared.claims.StandingClaim.{StandingClaim}
@@ -39,18 +41,25 @@ pub record PortsMatch (history : List Event) (port : ℕ → PortState) : Type 0
   pub items_posted : (p : ℕ) (name : MsgId) → has_name (port p).items name ≡ true → has_name (posts history) name ≡ true
   pub taken_posted : (name : MsgId) → has_message (taken history) name ≡ true → has_name (posts history) name ≡ true
 
--- of ends only that of a dropped task is in hand
-abbrev pub IsOwedOver : How → Type 0
-IsOwedOver hows.Dropped = Unit {0}
-IsOwedOver _ = ⊥
+-- of ends only that of a dropped task is in hand, whose root is over
+abbrev pub IsOwedOver : List Event → TaskId → How → Type 0
+IsOwedOver history root hows.Dropped = is_over history root ≡ true
+IsOwedOver history root _ = ⊥
+
+-- a task that may be put: it fired, was neither put nor cut, and was admitted where it needs to be
+pub record IsToPut (w : Parts) (history : List Event) (t : TaskId) : Type 0 where
+  pub fires : IsFired history t
+  pub unput : has_task (put history) t ≡ false
+  pub uncut : has_task (cut history) t ≡ false
+  pub entered : needs_no_admission w (fires.0).spot || has_task (ever_admitted history) t ≡ true
 
 -- what an actor owes by an ask that it has in hand; its attempts so far are below the bound
 abbrev pub IsOwed : Parts → List Event → ℕ → ℕ → Place → Ask → Type 0
 IsOwed w history actor bound place (asks.Consume task) = (task.actor ≡ actor) × (has_task (fired history) task ≡ true)
 IsOwed w history actor bound place (asks.Free task) = (task.actor ≡ actor) × (task.attempt < bound) × (has_task (fired history) task ≡ false)
-IsOwed w history actor bound place (asks.Unbook task) = (task.actor ≡ actor) × (task.attempt < bound) × (has_task (fired history) task ≡ false)
-IsOwed w history actor bound place (asks.Put task) = (task.id.actor ≡ actor) × IsFired history task.id × (has_task (put history) task.id ≡ false) × (place ≡ places.Queue (queue_of w history task.id))
-IsOwed w history actor bound place (asks.Over task root how) = IsOwedOver how
+IsOwed w history actor bound place (asks.Unbook task) = ((task.actor ≡ actor) × (task.attempt < bound) × (has_task (fired history) task ≡ false)) ⊎ (has_task (cut history) task ≡ true)
+IsOwed w history actor bound place (asks.Put task) = IsToPut w history task.id × (place ≡ places.Queue (queue_of w history task.id))
+IsOwed w history actor bound place (asks.Over task root how) = IsOwedOver history root how
 IsOwed w history actor bound place _ = ⊥
 
 -- the tasks that the ask puts

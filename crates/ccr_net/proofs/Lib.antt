@@ -11,6 +11,8 @@ pub mod QueuePart
 pub mod RoomPart
 pub mod ArbiterPart
 pub mod SitePart
+pub mod DomainHistory
+pub mod DomainPart
 pub mod MeterPart
 pub mod Phases
 pub mod Assembly
@@ -24,6 +26,7 @@ pub mod Choices
 pub mod Steps
 pub mod Noted
 pub mod Driving
+pub mod Admits
 pub mod Working
 pub mod Theorem
 pub mod Refines

@@ -85,6 +85,5 @@ SpotFits w (Site b k) = (port : ℕ) × (site_port w b k ≡ Some port)
 
 -- an actor's drive is over spots of the wiring
 pub record StateFits (w : Parts) (state : State) : Type 0 where
-  pub no_arbiters : state.arbiters ≡ []
   pub spots_so : (spot : Spot) → Among spot state.spots → SpotFits w spot
   pub phase_so : PhaseFits w state.attempt state.phase state.spots

@@ -1,4 +1,4 @@
--- What plain wirings have, and what their legal histories have.
+-- What valid wirings have, and what their legal histories have.
 use Rattle.std.proofs.Common.{◌⊎◌, inl, inr, ◌≡◌, ◌<◌, ℕ, Bool, true, false, ◌&&◌, List, [], ◌∷◌, ◌++◌, length, filter, Option, Some, None, refl, sym, arith, ◌∙◌, subst, append-nil}
 use Rattle.std.specs.Prelude.{slice_get, ◌==◌, nat_lt}
 use Rattle.std.proofs.lemmas.Grind.{common_steps}
@@ -18,6 +18,7 @@ use Rattle.ccr_base.specs.Names.{same_task, has_task, same_lists}
 use Rattle.ccr_handler.specs.declared.segments.PlayEnd.TheVariants as plays
 use Rattle.ccr_wiring.specs.declared.parts.ArbiterPart.{ArbiterPart}
 use Rattle.ccr_wiring.specs.declared.parts.Parts.{Parts}
+use Rattle.ccr_wiring.specs.Groups.{may_have}
 use Rattle.ccr_wiring.specs.Wirings.{Placement, placement, spots, next_site}
 use Rattle.ccr_model.specs.declared.history.Event.{Event}
 use Rattle.ccr_model.specs.declared.history.Event.TheVariants as events
@@ -50,50 +51,14 @@ IsEven (Gather total first second) = Unit {0}
 abbrev pub Retires : Parts → Placement → ArbiterPart → Type 0
 Retires w s part = (s.branch.group ≡ groups.Always) ⊎ (((arbiter_after (first_branch w s.arbiter) part []).once ≡ true) × ((s.branch.group ≡ groups.Once) ⊎ (s.branch.group ≡ groups.Choice)))
 
--- what the proofs use of a valid wiring that is plain
+-- what the proofs use of a valid wiring
 pub record PlainFacts (w : Parts) : Type 0 where
-  pub no_teardown : (b : ℕ) (s : Placement) → placement w b ≡ Some s → is_teardown s.branch.group ≡ false
-  pub retires : (b : ℕ) (s : Placement) (part : ArbiterPart) → placement w b ≡ Some s → slice_get w.arbiters s.arbiter ≡ Some part → arbiters.has_spot (arbiter_after (first_branch w s.arbiter) part []) (Branch b) ≡ true → Retires w s part
+  pub kinds_so : (b : ℕ) (s : Placement) (part : ArbiterPart) → placement w b ≡ Some s → slice_get w.arbiters s.arbiter ≡ Some part → part.kind ≡ s.kind
+  pub groups_so : (b : ℕ) (s : Placement) → placement w b ≡ Some s → may_have s.kind s.branch.group ≡ true
+  pub retires : (b : ℕ) (s : Placement) (part : ArbiterPart) → placement w b ≡ Some s → slice_get w.arbiters s.arbiter ≡ Some part → is_interleave s.kind ≡ false → arbiters.has_spot (arbiter_after (first_branch w s.arbiter) part []) (Branch b) ≡ true → Retires w s part
   pub even : (b : ℕ) (s : Placement) → placement w b ≡ Some s → IsEven s.branch.pattern
-  pub placements_free : (b : ℕ) (s : Placement) → placement w b ≡ Some s → is_interleave s.kind ≡ false
-  pub no_interleaves : (b : ℕ) (s : Placement) → placement w b ≡ Some s → is_interleave_number w s.arbiter ≡ false
   pub places_so : (spot : Spot) → Among spot (spots w) → SpotFits w spot
   pub sites_so : (task : Task) (site : ℕ) → (play_in w task).end ≡ plays.Yield site → SpotFits w (next_site task.spot)
-
--- ---- no task is cut
-
-cut-other : (h : List Event) (e : Event) → firing_of e ≡ [] → cut h ≡ [] → cut (h ++ e ∷ []) ≡ []
-cut-other h e none is = cut-push h e ∙ rw (is, none) refl
-
-no_cuts_kept : (w : Parts) → PlainFacts w → (h : List Event) (e : Event) → cut h ≡ [] → IsAllowed w h e → cut (h ++ e ∷ []) ≡ []
-no_cuts_kept w first h (events.Post m) is allowed = cut-other h (events.Post m) refl is
-no_cuts_kept w first h (events.Admit t) is allowed = cut-other h (events.Admit t) refl is
-no_cuts_kept w first h (events.Put t d) is allowed = cut-other h (events.Put t d) refl is
-no_cuts_kept w first h (events.Start t a) is allowed = cut-other h (events.Start t a) refl is
-no_cuts_kept w first h (events.End t how) is allowed = cut-other h (events.End t how) refl is
-no_cuts_kept w first h (events.Fire t s ms cs) is allowed =
-    let a = refused_not (is_new h t) 4 _ allowed in
-    let b = refused_not (is_live w h s) 5 _ a.1 in
-    let c = refused_not (is_choice w h s ms) 6 _ b.1 in
-    let d = refused_not (has_room w h s) 7 _ c.1 in
-    let f = refused_not (same_lists same_task cs (cuts_at w h s)) 8 _ d.1 in
-    let none : cs ≡ [] = empty cs (cuts_at w h s) (at_spot s) f.0 in
-    cut-push h (events.Fire t s ms cs) ∙ rw (is, none) refl
-  where
-    at_spot : (s : Spot) → cuts_at w h s ≡ []
-    at_spot (Site b k) = refl
-    at_spot (Branch b) = of_placement (placement w b) refl
-      where
-        of_placement : (o : Option Placement) → placement w b ≡ o → cuts_at w h (Branch b) ≡ []
-        of_placement None e = rw e refl
-        of_placement (Some x) e = rw (e, first.no_teardown b x e) refl
-
-    empty : (cs ds : List TaskId) → ds ≡ [] → same_lists same_task cs ds ≡ true → cs ≡ []
-    empty [] ds none now = refl
-    empty (x ∷ cs) ds none now = absurd (let so : same_lists same_task (x ∷ cs) [] ≡ true = subst (λ l. same_lists same_task (x ∷ cs) l ≡ true) none now in cc)
-
-pub no_cuts : (w : Parts) → PlainFacts w → (h : List Event) → IsLegal w h → cut h ≡ []
-no_cuts w first h legal = along w (λ g. cut g ≡ []) (no_cuts_kept w first) refl h legal
 
 -- ---- a task that has posted has started
 

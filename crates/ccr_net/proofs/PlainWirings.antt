@@ -1,4 +1,4 @@
--- A valid wiring that is plain has what the proofs use.
+-- A valid wiring has what the proofs use.
 use Rattle.std.proofs.Common.{◌≡◌, ◌≤◌, ◌⊎◌, ℕ, zero, suc, ◌+◌, ◌-◌, ◌&&◌, not, Bool, length, option_map, drop, true, false, List, [], ◌∷◌, Option, Some, None, inl, inr, refl, sym, ap, ◌∙◌, subst, arith}
 use Rattle.std.specs.Prelude.{IsSomeAnd, ◌==◌, nat_le, nat_lt}
 use Rattle.std.proofs.lemmas.Bool.Decides.{nat_tests}
@@ -35,7 +35,6 @@ use Rattle.ccr_actor.specs.Plans as plans
 use Rattle.ccr_actor.specs.Actors.{play_in}
 use Rattle.ccr_places.specs.Arbiters as arbiters
 use Rattle.ccr_net.specs.Places.{arbiter_after, branches_before, first_branch, is_once}
-use Rattle.ccr_net.specs.Plain.{IsPlain}
 use Rattle.ccr_net.proofs.Phases.{SpotFits}
 use Rattle.ccr_net.proofs.WorkPart.{drop-next}
 use Rattle.ccr_net.proofs.PlainFacts.{PlainFacts, IsEven, Retires}
@@ -51,31 +50,6 @@ even_filled (Gather total first second) filled = tt
 even_filled (Slots slots) filled = λ slot among. (let found = place_of slots slot among in (filled.2 found.0 slot found.1).0)
 
 -- ---- groups
-
-no_number : (o : Option ArbiterPart) (kind : Kind) → is_interleave kind ≡ false → IsSomeAnd o (λ (part : ArbiterPart). part.kind ≡ kind) → option_map_or (λ (part : ArbiterPart). plans.is_interleave part.kind) o false ≡ false
-no_number None kind is there = refl
-no_number (Some part) kind is there = ap plans.is_interleave there ∙ by kind is
-  where
-    by : (k : Kind) → is_interleave k ≡ false → plans.is_interleave k ≡ false
-    by kinds.Receive now = refl
-    by kinds.Choice now = refl
-    by kinds.Interleave now = absurd (cc)
-
--- outside Interleaves nothing is torn down
-no_teardown_in : (kind : Kind) (group : Group) → is_interleave kind ≡ false → may_have kind group ≡ true → is_teardown group ≡ false
-no_teardown_in kinds.Receive groups.Once free may = refl
-no_teardown_in kinds.Receive groups.Always free may = refl
-no_teardown_in kinds.Receive groups.Choice free may = refl
-no_teardown_in kinds.Receive groups.Teardown free may = absurd (cc)
-no_teardown_in kinds.Receive groups.Exclusive free may = refl
-no_teardown_in kinds.Receive groups.Concurrent free may = refl
-no_teardown_in kinds.Choice groups.Once free may = refl
-no_teardown_in kinds.Choice groups.Always free may = refl
-no_teardown_in kinds.Choice groups.Choice free may = refl
-no_teardown_in kinds.Choice groups.Teardown free may = absurd (cc)
-no_teardown_in kinds.Choice groups.Exclusive free may = refl
-no_teardown_in kinds.Choice groups.Concurrent free may = refl
-no_teardown_in kinds.Interleave group free may = absurd (cc)
 
 -- where an arbiter has one branch, that is the branch of its first number
 first_placement : (n i : ℕ) (arbiters : List ArbiterPart) (part : ArbiterPart) (one : BranchPart) → slice_get arbiters i ≡ Some part → part.branches ≡ one ∷ [] → option_map (λ (s : Placement). s.branch) (slice_get (placements_from n arbiters) (branches_before i arbiters)) ≡ Some one
@@ -118,8 +92,8 @@ its_branch w b i s part one sits at is number = of_placement (slice_get (placeme
         same : (x y : BranchPart) → Some x ≡ Some y → x ≡ y
         same x y e = cc
 
-retires_so : (w : Parts) → IsValid w → IsPlain w → (b : ℕ) (s : Placement) (part : ArbiterPart) → placement w b ≡ Some s → slice_get w.arbiters s.arbiter ≡ Some part → arbiters.has_spot (arbiter_after (first_branch w s.arbiter) part []) (Branch b) ≡ true → Retires w s part
-retires_so w valid plain b s part sits at here = by s.kind s.branch.group refl refl (all.groups b s sits) (plain.no_interleaves b s sits)
+retires_so : (w : Parts) → IsValid w → (b : ℕ) (s : Placement) (part : ArbiterPart) → placement w b ≡ Some s → slice_get w.arbiters s.arbiter ≡ Some part → is_interleave s.kind ≡ false → arbiters.has_spot (arbiter_after (first_branch w s.arbiter) part []) (Branch b) ≡ true → Retires w s part
+retires_so w valid b s part sits at outside here = by s.kind s.branch.group refl refl (all.groups b s sits) outside
   where
     all : IsSound w
     all = sound w valid
@@ -234,13 +208,12 @@ spots_fit w k (s ∷ ss) spot known (inr more) = by (Among-either spot (sites_fr
         subst (SpotFits w) (sym (found.2 ∙ ap (Site k) same)) (found.1, rw here found.3)
     by (inr rest) later = later rest
 
-pub plain_facts : (w : Parts) → IsValid w → IsPlain w → PlainFacts w
-plain_facts w valid plain = record {
-  no_teardown = λ b s is. no_teardown_in s.kind s.branch.group (plain.no_interleaves b s is) (all.groups b s is);
-  retires = retires_so w valid plain;
+pub plain_facts : (w : Parts) → IsValid w → PlainFacts w
+plain_facts w valid = record {
+  kinds_so = λ b s part is at. subst (λ (o : Option ArbiterPart). IsSomeAnd o (λ (p : ArbiterPart). p.kind ≡ s.kind)) at (all.domains b s is);
+  groups_so = all.groups;
+  retires = retires_so w valid;
   even = λ b s is. even_filled s.branch.pattern (all.patterns b s is);
-  placements_free = plain.no_interleaves;
-  no_interleaves = λ b s is. no_number (slice_get w.arbiters s.arbiter) s.kind (plain.no_interleaves b s is) (all.domains b s is);
   places_so = λ spot is. spots_fit w 0 (placements w) spot (λ i r at_i. ap (placement w) (from_none i) ∙ at_i) is;
   sites_so = λ task site is. yields_at_site w task site is;
 }

@@ -1,9 +1,10 @@
--- What is visible of a run is legal and covered, for plain wirings.
-use Rattle.std.proofs.Common.{◌≡◌, ◌≤◌, ℕ, zero, suc, ◌+◌, Bool, true, false, List, [], length, Option, Some, None, refl, arith, ap, ◌∙◌}
+-- What is visible of a run is legal and covered.
+use Rattle.std.proofs.Common.{inl, inr, ◌≡◌, ◌≤◌, ℕ, zero, suc, ◌+◌, Bool, true, false, List, [], length, Option, Some, None, refl, arith, ap, ◌∙◌}
 use Rattle.std.specs.Prelude.{nat_le}
 use Rattle.std.specs.List.{slice_get}
 use Rattle.std.proofs.lemmas.Bool.Decides.{nat_tests}
 use Rattle.std.specs.Option.{option_map_or}
+use Rattle.ccr_base.specs.Names.{has_task}
 use Rattle.ccr_wiring.specs.declared.parts.Parts.{Parts}
 use Rattle.ccr_wiring.specs.declared.parts.PosterPart.{PosterPart}
 use Rattle.ccr_wiring.specs.Valid.{IsValid}
@@ -14,17 +15,17 @@ use Rattle.ccr_model.specs.Posts.{posts_of_tasks}
 use Rattle.ccr_model.specs.Tasks.{count_unfinished}
 use Rattle.ccr_model.proofs.Options.{none-above}
 use Rattle.ccr_model.proofs.Covered.{IsCovered-legal}
-use Rattle.ccr_actor.specs.Actors.{Work, lines, round, work_of, fresh_state}
+use Rattle.ccr_actor.specs.Actors.{State, Work, lines, round, work_of, fresh_state}
 use Rattle.ccr_net.specs.declared.entries.Entry.{Entry}
 use Rattle.ccr_net.specs.Runs.{Lacks, IsRun, port_at, state_of}
 use Rattle.ccr_net.specs.Visible.{visible}
 use Rattle.ccr_net.proofs.BookingPart.{QueueSound-start}
 use Rattle.ccr_net.proofs.Pushes.{queue_at, along_run, Step-made}
-use Rattle.ccr_net.proofs.Invariant.{ActorMatches}
+use Rattle.ccr_net.proofs.DomainPart.{DomainMatches-begins}
+use Rattle.ccr_net.proofs.Invariant.{puts_in, ActorMatches}
 use Rattle.ccr_net.proofs.WorkPart.{WorkMatches}
 use Rattle.ccr_net.proofs.MeterPart.{count, count-same, is_posting, is_shedding}
-use Rattle.ccr_net.proofs.Assembly.{ActorHolds-begun, IsBooked-begun, begins, begun_work, Holds, works_of}
-use Rattle.ccr_net.specs.Plain.{IsPlain}
+use Rattle.ccr_net.proofs.Assembly.{IsBegun, ActorHolds-begun, IsBooked-begun, begins, begun_work, Holds, works_of}
 use Rattle.ccr_net.proofs.PlainFacts.{PlainFacts}
 use Rattle.ccr_net.proofs.PlainWirings.{plain_facts}
 use Rattle.ccr_net.proofs.Theorem.{step_kept}
@@ -75,7 +76,7 @@ Holds-begins w n lacks = record {
     booked = record { sound = λ q. QueueSound-start q (policy_of w q); fired_booked = λ q t is. absurd (cc); queued_fresh = λ q x is. absurd is };
   };
   under_way = λ a. IsBooked-begun w (queue_at w []) a (state_of w lacks [] a) (begins w lacks a);
-  actors = λ a. ActorHolds-begun w [] (port_at []) a (state_of w lacks [] a) (begins w lacks a) (record { claims = fresh_claims w a (work_of w a); work = fresh_work w a; fits = record { no_arbiters = refl; spots_so = λ s is. absurd is; phase_so = tt } });
+  actors = λ a. ActorHolds-begun w [] (port_at []) a (state_of w lacks [] a) (begins w lacks a) (record { claims = fresh_claims w a (work_of w a); work = fresh_work w a; fits = record { spots_so = λ s is. absurd is; phase_so = tt } });
   meter = record {
     low = omega arith;
     drawn_so = (let none = count-same n (λ a. is_posting (works_of w lacks [] a)) (λ a. false) (λ a less. ap is_posting (works_begin a) ∙ no_posting w a) ∙ count-none n in omega (arith, none));
@@ -84,8 +85,17 @@ Holds-begins w n lacks = record {
   budget = refl;
   arbiters = λ i. refl;
   sites = λ b k. refl;
+  domains = λ i is. DomainMatches-begins w i;
+  apart = λ a b other t is. absurd (let none : has_task (puts_in (state_of w lacks [] a).hand) t ≡ false = ap (λ ts. has_task ts t) (puts_begin a) in cc);
 }
   where
+    puts_begin : (a : ℕ) → puts_in (state_of w lacks [] a).hand ≡ []
+    puts_begin a = by (begins w lacks a)
+      where
+        by : IsBegun w a (state_of w lacks [] a) → puts_in (state_of w lacks [] a).hand ≡ []
+        by (inl is) = ap (λ (s : State). puts_in s.hand) is
+        by (inr is) = ap (λ (s : State). puts_in s.hand) is
+
     works_begin : (a : ℕ) → works_of w lacks [] a ≡ work_of w a
     works_begin a = begun_work w a (state_of w lacks [] a) (begins w lacks a)
 
@@ -95,13 +105,13 @@ visible_holds w workers first few es run = along_run w workers run.lacks (Holds 
     (Holds-begins w (length w.posters + workers) run.lacks) es run.steps
 
 -- each visible history of a run is legal
-pub visible_legal : (w : Parts) (workers : ℕ) (es : List Entry) → IsValid w → IsPlain w → workers ≤ 16 → IsRun w workers es → IsLegal w (visible es)
-visible_legal w workers es valid plain few run = (visible_holds w workers (plain_facts w valid plain) (let posters = (sound w valid).small.posters in omega (arith, posters, few)) es run).legal
+pub visible_legal : (w : Parts) (workers : ℕ) (es : List Entry) → IsValid w → workers ≤ 16 → IsRun w workers es → IsLegal w (visible es)
+visible_legal w workers es valid few run = (visible_holds w workers (plain_facts w valid) (let posters = (sound w valid).small.posters in omega (arith, posters, few)) es run).legal
 
 -- and covered
-pub visible_covered : (w : Parts) (workers : ℕ) (es : List Entry) → IsValid w → IsPlain w → workers ≤ 16 → IsRun w workers es → is_covered w (visible es) ≡ true
-visible_covered w workers es valid plain few run = by (has_shed (visible es)) refl
+pub visible_covered : (w : Parts) (workers : ℕ) (es : List Entry) → IsValid w → workers ≤ 16 → IsRun w workers es → is_covered w (visible es) ≡ true
+visible_covered w workers es valid few run = by (has_shed (visible es)) refl
   where
     by : (b : Bool) → has_shed (visible es) ≡ b → is_covered w (visible es) ≡ true
     by false none = rw none refl
-    by true some = let paid = IsCovered-legal w (visible es) (visible_legal w workers es valid plain few run) some in let le : nat_le w.budget (posts_of_tasks (visible es) + count_unfinished w (visible es)) ≡ true = grind (arith, nat_tests, paid) in rw (some, le) refl
+    by true some = let paid = IsCovered-legal w (visible es) (visible_legal w workers es valid few run) some in let le : nat_le w.budget (posts_of_tasks (visible es) + count_unfinished w (visible es)) ≡ true = grind (arith, nat_tests, paid) in rw (some, le) refl

@@ -23,12 +23,12 @@ use Rattle.ccr_model.specs.Legal.{IsAllowed, IsLegal}
 use Rattle.ccr_model.specs.Rules.{is_new}
 use Rattle.ccr_model.specs.Live.{has_room_in}
 use Rattle.ccr_model.specs.Tasks.{fired_by, is_branch_where, is_for_queue, coming, queued}
-use Rattle.ccr_model.proofs.Booleans.{same_number, eq-self, both, not_true}
+use Rattle.ccr_model.proofs.Booleans.{same_number, eq-self, both, not_true, refuted, no_both}
 use Rattle.ccr_model.proofs.Allowing.{OneName-legal}
 use Rattle.ccr_model.proofs.FiringFacts.{fired_by_named}
 use Rattle.ccr_model.proofs.Members.{Among, Among-either}
 use Rattle.ccr_model.proofs.PostNames.{along, refused_not}
-use Rattle.ccr_model.proofs.Pushes.{firings-push, fired-fire, put-push}
+use Rattle.ccr_model.proofs.Pushes.{firings-push, fired-fire, put-push, cut-push}
 use Rattle.ccr_model.proofs.SameNames.{same_task-is, same_task-self}
 use Rattle.ccr_model.proofs.TasksLeft.{of_without, out_left, distinct-filter, distinct-push}
 use Rattle.ccr_model.proofs.TaskLists.{to_filter, to_without, not_within, of_more, of_one, out_right}
@@ -52,10 +52,10 @@ is_for q s = s.branch.queue == q
 abbrev pub fired_for : Parts → List Event → ℕ → List TaskId
 fired_for w h q = fired_by w (is_for q) h
 
--- a task that a branch fired is booked until it is put, and is queued as one that doesn't resume
+-- a task that a branch fired is booked until it is put or cut, and is queued as one that doesn't resume
 pub record BookingsMatch (w : Parts) (h : List Event) (queue : ℕ → QueueState) : Type 0 where
   pub sound : (q : ℕ) → QueueSound (queue q)
-  pub fired_booked : (q : ℕ) (t : TaskId) → has_task (fired_for w h q) t ≡ true → has_task (put h) t ≡ false → set.contains (queue q).fresh t ≡ true
+  pub fired_booked : (q : ℕ) (t : TaskId) → has_task (fired_for w h q) t ≡ true → has_task (put h) t ≡ false → has_task (cut h) t ≡ false → set.contains (queue q).fresh t ≡ true
   pub queued_fresh : (q : ℕ) (x : Queued) → Among x (queue q).queued → has_task (fired_for w h q) x.task ≡ true → x.resumes ≡ false
 
 -- ---- who was fired for the queue
@@ -95,10 +95,10 @@ queued_put w h queue q x listed is = (QueuedFacts-queued w h q x.task (ap (λ ts
 -- ---- the notes of a queue
 
 -- a note by which no fired task's booking ends
-pub BookingsMatch-note : (w : Parts) (h : List Event) (queue queue' : ℕ → QueueState) (q : ℕ) (note : Note) → QueueChanges queue queue' q note → QueueSound (queues.after (queue q) note) → ((t : TaskId) → has_task (fired_for w h q) t ≡ true → set.contains (queue q).fresh t ≡ true → set.contains (queues.after (queue q) note).fresh t ≡ true) → ((x : Queued) → Among x (queues.after (queue q) note).queued → Among x (queue q).queued) → BookingsMatch w h queue → BookingsMatch w h queue'
+pub BookingsMatch-note : (w : Parts) (h : List Event) (queue queue' : ℕ → QueueState) (q : ℕ) (note : Note) → QueueChanges queue queue' q note → QueueSound (queues.after (queue q) note) → ((t : TaskId) → has_task (fired_for w h q) t ≡ true → has_task (cut h) t ≡ false → set.contains (queue q).fresh t ≡ true → set.contains (queues.after (queue q) note).fresh t ≡ true) → ((x : Queued) → Among x (queues.after (queue q) note).queued → Among x (queue q).queued) → BookingsMatch w h queue → BookingsMatch w h queue'
 BookingsMatch-note w h queue queue' q note changes sound keeps within match = record {
   sound = λ k. rw (changes k) (sound_at k (q == k) refl);
-  fired_booked = λ k t fires unput. rw (changes k) (booked_at k t (q == k) refl fires (match.fired_booked k t fires unput));
+  fired_booked = λ k t fires unput uncut. rw (changes k) (booked_at k t (q == k) refl fires uncut (match.fired_booked k t fires unput uncut));
   queued_fresh = λ k x is fires. match.queued_fresh k x (queued_at k x (q == k) refl (rw (changes k) at is)) fires;
 }
   where
@@ -106,16 +106,16 @@ BookingsMatch-note w h queue queue' q note changes sound keeps within match = re
     sound_at k true e = subst (λ j. QueueSound (queues.after (queue j) note)) (same_number q k e) sound
     sound_at k false e = match.sound k
 
-    booked_at : (k : ℕ) (t : TaskId) (b : Bool) → (q == k) ≡ b → has_task (fired_for w h k) t ≡ true → set.contains (queue k).fresh t ≡ true → set.contains (if b then queues.after (queue k) note else queue k).fresh t ≡ true
-    booked_at k t true e fires is = subst (λ j. has_task (fired_for w h j) t ≡ true → set.contains (queue j).fresh t ≡ true → set.contains (queues.after (queue j) note).fresh t ≡ true) (same_number q k e) (keeps t) fires is
-    booked_at k t false e fires is = is
+    booked_at : (k : ℕ) (t : TaskId) (b : Bool) → (q == k) ≡ b → has_task (fired_for w h k) t ≡ true → has_task (cut h) t ≡ false → set.contains (queue k).fresh t ≡ true → set.contains (if b then queues.after (queue k) note else queue k).fresh t ≡ true
+    booked_at k t true e fires uncut is = subst (λ j. has_task (fired_for w h j) t ≡ true → has_task (cut h) t ≡ false → set.contains (queue j).fresh t ≡ true → set.contains (queues.after (queue j) note).fresh t ≡ true) (same_number q k e) (keeps t) fires uncut is
+    booked_at k t false e fires uncut is = is
 
     queued_at : (k : ℕ) (x : Queued) (b : Bool) → (q == k) ≡ b → Among x (if b then queues.after (queue k) note else queue k).queued → Among x (queue k).queued
     queued_at k x true e is = subst (λ j. Among x (queues.after (queue j) note).queued → Among x (queue j).queued) (same_number q k e) (within x) is
     queued_at k x false e is = is
 
 pub BookingsMatch-booked : (w : Parts) (h : List Event) (queue queue' : ℕ → QueueState) (q : ℕ) (t : TaskId) (resumes : Bool) → queues.may_book (queue q) t ≡ true → queues.book_note (queue q) resumes ≡ None → QueueChanges queue queue' q (notes.Book t resumes None) → BookingsMatch w h queue → BookingsMatch w h queue'
-BookingsMatch-booked w h queue queue' q t resumes may room changes match = BookingsMatch-note w h queue queue' q (notes.Book t resumes None) changes (QueueSound-book (queue q) t resumes may room (match.sound q)) (λ u fires is. more resumes u is) (λ x is. same resumes x is) match
+BookingsMatch-booked w h queue queue' q t resumes may room changes match = BookingsMatch-note w h queue queue' q (notes.Book t resumes None) changes (QueueSound-book (queue q) t resumes may room (match.sound q)) (λ u fires uncut is. more resumes u is) (λ x is. same resumes x is) match
   where
     more : (r : Bool) (u : TaskId) → set.contains (queue q).fresh u ≡ true → set.contains (queues.after_book (queue q) t r None).fresh u ≡ true
     more true u is = is
@@ -129,8 +129,8 @@ pub BookingsMatch-full : (w : Parts) (h : List Event) (queue queue' : ℕ → Qu
 BookingsMatch-full w h queue queue' q n t resumes changes match = by resumes changes
   where
     by : (r : Bool) → QueueChanges queue queue' q (notes.Book t r (Some n)) → BookingsMatch w h queue'
-    by true change = BookingsMatch-note w h queue queue' q (notes.Book t true (Some n)) change (match.sound q) (λ u fires is. is) (λ x is. is) match
-    by false change = BookingsMatch-note w h queue queue' q (notes.Book t false (Some n)) change (match.sound q) (λ u fires is. is) (λ x is. is) match
+    by true change = BookingsMatch-note w h queue queue' q (notes.Book t true (Some n)) change (match.sound q) (λ u fires uncut is. is) (λ x is. is) match
+    by false change = BookingsMatch-note w h queue queue' q (notes.Book t false (Some n)) change (match.sound q) (λ u fires uncut is. is) (λ x is. is) match
 
 -- out of what two tasks share
 apart : (ts : List TaskId) (t u : TaskId) → has_task ts t ≡ false → has_task ts u ≡ true → same_task u t ≡ false
@@ -154,42 +154,49 @@ some_of_all p (f ∷ fs) t now = by (p f) (same_task t f.task) refl now (some_of
 pub fired_of : (w : Parts) (h : List Event) (q : ℕ) (t : TaskId) → has_task (fired_for w h q) t ≡ true → has_task (fired h) t ≡ true
 fired_of w h q t is = some_of_all (λ (f : Firing). is_branch_where w (is_for q) f.spot) (firings h) t is
 
-pub BookingsMatch-unbook : (w : Parts) (h : List Event) (queue queue' : ℕ → QueueState) (q : ℕ) (t : TaskId) → has_task (fired h) t ≡ false → QueueChanges queue queue' q (notes.Unbook t) → BookingsMatch w h queue → BookingsMatch w h queue'
-BookingsMatch-unbook w h queue queue' q t unfired changes match = BookingsMatch-note w h queue queue' q (notes.Unbook t) changes (QueueSound-unbook (queue q) t (match.sound q)) (λ u fires is. in-less (queue q).fresh t u ∙ rw (apart (fired h) t u unfired (fired_of w h q u fires), is) refl) (λ x is. is) match
+pub BookingsMatch-unbook : (w : Parts) (h : List Event) (queue queue' : ℕ → QueueState) (q : ℕ) (t : TaskId) → (has_task (fired h) t ≡ false) ⊎ (has_task (cut h) t ≡ true) → QueueChanges queue queue' q (notes.Unbook t) → BookingsMatch w h queue → BookingsMatch w h queue'
+BookingsMatch-unbook w h queue queue' q t gone changes match = BookingsMatch-note w h queue queue' q (notes.Unbook t) changes (QueueSound-unbook (queue q) t (match.sound q)) (λ u fires uncut is. in-less (queue q).fresh t u ∙ rw (other u gone fires uncut, is) refl) (λ x is. is) match
+  where
+    other : (u : TaskId) → (has_task (fired h) t ≡ false) ⊎ (has_task (cut h) t ≡ true) → has_task (fired_for w h q) u ≡ true → has_task (cut h) u ≡ false → same_task u t ≡ false
+    other u (inl unfired) fires uncut = apart (fired h) t u unfired (fired_of w h q u fires)
+    other u (inr cut_so) fires uncut = refuted (same_task u t) (λ is. no_both (subst (λ v. has_task (cut h) v ≡ true) (sym (same_task-is u t is)) cut_so) uncut)
 
 pub BookingsMatch-take : (w : Parts) (h : List Event) (queue queue' : ℕ → QueueState) (q : ℕ) (d : Option TaskId) → QueueChanges queue queue' q (notes.Take d) → BookingsMatch w h queue → BookingsMatch w h queue'
-BookingsMatch-take w h queue queue' q d changes match = BookingsMatch-note w h queue queue' q (notes.Take d) changes (QueueSound-take (queue q) (match.sound q)) (λ u fires is. is) (λ x is. among_drop 1 (queue q).queued x is) match
+BookingsMatch-take w h queue queue' q d changes match = BookingsMatch-note w h queue queue' q (notes.Take d) changes (QueueSound-take (queue q) (match.sound q)) (λ u fires uncut is. is) (λ x is. among_drop 1 (queue q).queued x is) match
 
 -- ---- events
+
+uncut_before : (h : List Event) (e : Event) (t : TaskId) → has_task (cut (h ++ e ∷ [])) t ≡ false → has_task (cut h) t ≡ false
+uncut_before h e t uncut = out_left (cut h) (cut (e ∷ [])) t (sym (ap (λ ts. has_task ts t) (cut-push h e)) ∙ uncut)
 
 -- an event that fires nothing
 pub BookingsMatch-event : (w : Parts) (h : List Event) (e : Event) (queue : ℕ → QueueState) → firing_of e ≡ [] → BookingsMatch w h queue → BookingsMatch w (h ++ e ∷ []) queue
 BookingsMatch-event w h e queue none match = record {
   sound = match.sound;
-  fired_booked = λ q t fires unput. match.fired_booked q t (rw (fired_for-same w h e q none) at fires) (out_left (put h) (put_by e) t (sym (ap (λ ts. has_task ts t) (put-push h e)) ∙ unput));
+  fired_booked = λ q t fires unput uncut. match.fired_booked q t (rw (fired_for-same w h e q none) at fires) (out_left (put h) (put_by e) t (sym (ap (λ ts. has_task ts t) (put-push h e)) ∙ unput)) (uncut_before h e t uncut);
   queued_fresh = λ q x is fires. match.queued_fresh q x is (rw (fired_for-same w h e q none) at fires);
 }
 
 pub BookingsMatch-fire : (w : Parts) (h : List Event) (t : TaskId) (spot : Spot) (ms : List MsgId) (cs : List TaskId) (queue : ℕ → QueueState) → has_task (put h) t ≡ false → ((q : ℕ) → is_branch_where w (is_for q) spot ≡ true → set.contains (queue q).fresh t ≡ true) → QueuesMatch w h queue → BookingsMatch w h queue → BookingsMatch w (h ++ events.Fire t spot ms cs ∷ []) queue
 BookingsMatch-fire w h t spot ms cs queue unput booked listed match = record {
   sound = match.sound;
-  fired_booked = λ q u fires unput_u. older q u (is_branch_where w (is_for q) spot) refl (rw (fired_for-fire w h t spot ms cs q) at fires) (rw (put-push, append-nil) at unput_u);
+  fired_booked = λ q u fires unput_u uncut. older q u (is_branch_where w (is_for q) spot) refl (rw (fired_for-fire w h t spot ms cs q) at fires) (rw (put-push, append-nil) at unput_u) (uncut_before h (events.Fire t spot ms cs) u uncut);
   queued_fresh = λ q x is fires. waiting_so q x is (is_branch_where w (is_for q) spot) refl (rw (fired_for-fire w h t spot ms cs q) at fires);
 }
   where
-    older : (q : ℕ) (u : TaskId) (b : Bool) → is_branch_where w (is_for q) spot ≡ b → has_task (fired_for w h q ++ (if b then t ∷ [] else [])) u ≡ true → has_task (put h) u ≡ false → set.contains (queue q).fresh u ≡ true
-    older q u true e fires out = of_more (fired_for w h q) (t ∷ []) u _ fires (λ is. match.fired_booked q u is out) (λ is. subst (λ v. set.contains (queue q).fresh v ≡ true) (sym (of_one t u is)) (booked q e))
-    older q u false e fires out = match.fired_booked q u (subst (λ ts. has_task ts u ≡ true) (append-nil (fired_for w h q)) fires) out
+    older : (q : ℕ) (u : TaskId) (b : Bool) → is_branch_where w (is_for q) spot ≡ b → has_task (fired_for w h q ++ (if b then t ∷ [] else [])) u ≡ true → has_task (put h) u ≡ false → has_task (cut h) u ≡ false → set.contains (queue q).fresh u ≡ true
+    older q u true e fires out uncut = of_more (fired_for w h q) (t ∷ []) u _ fires (λ is. match.fired_booked q u is out uncut) (λ is. subst (λ v. set.contains (queue q).fresh v ≡ true) (sym (of_one t u is)) (booked q e))
+    older q u false e fires out uncut = match.fired_booked q u (subst (λ ts. has_task ts u ≡ true) (append-nil (fired_for w h q)) fires) out uncut
 
     waiting_so : (q : ℕ) (x : Queued) → Among x (queue q).queued → (b : Bool) → is_branch_where w (is_for q) spot ≡ b → has_task (fired_for w h q ++ (if b then t ∷ [] else [])) x.task ≡ true → x.resumes ≡ false
     waiting_so q x is true e fires = of_more (fired_for w h q) (t ∷ []) x.task _ fires (λ old. match.queued_fresh q x is old) (λ new. absurd (let there = queued_put w h queue q x listed is in let out : has_task (put h) x.task ≡ false = ap (has_task (put h)) (of_one t x.task new) ∙ unput in cc))
     waiting_so q x is false e fires = match.queued_fresh q x is (subst (λ ts. has_task ts x.task ≡ true) (append-nil (fired_for w h q)) fires)
 
 -- a put of a booked task
-pub BookingsMatch-put : (w : Parts) (h : List Event) (queue queue' : ℕ → QueueState) (q : ℕ) (t : TaskId) (d : Option TaskId) → queues.may_put (queue q) t ≡ true → has_task (put h) t ≡ false → QueueChanges queue queue' q (notes.Put t d) → BookingsMatch w h queue → BookingsMatch w (h ++ events.Put t d ∷ []) queue'
-BookingsMatch-put w h queue queue' q t d may unput changes match = record {
+pub BookingsMatch-put : (w : Parts) (h : List Event) (queue queue' : ℕ → QueueState) (q : ℕ) (t : TaskId) (d : Option TaskId) → queues.may_put (queue q) t ≡ true → has_task (put h) t ≡ false → has_task (cut h) t ≡ false → QueueChanges queue queue' q (notes.Put t d) → BookingsMatch w h queue → BookingsMatch w (h ++ events.Put t d ∷ []) queue'
+BookingsMatch-put w h queue queue' q t d may unput uncut changes match = record {
   sound = λ k. rw (changes k) (sound_at k (q == k) refl);
-  fired_booked = λ k u fires unput_u. rw (changes k) (booked_at k u (q == k) (unput_both u (rw put-push at unput_u)) (rw (fired_for-same w h (events.Put t d) k refl) at fires));
+  fired_booked = λ k u fires unput_u uncut_u. rw (changes k) (booked_at k u (q == k) (unput_both u (rw put-push at unput_u)) (uncut_before h (events.Put t d) u uncut_u) (rw (fired_for-same w h (events.Put t d) k refl) at fires));
   queued_fresh = λ k x is fires. queued_at k x (q == k) (rw (changes k) at is) (rw (fired_for-same w h (events.Put t d) k refl) at fires);
 }
   where
@@ -204,9 +211,9 @@ BookingsMatch-put w h queue queue' q t d may unput changes match = record {
         of_test true e now = absurd (cc)
         of_test false e now = e
 
-    booked_at : (k : ℕ) (u : TaskId) (b : Bool) → (has_task (put h) u ≡ false) × (same_task u t ≡ false) → has_task (fired_for w h k) u ≡ true → set.contains (if b then queues.after (queue k) (notes.Put t d) else queue k).fresh u ≡ true
-    booked_at k u true outs fires = in-less (queue k).fresh t u ∙ rw (outs.1, match.fired_booked k u fires outs.0) refl
-    booked_at k u false outs fires = match.fired_booked k u fires outs.0
+    booked_at : (k : ℕ) (u : TaskId) (b : Bool) → (has_task (put h) u ≡ false) × (same_task u t ≡ false) → has_task (cut h) u ≡ false → has_task (fired_for w h k) u ≡ true → set.contains (if b then queues.after (queue k) (notes.Put t d) else queue k).fresh u ≡ true
+    booked_at k u true outs uncut_u fires = in-less (queue k).fresh t u ∙ rw (outs.1, match.fired_booked k u fires outs.0 uncut_u) refl
+    booked_at k u false outs uncut_u fires = match.fired_booked k u fires outs.0 uncut_u
 
     queued_at : (k : ℕ) (x : Queued) (b : Bool) → Among x (if b then queues.after (queue k) (notes.Put t d) else queue k).queued → has_task (fired_for w h k) x.task ≡ true → x.resumes ≡ false
     queued_at k x false is fires = match.queued_fresh k x is fires
@@ -217,7 +224,7 @@ BookingsMatch-put w h queue queue' q t d may unput changes match = record {
 
         of_split : Among x (drop (queues.drop_count (queue k)) (queue k).queued) ⊎ Among x (new ∷ []) → x.resumes ≡ false
         of_split (inl old) = match.queued_fresh k x (among_drop (queues.drop_count (queue k)) (queue k).queued x old) fires
-        of_split (inr (inl e)) = ap (λ (y : Queued). y.resumes) e ∙ (match.sound k).apart t (match.fired_booked k t (subst (λ v. has_task (fired_for w h k) v ≡ true) (ap (λ (y : Queued). y.task) e) fires) unput)
+        of_split (inr (inl e)) = ap (λ (y : Queued). y.resumes) e ∙ (match.sound k).apart t (match.fired_booked k t (subst (λ v. has_task (fired_for w h k) v ≡ true) (ap (λ (y : Queued). y.task) e) fires) unput uncut)
         of_split (inr (inr none)) = absurd none
 
 -- ---- nobody fires twice
@@ -235,11 +242,11 @@ fired_once-kept w h (events.Fire t s ms cs) once allowed =
     let new = (refused_not (is_new h t) 4 _ allowed).0 in
     rw (fired-fire h t s ms cs) (distinct-push (fired h) t once (not_true (has_task (fired h) t) (both (not (has_task (fired h) t)) _ new).0))
 
-fired_once : (w : Parts) (h : List Event) → IsLegal w h → are_distinct_tasks (fired h) ≡ true
+pub fired_once : (w : Parts) (h : List Event) → IsLegal w h → are_distinct_tasks (fired h) ≡ true
 fired_once w h legal = along w (λ g. are_distinct_tasks (fired g) ≡ true) (fired_once-kept w) refl h legal
 
 -- so nobody among those of some firings
-some_once : (p : Firing → Bool) (fs : List Firing) → are_distinct_tasks (map (λ (f : Firing). f.task) fs) ≡ true → are_distinct_tasks (map (λ (f : Firing). f.task) (filter p fs)) ≡ true
+pub some_once : (p : Firing → Bool) (fs : List Firing) → are_distinct_tasks (map (λ (f : Firing). f.task) fs) ≡ true → are_distinct_tasks (map (λ (f : Firing). f.task) (filter p fs)) ≡ true
 some_once p [] is = refl
 some_once p (f ∷ fs) is = by (p f) (some_once p fs (both (not (has_task (map (λ (g : Firing). g.task) fs) f.task)) _ is).1)
   where
@@ -281,7 +288,7 @@ coming_kept w h queue q u legal listed match is = by (has_task (put h) u) refl
         at_spot (Site b k) now = absurd (cc)
 
     by : (b : Bool) → has_task (put h) u ≡ b → IsKept (queue q).fresh (queue q).queued u
-    by false e = inl (match.fired_booked q u parts.0 e)
+    by false e = inl (match.fired_booked q u parts.0 e (out_right (started h ++ dropped h) (cut h) u parts.1))
     by true e =
         let there : has_task (queued w h q) u ≡ true = to_filter (is_for_queue w h q) (without (put h) (started h ++ dropped h)) u (to_without (put h) (started h ++ dropped h) u e left) its in
         let found = queued_as (queue q).queued u (ap (λ ts. has_task ts u) (listed.queued_so q) ∙ there) in

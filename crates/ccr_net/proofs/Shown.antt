@@ -29,9 +29,11 @@ use Rattle.ccr_net.specs.Runs.{Lacks, state_of, port_at, reply_of}
 use Rattle.ccr_net.specs.Visible.{visible, event_of}
 use Rattle.ccr_net.proofs.Pushes.{visible-push, queue_at}
 use Rattle.ccr_net.proofs.Marks.{first_fitting-post}
-use Rattle.ccr_net.proofs.Invariant.{ActorMatches}
+use Rattle.ccr_net.proofs.Invariant.{ActorMatches, puts_in}
+use Rattle.ccr_net.proofs.DomainPart.{DomainsMatch, DomainsMatch-event, DomainsMatch-elsewhere}
+use Rattle.ccr_net.proofs.Silent.{still_apart}
 use Rattle.ccr_net.proofs.PortSteps.{Changes, PortsMatch-post, PortsMatch-event, fired-post}
-use Rattle.ccr_net.proofs.ActorSteps.{ActorMatches-same, ActorMatches-ports, ActorMatches-history}
+use Rattle.ccr_net.proofs.ActorSteps.{ActorMatches-same, ActorMatches-ports, ActorMatches-history, StaysToPut, stays_quiet}
 use Rattle.ccr_net.proofs.HeldApart.{post_fresh}
 use Rattle.ccr_net.proofs.SitePart.{SitesMatch, SitesMatch-other}
 use Rattle.ccr_net.proofs.ArbiterPart.{ArbitersMatch-push, FiresAlike-other}
@@ -69,14 +71,12 @@ module _ (w : Parts) (n : ℕ) (lacks : Lacks) (es : List Entry) (e : Entry) (lo
   -- what a state that goes on has
   pub record GoesOn (next : State) : Type 0 where
     pub hand : next.hand ≡ before.hand
-    pub arbiters : next.arbiters ≡ before.arbiters
     pub phase : next.phase ≡ before.phase
     pub attempt : next.attempt ≡ before.attempt
     pub spots_so : (s : Spot) → Among s next.spots → SpotFits w s
 
   pub goes_fits : (next : State) → turn before ≡ go_on → GoesOn next → StateFits w next
   goes_fits next turns on = record {
-    no_arbiters = on.arbiters ∙ (holds.actors e.actor).fits.no_arbiters;
     spots_so = on.spots_so;
     phase_so = rw (on.phase, idle_phase turns) tt;
   }
@@ -90,9 +90,9 @@ module _ (w : Parts) (n : ℕ) (lacks : Lacks) (es : List Entry) (e : Entry) (lo
 
   -- ---- an event of another actor
 
-  pub ActorHolds-event : (ev : Event) (port : ℕ → PortState) (a : ℕ) (st : State) → ((t : TaskId) → t.actor ≡ a → has_task (fired (h ++ ev ∷ [])) t ≡ has_task (fired h) t) → ((t : TaskId) → t.actor ≡ a → has_task (put (h ++ ev ∷ [])) t ≡ has_task (put h) t) → SaysSame h ev a → ActorHolds w h port a st → ActorHolds w (h ++ ev ∷ []) port a st
+  pub ActorHolds-event : (ev : Event) (port : ℕ → PortState) (a : ℕ) (st : State) → ((t : TaskId) → t.actor ≡ a → has_task (fired (h ++ ev ∷ [])) t ≡ has_task (fired h) t) → ((u : TaskId) → has_task (puts_in st.hand) u ≡ true → StaysToPut w h ev u) → SaysSame h ev a → ActorHolds w h port a st → ActorHolds w (h ++ ev ∷ []) port a st
   ActorHolds-event ev port a st fires puts says known = record {
-    claims = ActorMatches-history w h (ev ∷ []) port a st fires puts known.claims;
+    claims = ActorMatches-history w h ev port a st holds.legal fires puts known.claims;
     work = WorkMatches-same w h ev a st.work says known.work;
     fits = known.fits;
   }
@@ -126,23 +126,25 @@ module _ (w : Parts) (n : ℕ) (lacks : Lacks) (es : List Entry) (e : Entry) (lo
       → ((a : ℕ) → e.actor ≢ a → SaysSame h (events.Post m) a)
       → ((works' : ℕ → Work) → OneWorks (works_of w lacks es) works' e.actor next.work → MeterMatches w n (h ++ events.Post m ∷ []) (meter_at w es).drawn works')
       → Holds w n lacks (es ++ e ∷ [])
-  step_post m next place note turns goes on allowed named work says meter = Holds-kept w n lacks es e next (h ++ events.Post m ∷ []) holds.under_way (record {
+  step_post m next place note turns goes on allowed named work says meter = Holds-kept w n lacks es e next (h ++ events.Post m ∷ []) holds (record {
     shows = shows (events.Post m) (rw note refl);
     goes = goes;
     legal = legal_push w [] h (events.Post m) holds.legal allowed;
     ports = PortsMatch-post h (port_at es) (port_at (es ++ e ∷ [])) m (post_fresh (posts h) m.id (named_legal w h holds.legal) named) (subst (Changes (port_at es) (port_at (es ++ e ∷ [])) m.port) note (port_changes es e m.port place)) holds.ports;
     queues = rw (same_queues w es e (places.Port m.port) place refl) (QueuesHold-event w h (events.Post m) (queue_at w es) refl (λ q. queued-other w h q (events.Post m) refl refl refl refl) holds.queues);
     own = record {
-      claims = post_ports m place note e.actor (h ++ events.Post m ∷ []) next (ActorMatches-same w (h ++ events.Post m ∷ []) (port_at es) e.actor before next on.hand (ap had_in on.phase) on.attempt (ActorMatches-history w h (events.Post m ∷ []) (port_at es) e.actor before (λ t own. rw (fired-post h m) refl) (λ t own. rw (put-push, append-nil) refl) (holds.actors e.actor).claims));
+      claims = post_ports m place note e.actor (h ++ events.Post m ∷ []) next (ActorMatches-same w (h ++ events.Post m ∷ []) (port_at es) e.actor before next on.hand (ap had_in on.phase) on.attempt (ActorMatches-history w h (events.Post m) (port_at es) e.actor before holds.legal (λ t own. rw (fired-post h m) refl) (λ u there. stays_quiet w h (events.Post m) u (put-push h (events.Post m) ∙ append-nil (put h)) refl) (holds.actors e.actor).claims));
       work = work;
       fits = goes_fits next turns on;
     };
     under_way = same_under_way w lacks es e (places.Port m.port) next place refl (goes_booked next turns on (queue_at w es));
-    others = λ a other. (let known = ActorHolds-event (events.Post m) (port_at es) a (state_of w lacks es a) (λ t own. rw (fired-post h m) refl) (λ t own. rw (put-push, append-nil) refl) (says a other) (holds.actors a) in record { claims = post_ports m place note a (h ++ events.Post m ∷ []) (state_of w lacks es a) known.claims; work = known.work; fits = known.fits });
+    others = λ a other. (let known = ActorHolds-event (events.Post m) (port_at es) a (state_of w lacks es a) (λ t own. rw (fired-post h m) refl) (λ u there. stays_quiet w h (events.Post m) u (put-push h (events.Post m) ∙ append-nil (put h)) refl) (says a other) (holds.actors a) in record { claims = post_ports m place note a (h ++ events.Post m ∷ []) (state_of w lacks es a) known.claims; work = known.work; fits = known.fits });
     meter = λ works' one. rw (same_meter w es e (places.Port m.port) place refl) (meter works' one);
     budget = rw (same_meter w es e (places.Port m.port) place refl) holds.budget;
     arbiters = ArbitersMatch-push w es e (h ++ events.Post m ∷ []) (shows (events.Post m) (rw note refl)) (FiresAlike-other w e (events.Post m) (rw note refl) refl) holds.arbiters;
     sites = SitesMatch-other w es e (events.Post m) holds.legal (rw note refl) refl refl holds.sites;
+    domains = DomainsMatch-elsewhere w (h ++ events.Post m ∷ []) es e (places.Port m.port) place refl (DomainsMatch-event w h (events.Post m) es holds.legal refl refl holds.domains);
+    apart = still_apart w n lacks es e low holds next (λ u is. subst (λ hand. has_task (puts_in hand) u ≡ true) on.hand is);
   })
 
   -- ---- an event that posts, takes, fires and puts nothing: a start and an end
@@ -157,8 +159,9 @@ module _ (w : Parts) (n : ℕ) (lacks : Lacks) (es : List Entry) (e : Entry) (lo
       → meter_at w (es ++ e ∷ []) ≡ meter_at w es
       → ((works' : ℕ → Work) → OneWorks (works_of w lacks es) works' e.actor next.work → MeterMatches w n (h ++ ev ∷ []) (meter_at w es).drawn works')
       → SitesMatch (h ++ ev ∷ []) (es ++ e ∷ [])
+      → DomainsMatch w (h ++ ev ∷ []) (es ++ e ∷ [])
       → Holds w n lacks (es ++ e ∷ [])
-  step_other ev place next there is unfired same turns goes on p t f u allowed queues stays work says drawn meter sited = Holds-kept w n lacks es e next (h ++ ev ∷ []) holds.under_way (record {
+  step_other ev place next there is unfired same turns goes on p t f u allowed queues stays work says drawn meter sited domains = Holds-kept w n lacks es e next (h ++ ev ∷ []) holds (record {
     shows = shows ev is;
     goes = goes;
     legal = legal_push w [] h ev holds.legal allowed;
@@ -166,13 +169,15 @@ module _ (w : Parts) (n : ℕ) (lacks : Lacks) (es : List Entry) (e : Entry) (lo
     queues = queues;
     under_way = record { own = goes_booked next turns on (queue_at w (es ++ e ∷ [])); others = λ a other. stays a };
     own = rw same (record {
-      claims = ActorMatches-same w (h ++ ev ∷ []) (port_at es) e.actor before next on.hand (ap had_in on.phase) on.attempt (ActorMatches-history w h (ev ∷ []) (port_at es) e.actor before (λ x own. rw f refl) (λ x own. rw u refl) (holds.actors e.actor).claims);
+      claims = ActorMatches-same w (h ++ ev ∷ []) (port_at es) e.actor before next on.hand (ap had_in on.phase) on.attempt (ActorMatches-history w h ev (port_at es) e.actor before holds.legal (λ x own. rw f refl) (λ x there. stays_quiet w h ev x u unfired) (holds.actors e.actor).claims);
       work = work;
       fits = goes_fits next turns on;
     });
-    others = λ a other. rw same (ActorHolds-event ev (port_at es) a (state_of w lacks es a) (λ x own. rw f refl) (λ x own. rw u refl) (says a other) (holds.actors a));
+    others = λ a other. rw same (ActorHolds-event ev (port_at es) a (state_of w lacks es a) (λ x own. rw f refl) (λ x there. stays_quiet w h ev x u unfired) (says a other) (holds.actors a));
     meter = λ works' one. rw drawn (meter works' one);
     budget = rw drawn holds.budget;
     arbiters = ArbitersMatch-push w es e (h ++ ev ∷ []) (shows ev is) (FiresAlike-other w e ev is unfired) holds.arbiters;
     sites = sited;
+    domains = domains;
+    apart = still_apart w n lacks es e low holds next (λ x is'. subst (λ hand. has_task (puts_in hand) x ≡ true) on.hand is');
   })

@@ -9,14 +9,18 @@ use Rattle.ccr_base.specs.declared.names.Spot.{Spot}
 use Rattle.ccr_base.specs.declared.names.Spot.TheVariants.{Site}
 use Rattle.ccr_base.specs.declared.names.TaskId.{TaskId}
 use Rattle.ccr_base.specs.declared.messages.Msg.{Msg}
+use Rattle.ccr_base.specs.declared.tasks.By.{By}
 use Rattle.ccr_base.specs.declared.tasks.How.TheVariants as hows
 use Rattle.ccr_base.specs.declared.patterns.Slot.{Slot}
 use Rattle.ccr_base.specs.Choice.{fitting, is_choosable}
 use Rattle.ccr_base.specs.Names.{same_task, has_task}
 use Rattle.ccr_wiring.specs.declared.parts.Parts.{Parts}
 use Rattle.ccr_model.specs.declared.history.Event.{Event}
-use Rattle.ccr_model.specs.Firings.{fired}
-use Rattle.ccr_model.proofs.Booleans.{same_number}
+use Rattle.ccr_model.specs.Firings.{fired, cut}
+use Rattle.ccr_model.specs.Tasks.{is_over}
+use Rattle.ccr_model.proofs.FiredTasks.{fired_has}
+use Rattle.ccr_model.proofs.TaskLists.{among_right}
+use Rattle.ccr_model.proofs.Booleans.{same_number, no_both}
 use Rattle.ccr_model.proofs.Members.{Among}
 use Rattle.ccr_model.proofs.SameNames.{same_task-is}
 use Rattle.ccr_places.specs.declared.claims.StandingClaim.{StandingClaim}
@@ -31,15 +35,17 @@ use Rattle.ccr_claim.specs.declared.plan.Had.{Had}
 use Rattle.ccr_claim.specs.Plans.{narrowed, slots_in, resumes}
 use Rattle.ccr_claim.specs.declared.asks.Asked.{Asked}
 use Rattle.ccr_claim.specs.Attempts.{booking, claiming, had_in}
-use Rattle.ccr_actor.specs.Plans.{pattern_at, queue_at as queue_number}
+use Rattle.ccr_actor.specs.Plans.{pattern_at, plan_of, queue_at as queue_number}
 use Rattle.ccr_actor.specs.Actors.{State, Work, settle, drive, turn, name_at, after_in, spots_left, give_up}
 use Rattle.ccr_net.specs.declared.entries.Entry.{Entry}
 use Rattle.ccr_net.specs.Runs.{Lacks, state_of, port_at, reply_of}
 use Rattle.ccr_net.specs.Visible.{visible, event_of}
 use Rattle.ccr_net.proofs.Pushes.{visible-push, queue_at}
-use Rattle.ccr_net.proofs.Invariant.{PortsMatch, claim_for}
+use Rattle.ccr_net.proofs.Invariant.{PortsMatch, claim_for, put_in, puts_in}
+use Rattle.ccr_net.proofs.DomainHistory.{cut_fired}
+use Rattle.ccr_net.proofs.DomainPart.{DomainsMatch, DomainsMatch-elsewhere, DomainsMatch-over, DomainsMatch-still}
 use Rattle.ccr_net.proofs.PortSteps.{Changes, PortsMatch-consume, PortsMatch-free, PortsMatch-got}
-use Rattle.ccr_net.proofs.ActorSteps.{ActorMatches-same, ActorMatches-ports, ActorMatches-settled, ActorMatches-give_up, ActorMatches-got, unfired}
+use Rattle.ccr_net.proofs.ActorSteps.{ActorMatches-same, ActorMatches-ports, ActorMatches-settled, ActorMatches-give_up, ActorMatches-got, unfired, puts-release}
 use Rattle.ccr_net.proofs.SitePart.{SitesMatch-silent}
 use Rattle.ccr_net.proofs.ArbiterPart.{ArbitersMatch-push, FiresAlike-silent}
 use Rattle.ccr_net.proofs.QueuePart.{QueueChanges, QueuesMatch-note}
@@ -57,8 +63,16 @@ module _ (w : Parts) (n : ℕ) (lacks : Lacks) (es : List Entry) (e : Entry) (lo
   abbrev pub h : List Event
   h = visible es
 
+  -- no more puts in hand
+  abbrev pub Fewer : State → Type 0
+  Fewer next = (t : TaskId) → has_task (puts_in next.hand) t ≡ true → has_task (puts_in before.hand) t ≡ true
+
+  -- and so those of other actors stay apart
+  pub still_apart : (next : State) → Fewer next → (a : ℕ) → e.actor ≢ a → (t : TaskId) → has_task (puts_in next.hand) t ≡ true → has_task (puts_in (state_of w lacks es a).hand) t ≡ false
+  still_apart next fewer a other t is = holds.apart e.actor a other t (fewer t is)
+
   -- with what the meter keeps
-  pub silent_metered : (next : State) → event_of e ≡ [] → after_in w e.actor before (turn before) (reply_of w es e) ≡ next
+  pub silent_metered : (next : State) → Fewer next → DomainsMatch w h (es ++ e ∷ []) → event_of e ≡ [] → after_in w e.actor before (turn before) (reply_of w es e) ≡ next
       → PortsMatch h (port_at (es ++ e ∷ [])) → QueuesHold w h (queue_at w (es ++ e ∷ []))
       → ActorHolds w h (port_at (es ++ e ∷ [])) e.actor next
       → ((a : ℕ) → e.actor ≢ a → ActorHolds w h (port_at (es ++ e ∷ [])) a (state_of w lacks es a))
@@ -66,7 +80,7 @@ module _ (w : Parts) (n : ℕ) (lacks : Lacks) (es : List Entry) (e : Entry) (lo
       → ((works' : ℕ → Work) → OneWorks (works_of w lacks es) works' e.actor next.work → MeterMatches w n h (meter_at w (es ++ e ∷ [])).drawn works')
       → (meter_at w (es ++ e ∷ [])).budget ≡ (meter_at w es).budget
       → Holds w n lacks (es ++ e ∷ [])
-  silent_metered next none goes ports queues own others under meter budget = Holds-kept w n lacks es e next h holds.under_way (record {
+  silent_metered next fewer domains none goes ports queues own others under meter budget = Holds-kept w n lacks es e next h holds (record {
     shows = rw (visible-push es e, none, append-nil (visible es)) refl;
     goes = goes;
     legal = holds.legal;
@@ -79,6 +93,8 @@ module _ (w : Parts) (n : ℕ) (lacks : Lacks) (es : List Entry) (e : Entry) (lo
     budget = budget ∙ holds.budget;
     arbiters = ArbitersMatch-push w es e h (rw (visible-push es e, none, append-nil (visible es)) refl) (FiresAlike-silent w e none) holds.arbiters;
     sites = SitesMatch-silent es e none holds.sites;
+    domains = domains;
+    apart = still_apart next fewer;
   })
 
   -- the meter says the same of the budget
@@ -88,7 +104,7 @@ module _ (w : Parts) (n : ℕ) (lacks : Lacks) (es : List Entry) (e : Entry) (lo
   pub unmetered : (place : Place) → e.place ≡ place → is_meter_place place ≡ false → Metered
   unmetered place there other = rw (same_meter w es e place there other) (refl, refl)
 
-  pub silent : (next : State) → event_of e ≡ [] → after_in w e.actor before (turn before) (reply_of w es e) ≡ next
+  pub silent : (next : State) → Fewer next → DomainsMatch w h (es ++ e ∷ []) → event_of e ≡ [] → after_in w e.actor before (turn before) (reply_of w es e) ≡ next
       → PortsMatch h (port_at (es ++ e ∷ [])) → QueuesHold w h (queue_at w (es ++ e ∷ []))
       → ActorHolds w h (port_at (es ++ e ∷ [])) e.actor next
       → ((a : ℕ) → e.actor ≢ a → ActorHolds w h (port_at (es ++ e ∷ [])) a (state_of w lacks es a))
@@ -96,39 +112,39 @@ module _ (w : Parts) (n : ℕ) (lacks : Lacks) (es : List Entry) (e : Entry) (lo
       → Metered
       → is_posting next.work ≡ is_posting before.work → (is_shedding next.work ≡ true → is_shedding before.work ≡ true)
       → Holds w n lacks (es ++ e ∷ [])
-  silent next none goes ports queues own others under same posts shed = silent_metered next none goes ports queues own others under (λ works' one. rw same.0 (MeterMatches-quiet w n h h (meter_at w es).drawn e.actor (works_of w lacks es) works' next.work low refl posts shed one holds.meter)) same.1
+  silent next fewer domains none goes ports queues own others under same posts shed = silent_metered next fewer domains none goes ports queues own others under (λ works' one. rw same.0 (MeterMatches-quiet w n h h (meter_at w es).drawn e.actor (works_of w lacks es) works' next.work low refl posts shed one holds.meter)) same.1
 
   -- at a port
-  pub silent_port : (p : ℕ) (next : State) → e.place ≡ places.Port p → event_of e ≡ [] → after_in w e.actor before (turn before) (reply_of w es e) ≡ next
+  pub silent_port : (p : ℕ) (next : State) → Fewer next → e.place ≡ places.Port p → event_of e ≡ [] → after_in w e.actor before (turn before) (reply_of w es e) ≡ next
       → PortsMatch h (port_at (es ++ e ∷ []))
       → ActorHolds w h (port_at (es ++ e ∷ [])) e.actor next
       → ((a : ℕ) → e.actor ≢ a → ActorHolds w h (port_at (es ++ e ∷ [])) a (state_of w lacks es a))
       → IsBooked w (queue_at w es) e.actor next
       → is_posting next.work ≡ is_posting before.work → (is_shedding next.work ≡ true → is_shedding before.work ≡ true)
       → Holds w n lacks (es ++ e ∷ [])
-  silent_port p next place none goes ports own others booked posts shed = silent next none goes ports (rw (same_queues w es e (places.Port p) place refl) holds.queues) own others (same_under_way w lacks es e (places.Port p) next place refl booked) (unmetered (places.Port p) place refl) posts shed
+  silent_port p next fewer place none goes ports own others booked posts shed = silent next fewer (DomainsMatch-elsewhere w h es e (places.Port p) place refl holds.domains) none goes ports (rw (same_queues w es e (places.Port p) place refl) holds.queues) own others (same_under_way w lacks es e (places.Port p) next place refl booked) (unmetered (places.Port p) place refl) posts shed
 
   -- where no port changes
-  pub silent_else : (place : Place) (next : State) → e.place ≡ place → is_port_place place ≡ false → event_of e ≡ [] → after_in w e.actor before (turn before) (reply_of w es e) ≡ next
+  pub silent_else : (place : Place) (next : State) → Fewer next → DomainsMatch w h (es ++ e ∷ []) → e.place ≡ place → is_port_place place ≡ false → event_of e ≡ [] → after_in w e.actor before (turn before) (reply_of w es e) ≡ next
       → QueuesHold w h (queue_at w (es ++ e ∷ []))
       → ActorHolds w h (port_at es) e.actor next
       → UnderWay w lacks es e next
       → Metered
       → is_posting next.work ≡ is_posting before.work → (is_shedding next.work ≡ true → is_shedding before.work ≡ true)
       → Holds w n lacks (es ++ e ∷ [])
-  silent_else place next there other none goes queues own under same posts shed =
+  silent_else place next fewer domains there other none goes queues own under same posts shed =
       let ports = same_ports es e place there other in
-      silent next none goes (rw ports holds.ports) queues (rw ports own) (λ a differs. rw ports (holds.actors a)) under same posts shed
+      silent next fewer domains none goes (rw ports holds.ports) queues (rw ports own) (λ a differs. rw ports (holds.actors a)) under same posts shed
 
   -- at a queue, where nobody comes or goes
-  pub silent_queue : (q : ℕ) (next : State) → e.place ≡ places.Queue q → event_of e ≡ [] → after_in w e.actor before (turn before) (reply_of w es e) ≡ next
+  pub silent_queue : (q : ℕ) (next : State) → Fewer next → e.place ≡ places.Queue q → event_of e ≡ [] → after_in w e.actor before (turn before) (reply_of w es e) ≡ next
       → ((k : ℕ) → (queues.after (queue_at w es k) e.note).queued ≡ (queue_at w es k).queued) → ((k : ℕ) → (queues.after (queue_at w es k) e.note).policy ≡ (queue_at w es k).policy)
       → BookingsMatch w h (queue_at w (es ++ e ∷ []))
       → ActorHolds w h (port_at es) e.actor next
       → UnderWay w lacks es e next
       → is_posting next.work ≡ is_posting before.work → (is_shedding next.work ≡ true → is_shedding before.work ≡ true)
       → Holds w n lacks (es ++ e ∷ [])
-  silent_queue q next place none goes queued rule booked own under posts shed = silent_else (places.Queue q) next place refl none goes (record { listed = QueuesMatch-note w h (queue_at w es) (queue_at w (es ++ e ∷ [])) q e.note (queue_changes w es e q place) queued rule holds.queues.listed; booked = booked }) own under (unmetered (places.Queue q) place refl) posts shed
+  silent_queue q next fewer place none goes queued rule booked own under posts shed = silent_else (places.Queue q) next fewer (DomainsMatch-elsewhere w h es e (places.Queue q) place refl holds.domains) place refl none goes (record { listed = QueuesMatch-note w h (queue_at w es) (queue_at w (es ++ e ∷ [])) q e.note (queue_changes w es e q place) queued rule holds.queues.listed; booked = booked }) own under (unmetered (places.Queue q) place refl) posts shed
 
   -- the queue takes this note
   taken_by : (q : ℕ) (note : Note) → e.place ≡ places.Queue q → e.note ≡ note → QueueChanges (queue_at w es) (queue_at w (es ++ e ∷ [])) q note
@@ -140,8 +156,11 @@ module _ (w : Parts) (n : ℕ) (lacks : Lacks) (es : List Entry) (e : Entry) (lo
   ActorHolds-settled port a st x more hand known = record {
     claims = ActorMatches-settled w h port a st x more hand known.claims;
     work = known.work;
-    fits = record { no_arbiters = known.fits.no_arbiters; spots_so = known.fits.spots_so; phase_so = known.fits.phase_so };
+    fits = record { spots_so = known.fits.spots_so; phase_so = known.fits.phase_so };
   }
+
+  settled_fewer : (x : Asked) (more : List Asked) → turn before ≡ settle x more → Fewer (record before { hand = more })
+  settled_fewer x more turns t is = rw (hand_settles before.is_short before.hand before.arbiters (spots_left before) x more turns) (among_right (put_in x.ask) (puts_in more) t is)
 
   -- the claim that stands at the port is the task's
   pub record Claims (port : PortState) (t : TaskId) : Type 0 where
@@ -184,7 +203,7 @@ module _ (w : Parts) (n : ℕ) (lacks : Lacks) (es : List Entry) (e : Entry) (lo
 
   pub step_consume : (p : ℕ) (t : TaskId) (x : Asked) (more : List Asked) → e.place ≡ places.Port p → e.note ≡ notes.Consume t → turn before ≡ settle x more → (t.actor ≡ e.actor) × (has_task (fired h) t ≡ true) → Claims (port_at es p) t → Holds w n lacks (es ++ e ∷ [])
   step_consume p t x more place note turns owed found =
-      silent_port p (record before { hand = more }) place (rw note refl) (rw (turns, note) refl)
+      silent_port p (record before { hand = more }) (settled_fewer x more turns) place (rw note refl) (rw (turns, note) refl)
       (PortsMatch-consume h (port_at es) (port_at (es ++ e ∷ [])) p found.claim t found.stands (subst (λ u. has_task (fired h) u ≡ true) found.own owed.1) (subst (Changes (port_at es) (port_at (es ++ e ∷ [])) p) note (port_changes es e p place)) holds.ports)
       (ActorHolds-settled (port_at (es ++ e ∷ [])) e.actor before x more (hand_settles before.is_short before.hand before.arbiters (spots_left before) x more turns) (all e.actor))
       (λ a other. all a) (holds.under_way e.actor) refl (λ is. is)
@@ -197,7 +216,7 @@ module _ (w : Parts) (n : ℕ) (lacks : Lacks) (es : List Entry) (e : Entry) (lo
 
   pub step_free : (p : ℕ) (t : TaskId) (x : Asked) (more : List Asked) → e.place ≡ places.Port p → e.note ≡ notes.Free t → turn before ≡ settle x more → (t.actor ≡ e.actor) × (t.attempt < before.attempt) × (has_task (fired h) t ≡ false) → Claims (port_at es p) t → Holds w n lacks (es ++ e ∷ [])
   step_free p t x more place note turns owed found =
-      silent_port p (record before { hand = more }) place (rw note refl) (rw (turns, note) refl)
+      silent_port p (record before { hand = more }) (settled_fewer x more turns) place (rw note refl) (rw (turns, note) refl)
       (PortsMatch-free h (port_at es) (port_at (es ++ e ∷ [])) p found.claim t found.stands (subst (λ u. has_task (fired h) u ≡ false) found.own owed.2) (subst (Changes (port_at es) (port_at (es ++ e ∷ [])) p) note (port_changes es e p place)) holds.ports)
       (ActorHolds-settled (port_at (es ++ e ∷ [])) e.actor before x more (hand_settles before.is_short before.hand before.arbiters (spots_left before) x more turns) (all e.actor))
       (λ a other. all a) (holds.under_way e.actor) refl (λ is. is)
@@ -212,25 +231,38 @@ module _ (w : Parts) (n : ℕ) (lacks : Lacks) (es : List Entry) (e : Entry) (lo
       all : (a : ℕ) → ActorHolds w h (port_at (es ++ e ∷ [])) a (state_of w lacks es a)
       all a = claim_ends p t place found (λ k. rw note refl) a (λ same. old a (ap (λ (u : TaskId). u.actor) same) (ap (λ (u : TaskId). u.attempt) same))
 
-  pub step_unbook : (q : ℕ) (t : TaskId) (x : Asked) (more : List Asked) → e.place ≡ places.Queue q → e.note ≡ notes.Unbook t → turn before ≡ settle x more → (t.actor ≡ e.actor) × (t.attempt < before.attempt) × (has_task (fired h) t ≡ false) → Holds w n lacks (es ++ e ∷ [])
+  pub step_unbook : (q : ℕ) (t : TaskId) (x : Asked) (more : List Asked) → e.place ≡ places.Queue q → e.note ≡ notes.Unbook t → turn before ≡ settle x more → ((t.actor ≡ e.actor) × (t.attempt < before.attempt) × (has_task (fired h) t ≡ false)) ⊎ (has_task (cut h) t ≡ true) → Holds w n lacks (es ++ e ∷ [])
   step_unbook q t x more place note turns owed =
-      silent_queue q (record before { hand = more }) place (rw note refl) (rw (turns, note) refl) (λ k. rw note refl) (λ k. rw note refl)
-      (BookingsMatch-unbook w h (queue_at w es) (queue_at w (es ++ e ∷ [])) q t owed.2 changes holds.queues.booked)
+      silent_queue q (record before { hand = more }) (settled_fewer x more turns) place (rw note refl) (rw (turns, note) refl) (λ k. rw note refl) (λ k. rw note refl)
+      (BookingsMatch-unbook w h (queue_at w es) (queue_at w (es ++ e ∷ [])) q t (gone owed) changes holds.queues.booked)
       (ActorHolds-settled (port_at es) e.actor before x more (hand_settles before.is_short before.hand before.arbiters (spots_left before) x more turns) (holds.actors e.actor))
       (record {
-        own = IsBookedAt-stays w (queue_at w es) (queue_at w (es ++ e ∷ [])) (name_at e.actor before) before.phase before.spots (Stays-unbook (queue_at w es) (queue_at w (es ++ e ∷ [])) q t (name_at e.actor before) changes old) (holds.under_way e.actor);
-        others = λ a other. Stays-unbook (queue_at w es) (queue_at w (es ++ e ∷ [])) q t (name_at a (state_of w lacks es a)) changes (λ same. other (sym owed.0 ∙ ap (λ (u : TaskId). u.actor) same));
+        own = IsBookedAt-stays w (queue_at w es) (queue_at w (es ++ e ∷ [])) (name_at e.actor before) before.phase before.spots (Stays-unbook (queue_at w es) (queue_at w (es ++ e ∷ [])) q t (name_at e.actor before) changes (old owed)) (holds.under_way e.actor);
+        others = λ a other. Stays-unbook (queue_at w es) (queue_at w (es ++ e ∷ [])) q t (name_at a (state_of w lacks es a)) changes (of_other a other owed);
       }) refl (λ is. is)
     where
       changes : QueueChanges (queue_at w es) (queue_at w (es ++ e ∷ [])) q (notes.Unbook t)
       changes = taken_by q (notes.Unbook t) place note
 
-      old : t ≢ name_at e.actor before
-      old same = let k : t.attempt ≡ before.attempt = ap (λ (u : TaskId). u.attempt) same in let below = owed.1 in absurd (omega (arith, k, below))
+      gone : ((t.actor ≡ e.actor) × (t.attempt < before.attempt) × (has_task (fired h) t ≡ false)) ⊎ (has_task (cut h) t ≡ true) → (has_task (fired h) t ≡ false) ⊎ (has_task (cut h) t ≡ true)
+      gone (inl is) = inl is.2
+      gone (inr is) = inr is
 
-  pub step_over : (i : ℕ) (t r : TaskId) (x : Asked) (more : List Asked) → e.place ≡ places.Arbiter i → e.note ≡ notes.Over t r hows.Dropped → turn before ≡ settle x more → Holds w n lacks (es ++ e ∷ [])
-  step_over i t r x more place note turns =
-      silent_else (places.Arbiter i) (record before { hand = more }) place refl (rw note refl) (rw (turns, note) refl) (rw (same_queues w es e (places.Arbiter i) place refl) holds.queues)
+      -- who was cut fired, so is nobody's attempt now
+      fired_once : (a : ℕ) → has_task (cut h) t ≡ true → t ≢ name_at a (state_of w lacks es a)
+      fired_once a is same = no_both (subst (λ u. has_task (fired h) u ≡ true) same (fired_has h t (cut_fired w h holds.legal t is))) (unfired w h (port_at es) a (state_of w lacks es a) (holds.actors a).claims)
+
+      old : ((t.actor ≡ e.actor) × (t.attempt < before.attempt) × (has_task (fired h) t ≡ false)) ⊎ (has_task (cut h) t ≡ true) → t ≢ name_at e.actor before
+      old (inl is) same = let k : t.attempt ≡ before.attempt = ap (λ (u : TaskId). u.attempt) same in let below = is.1 in absurd (omega (arith, k, below))
+      old (inr is) same = fired_once e.actor is same
+
+      of_other : (a : ℕ) → e.actor ≢ a → ((t.actor ≡ e.actor) × (t.attempt < before.attempt) × (has_task (fired h) t ≡ false)) ⊎ (has_task (cut h) t ≡ true) → t ≢ name_at a (state_of w lacks es a)
+      of_other a other (inl is) same = other (sym is.0 ∙ ap (λ (u : TaskId). u.actor) same)
+      of_other a other (inr is) same = fired_once a is same
+
+  pub step_over : (i : ℕ) (t r : TaskId) (x : Asked) (more : List Asked) → e.place ≡ places.Arbiter i → e.note ≡ notes.Over t r hows.Dropped → turn before ≡ settle x more → is_over h r ≡ true → Holds w n lacks (es ++ e ∷ [])
+  step_over i t r x more place note turns over =
+      silent_else (places.Arbiter i) (record before { hand = more }) (settled_fewer x more turns) (DomainsMatch-over w h es e i t r hows.Dropped place note over holds.domains) place refl (rw note refl) (rw (turns, note) refl) (rw (same_queues w es e (places.Arbiter i) place refl) holds.queues)
       (ActorHolds-settled (port_at es) e.actor before x more (hand_settles before.is_short before.hand before.arbiters (spots_left before) x more turns) (holds.actors e.actor)) (same_under_way w lacks es e (places.Arbiter i) (record before { hand = more }) place refl (holds.under_way e.actor)) (unmetered (places.Arbiter i) place refl) refl (λ is. is)
 
   -- ---- the attempt
@@ -250,12 +282,15 @@ module _ (w : Parts) (n : ℕ) (lacks : Lacks) (es : List Entry) (e : Entry) (lo
   ActorHolds-give_up port spot more drives known = record {
     claims = ActorMatches-give_up w h port e.actor before spot more known.claims;
     work = known.work;
-    fits = record { no_arbiters = known.fits.no_arbiters; spots_so = λ s is. known.fits.spots_so s (subst (Among s) (sym drives.spots_so) (inr is)); phase_so = tt };
+    fits = record { spots_so = λ s is. known.fits.spots_so s (subst (Among s) (sym drives.spots_so) (inr is)); phase_so = tt };
   }
+
+  gave_up_fewer : (spot : Spot) (more : List Spot) → Fewer (give_up w e.actor before spot more)
+  gave_up_fewer spot more t is = absurd (let none : has_task (puts_in (give_up w e.actor before spot more).hand) t ≡ false = ap (λ ts. has_task ts t) (puts-release (plan_of w spot) (name_at e.actor before) before.phase) in cc)
 
   pub step_full : (q k : ℕ) (t : TaskId) (resumes : Bool) (spot : Spot) (more : List Spot) → e.place ≡ places.Queue q → e.note ≡ notes.Book t resumes (Some k) → turn before ≡ drive spot more → Holds w n lacks (es ++ e ∷ [])
   step_full q k t resumes spot more place note turns =
-      silent_queue q (give_up w e.actor before spot more) place (rw note refl) (rw (turns, note) refl) (λ j. rw note (by_full resumes j)) (λ j. rw note (by_rule resumes j))
+      silent_queue q (give_up w e.actor before spot more) (gave_up_fewer spot more) place (rw note refl) (rw (turns, note) refl) (λ j. rw note (by_full resumes j)) (λ j. rw note (by_rule resumes j))
       (BookingsMatch-full w h (queue_at w es) (queue_at w (es ++ e ∷ [])) q k t resumes changes holds.queues.booked)
       (ActorHolds-give_up (port_at es) spot more (drives spot more turns) (holds.actors e.actor))
       (record { own = tt; others = λ a other. Stays-book (queue_at w es) (queue_at w (es ++ e ∷ [])) q t (name_at a (state_of w lacks es a)) resumes (Some k) changes }) refl (λ is. is)
@@ -273,13 +308,12 @@ module _ (w : Parts) (n : ℕ) (lacks : Lacks) (es : List Entry) (e : Entry) (lo
 
   pub step_booked : (spot : Spot) (more : List Spot) → e.place ≡ places.Queue (queue_number w spot) → queues.may_book (queue_at w es (queue_number w spot)) (name_at e.actor before) ≡ true → queues.book_note (queue_at w es (queue_number w spot)) (resumes spot) ≡ None → e.note ≡ notes.Book (name_at e.actor before) (resumes spot) None → turn before ≡ drive spot more → before.phase ≡ booking → Holds w n lacks (es ++ e ∷ [])
   step_booked spot more place may room note turns phase =
-      silent_queue (queue_number w spot) next place (rw note refl) (rw (turns, note) refl) (λ j. rw note (by_full (resumes spot) j)) (λ j. rw note (by_rule (resumes spot) j))
+      silent_queue (queue_number w spot) next (λ u is. is) place (rw note refl) (rw (turns, note) refl) (λ j. rw note (by_full (resumes spot) j)) (λ j. rw note (by_rule (resumes spot) j))
       (BookingsMatch-booked w h (queue_at w es) (queue_at w (es ++ e ∷ [])) (queue_number w spot) t (resumes spot) may room changes holds.queues.booked)
       (record {
         claims = ActorMatches-same w h (port_at es) e.actor before next refl (rw phase refl) refl (holds.actors e.actor).claims;
         work = (holds.actors e.actor).work;
         fits = record {
-          no_arbiters = (holds.actors e.actor).fits.no_arbiters;
           spots_so = (holds.actors e.actor).fits.spots_so;
           phase_so = rw drive_so.spots_so (drive_so.numbered, Fits-begins (pattern_at w spot));
         };
@@ -312,7 +346,7 @@ module _ (w : Parts) (n : ℕ) (lacks : Lacks) (es : List Entry) (e : Entry) (lo
   -- a claim that got nothing changes no port
   pub step_refused : (p : ℕ) (spot : Spot) (more : List Spot) → e.place ≡ places.Port p → event_of e ≡ [] → ((k : ℕ) → ports.after (port_at es k) e.note ≡ port_at es k) → turn before ≡ drive spot more → after_in w e.actor before (turn before) (reply_of w es e) ≡ give_up w e.actor before spot more → Holds w n lacks (es ++ e ∷ [])
   step_refused p spot more place none keeps turns goes =
-      silent_port p (give_up w e.actor before spot more) place none goes (rw same holds.ports) (rw same (ActorHolds-give_up (port_at es) spot more (drives spot more turns) (holds.actors e.actor))) (λ a other. rw same (holds.actors a)) tt refl (λ is. is)
+      silent_port p (give_up w e.actor before spot more) (gave_up_fewer spot more) place none goes (rw same holds.ports) (rw same (ActorHolds-give_up (port_at es) spot more (drives spot more turns) (holds.actors e.actor))) (λ a other. rw same (holds.actors a)) tt refl (λ is. is)
     where
       same : port_at (es ++ e ∷ []) ≡ port_at es
       same = λ j q. (one q) j
@@ -325,19 +359,19 @@ module _ (w : Parts) (n : ℕ) (lacks : Lacks) (es : List Entry) (e : Entry) (lo
               of_test false = refl
 
   -- a dead commit
-  pub step_dead : (i : ℕ) (spot : Spot) (more : List Spot) → e.place ≡ places.Arbiter i → event_of e ≡ [] → turn before ≡ drive spot more → after_in w e.actor before (turn before) (reply_of w es e) ≡ give_up w e.actor before spot more → Holds w n lacks (es ++ e ∷ [])
-  step_dead i spot more place none turns goes =
-      silent_else (places.Arbiter i) (give_up w e.actor before spot more) place refl none goes (rw (same_queues w es e (places.Arbiter i) place refl) holds.queues) (ActorHolds-give_up (port_at es) spot more (drives spot more turns) (holds.actors e.actor)) (same_under_way w lacks es e (places.Arbiter i) (give_up w e.actor before spot more) place refl tt) (unmetered (places.Arbiter i) place refl) refl (λ is. is)
+  pub step_dead : (i : ℕ) (spot : Spot) (more : List Spot) (t : TaskId) (s : Spot) (by : By) → e.place ≡ places.Arbiter i → e.note ≡ notes.Dead t s by → turn before ≡ drive spot more → after_in w e.actor before (turn before) (reply_of w es e) ≡ give_up w e.actor before spot more → Holds w n lacks (es ++ e ∷ [])
+  step_dead i spot more t s by place note turns goes =
+      silent_else (places.Arbiter i) (give_up w e.actor before spot more) (gave_up_fewer spot more) (DomainsMatch-still w h es e i (notes.Dead t s by) place note refl holds.domains) place refl (rw note refl) goes (rw (same_queues w es e (places.Arbiter i) place refl) holds.queues) (ActorHolds-give_up (port_at es) spot more (drives spot more turns) (holds.actors e.actor)) (same_under_way w lacks es e (places.Arbiter i) (give_up w e.actor before spot more) place refl tt) (unmetered (places.Arbiter i) place refl) refl (λ is. is)
 
   pub step_dead_site : (b k : ℕ) (more : List Spot) → e.place ≡ places.Site b k → event_of e ≡ [] → turn before ≡ drive (Site b k) more → after_in w e.actor before (turn before) (reply_of w es e) ≡ give_up w e.actor before (Site b k) more → Holds w n lacks (es ++ e ∷ [])
   step_dead_site b k more place none turns goes =
-      silent_else (places.Site b k) (give_up w e.actor before (Site b k) more) place refl none goes (rw (same_queues w es e (places.Site b k) place refl) holds.queues) (ActorHolds-give_up (port_at es) (Site b k) more (drives (Site b k) more turns) (holds.actors e.actor)) (same_under_way w lacks es e (places.Site b k) (give_up w e.actor before (Site b k) more) place refl tt) (unmetered (places.Site b k) place refl) refl (λ is. is)
+      silent_else (places.Site b k) (give_up w e.actor before (Site b k) more) (gave_up_fewer (Site b k) more) (DomainsMatch-elsewhere w h es e (places.Site b k) place refl holds.domains) place refl none goes (rw (same_queues w es e (places.Site b k) place refl) holds.queues) (ActorHolds-give_up (port_at es) (Site b k) more (drives (Site b k) more turns) (holds.actors e.actor)) (same_under_way w lacks es e (places.Site b k) (give_up w e.actor before (Site b k) more) place refl tt) (unmetered (places.Site b k) place refl) refl (λ is. is)
 
   -- ---- a claim that got its messages
 
   pub step_got : (d : Had) (spot : Spot) (more : List Spot) (slots : List Slot) (had : List Had) → e.place ≡ places.Port d.slot.port → e.note ≡ notes.Claim (name_at e.actor before) d.slot (Got (length d.messages)) → turn before ≡ drive spot more → before.phase ≡ claiming (d.slot ∷ slots) had → (port_at es d.slot.port).claim ≡ None → first_fitting (length d.messages) d.slot.pred (port_at es d.slot.port).items ≡ d.messages → length d.messages ≤ length (fitting d.slot.pred (port_at es d.slot.port).items) → (d.slot.least ≤ length d.messages) × (length d.messages ≤ d.slot.most) → Holds w n lacks (es ++ e ∷ [])
   step_got d spot more slots had place note turns phase none marked fits enough =
-      silent_port d.slot.port next place (rw note refl) goes
+      silent_port d.slot.port next (λ u is. is) place (rw note refl) goes
       (PortsMatch-got h (port_at es) (port_at (es ++ e ∷ [])) d.slot.port t d.slot (length d.messages) none fresh fits changes holds.ports)
       own others (IsBookedAt-claimed w (queue_at w es) t (d.slot ∷ slots) left had (had_in before.phase ++ d ∷ []) before.spots (subst (λ ph. IsBookedAt w (queue_at w es) t ph before.spots) phase (holds.under_way e.actor))) refl (λ is. is)
     where
@@ -370,7 +404,6 @@ module _ (w : Parts) (n : ℕ) (lacks : Lacks) (es : List Entry) (e : Entry) (lo
         claims = ActorMatches-got w h (port_at es) (port_at (es ++ e ∷ [])) e.actor before left d none marked enough changes (holds.actors e.actor).claims;
         work = (holds.actors e.actor).work;
         fits = record {
-          no_arbiters = (holds.actors e.actor).fits.no_arbiters;
           spots_so = (holds.actors e.actor).fits.spots_so;
           phase_so = rw (drive_so.spots_so, phase) (drive_so.numbered, Fits-claimed (pattern_at w spot) d.slot slots had d.messages (fits_so (rw (phase, drive_so.spots_so) at ((holds.actors e.actor).fits.phase_so))));
         };

@@ -12,6 +12,7 @@ use Rattle.ccr_net.proofs.PlainFacts.{PlainFacts}
 use Rattle.ccr_net.proofs.Noted.{no_some}
 use Rattle.ccr_net.proofs.Driving.{settle_kept, drive_kept}
 use Rattle.ccr_net.proofs.Working.{go_on_kept}
+use Rattle.ccr_net.proofs.Admits.{admit_kept}
 
 module _ (w : Parts) (n : ℕ) (first : PlainFacts w) (few : n ≤ 33) (lacks : Lacks) (es : List Entry) (e : Entry) (low : e.actor < n) (holds : Holds w n lacks es) (step : Step w lacks es e) where
   abbrev before : State
@@ -31,7 +32,7 @@ module _ (w : Parts) (n : ℕ) (first : PlainFacts w) (few : n ≤ 33) (lacks : 
     where
       by : (tu : Turn) → turn before ≡ tu → Done
       by (settle x more) turns = settle_kept w n first few lacks es e low holds step x more turns
-      by (admit i more) turns = absurd (let is = arbiters_admit before.is_short before.hand before.arbiters (spots_left before) i more turns in let none = own.fits.no_arbiters in cc)
+      by (admit i more) turns = admit_kept w n lacks es e low holds step i more turns
       by (drive spot more) turns = drive_kept w n first few lacks es e low holds step spot more turns
       by go_on turns = go_on_kept w n first few lacks es e low holds step turns
       by stop turns = absurd (let asks_so = subst (λ u. ask_in w e.actor before u ≡ Some step.asking) turns step.asks in no_some _ step.asking refl asks_so)

@@ -18,7 +18,6 @@ use Rattle.ccr_model.specs.Tasks.{is_interleave}
 use Rattle.ccr_places.specs.declared.notes.Note.TheVariants as notes
 use Rattle.ccr_places.specs.declared.notes.ClaimNote.TheVariants.{Got}
 use Rattle.ccr_net.specs.declared.entries.Entry.{Entry}
-use Rattle.ccr_net.specs.Plain.{IsPlain}
 use Rattle.ccr_net.specs.Visible.{visible}
 use Rattle.ccr_net.specs.Runs.{made_by, never, IsRun}
 use Rattle.ccr_net.proofs.Refines.{visible_legal}
@@ -125,12 +124,5 @@ is_legal : first_refusal net [] 0 (visible run) ≡ None
 is_legal = refl
 
 -- by the theorem too
-is_plain : IsPlain net
-is_plain = record { no_interleaves = free }
-  where
-    free : (b : ℕ) (s : Placement) → placement net b ≡ Some s → is_interleave s.kind ≡ false
-    free zero s is = ap (λ (o : Option Placement). option_map_or (λ (x : Placement). is_interleave x.kind) o false) (sym is)
-    free (suc b) s is = absurd (cc)
-
 pub legal_by_theorem : IsLegal net (visible run)
-legal_by_theorem = visible_legal net 1 run is_valid is_plain (omega arith) is_run
+legal_by_theorem = visible_legal net 1 run is_valid (omega arith) is_run

@@ -50,6 +50,8 @@ use Rattle.ccr_net.proofs.Starts.{AreStarted-legal, run_apart, runs, starts, run
 use Rattle.ccr_net.proofs.WorkPart.{WorkMatches, RunsTask, Scripted, Idle, script_says, task_says, script_own, task_own, drop-next, drop-end, play-view, view-stays}
 use Rattle.ccr_net.proofs.MeterPart.{MeterMatches, MeterMatches-quiet, MeterMatches-drawn, MeterMatches-spent, MeterMatches-post, is_posting, is_shedding, count, bit, count-one, count-some, count-within}
 use Rattle.ccr_net.proofs.Assembly.{ActorHolds, Holds, meter_at, meter_at-push, works_of, queue_changes, same_ports, same_queues}
+use Rattle.ccr_net.proofs.Invariant.{puts_in}
+use Rattle.ccr_net.proofs.DomainPart.{DomainsMatch-elsewhere}
 use Rattle.ccr_net.proofs.Silent.{silent_metered, silent_else, unmetered}
 use Rattle.ccr_net.proofs.PlainFacts.{PlainFacts}
 use Rattle.ccr_net.proofs.Allowed.{script_allowed, play_allowed, end_allowed, shed_allowed}
@@ -84,7 +86,7 @@ module _ (w : Parts) (n : ℕ) (first : PlainFacts w) (few : n ≤ 33) (lacks : 
 
   at_meter_quiet : (next : State) (note : Note) → e.place ≡ places.Meter → e.note ≡ note → event_of e ≡ [] → turn before ≡ go_on → after_in w e.actor before (turn before) (reply_of w es e) ≡ next → GoesOn w n lacks es e low holds next → WorkMatches w h e.actor next.work → (meters.after (meter_at w es) note).drawn ≡ (meter_at w es).drawn → (meters.after (meter_at w es) note).budget ≡ (meter_at w es).budget → is_posting next.work ≡ is_posting before.work → (is_shedding next.work ≡ true → is_shedding before.work ≡ true) → Done
   at_meter_quiet next note there is none turns goes on work drawn budget posts shed =
-      silent_else w n lacks es e low holds places.Meter next there refl none goes (rw (same_queues w es e places.Meter there refl) holds.queues) (go_on_own next turns on work) (goes_under_way w n lacks es e low holds places.Meter next there refl turns on) (rw (at_meter note there is) (drawn, budget)) posts shed
+      silent_else w n lacks es e low holds places.Meter next (λ t is. subst (λ hand. has_task (puts_in hand) t ≡ true) on.hand is) (DomainsMatch-elsewhere w h es e places.Meter there refl holds.domains) there refl none goes (rw (same_queues w es e places.Meter there refl) holds.queues) (go_on_own next turns on work) (goes_under_way w n lacks es e low holds places.Meter next there refl turns on) (rw (at_meter note there is) (drawn, budget)) posts shed
 
   -- a worker goes on to a queue, to a round or to rest
   pub record Looks (next : State) : Type 0 where
@@ -94,8 +96,8 @@ module _ (w : Parts) (n : ℕ) (first : PlainFacts w) (few : n ≤ 33) (lacks : 
     pub unshedding : is_shedding next.work ≡ false
 
   looks_on : (left queue : ℕ) (parts : List QueuePart) → Looks (take_from w before left queue parts)
-  looks_on left queue (part ∷ parts) = record { on = record { hand = refl; arbiters = refl; phase = refl; attempt = refl; spots_so = own.fits.spots_so }; work = λ is. is; unposting = refl; unshedding = refl }
-  looks_on left queue [] = record { on = record { hand = refl; arbiters = refl; phase = refl; attempt = refl; spots_so = own.fits.spots_so }; work = rests ((left == length w.posters) || nat_le 10000 (before.empty + 1)); unposting = unposted ((left == length w.posters) || nat_le 10000 (before.empty + 1)); unshedding = unshed ((left == length w.posters) || nat_le 10000 (before.empty + 1)) }
+  looks_on left queue (part ∷ parts) = record { on = record { hand = refl; phase = refl; attempt = refl; spots_so = own.fits.spots_so }; work = λ is. is; unposting = refl; unshedding = refl }
+  looks_on left queue [] = record { on = record { hand = refl; phase = refl; attempt = refl; spots_so = own.fits.spots_so }; work = rests ((left == length w.posters) || nat_le 10000 (before.empty + 1)); unposting = unposted ((left == length w.posters) || nat_le 10000 (before.empty + 1)); unshedding = unshed ((left == length w.posters) || nat_le 10000 (before.empty + 1)) }
     where
       rests : (c : Bool) → Idle w h e.actor → WorkMatches w h e.actor (if c then resting else round)
       rests true is = tt
@@ -119,7 +121,7 @@ module _ (w : Parts) (n : ℕ) (first : PlainFacts w) (few : n ≤ 33) (lacks : 
       leave : Given w es e (at_place places.Meter asks.Leave) → Done
       leave got =
           let note = (given_some _ notes.Leave e.note got.gives).1 in
-          at_meter_quiet (record before { work = resting }) notes.Leave got.there note (rw note refl) turns (rw (turns, work) refl) (record { hand = refl; arbiters = refl; phase = refl; attempt = refl; spots_so = own.fits.spots_so }) tt refl refl (rw work refl) (λ shed. absurd (cc))
+          at_meter_quiet (record before { work = resting }) notes.Leave got.there note (rw note refl) turns (rw (turns, work) refl) (record { hand = refl; phase = refl; attempt = refl; spots_so = own.fits.spots_so }) tt refl refl (rw work refl) (λ shed. absurd (cc))
   line_kept place (sent ∷ sents) work turns is = post (given_to w lacks es e step go_on _ turns (ap (work_ask e.actor) work))
     where
       m : Msg
@@ -135,7 +137,7 @@ module _ (w : Parts) (n : ℕ) (first : PlainFacts w) (few : n ≤ 33) (lacks : 
       post got =
           let note = (given_some _ (notes.Post m) e.note got.gives).1 in
           step_post w n lacks es e low holds m next got.there note turns (rw (turns, work) refl)
-          (record { hand = refl; arbiters = refl; phase = refl; attempt = refl; spots_so = λ s among. first.places_so s (filter_among (names_port w sent.port) (spots w) s among) })
+          (record { hand = refl; phase = refl; attempt = refl; spots_so = λ s among. first.places_so s (filter_among (names_port w sent.port) (spots w) s among) })
           (script_allowed w h e.actor place is.poster sent is.is_poster rest.0 is.place_so) is.place_so
           (record { poster = is.poster; is_poster = is.is_poster; place_so = ap (λ k. k + 1) is.place_so ∙ sym (script_own h m e.actor place refl); left_so = rest.1 ∙ ap (λ k. drop k is.poster.posts) (suc-one place) })
           (λ a other. script_says h m a e.actor place refl other)
@@ -171,7 +173,7 @@ module _ (w : Parts) (n : ℕ) (first : PlainFacts w) (few : n ≤ 33) (lacks : 
               shows_so = rw (visible-push es e, note) refl
           by_note None is note =
               let looks = looks_on left (q + 1) parts in
-              silent_else w n lacks es e low holds (places.Queue q) (take_from w before left (q + 1) parts) got.there refl (rw note refl) (rw (turns, work, note) refl)
+              silent_else w n lacks es e low holds (places.Queue q) (take_from w before left (q + 1) parts) (λ t is. subst (λ hand. has_task (puts_in hand) t ≡ true) looks.on.hand is) (DomainsMatch-elsewhere w h es e (places.Queue q) got.there refl holds.domains) got.there refl (rw note refl) (rw (turns, work, note) refl)
               (record {
                 listed = record { queued_so = λ k. rw (changes k) (by k (q == k) refl) ∙ holds.queues.listed.queued_so k; policy_so = λ k. rw (changes k) (rule k (q == k)) ∙ holds.queues.listed.policy_so k };
                 booked = BookingsMatch-take w h (queue_at w es) (queue_at w (es ++ e ∷ [])) q None changes holds.queues.booked;
@@ -206,9 +208,9 @@ module _ (w : Parts) (n : ℕ) (first : PlainFacts w) (few : n ≤ 33) (lacks : 
   play_so task place left run = ap (play_in w) run.as_seen ∙ play-view w h task.id run.fires
 
   -- the end that the play asks for
-  ends_by : (i : ℕ) (task : Task) (place : ℕ) (play : Play) (how : How) (ending : EndHow) → before.work ≡ playing task place play → play.posts ≡ [] → turn before ≡ go_on → RunsTask w h e.actor task place play.posts → after_in w e.actor before (turn before) (reply_of w es e) ≡ after_over w before task → is_shed ending ≡ false → ends_so ending (play_of w h task.id).end ≡ true → e.place ≡ places.Arbiter i → event_of e ≡ events.End task.id ending ∷ [] → yielded_by (events.End task.id ending) ≡ [] → Done
-  ends_by i task place play how ending work none turns run goes unshed so there is last =
-      step_end w n first few lacks es e low holds i task place play.posts ending there is last turns run (rw work refl) goes
+  ends_by : (i : ℕ) (task : Task) (place : ℕ) (play : Play) (how : How) (ending : EndHow) → before.work ≡ playing task place play → play.posts ≡ [] → turn before ≡ go_on → RunsTask w h e.actor task place play.posts → after_in w e.actor before (turn before) (reply_of w es e) ≡ after_over w before task → is_shed ending ≡ false → ends_so ending (play_of w h task.id).end ≡ true → e.place ≡ places.Arbiter i → event_of e ≡ events.End task.id ending ∷ [] → yielded_by (events.End task.id ending) ≡ [] → e.note ≡ notes.Over task.id task.root how → Done
+  ends_by i task place play how ending work none turns run goes unshed so there is last note =
+      step_end w n first few lacks es e low holds i task place play.posts ending how note there is last turns run (rw work refl) goes
       (end_allowed w h task.id ending (runs h e.actor task.id run.alone) all unshed so)
     where
       all : length (play_of w h task.id).posts ≤ posts_of_task h task.id
@@ -228,12 +230,12 @@ module _ (w : Parts) (n : ℕ) (first : PlainFacts w) (few : n ≤ 33) (lacks : 
         where
           over : Given w es e (at_place (places.Arbiter task.arbiter) (asks.Over task.id task.root hows.Done)) → Done
           over got = let note = over_note w task.id task.root hows.Done task.arbiter (slice_get w.arbiters task.arbiter) (notes_at es (places.Arbiter task.arbiter)) e.note got.gives in
-              ends_by task.arbiter task place play hows.Done ends.Done work none turns run (rw (turns, work, none, pe) refl) refl (rw (sym end_so ∙ pe) refl) got.there (rw note refl) refl
+              ends_by task.arbiter task place play hows.Done ends.Done work none turns run (rw (turns, work, none, pe) refl) refl (rw (sym end_so ∙ pe) refl) got.there (rw note refl) refl note
       by_end none (plays.Failed v) pe = over (given_to w lacks es e step go_on _ turns (ap (work_ask e.actor) work ∙ rw (none, pe) refl))
         where
           over : Given w es e (at_place (places.Arbiter task.arbiter) (asks.Over task.id task.root (hows.Failed v))) → Done
           over got = let note = over_note w task.id task.root (hows.Failed v) task.arbiter (slice_get w.arbiters task.arbiter) (notes_at es (places.Arbiter task.arbiter)) e.note got.gives in
-              ends_by task.arbiter task place play (hows.Failed v) (ends.Failed v) work none turns run (rw (turns, work, none, pe) refl) refl (rw (sym end_so ∙ pe) (same_value-self v)) got.there (rw note refl) refl
+              ends_by task.arbiter task place play (hows.Failed v) (ends.Failed v) work none turns run (rw (turns, work, none, pe) refl) refl (rw (sym end_so ∙ pe) (same_value-self v)) got.there (rw note refl) refl note
       by_end none (plays.Yield site) pe = suspends (given_to w lacks es e step go_on _ turns (ap (work_ask e.actor) work ∙ rw (none, pe) refl))
         where
           all : length (play_of w h task.id).posts ≤ posts_of_task h task.id
@@ -263,8 +265,8 @@ module _ (w : Parts) (n : ℕ) (first : PlainFacts w) (few : n ≤ 33) (lacks : 
 
               by_room : (c : Bool) → nat_lt (meter_at w es).drawn (meter_at w es).budget ≡ c → e.note ≡ notes.Draw (if nat_lt (meter_at w es).drawn (meter_at w es).budget then Some (meter_at w es).drawn else None) → Done
               by_room true room note_so =
-                  silent_metered w n lacks es e low holds next (rw note refl) (rw (turns, work, note, some) refl) (rw (same_ports es e places.Meter got.there refl) holds.ports) (rw (same_queues w es e places.Meter got.there refl) holds.queues) (rw (same_ports es e places.Meter got.there refl) (go_on_own next turns (record { hand = refl; arbiters = refl; phase = refl; attempt = refl; spots_so = own.fits.spots_so }) (posting_run, is.1))) (λ a other. rw (same_ports es e places.Meter got.there refl) (holds.actors a))
-                  (goes_under_way w n lacks es e low holds places.Meter next got.there refl turns (record { hand = refl; arbiters = refl; phase = refl; attempt = refl; spots_so = own.fits.spots_so }))
+                  silent_metered w n lacks es e low holds next (λ t is. is) (DomainsMatch-elsewhere w h es e places.Meter got.there refl holds.domains) (rw note refl) (rw (turns, work, note, some) refl) (rw (same_ports es e places.Meter got.there refl) holds.ports) (rw (same_queues w es e places.Meter got.there refl) holds.queues) (rw (same_ports es e places.Meter got.there refl) (go_on_own next turns (record { hand = refl; phase = refl; attempt = refl; spots_so = own.fits.spots_so }) (posting_run, is.1))) (λ a other. rw (same_ports es e places.Meter got.there refl) (holds.actors a))
+                  (goes_under_way w n lacks es e low holds places.Meter next got.there refl turns (record { hand = refl; phase = refl; attempt = refl; spots_so = own.fits.spots_so }))
                   (λ works' one. subst (λ k. MeterMatches w n h k works') (sym (ap (λ (m : meters.MeterState). m.drawn) (at_meter _ got.there note))) (MeterMatches-drawn w n h (meter_at w es).drawn e.actor (works_of w lacks es) works' next.work low below (rw work refl) refl refl one holds.meter))
                   (ap (λ (m : meters.MeterState). m.budget) (at_meter _ got.there note))
                 where
@@ -277,8 +279,8 @@ module _ (w : Parts) (n : ℕ) (first : PlainFacts w) (few : n ≤ 33) (lacks : 
                   below : (meter_at w es).drawn < w.budget
                   below = let same = holds.budget in let less : (meter_at w es).drawn < (meter_at w es).budget = grind (arith, nat_tests, room) in omega (arith, less, same)
               by_room false room note_so =
-                  silent_metered w n lacks es e low holds next (rw note refl) (rw (turns, work, note, some) refl) (rw (same_ports es e places.Meter got.there refl) holds.ports) (rw (same_queues w es e places.Meter got.there refl) holds.queues) (rw (same_ports es e places.Meter got.there refl) (go_on_own next turns (record { hand = refl; arbiters = refl; phase = refl; attempt = refl; spots_so = own.fits.spots_so }) (place, sent, ps, posting_run))) (λ a other. rw (same_ports es e places.Meter got.there refl) (holds.actors a))
-                  (goes_under_way w n lacks es e low holds places.Meter next got.there refl turns (record { hand = refl; arbiters = refl; phase = refl; attempt = refl; spots_so = own.fits.spots_so }))
+                  silent_metered w n lacks es e low holds next (λ t is. is) (DomainsMatch-elsewhere w h es e places.Meter got.there refl holds.domains) (rw note refl) (rw (turns, work, note, some) refl) (rw (same_ports es e places.Meter got.there refl) holds.ports) (rw (same_queues w es e places.Meter got.there refl) holds.queues) (rw (same_ports es e places.Meter got.there refl) (go_on_own next turns (record { hand = refl; phase = refl; attempt = refl; spots_so = own.fits.spots_so }) (place, sent, ps, posting_run))) (λ a other. rw (same_ports es e places.Meter got.there refl) (holds.actors a))
+                  (goes_under_way w n lacks es e low holds places.Meter next got.there refl turns (record { hand = refl; phase = refl; attempt = refl; spots_so = own.fits.spots_so }))
                   (λ works' one. subst (λ k. MeterMatches w n h k works') (sym (ap (λ (m : meters.MeterState). m.drawn) (at_meter _ got.there note))) (MeterMatches-spent w n h (meter_at w es).drawn e.actor (works_of w lacks es) works' next.work low full (rw work refl) refl one holds.meter))
                   (ap (λ (m : meters.MeterState). m.budget) (at_meter _ got.there note))
                 where
@@ -324,7 +326,7 @@ module _ (w : Parts) (n : ℕ) (first : PlainFacts w) (few : n ≤ 33) (lacks : 
       post got =
           let note = (given_some _ (notes.Post m) e.note got.gives).1 in
           step_post w n lacks es e low holds m next got.there note turns (rw (turns, work) refl)
-          (record { hand = refl; arbiters = refl; phase = refl; attempt = refl; spots_so = λ s among. first.places_so s (filter_among (names_port w sent.port) (spots w) s among) })
+          (record { hand = refl; phase = refl; attempt = refl; spots_so = λ s among. first.places_so s (filter_among (names_port w sent.port) (spots w) s among) })
           (play_allowed w h task.id place sent (runs h e.actor task.id run.alone) line run.place_so room) run.place_so (
             record {
               worker = run.worker;
@@ -419,7 +421,7 @@ module _ (w : Parts) (n : ℕ) (first : PlainFacts w) (few : n ≤ 33) (lacks : 
       over : Given w es e (at_place (places.Arbiter task.arbiter) (asks.Over task.id task.root hows.Shed)) → Done
       over got =
           let note = over_note w task.id task.root hows.Shed task.arbiter (slice_get w.arbiters task.arbiter) (notes_at es (places.Arbiter task.arbiter)) e.note got.gives in
-          step_end w n first few lacks es e low holds task.arbiter task place (sent ∷ ps) ends.Shed got.there (rw note refl) refl turns run (rw work refl) (rw (turns, work) refl)
+          step_end w n first few lacks es e low holds task.arbiter task place (sent ∷ ps) ends.Shed hows.Shed note got.there (rw note refl) refl turns run (rw work refl) (rw (turns, work) refl)
           (shed_allowed w h task.id (runs h e.actor task.id run.alone) some paid)
         where
           some : posts_of_task h task.id < length (play_of w h task.id).posts

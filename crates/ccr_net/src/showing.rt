@@ -2,7 +2,6 @@
 
 ghost use Rattle.std.specs.Prelude.{◌≡◌, ◌++◌, ◌≤◌, ℕ, true, IfOk, OnOk, OnErr, option_to_list};
 ghost use Rattle.ccr_model.specs.Legal.{IsLegal, is_covered};
-ghost use Rattle.ccr_net.specs.Plain.{IsPlain};
 ghost use Rattle.ccr_net.specs.Runs.{IsRun};
 ghost use Rattle.ccr_net.specs.Visible.{end_by, shown, visible};
 
@@ -75,12 +74,12 @@ fn show(alloc: Global, history: &mut History, entry: &Entry) -> Result<(), OutOf
 }
 
 /// The history that the entries show: bookings, claims, the meter's entries and what was answered with nothing vanish.
-/// Where the entries are a run, and the wiring has no Interleaves, it is legal and covered;
+/// Where the entries are a run, it is legal and covered;
 /// `docs/MODEL.md` has the rules.
 pub fn visible(alloc: Global, wiring: &Wiring, full: &Full) -> Result<History, OutOfMemory>
     ensures exact { IfOk result (λ history. history ≡ visible full.now.entries) }
-    ensures legal { IfOk result (λ history. (workers : ℕ) → workers ≤ 16 → IsPlain wiring.now → IsRun wiring.now workers full.now.entries → IsLegal wiring.now history) }
-    ensures covered { IfOk result (λ history. (workers : ℕ) → workers ≤ 16 → IsPlain wiring.now → IsRun wiring.now workers full.now.entries → is_covered wiring.now history ≡ true) }
+    ensures legal { IfOk result (λ history. (workers : ℕ) → workers ≤ 16 → IsRun wiring.now workers full.now.entries → IsLegal wiring.now history) }
+    ensures covered { IfOk result (λ history. (workers : ℕ) → workers ≤ 16 → IsRun wiring.now workers full.now.entries → is_covered wiring.now history ≡ true) }
 {
     let _parts = wiring.parts();
     let mut history = History::new(alloc);
