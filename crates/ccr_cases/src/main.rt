@@ -20,6 +20,9 @@ fn take_in<'a>(
         "input" => put_text(&mut case.input, value)?,
         "times" => put_times(&mut case.input, value)?,
         "generated" => put_generated(alloc, case, value)?,
+        "room" => case.room = value.parse::<usize>().unwrap_or(0),
+        "reads" => case.reads = value.parse::<u64>().ok(),
+        "writes" => case.writes = value.parse::<u64>().ok(),
         "status" => case.status = value.parse::<u8>().unwrap_or(u8::MAX),
         _ => {}
     }
@@ -31,6 +34,7 @@ fn due_of<'a>(key: &str, value: &'a str) -> Option<Expected<'a>> {
     match key {
         "output" => Some(Expected::Whole(value)),
         "ends" => Some(Expected::Ending(value)),
+        "has" => Some(Expected::Part(value)),
         _ => None,
     }
 }

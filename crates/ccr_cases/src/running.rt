@@ -6,9 +6,20 @@ use ccr_gen::generate;
 use ccr_io::{MemorySink, MemorySource};
 use ccr_wiretext::write_wiring;
 use std::alloc::Global;
+use std::sync::Wait;
+use std::thread::Threads;
 
 /// What is due for an output that has no fault.
 const LEGAL: &str = "legal complete yes quiet yes;done 0;";
+
+/// The number of no call.
+const NEVER: u64 = u64::MAX;
+
+/// The status where a call of the source failed.
+const READ_FAULT: u8 = 3;
+
+/// The status where a call of the sink failed.
+const WRITE_FAULT: u8 = 4;
 
 /// What the program is given, and its status.
 #[derive(Drop)]
@@ -19,13 +30,25 @@ pub struct Case<'a> {
     pub status: u8,
     /// The most bytes that the program may write.
     pub room: usize,
+    /// How many calls of the source it makes, and of the sink, where each of them is to be made to fail.
+    pub reads: Option<u64>,
+    pub writes: Option<u64>,
 }
 
-/// What the program writes, whole or the last lines of it.
+/// What the program writes, whole, the last lines of it or some of them.
 #[derive(Clone, Copy)]
 pub enum Expected<'a> {
     Whole(&'a str),
     Ending(&'a str),
+    Part(&'a str),
+}
+
+/// How much room the sink has, and which call of the source fails, and of the sink.
+#[derive(Clone, Copy)]
+struct Streams {
+    room: usize,
+    read: u64,
+    write: u64,
 }
 
 /// How the program ended, and what it wrote.
@@ -43,7 +66,18 @@ impl<'a> Case<'a> {
             words: "",
             input: Vec::new(alloc),
             status: 0,
-            room: 10_000,
+            room: 1_000_000,
+            reads: None,
+            writes: None,
+        }
+    }
+
+    /// What the case runs on, where these calls fail.
+    fn streams(&self, read: u64, write: u64) -> Streams {
+        Streams {
+            room: self.room,
+            read,
+            write,
         }
     }
 
@@ -83,33 +117,47 @@ pub fn put_generated(alloc: Global, case: &mut Case<'_>, value: &str) -> Result<
     Ok(())
 }
 
+fn listed<T: Copy>(alloc: Global, items: &[T]) -> Result<List<T>, OutOfMemory> {
+    Ok(List::from_vec(Vec::from_slice(alloc, items)?))
+}
+
 fn words_of(alloc: Global, words: &str) -> Result<List<Name>, OutOfMemory> {
     let mut names = List::new(alloc);
     if words.is_empty() {
         return Ok(names);
     }
     for word in words.split(' ') {
-        let name = List::from_vec(Vec::from_slice(alloc, word.as_bytes())?);
-        names.add(name)?;
+        names.add(listed(alloc, word.as_bytes())?)?;
     }
     Ok(names)
 }
 
 /// Runs the program, and tells what it answered.
-fn run_program<R: AllocGlobal>(
+fn run_program<R: AllocGlobal + Threads + Wait + Sync>(
     rt: &R,
     words: &str,
     input: &[u8],
-    room: usize,
+    streams: Streams,
 ) -> Result<Answer, OutOfMemory> {
     let alloc = rt.alloc();
     let words = words_of(alloc, words)?;
-    let bytes = List::from_vec(Vec::from_slice(alloc, input)?);
-    let mut source = MemorySource::new(bytes, List::new(alloc));
-    let mut sink = MemorySink::new(alloc, room, List::new(alloc))?;
+    let mut source = MemorySource::new(listed(alloc, input)?, listed(alloc, &[streams.read])?);
+    let mut sink = MemorySink::new(alloc, streams.room, listed(alloc, &[streams.write])?)?;
     let status = run_ccr(rt, words.as_slice(), &mut source, &mut sink, &OpenGate);
-    let written = List::from_vec(Vec::from_slice(alloc, sink.written())?);
+    let written = listed(alloc, sink.written())?;
     Ok(Answer { status, written })
+}
+
+/// Whether the part stands somewhere in the text.
+fn has_part(text: &[u8], part: &[u8]) -> bool {
+    let mut rest = text;
+    for _ in 0..text.len() {
+        if rest.starts_with(part) {
+            return true;
+        }
+        rest = rest.get(1..).unwrap_or(&[]);
+    }
+    false
 }
 
 /// Whether what was written is what is due.
@@ -124,27 +172,116 @@ fn is_due(alloc: Global, written: &[u8], due: Expected<'_>) -> Result<bool, OutO
             put_text(&mut text, ending)?;
             Ok(written.ends_with(text.as_slice()))
         }
+        Expected::Part(part) => {
+            put_text(&mut text, part)?;
+            Ok(has_part(written, text.as_slice()))
+        }
     }
 }
 
+/// The input up to its turn lines: the wiring.
+fn before_turns(input: &[u8]) -> &[u8] {
+    let mut rest = input;
+    for at in 0..input.len() {
+        if rest.starts_with(b"\nturn ") {
+            return input.get(..at.saturating_add(1)).unwrap_or(input);
+        }
+        rest = rest.get(1..).unwrap_or(&[]);
+    }
+    input
+}
+
 /// Whether what the case wrote is judged legal, complete and quiet.
-fn is_legal<R: AllocGlobal>(rt: &R, case: &Case<'_>, written: &[u8]) -> Result<bool, OutOfMemory> {
+fn is_legal<R: AllocGlobal + Threads + Wait + Sync>(
+    rt: &R,
+    case: &Case<'_>,
+    written: &[u8],
+) -> Result<bool, OutOfMemory> {
     let alloc = rt.alloc();
-    let mut input = Vec::from_slice(alloc, case.input.as_slice())?;
+    let mut input = Vec::from_slice(alloc, before_turns(case.input.as_slice()))?;
     input.extend_from_slice(written)?;
-    let judged = run_program(rt, "verify", input.as_slice(), 10_000)?;
+    let streams = Streams {
+        room: 10_000,
+        read: NEVER,
+        write: NEVER,
+    };
+    let judged = run_program(rt, "verify", input.as_slice(), streams)?;
     Ok(judged.status == 0 && is_due(alloc, judged.written.as_slice(), Expected::Whole(LEGAL))?)
 }
 
+/// Runs the case with a call of the source and one of the sink that fail.
+fn run_failing<R: AllocGlobal + Threads + Wait + Sync>(
+    rt: &R,
+    case: &Case<'_>,
+    read: u64,
+    write: u64,
+) -> Result<Answer, OutOfMemory> {
+    let streams = case.streams(read, write);
+    run_program(rt, case.words, case.input.as_slice(), streams)
+}
+
+/// Whether each of so many reads, made to fail, ends the case with nothing written, and one behind them isn't made.
+fn each_read_ends_it<R: AllocGlobal + Threads + Wait + Sync>(
+    rt: &R,
+    case: &Case<'_>,
+    reads: u64,
+) -> Result<bool, OutOfMemory> {
+    for read in 0..reads {
+        let given = run_failing(rt, case, read, NEVER)?;
+        if given.status != READ_FAULT || !given.written.as_slice().is_empty() {
+            return Ok(false);
+        }
+    }
+    let given = run_failing(rt, case, reads, NEVER)?;
+    Ok(given.status == case.status)
+}
+
+/// Whether each of so many writes, made to fail, ends the case with a front of what it writes, and one behind them isn't made.
+fn each_write_ends_it<R: AllocGlobal + Threads + Wait + Sync>(
+    rt: &R,
+    case: &Case<'_>,
+    writes: u64,
+    whole: &[u8],
+) -> Result<bool, OutOfMemory> {
+    for write in 0..writes {
+        let given = run_failing(rt, case, NEVER, write)?;
+        if given.status != WRITE_FAULT || !whole.starts_with(given.written.as_slice()) {
+            return Ok(false);
+        }
+    }
+    let given = run_failing(rt, case, NEVER, writes)?;
+    Ok(given.status == case.status)
+}
+
+/// Whether the reads and writes of which the case tells end it where they fail.
+fn faults_end_it<R: AllocGlobal + Threads + Wait + Sync>(
+    rt: &R,
+    case: &Case<'_>,
+    whole: &[u8],
+) -> Result<bool, OutOfMemory> {
+    let reads = match case.reads {
+        Some(reads) => each_read_ends_it(rt, case, reads)?,
+        None => true,
+    };
+    let writes = match case.writes {
+        Some(writes) => each_write_ends_it(rt, case, writes, whole)?,
+        None => true,
+    };
+    Ok(reads && writes)
+}
+
 /// Whether the case holds. What a run writes is also judged.
-pub fn holds<R: AllocGlobal>(
+pub fn holds<R: AllocGlobal + Threads + Wait + Sync>(
     rt: &R,
     case: &Case<'_>,
     due: Expected<'_>,
 ) -> Result<bool, OutOfMemory> {
-    let given = run_program(rt, case.words, case.input.as_slice(), case.room)?;
+    let given = run_failing(rt, case, NEVER, NEVER)?;
     let written = given.written.as_slice();
     if given.status != case.status || !is_due(rt.alloc(), written, due)? {
+        return Ok(false);
+    }
+    if !faults_end_it(rt, case, written)? {
         return Ok(false);
     }
     let is_answer = given.status == 0 || given.status == 6;

@@ -15,6 +15,3 @@ pub use judge::Judge;
 pub use judging::verdict;
 pub use laws::still_is_quiet;
 pub use verdicts::Verdict;
-
-#[cfg(test)]
-mod tests;

@@ -26,13 +26,13 @@ for_none None rest Illegal text due is = absurd due
 for_none None rest Refused text due is = absurd due
 for_none None rest TooLong text due is = absurd due
 
-for_load : (size : ℕ) (json : Bool) (status : Status) (text : List ℕ) → LoadGives size json status text → status ≡ Done
-for_load size json Done text due = refl
-for_load size json Usage text due = absurd due
-for_load size json Shed text due = absurd due
-for_load size json Illegal text due = absurd due
-for_load size json Refused text due = absurd due
-for_load size json TooLong text due = absurd due
+for_load : (size workers : ℕ) (json : Bool) (status : Status) (text : List ℕ) → LoadGives size workers json status text → status ≡ Done
+for_load size workers json Done text due = refl
+for_load size workers json Usage text due = absurd due
+for_load size workers json Shed text due = absurd due
+for_load size workers json Illegal text due = absurd due
+for_load size workers json Refused text due = absurd due
+for_load size workers json TooLong text due = absurd due
 
 for_refused : (command : Command) (json : Bool) (rest : Option (List ℕ)) (status : Status) (text : List ℕ) → AnswersInput command json rest status text → IsDeclined command rest → status ≡ Refused
 for_refused command json None status text due declined = absurd declined
@@ -60,12 +60,12 @@ may_come Check json wiring bytes Refused text answers = absurd answers
 may_come Check json wiring bytes Shed text answers = absurd answers
 may_come Check json wiring bytes Illegal text answers = absurd answers
 may_come Check json wiring bytes TooLong text answers = absurd answers
-may_come Run json wiring bytes Done text answers = refl
-may_come Run json wiring bytes Shed text answers = refl
-may_come Run json wiring bytes Usage text answers = absurd answers
-may_come Run json wiring bytes Refused text answers = absurd answers
-may_come Run json wiring bytes Illegal text answers = absurd answers
-may_come Run json wiring bytes TooLong text answers = absurd answers
+may_come (Run workers schedule) json wiring bytes Done text answers = refl
+may_come (Run workers schedule) json wiring bytes Shed text answers = refl
+may_come (Run workers schedule) json wiring bytes Usage text answers = absurd answers
+may_come (Run workers schedule) json wiring bytes Refused text answers = absurd answers
+may_come (Run workers schedule) json wiring bytes Illegal text answers = absurd answers
+may_come (Run workers schedule) json wiring bytes TooLong text answers = absurd answers
 may_come Verify json wiring bytes Done text answers = refl
 may_come Verify json wiring bytes Illegal text answers = refl
 may_come Verify json wiring bytes Usage text answers = absurd answers
@@ -122,5 +122,5 @@ module _ (command : Command) (json : Bool) (words : List (List ℕ)) (rest : Opt
 pub fault_status : (json : Bool) (words : List (List ℕ)) (rest : Option (List ℕ)) (status : Status) (text : List ℕ) → IsDue status words rest text → asked_for words ≡ Some (Read Verify json) → IsVerified true rest → status ≡ Illegal
 fault_status json words rest status text due is verified = for_fault json rest status text (for_input Verify json words rest status text due is) verified
 
-pub load_status : (size : ℕ) (json : Bool) (words : List (List ℕ)) (rest : Option (List ℕ)) (status : Status) (text : List ℕ) → IsDue status words rest text → asked_for words ≡ Some (Load size json) → status ≡ Done
-load_status size json words rest status text due is = for_load size json status text (subst (λ (o : Option Request). AnswersRequest o rest status text) is due)
+pub load_status : (size workers : ℕ) (json : Bool) (words : List (List ℕ)) (rest : Option (List ℕ)) (status : Status) (text : List ℕ) → IsDue status words rest text → asked_for words ≡ Some (Load size workers json) → status ≡ Done
+load_status size workers json words rest status text due is = for_load size workers json status text (subst (λ (o : Option Request). AnswersRequest o rest status text) is due)

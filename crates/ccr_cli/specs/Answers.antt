@@ -14,7 +14,7 @@ use Rattle.ccr_words.specs.declared.requests.Request.{Request}
 use Rattle.ccr_words.specs.declared.requests.Request.TheVariants.{Read, Load}
 use Rattle.ccr_words.specs.Said.{asked_for}
 use Rattle.ccr_cli.specs.declared.findings.Finding.{Finding}
-use Rattle.ccr_cli.specs.Inputs.{limit_of, history_place, output_part, reading_input}
+use Rattle.ccr_cli.specs.Inputs.{limit_of, history_place, output_part, reading_input, turns_of}
 use Rattle.ccr_cli.specs.Runs.{RunGives}
 use Rattle.ccr_cli.specs.Loads.{LoadGives}
 use Rattle.ccr_cli.specs.Findings.{IsFound, VerifyGives, is_fault}
@@ -47,7 +47,7 @@ CheckGives json wiring _ text = ⊥
 -- the text that is due for a wiring and the bytes of which it was read
 abbrev pub Answers : Command → Bool → Parts → List ℕ → Status → List ℕ → Type 0
 Answers Check json wiring bytes status text = CheckGives json wiring status text
-Answers Run json wiring bytes status text = RunGives json wiring status text
+Answers (Run workers schedule) json wiring bytes status text = RunGives json wiring workers (turns_of schedule wiring workers bytes) status text
 Answers Verify json wiring bytes status text = VerifyGives wiring (history_place bytes).1 (output_part bytes) status text
 
 -- the text that is due for the bytes of an input that isn't too long
@@ -71,7 +71,7 @@ abbrev pub AnswersRequest : Option Request → Option (List ℕ) → Status → 
 AnswersRequest None rest Usage text = text ≡ usage_text
 AnswersRequest None rest _ text = ⊥
 AnswersRequest (Some (Read command json)) rest status text = AnswersInput command json rest status text
-AnswersRequest (Some (Load size json)) rest status text = LoadGives size json status text
+AnswersRequest (Some (Load size workers json)) rest status text = LoadGives size workers json status text
 
 -- the text that is due for the words and for what the source has to come
 abbrev pub IsDue : Status → List (List ℕ) → Option (List ℕ) → List ℕ → Type 0
@@ -111,7 +111,7 @@ reads _ = false
 
 -- the same for a request that was answered as done: a load reads nothing
 abbrev pub IsReadOut : Option Request → Option (List ℕ) → Option (List ℕ) → Type 0
-IsReadOut (Some (Load size json)) before after = Unit {0}
+IsReadOut (Some (Load size workers json)) before after = Unit {0}
 IsReadOut _ before after = IsExhausted Done before after
 
 abbrev pub IsExhaustedFor : Option Request → Status → Option (List ℕ) → Option (List ℕ) → Type 0
@@ -126,7 +126,7 @@ RefusedGives _ _ text = ⊥
 -- what may come beside 0
 abbrev pub further_statuses : Command → List ℕ
 further_statuses Check = []
-further_statuses Run = 6 ∷ []
+further_statuses (Run workers schedule) = 6 ∷ []
 further_statuses Verify = 7 ∷ []
 
 -- the exit statuses where a wiring is read and no fault comes; 5 is want of memory
@@ -136,8 +136,8 @@ statuses_of command = 0 ∷ 5 ∷ further_statuses command
 -- whether the status may come of a wiring that was read
 abbrev pub may_end : Command → Status → Bool
 may_end Check Done = true
-may_end Run Done = true
-may_end Run Shed = true
+may_end (Run workers schedule) Done = true
+may_end (Run workers schedule) Shed = true
 may_end Verify Done = true
 may_end Verify Illegal = true
 may_end _ _ = false

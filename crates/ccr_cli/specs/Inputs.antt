@@ -1,15 +1,16 @@
 -- What stands where in an input.
-use Rattle.std.specs.Prelude.{ℕ, ◌+◌, ◌==◌, nat_lt, List, [], ◌∷◌, length, take, drop, filter, codes, Option, Some, None, Result, Err, if◌then◌else◌}
+use Rattle.std.specs.Prelude.{ℕ, ◌+◌, ◌==◌, Bool, true, false, nat_lt, List, [], ◌∷◌, length, take, drop, filter, codes, Option, Some, None, Result, Ok, Err, if◌then◌else◌}
 use Rattle.ccr_text.specs.Lines.{line_of}
 use Rattle.ccr_wiring.specs.declared.parts.Parts.{Parts}
 use Rattle.ccr_wiretext.specs.Reading.{reading_text}
+use Rattle.ccr_schedule.specs.Turns.{reading_turns}
 use Rattle.ccr_words.specs.declared.requests.Command.{Command}
 use Rattle.ccr_words.specs.declared.requests.Command.TheVariants.{Check, Run, Verify}
 
 -- the most bytes that an input may have
 abbrev pub limit_of : Command → ℕ
 limit_of Check = 1048576
-limit_of Run = 1048576
+limit_of (Run workers schedule) = 1048576
 limit_of Verify = 33554432
 
 -- the number of the line at which the byte of this place stands
@@ -32,10 +33,41 @@ output_part bytes = drop (history_place bytes).0 bytes
 abbrev pub reading_part : List ℕ → Result Parts (ℕ × ℕ)
 reading_part part = if nat_lt 1048576 (length part) then Err (line_at 1048576 part, 10) else reading_text part
 
+-- where the first line begins whose first word is `turn`, and how many lines stand before it
+abbrev pub turn_place : List ℕ → ℕ × ℕ
+turn_place bytes = line_of bytes (codes "turn")
+
+-- what stands before that line
+abbrev pub part_before_turns : List ℕ → List ℕ
+part_before_turns bytes = take (turn_place bytes).0 bytes
+
+-- that line and all behind it
+abbrev pub turn_part : List ℕ → List ℕ
+turn_part bytes = drop (turn_place bytes).0 bytes
+
+-- the turns of the posters and so many workers, or the first offending line and its code
+abbrev pub turns_in : Parts → ℕ → List ℕ → Result (List ℕ) (ℕ × ℕ)
+turns_in wiring workers bytes = reading_turns (turn_part bytes) (turn_place bytes).1 (length wiring.posters + workers)
+
+-- the wiring, where the turns behind it are read too
+abbrev pub with_turns : ℕ → List ℕ → Result Parts (ℕ × ℕ) → Result Parts (ℕ × ℕ)
+with_turns workers bytes (Err refusal) = Err refusal
+with_turns workers bytes (Ok wiring) = elim (turns_in wiring workers bytes) [ Ok turns ↦ Ok wiring | Err refusal ↦ Err refusal ]
+
+-- the turns that were read; none where they are no part of the input
+abbrev pub turns_of : Bool → Parts → ℕ → List ℕ → Option (List ℕ)
+turns_of false wiring workers bytes = None
+turns_of true wiring workers bytes = elim (turns_in wiring workers bytes) [ Ok turns ↦ Some turns | Err refusal ↦ Some [] ]
+
+-- the wiring of the input of a run, which may have turns behind it
+abbrev pub reading_run : Bool → ℕ → List ℕ → Result Parts (ℕ × ℕ)
+reading_run false workers bytes = reading_text bytes
+reading_run true workers bytes = with_turns workers bytes (reading_text (part_before_turns bytes))
+
 -- the wiring of an input, or the first offending line and its code
 abbrev pub reading_input : Command → List ℕ → Result Parts (ℕ × ℕ)
 reading_input Check bytes = reading_text bytes
-reading_input Run bytes = reading_text bytes
+reading_input (Run workers schedule) bytes = reading_run schedule workers bytes
 reading_input Verify bytes = reading_part (wiring_part bytes)
 
 -- the line at which a text first differs from the one that is due, of lines of which the first has this number; none where they are the same

@@ -1,5 +1,5 @@
 -- What a load writes.
-use Rattle.std.specs.Prelude.{◌≡◌, ℕ, Bool, true, false, List, [], ◌∷◌, ◌++◌, length, codes, decimal}
+use Rattle.std.specs.Prelude.{◌≡◌, ℕ, ◌+◌, Bool, true, false, List, [], ◌∷◌, ◌++◌, length, codes, decimal, None}
 use Rattle.ccr_text.specs.Spelling.{line_text}
 use Rattle.ccr_model.specs.declared.history.Event.{Event}
 use Rattle.ccr_model.specs.Counts.{totals}
@@ -9,6 +9,7 @@ use Rattle.ccr_report.specs.Report.{total_words}
 use Rattle.ccr_json.specs.Totals.{totals_json}
 use Rattle.ccr_gen.specs.Generated.{generated}
 use Rattle.ccr_cli.specs.Accounts.{AccountsForAll}
+use Rattle.ccr_cli.specs.Runs.{Begins}
 use Rattle.ccr_cli.specs.declared.status.Status.{Status}
 use Rattle.ccr_cli.specs.declared.status.Status.TheVariants.{Done}
 
@@ -21,12 +22,14 @@ totals_of true history = totals_json (totals history)
 abbrev pub load_text : ℕ → Bool → List Event → List ℕ
 load_text size json history = codes "load " ++ decimal size ++ 10 ∷ [] ++ totals_of json history ++ codes "done 0" ++ 10 ∷ []
 
--- the text is that of the history of the generated wiring in which the serial order, from the empty history on and with the
--- closer numbered behind the posters, puts nothing more first: it is legal, complete and quiet, accounts for each post and each
--- message, and no task was shed in it
-pub record IsLoad (size : ℕ) (json : Bool) (text : List ℕ) : Type 0 where
+-- the text is that of the history of the generated wiring in which, behind what the actors did, the serial order with the closer
+-- numbered behind posters and workers goes on until it puts nothing more first: it is legal, complete and quiet, accounts for each
+-- post and each message, and no task was shed in it
+pub record IsLoad (size workers : ℕ) (json : Bool) (text : List ℕ) : Type 0 where
+  pub first : List Event
+  pub begins : Begins (generated size) workers None first
   pub history : List Event
-  pub finished : IsFinished (generated size) (length (generated size).posters) [] history
+  pub finished : IsFinished (generated size) (length (generated size).posters + workers) first history
   pub legal : IsLegal (generated size) history
   pub complete : is_complete (generated size) history ≡ true
   pub quiet : IsQuiet (generated size) history
@@ -35,6 +38,6 @@ pub record IsLoad (size : ℕ) (json : Bool) (text : List ℕ) : Type 0 where
   pub written : text ≡ load_text size json history
 
 -- the text that is due for a load
-abbrev pub LoadGives : ℕ → Bool → Status → List ℕ → Type 0
-LoadGives size json Done text = IsLoad size json text
-LoadGives size json _ text = ⊥
+abbrev pub LoadGives : ℕ → ℕ → Bool → Status → List ℕ → Type 0
+LoadGives size workers json Done text = IsLoad size workers json text
+LoadGives size workers json _ text = ⊥

@@ -6,7 +6,7 @@ ghost use Rattle.ccr_cli.specs.Loads.{totals_of, IsLoad, LoadGives};
 use crate::answers::Answer;
 use crate::run::run_history;
 use crate::status::Status;
-use ccr_base::{List, OutOfMemory};
+use ccr_base::{Gate, List, OutOfMemory};
 use ccr_gen::{generate, generated_wirings_never_shed};
 use ccr_json::totals_json;
 use ccr_model::History;
@@ -14,6 +14,8 @@ use ccr_report::{put_total, totals};
 use ccr_text::{put_bytes, put_number};
 use ccr_wiring::Wiring;
 use std::alloc::Global;
+use std::sync::Wait;
+use std::thread::Threads;
 
 /// The totals as a line of words, or as one line of JSON.
 fn totals_of(
@@ -46,26 +48,41 @@ fn sized_text(alloc: Global, size: u32, totals: &[u8]) -> Result<List<u8>, OutOf
 }
 
 /// The totals of the run of the generated wiring. No task is shed in it.
-fn load_text(alloc: Global, size: u32, json: bool) -> Result<List<u8>, OutOfMemory>
+fn load_text<R: AllocGlobal + Threads + Wait + Sync, G: Gate + Sync>(
+    rt: &R,
+    gate: &G,
+    size: u32,
+    workers: u32,
+    json: bool,
+) -> Result<List<u8>, OutOfMemory>
     requires some { 0 < size }
     requires many { size ≤ 10000 }
-    ensures { IfOk result (IsLoad size json) }
+    requires workers { workers ≤ 16 }
+    ensures { IfOk result (IsLoad size workers json) }
 {
     generated_wirings_never_shed();
+    let alloc = rt.alloc();
     let wiring = generate(alloc, size)?;
-    let history = run_history(alloc, &wiring)?;
+    let (_first, history) = run_history(rt, gate, &wiring, workers, None)?;
     let totals = totals_of(alloc, &wiring, &history, json)?;
     sized_text(alloc, size, totals.as_slice())
 }
 
 /// What a load of so many posts writes.
-pub fn load(alloc: Global, size: u32, json: bool) -> Result<Answer, OutOfMemory>
+pub fn load<R: AllocGlobal + Threads + Wait + Sync, G: Gate + Sync>(
+    rt: &R,
+    gate: &G,
+    size: u32,
+    workers: u32,
+    json: bool,
+) -> Result<Answer, OutOfMemory>
     requires some { 0 < size }
     requires many { size ≤ 10000 }
-    ensures { IfOk result (λ due. LoadGives size json due.status due.text) }
+    requires workers { workers ≤ 16 }
+    ensures { IfOk result (λ due. LoadGives size workers json due.status due.text) }
 {
     Ok(Answer {
         status: Status::Done,
-        text: load_text(alloc, size, json)?,
+        text: load_text(rt, gate, size, workers, json)?,
     })
 }

@@ -13,14 +13,16 @@ use crate::answering::answer_words;
 use crate::status::WRITE_FAULT;
 use ccr_base::{Gate, Name};
 use ccr_io::{Failed, Sink, Source, write_all};
+use std::sync::Wait;
+use std::thread::Threads;
 
 /// Does what the words say and answers the exit status. The words are those behind the program's name.
-pub fn run_ccr<R: AllocGlobal, S: Source, K: Sink, G: Gate + Sync>(
+pub fn run_ccr<R: AllocGlobal + Threads + Wait + Sync, S: Source, K: Sink, G: Gate + Sync>(
     rt: &R,
     words: &[Name],
     source: &mut S,
     sink: &mut K,
-    _gate: &G,
+    gate: &G,
 ) -> u8
     ensures done { result ≡ 0 → IsAnswered Done words.now (S.rest source.old) (K.written sink.old) (K.written sink.new) }
     ensures done_input { (command : Command) → (json : Bool) → asked_for words.now ≡ Some (Read command json) → result ≡ 0 → IsExhausted Done (S.rest source.old) (S.rest source.new) }
@@ -31,8 +33,8 @@ pub fn run_ccr<R: AllocGlobal, S: Source, K: Sink, G: Gate + Sync>(
     ensures usage_due { asked_for words.now ≡ None → Contains (1 ∷ 4 ∷ 5 ∷ []) result }
     ensures usage_source { asked_for words.now ≡ None → source.new ≡ source.old }
 
-    ensures load_due { (size : ℕ) → (json : Bool) → asked_for words.now ≡ Some (Load size json) → Contains (0 ∷ 4 ∷ 5 ∷ []) result }
-    ensures load_source { (size : ℕ) → (json : Bool) → asked_for words.now ≡ Some (Load size json) → source.new ≡ source.old }
+    ensures load_due { (size workers : ℕ) → (json : Bool) → asked_for words.now ≡ Some (Load size workers json) → Contains (0 ∷ 4 ∷ 5 ∷ []) result }
+    ensures load_source { (size workers : ℕ) → (json : Bool) → asked_for words.now ≡ Some (Load size workers json) → source.new ≡ source.old }
 
     ensures refused { result ≡ 2 → IsAnswered Refused words.now (S.rest source.old) (K.written sink.old) (K.written sink.new) }
     ensures refused_due { (command : Command) → (json : Bool) → asked_for words.now ≡ Some (Read command json) → IsDeclined command (S.rest source.old) → Contains (2 ∷ 3 ∷ 4 ∷ 5 ∷ []) result }
@@ -58,10 +60,10 @@ pub fn run_ccr<R: AllocGlobal, S: Source, K: Sink, G: Gate + Sync>(
     ensures complete { (command : Command) → (json : Bool) → asked_for words.now ≡ Some (Read command json) → IsAccepted command (S.rest source.old) →
         (Rose (S.faults source.old) (S.faults source.new) → ⊥) → (Rose (K.faults sink.old) (K.faults sink.new) → ⊥) →
         Contains (statuses_of command) result }
-    ensures load_complete { (size : ℕ) → (json : Bool) → asked_for words.now ≡ Some (Load size json) →
+    ensures load_complete { (size workers : ℕ) → (json : Bool) → asked_for words.now ≡ Some (Load size workers json) →
         (Rose (K.faults sink.old) (K.faults sink.new) → ⊥) → Contains (0 ∷ 5 ∷ []) result }
 {
-    match answer_words(rt.alloc(), words, source) {
+    match answer_words(rt, gate, words, source) {
         Ok(due) => match write_all(sink, due.text.as_slice()) {
             Ok(()) => due.status as u8,
             Err(Failed) => WRITE_FAULT,

@@ -1,15 +1,26 @@
-//! Calls of the crates from Rattle, to copy from: a wiring is made without a text, and an object of one's own is put under a lock that keeps its
-//! history. README.md says which file shows what.
+//! Calls of the crates from Rattle, to copy from: a wiring is run, a history judged, turns are followed, a wiring is made without a text, and an
+//! object of one's own is put under a lock that keeps its history. README.md says which file shows what.
 #![tactic(auto)]
 
+ghost use Rattle.std.specs.Prelude.{◌≤◌, length};
+
+mod following;
+mod judging;
 mod making;
+mod running;
 mod tally;
 
+use crate::following::follow;
+use crate::judging::judge_text;
 use crate::making::{code_of, one_receiver};
+use crate::running::run_text;
 use crate::tally::raise_by_two;
 use ccr_base::OutOfMemory;
+use ccr_trace::write_history;
+use ccr_wiretext::read_wiring;
+use ccr_wiring::Wiring;
 use std::alloc::Global;
-use std::io;
+use std::io::{self, Write};
 
 /// The code by which a wiring is refused whose one slot takes so many messages.
 fn code_of_count(alloc: Global, count: u32) -> Result<Option<u8>, OutOfMemory> {
@@ -20,8 +31,64 @@ fn memory<T>(answer: Result<T, OutOfMemory>) -> io::Result<T> {
     answer.map_err(|_| io::Error::from(io::ErrorKind::OutOfMemory))
 }
 
+/// Writes what the wiring does, or which line of it offends.
+fn tell_run(rt: &HostRuntime, text: &[u8]) -> io::Result<()>
+    requires { length text.now ≤ 1048576 }
+{
+    match run_text(rt.alloc(), text) {
+        Ok(written) => rt.stdout().write_all(written.as_slice()),
+        Err(why) => println!(rt; "{why}"),
+    }
+}
+
+/// Writes what is found of a history.
+fn tell_judgement(rt: &HostRuntime, wiring: &Wiring, text: &[u8]) -> io::Result<()>
+    requires { length text.now ≤ 33554432 }
+{
+    match judge_text(rt.alloc(), wiring, text) {
+        Ok(found) => println!(rt; "{found:?}"),
+        Err(why) => println!(rt; "{why}"),
+    }
+}
+
+/// Writes what is visible of these turns of posters.
+fn tell_turns(rt: &HostRuntime, wiring: &Wiring, turns: &[u32]) -> io::Result<()> {
+    match memory(follow(rt.alloc(), wiring, 0, turns))? {
+        Some(seen) => {
+            let written = memory(write_history(rt.alloc(), wiring, &seen))?;
+            rt.stdout().write_all(written.as_slice())
+        }
+        None => println!(rt; "a turn of no actor"),
+    }
+}
+
+/// Judges a whole history of the wiring, one that stops early, and one with a wrong value.
+fn tell_judgements(rt: &HostRuntime, wiring: &Wiring) -> io::Result<()> {
+    tell_judgement(
+        rt,
+        wiring,
+        b"history 1\npost s0.0 range 250\npost s0.1 range 40\npost s1.0 command 5\nfire t2.0 pair s0.1 s1.0\nput t2.0\nstart t2.0 2\nend t2.0 done\nreport 1\n",
+    )?;
+    tell_judgement(rt, wiring, b"history 1\npost s0.0 range 250\nreport 1\n")?;
+    tell_judgement(rt, wiring, b"history 1\npost s0.0 range 9\nreport 1\n")
+}
+
+/// Judges histories of the wiring, and follows turns of its posters.
+fn tell_more(rt: &HostRuntime, wiring: &Wiring) -> io::Result<()> {
+    tell_judgements(rt, wiring)?;
+    tell_turns(rt, wiring, &[1, 0, 0, 0, 0, 0, 0, 0, 0, 0, 0, 0, 0, 0])
+}
+
 fn main(rt: HostRuntime) -> io::Result<()> {
     let alloc = rt.alloc();
+    let text = io::read_to_string(alloc, rt.stdin())?;
+    if text.len() > 1048576 {
+        return Ok(());
+    }
+    tell_run(&rt, text.as_bytes())?;
+    if let Ok(wiring) = read_wiring(alloc, text.as_bytes()) {
+        tell_more(&rt, &wiring)?;
+    }
     let (fits, too_many) = (
         memory(code_of_count(alloc, 1))?,
         memory(code_of_count(alloc, 1001))?,

@@ -8,6 +8,3 @@ mod standing;
 
 pub use laws::generated_wirings_never_shed;
 pub use making::generate;
-
-#[cfg(test)]
-mod tests;

@@ -1,5 +1,5 @@
 -- What a source and a sink in memory are.
-use Rattle.std.specs.Prelude.{ℕ, ◌+◌, ◌-◌, ◌^◌, min, ◌==◌, Bool, List}
+use Rattle.std.specs.Prelude.{ℕ, ◌+◌, ◌-◌, ◌^◌, min, ◌==◌, Bool, List, Option, Some, None, if◌then◌else◌}
 use Rattle.std.specs.List.{list_any}
 
 -- the bytes still to come, the numbers of the calls that fail, and how many calls were made and failed
@@ -16,6 +16,20 @@ pub record SinkState : Type 0 where
   pub failing : List ℕ
   pub calls : ℕ
   pub faults : ℕ
+
+-- the bytes still to come of a source that never fails
+pub record SureRest : Type 0 where
+  pub rest : List ℕ
+
+-- the bytes that a sink that never fails has kept, how many more it has room for, and whether each byte has found room
+pub record SureState : Type 0 where
+  pub kept : List ℕ
+  pub room : ℕ
+  pub is_whole : Bool
+
+-- what was written is told until a byte has found no room
+abbrev pub told : SureState → Option (List ℕ)
+told sink = if sink.is_whole then Some sink.kept else None
 
 -- whether the call of this number is among those that fail
 abbrev pub is_listed : List ℕ → ℕ → Bool

@@ -5,8 +5,10 @@ mod memory;
 mod sink;
 mod source;
 mod standard;
+mod sure;
 
 pub use memory::{MemorySink, MemorySource};
 pub use sink::{Sink, write_all};
 pub use source::{Failed, ReadEnd, Source, read_all};
 pub use standard::{StdSink, StdSource};
+pub use sure::{SureSink, SureSource};

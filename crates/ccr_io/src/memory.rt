@@ -55,7 +55,7 @@ impl MemorySource {
 }
 
 /// Copies as many bytes as there are and as fit, and answers how many.
-fn copy_front(buf: &mut [u8], bytes: &[u8]) -> usize
+pub fn copy_front(buf: &mut [u8], bytes: &[u8]) -> usize
     ensures count { result ≡ min (length bytes.now) (length buf.old) }
     ensures front { take result buf.new ≡ take result bytes.now }
 {

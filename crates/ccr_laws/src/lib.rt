@@ -20,6 +20,3 @@ pub use interleaves::{
 };
 pub use queues::{earlier_puts_start_earlier, tasks_start_in_the_order_of_their_puts};
 pub use scripts::posters_follow_their_scripts;
-
-#[cfg(test)]
-mod tests;

@@ -27,7 +27,7 @@ use Rattle.ccr_model.proofs.FiringFacts.{firing_named-new, waits_outside}
 use Rattle.ccr_model.proofs.Stable.{firing_named-append}
 use Rattle.ccr_model.proofs.TaskLists.{among_left, among_right, not_more, not_within, of_more, of_one}
 use Rattle.ccr_model.proofs.Booleans.{same_number, eq-self, refuted, no_both}
-use Rattle.ccr_model.proofs.FiredTasks.{IsFired, IsFired-append, fired_has, placement_stays}
+use Rattle.ccr_model.proofs.FiredTasks.{IsFired, fired_has, placement_stays}
 use Rattle.ccr_model.proofs.Members.{Among, Among-left, Among-right, Among-either}
 use Rattle.ccr_model.proofs.Pushes.{firings-push, fired-fire, put-push, cut-push, ever_admitted-push}
 use Rattle.ccr_model.proofs.SameNames.{same_task-is, same_task-self}

@@ -1,12 +1,12 @@
 -- An admission, as a whole step.
-use Rattle.std.proofs.Common.{inl, inr, ◌≡◌, ◌≢◌, ◌≤◌, ◌<◌, ℕ, Bool, true, false, ◌||◌, List, [], ◌∷◌, ◌++◌, Option, option_map, Some, None, refl, sym, arith, ap, ◌∙◌, subst, append-nil}
+use Rattle.std.proofs.Common.{◌≡◌, ◌<◌, ℕ, Bool, true, false, ◌||◌, List, [], ◌∷◌, ◌++◌, Option, option_map, Some, None, refl, sym, arith, ap, ◌∙◌, subst, append-nil}
 use Rattle.std.specs.Prelude.{if◌then◌else◌, slice_get, option_and_then}
 use Rattle.std.proofs.lemmas.Grind.{common_steps}
 use Rattle.ccr_base.specs.declared.names.Place.TheVariants as places
 use Rattle.ccr_base.specs.declared.names.Spot.{Spot}
 use Rattle.ccr_base.specs.declared.names.TaskId.{TaskId}
 use Rattle.ccr_base.specs.declared.tasks.Task.{Task}
-use Rattle.ccr_base.specs.Names.{same_task, has_task}
+use Rattle.ccr_base.specs.Names.{has_task}
 use Rattle.ccr_wiring.specs.declared.parts.ArbiterPart.{ArbiterPart}
 use Rattle.ccr_wiring.specs.declared.parts.Kind.{Kind}
 use Rattle.ccr_wiring.specs.declared.parts.Kind.TheVariants as kinds
@@ -14,7 +14,7 @@ use Rattle.ccr_wiring.specs.declared.parts.Parts.{Parts}
 use Rattle.ccr_model.specs.declared.history.Event.{Event}
 use Rattle.ccr_model.specs.declared.history.Event.TheVariants as events
 use Rattle.ccr_model.specs.Firings.{Firing, fired, put, cut, ever_admitted}
-use Rattle.ccr_model.specs.Posts.{posts, taken}
+use Rattle.ccr_model.specs.Posts.{taken}
 use Rattle.ccr_model.specs.Rules.{needs_no_admission}
 use Rattle.ccr_model.proofs.Booleans.{refuted, no_both, or_right}
 use Rattle.ccr_model.proofs.Cutting.{CutFacts-legal, waits_unput}
@@ -37,7 +37,7 @@ use Rattle.ccr_net.specs.declared.entries.Entry.{Entry}
 use Rattle.ccr_net.specs.Places.{note_at_arbiter, note_by_kind}
 use Rattle.ccr_net.specs.Runs.{Lacks, state_of, port_at, notes_at}
 use Rattle.ccr_net.specs.Views.{view}
-use Rattle.ccr_net.specs.Visible.{visible, event_of}
+use Rattle.ccr_net.specs.Visible.{visible}
 use Rattle.ccr_net.proofs.Pushes.{visible-push, queue_at, Step}
 use Rattle.ccr_net.proofs.Invariant.{IsToPut, puts_in}
 use Rattle.ccr_net.proofs.PortSteps.{PortsMatch-event}

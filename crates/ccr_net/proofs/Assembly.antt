@@ -96,7 +96,7 @@ after_kept : (w : Parts) (h : List Event) (port : ℕ → PortState) (a : ℕ) (
 after_kept w h port a st next new r is (inl one) holds = subst (ActorHolds w h port a) (sym is ∙ sym one) holds
 after_kept w h port a st next new r is (inr one) holds = subst (ActorHolds w h port a) (ap (shorten w a) (sym is) ∙ sym one) (ActorHolds-short w h port a next holds)
 
-next_work : (w : Parts) (a : ℕ) (st new : State) (r : Reply) → IsNextState w a st r new → new.work ≡ (after_in w a st (turn st) r).work
+pub next_work : (w : Parts) (a : ℕ) (st new : State) (r : Reply) → IsNextState w a st r new → new.work ≡ (after_in w a st (turn st) r).work
 next_work w a st new r (inl is) = ap (λ (s : State). s.work) is
 next_work w a st new r (inr is) = ap (λ (s : State). s.work) is
 
@@ -155,7 +155,7 @@ pub record Keeps (w : Parts) (n : ℕ) (lacks : Lacks) (es : List Entry) (e : En
   pub domains : DomainsMatch w h (es ++ e ∷ [])
   pub apart : (a : ℕ) → e.actor ≢ a → (t : TaskId) → has_task (puts_in next.hand) t ≡ true → has_task (puts_in (state_of w lacks es a).hand) t ≡ false
 
-differ : (a b : ℕ) → (a == b) ≡ false → a ≢ b
+pub differ : (a b : ℕ) → (a == b) ≡ false → a ≢ b
 differ a b is same = let k : (a == b) ≡ true = subst (λ r. (a == r) ≡ true) same (eq-self a) in absurd (cc)
 
 pub Holds-kept : (w : Parts) (n : ℕ) (lacks : Lacks) (es : List Entry) (e : Entry) (next : State) (h : List Event) → Holds w n lacks es → Keeps w n lacks es e next h → Holds w n lacks (es ++ e ∷ [])

@@ -1,12 +1,11 @@
 -- What an attempt got is a choice of its pattern; and what others' firings and puts leave.
-use Rattle.std.proofs.Common.{◌⊎◌, inl, inr, ◌≡◌, ◌≢◌, ◌≤◌, ℕ, zero, suc, ◌+◌, ◌-◌, Bool, true, false, ◌&&◌, List, [], ◌∷◌, ◌++◌, length, map, flat_map, take, Option, refl, sym, arith, ap, ◌∙◌, subst, append-nil, length-append}
+use Rattle.std.proofs.Common.{◌⊎◌, inl, inr, ◌≡◌, ◌≢◌, ◌≤◌, ℕ, zero, suc, ◌+◌, ◌-◌, Bool, true, false, ◌&&◌, List, [], ◌∷◌, ◌++◌, length, map, flat_map, take, refl, sym, arith, ap, ◌∙◌, subst, append-nil, length-append}
 use Rattle.std.specs.Prelude.{◌==◌, nat_lt}
 use Rattle.std.proofs.lemmas.Grind.{common_steps}
 use Rattle.std.proofs.lemmas.List.{length-map}
 use Rattle.std.proofs.lemmas.Bool.Decides.{nat_tests}
 use Rattle.ccr_base.specs.declared.messages.Msg.{Msg}
 use Rattle.ccr_base.specs.declared.names.MsgId.{MsgId}
-use Rattle.ccr_base.specs.declared.names.Place.{Place}
 use Rattle.ccr_base.specs.declared.names.Spot.{Spot}
 use Rattle.ccr_base.specs.declared.names.TaskId.{TaskId}
 use Rattle.ccr_base.specs.declared.patterns.Pattern.{Pattern}
@@ -20,22 +19,20 @@ use Rattle.ccr_wiring.specs.declared.parts.Parts.{Parts}
 use Rattle.ccr_model.specs.declared.history.Event.{Event}
 use Rattle.ccr_model.specs.declared.history.Event.TheVariants as events
 use Rattle.ccr_model.specs.Choice.{is_choice_of, are_first, are_split}
-use Rattle.ccr_model.specs.Firings.{fired, put}
+use Rattle.ccr_model.specs.Firings.{fired}
 use Rattle.ccr_model.specs.Posts.{posts, held}
 use Rattle.ccr_model.proofs.Booleans.{or_left, or_right}
 use Rattle.ccr_model.proofs.Members.{Among}
 use Rattle.ccr_model.proofs.PostNames.{AreNamed}
-use Rattle.ccr_model.proofs.Pushes.{fired-fire, put-push}
+use Rattle.ccr_model.proofs.Pushes.{fired-fire}
 use Rattle.ccr_model.proofs.SameNames.{same_task-is, same_message-self}
 use Rattle.ccr_places.specs.Ports.{PortState}
-use Rattle.ccr_claim.specs.declared.asks.Ask.{Ask}
-use Rattle.ccr_claim.specs.declared.asks.Ask.TheVariants as asks
 use Rattle.ccr_claim.specs.declared.plan.Had.{Had}
 use Rattle.ccr_claim.specs.Plans.{had_at, ports_in, in_slots, in_pattern, names_of, sort_slots}
 use Rattle.ccr_claim.specs.declared.asks.Asked.{Asked}
 use Rattle.ccr_claim.specs.Attempts.{had_in}
 use Rattle.ccr_actor.specs.Actors.{State, name_at}
-use Rattle.ccr_net.proofs.Invariant.{PortsMatch, ActorMatches, IsOwed, put_in, puts_in}
+use Rattle.ccr_net.proofs.Invariant.{PortsMatch, ActorMatches, put_in, puts_in}
 use Rattle.ccr_net.proofs.Patterns.{Among-map, Among-mapped, sorted_among, among_sorted, choice_slots, same_lists-self, had_at-is, held_had}
 use Rattle.ccr_net.proofs.Phases.{Fits, slot_had, lower, higher}
 use Rattle.ccr_net.proofs.PlainFacts.{IsEven}

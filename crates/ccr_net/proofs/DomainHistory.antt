@@ -1,16 +1,16 @@
 -- Who waits in a domain of Interleaves after one more event, and who of its roots is left.
-use Rattle.std.proofs.Common.{◌≡◌, ℕ, Bool, true, false, not, ◌&&◌, ◌||◌, List, [], ◌∷◌, ◌++◌, map, filter, flat_map, Option, option_map, Some, None, inl, inr, refl, sym, arith, ap, ◌∙◌, subst, append-nil, append_assoc}
+use Rattle.std.proofs.Common.{◌≡◌, ℕ, Bool, true, false, ◌||◌, List, [], ◌∷◌, ◌++◌, map, filter, flat_map, Option, option_map, Some, None, refl, sym, arith, ap, ◌∙◌, subst, append-nil, append_assoc}
 use Rattle.std.specs.Prelude.{◌==◌, if◌then◌else◌}
 use Rattle.std.specs.List.{list_any}
 use Rattle.std.specs.Option.{option_map_or}
 use Rattle.std.proofs.lemmas.Grind.{common_steps}
 use Rattle.ccr_base.specs.declared.names.MsgId.{MsgId}
 use Rattle.ccr_base.specs.declared.names.Spot.{Spot}
-use Rattle.ccr_base.specs.declared.names.Spot.TheVariants.{Branch, Site}
+use Rattle.ccr_base.specs.declared.names.Spot.TheVariants.{Branch}
 use Rattle.ccr_base.specs.declared.names.TaskId.{TaskId}
 use Rattle.ccr_base.specs.Names.{same_task, has_task, without}
 use Rattle.ccr_wiring.specs.declared.parts.Parts.{Parts}
-use Rattle.ccr_wiring.specs.Wirings.{Placement, placement, branch_of}
+use Rattle.ccr_wiring.specs.Wirings.{Placement}
 use Rattle.ccr_model.specs.declared.history.Event.{Event}
 use Rattle.ccr_model.specs.declared.history.Event.TheVariants as events
 use Rattle.ccr_model.specs.Firings.{Firing, firing_of, firings, firing_named, fired, cut, ever_admitted, admitted_by, last_by, last_segments, spot_of}
@@ -18,21 +18,20 @@ use Rattle.ccr_model.specs.Sites.{root_of}
 use Rattle.ccr_model.specs.Interleaves.{is_placement_in}
 use Rattle.ccr_model.specs.Legal.{IsAllowed, IsLegal}
 use Rattle.ccr_model.specs.Rules.{is_concurrent_task}
-use Rattle.ccr_model.specs.TaskData.{placement_of}
-use Rattle.ccr_model.specs.Tasks.{is_interleave, is_teardown, is_branch_where, fired_by, waiting, admitted, is_over, is_in_arbiter}
+use Rattle.ccr_model.specs.Tasks.{is_interleave, is_branch_where, fired_by, waiting, admitted, is_over, is_in_arbiter}
 use Rattle.ccr_model.proofs.Allowing.{OneName-legal}
 use Rattle.ccr_model.proofs.Alone.{over_stays, lasts_fired, ever_admitted_fired}
 use Rattle.ccr_model.proofs.Booleans.{both, refuted, no_both, same_number, or_left, or_right}
 use Rattle.ccr_model.proofs.Cutting.{fired_by-append, cut_by}
 use Rattle.ccr_model.proofs.FiredTasks.{IsFired, IsFired-append, fired_has, placement_stays}
-use Rattle.ccr_model.proofs.FiringFacts.{FiresSo-allowed, BranchFacts-where, WaitingFacts, WaitingFacts-waiting}
+use Rattle.ccr_model.proofs.FiringFacts.{FiresSo-allowed, BranchFacts-where, WaitingFacts-waiting}
 use Rattle.ccr_model.proofs.LegalParts.{along_legal}
 use Rattle.ccr_model.proofs.Pushes.{firings-push, ever_admitted-push, cut-push, last-push}
 use Rattle.ccr_model.proofs.Roots.{AdmittedFacts-admitted, admitted_whole}
 use Rattle.ccr_model.proofs.SameNames.{same_task-is, same_task-self}
 use Rattle.ccr_model.proofs.Stable.{firing_named-append}
 use Rattle.ccr_model.proofs.TasksLeft.{without_both}
-use Rattle.ccr_model.proofs.TaskLists.{without-append, without_none, of_more, not_more, not_within, of_one}
+use Rattle.ccr_model.proofs.TaskLists.{without-append, without_none, of_more, not_more, not_within}
 
 -- ---- where tasks fired
 

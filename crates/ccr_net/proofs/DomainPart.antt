@@ -1,6 +1,6 @@
 -- What a domain of Interleaves keeps by its notes: its waiting tasks are those of the history, each root that was admitted and
 -- isn't over is among its own, and where no teardown fired by its notes none did.
-use Rattle.std.proofs.Common.{◌≡◌, ◌⊎◌, ◌≤◌, zero, suc, ℕ, ◌+◌, Bool, true, false, not, ◌&&◌, ◌||◌, List, [], ◌∷◌, ◌++◌, length, map, filter, drop, Option, option_map, Some, None, inl, inr, refl, sym, arith, ap, ◌∙◌, subst, append-nil}
+use Rattle.std.proofs.Common.{◌≡◌, ◌⊎◌, zero, suc, ℕ, ◌+◌, Bool, true, false, not, ◌&&◌, ◌||◌, List, [], ◌∷◌, ◌++◌, length, map, filter, Option, option_map, Some, None, inl, inr, refl, sym, arith, ap, ◌∙◌, subst, append-nil}
 use Rattle.std.specs.Prelude.{◌==◌, if◌then◌else◌, slice_get, position, option_and_then, nat_le}
 use Rattle.std.specs.FinSet as set
 use Rattle.std.specs.List.{list_all, prefix_len}
@@ -21,21 +21,20 @@ use Rattle.ccr_wiring.specs.declared.parts.Parts.{Parts}
 use Rattle.ccr_wiring.specs.Wirings.{Placement, placement, placements, branch_of}
 use Rattle.ccr_model.specs.declared.history.Event.{Event}
 use Rattle.ccr_model.specs.declared.history.Event.TheVariants as events
-use Rattle.ccr_model.specs.Firings.{Firing, firing_of, firings, firing_named, fired, cut, put, ever_admitted, admitted_by, spot_of}
+use Rattle.ccr_model.specs.Firings.{Firing, firing_of, firings, fired, cut, ever_admitted, admitted_by, spot_of}
 use Rattle.ccr_model.specs.Interleaves.{is_placement_in}
 use Rattle.ccr_model.specs.Legal.{IsAllowed, IsLegal}
 use Rattle.ccr_model.specs.Live.{is_none_of}
-use Rattle.ccr_model.specs.Rules.{is_concurrent_task, is_oldest_waiting, may_admit, cuts_at, needs_no_admission}
+use Rattle.ccr_model.specs.Rules.{is_concurrent_task, is_oldest_waiting, may_admit, cuts_at}
 use Rattle.ccr_model.specs.TaskData.{placement_of}
 use Rattle.ccr_model.specs.Tasks.{is_interleave, is_teardown, is_concurrent, is_branch_where, fired_by, waiting, admitted, is_over, is_in_arbiter}
 use Rattle.ccr_model.proofs.Allowing.{OneName-legal}
-use Rattle.ccr_model.proofs.Booleans.{both, refuted, no_both, same_number, eq-self, not_true}
-use Rattle.ccr_model.proofs.Cutting.{CutFacts-legal, waits_unput}
-use Rattle.ccr_model.proofs.FiredTasks.{IsFired, fired_has, placement_stays}
+use Rattle.ccr_model.proofs.Booleans.{both, refuted, no_both, same_number, eq-self}
+use Rattle.ccr_model.proofs.FiredTasks.{IsFired, placement_stays}
 use Rattle.ccr_model.proofs.FiringFacts.{firing_named-new, FiresSo-allowed, BranchFacts-where, WaitingFacts, WaitingFacts-waiting}
 use Rattle.ccr_model.proofs.Members.{Among, Among-either}
 use Rattle.ccr_model.proofs.Pushes.{ever_admitted-push}
-use Rattle.ccr_model.proofs.Roots.{AdmittedFacts-admitted, admitted_whole}
+use Rattle.ccr_model.proofs.Roots.{AdmittedFacts-admitted}
 use Rattle.ccr_model.proofs.SameNames.{same_task-is, same_task-self}
 use Rattle.ccr_model.proofs.TasksLeft.{distinct-filter}
 use Rattle.ccr_model.proofs.TaskLists.{without_other, without_first, of_more, of_one, has_oldest}

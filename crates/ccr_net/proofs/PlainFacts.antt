@@ -1,5 +1,5 @@
 -- What valid wirings have, and what their legal histories have.
-use Rattle.std.proofs.Common.{◌⊎◌, inl, inr, ◌≡◌, ◌<◌, ℕ, Bool, true, false, ◌&&◌, List, [], ◌∷◌, ◌++◌, length, filter, Option, Some, None, refl, sym, arith, ◌∙◌, subst, append-nil}
+use Rattle.std.proofs.Common.{◌⊎◌, inl, inr, ◌≡◌, ◌<◌, ℕ, Bool, true, false, ◌&&◌, List, [], ◌∷◌, ◌++◌, length, filter, Some, None, refl, sym, arith, subst, append-nil}
 use Rattle.std.specs.Prelude.{slice_get, ◌==◌, nat_lt}
 use Rattle.std.proofs.lemmas.Grind.{common_steps}
 use Rattle.std.proofs.lemmas.Bool.Decides.{nat_tests}
@@ -7,14 +7,14 @@ use Rattle.ccr_base.specs.declared.messages.Msg.{Msg}
 use Rattle.ccr_base.specs.declared.names.MsgId.{MsgId}
 use Rattle.ccr_base.specs.declared.names.MsgId.TheVariants as names
 use Rattle.ccr_base.specs.declared.names.Spot.{Spot}
-use Rattle.ccr_base.specs.declared.names.Spot.TheVariants.{Branch, Site}
+use Rattle.ccr_base.specs.declared.names.Spot.TheVariants.{Branch}
 use Rattle.ccr_base.specs.declared.names.TaskId.{TaskId}
 use Rattle.ccr_base.specs.declared.patterns.Pattern.{Pattern}
 use Rattle.ccr_base.specs.declared.patterns.Pattern.TheVariants.{Slots, Gather}
 use Rattle.ccr_base.specs.declared.patterns.Slot.{Slot}
 use Rattle.ccr_base.specs.declared.policies.Group.TheVariants as groups
 use Rattle.ccr_base.specs.declared.tasks.Task.{Task}
-use Rattle.ccr_base.specs.Names.{same_task, has_task, same_lists}
+use Rattle.ccr_base.specs.Names.{has_task}
 use Rattle.ccr_handler.specs.declared.segments.PlayEnd.TheVariants as plays
 use Rattle.ccr_wiring.specs.declared.parts.ArbiterPart.{ArbiterPart}
 use Rattle.ccr_wiring.specs.declared.parts.Parts.{Parts}
@@ -22,21 +22,18 @@ use Rattle.ccr_wiring.specs.Groups.{may_have}
 use Rattle.ccr_wiring.specs.Wirings.{Placement, placement, spots, next_site}
 use Rattle.ccr_model.specs.declared.history.Event.{Event}
 use Rattle.ccr_model.specs.declared.history.Event.TheVariants as events
-use Rattle.ccr_model.specs.Firings.{cut, firing_of, started}
+use Rattle.ccr_model.specs.Firings.{started}
 use Rattle.ccr_model.specs.Legal.{IsAllowed, IsLegal}
-use Rattle.ccr_model.specs.Live.{is_live, has_room}
 use Rattle.ccr_model.specs.Posts.{posts, posts_of_task, is_message_of}
-use Rattle.ccr_model.specs.Rules.{is_new, cuts_at, is_play_post, refusal_of_post}
-use Rattle.ccr_model.specs.Choice.{is_choice}
-use Rattle.ccr_model.specs.Tasks.{is_interleave, is_teardown, running}
+use Rattle.ccr_model.specs.Rules.{is_play_post, refusal_of_post}
+use Rattle.ccr_model.specs.Tasks.{is_interleave, running}
 use Rattle.ccr_model.proofs.Booleans.{both}
 use Rattle.ccr_model.proofs.Members.{Among}
 use Rattle.ccr_model.proofs.PostNames.{along, refused_not}
-use Rattle.ccr_model.proofs.Pushes.{cut-push, posts-push, started-push}
+use Rattle.ccr_model.proofs.Pushes.{posts-push, started-push}
 use Rattle.ccr_model.proofs.SameNames.{same_task-is}
 use Rattle.ccr_model.proofs.TasksLeft.{of_without}
 use Rattle.ccr_model.proofs.TaskLists.{among_left}
-use Rattle.ccr_actor.specs.Plans.{is_interleave_number}
 use Rattle.ccr_net.proofs.Phases.{SpotFits}
 use Rattle.ccr_places.specs.Arbiters as arbiters
 use Rattle.ccr_actor.specs.Actors.{play_in}

@@ -27,11 +27,9 @@ use Rattle.ccr_wiring.proofs.Lists.{neither, none_at}
 use Rattle.ccr_wiring.proofs.Positions.{placement-here, placement-later, placement-domain}
 use Rattle.ccr_wiring.proofs.Soundness.{sound}
 use Rattle.ccr_wiring.proofs.Validity.{no_codes}
-use Rattle.ccr_model.specs.Tasks.{is_interleave, is_teardown}
+use Rattle.ccr_model.specs.Tasks.{is_interleave}
 use Rattle.ccr_model.proofs.Booleans.{both}
 use Rattle.ccr_model.proofs.Members.{Among, Among-either}
-use Rattle.ccr_actor.specs.Plans.{is_interleave_number}
-use Rattle.ccr_actor.specs.Plans as plans
 use Rattle.ccr_actor.specs.Actors.{play_in}
 use Rattle.ccr_places.specs.Arbiters as arbiters
 use Rattle.ccr_net.specs.Places.{arbiter_after, branches_before, first_branch, is_once}
@@ -63,7 +61,7 @@ first_placement n (suc i) (a ∷ arbiters) part one at is =
     ap (option_map (λ (s : Placement). s.branch)) (placement-later n a arbiters (length a.branches + branches_before i arbiters) low ∙ ap (slice_get (placements_from (n + 1) arbiters)) rest) ∙ first_placement (n + 1) i arbiters part one at is
 
 -- a receive has one branch
-one_branch : (w : Parts) → IsValid w → (i : ℕ) (part : ArbiterPart) → slice_get w.arbiters i ≡ Some part → part.kind ≡ kinds.Receive → (one : BranchPart) × (part.branches ≡ one ∷ [])
+pub one_branch : (w : Parts) → IsValid w → (i : ℕ) (part : ArbiterPart) → slice_get w.arbiters i ≡ Some part → part.kind ≡ kinds.Receive → (one : BranchPart) × (part.branches ≡ one ∷ [])
 one_branch w valid i part at kind =
     let well : is_misgrouped part ≡ false = none_at is_misgrouped w.arbiters i part (no_codes w valid).groups at in
     let named : is_receive part.kind && not (is_one_named part.name part.branches) ≡ false = (neither (has_strange_group part) _ well).1 in

@@ -71,7 +71,7 @@ IsNextState w a st r next = (next ≡ after w a st r) ⊎ (next ≡ shorten w a 
 all-snoc : (w : Parts) (a : ℕ) (st : State) (rs : List Reply) (r : Reply) → after_all w a st (rs ++ r ∷ []) ≡ after w a (after_all w a st rs) r
 all-snoc w a st rs r = grind (arith, common_steps)
 
-state_after-push : (w : Parts) (a : ℕ) (lack : Option ℕ) (rs : List Reply) (r : Reply) → IsNextState w a (state_after w a lack rs) r (state_after w a lack (rs ++ r ∷ []))
+pub state_after-push : (w : Parts) (a : ℕ) (lack : Option ℕ) (rs : List Reply) (r : Reply) → IsNextState w a (state_after w a lack rs) r (state_after w a lack (rs ++ r ∷ []))
 state_after-push w a None rs r = inl (all-snoc w a (start w a) rs r)
 state_after-push w a (Some n) rs r = by (nat_le n (length rs)) (nat_le n (length (rs ++ r ∷ []))) refl refl
   where

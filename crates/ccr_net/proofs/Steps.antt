@@ -40,7 +40,6 @@ use Rattle.ccr_model.proofs.PostNames.{AreNamed}
 use Rattle.ccr_model.proofs.Pushes.{posts-push, put-push, cut-push}
 use Rattle.ccr_model.proofs.SameNames.{same_task-self}
 use Rattle.ccr_model.proofs.TaskSteps.{queued-fire}
-use Rattle.ccr_model.proofs.FiringFacts.{firing_named-new}
 use Rattle.ccr_model.proofs.FiringPlacements.{firing_with_placement}
 use Rattle.ccr_model.proofs.TaskLists.{without-append, has_oldest, among_left, among_right, not_more, of_one}
 use Rattle.ccr_model.proofs.TaskPlaces.{ArePlaced-legal, QueuedFacts, QueuedFacts-queued}
@@ -51,8 +50,8 @@ use Rattle.ccr_claim.specs.declared.plan.Had.{Had}
 use Rattle.ccr_claim.specs.Plans.{any_slot, had_at, ports_in, in_pattern, names_of}
 use Rattle.ccr_claim.specs.declared.asks.Asked.{Asked}
 use Rattle.ccr_claim.specs.Attempts.{had_in}
-use Rattle.ccr_actor.specs.Plans.{is_interleave_number, pattern_at, one_of, throttled, is_for as is_branch_for}
-use Rattle.ccr_actor.specs.Actors.{State, round, playing, resting, turn, settle, drive, go_on, after_in, name_at, spots_left, fire, begin_play, play_in, after_over, next_round, driving, settled, admit_too, add_arbiter}
+use Rattle.ccr_actor.specs.Plans.{pattern_at, one_of, throttled, is_for as is_branch_for}
+use Rattle.ccr_actor.specs.Actors.{State, round, playing, resting, turn, settle, drive, go_on, after_in, name_at, spots_left, fire, begin_play, play_in, after_over, next_round, driving, settled, admit_too}
 use Rattle.ccr_net.specs.declared.entries.Entry.{Entry}
 use Rattle.ccr_net.specs.Runs.{Lacks, state_of, port_at, notes_at, reply_of, reply_to, waits}
 use Rattle.ccr_net.specs.Views.{view, cut_view, queue_of}
@@ -65,10 +64,10 @@ use Rattle.ccr_net.proofs.ActorSteps.{ActorMatches-fire, ActorMatches-over, unfi
 use Rattle.ccr_net.proofs.Patterns.{touched, taken_there, found_member, had_at-is, held_had}
 use Rattle.ccr_net.proofs.SitePart.{SitesMatch, SitesMatch-other, SitesMatch-suspend}
 use Rattle.ccr_net.proofs.ArbiterPart.{ArbitersMatch-push, FiresAlike, FiresAlike-other}
-use Rattle.ccr_net.proofs.QueuePart.{QueuesMatch-event, QueuesMatch-put, QueuesMatch-take, QueueChanges, Drops, drops_none, drops_first, drops, drop_at-note, queued-other, new_unput, Takes, task_queued}
+use Rattle.ccr_net.proofs.QueuePart.{QueuesMatch-event, QueuesMatch-put, QueuesMatch-take, QueueChanges, drop_at-note, queued-other, new_unput, Takes, task_queued}
 use Rattle.ccr_net.proofs.RoomPart.{QueuesHold-event, BookingsMatch-event, BookingsMatch-fire, BookingsMatch-put, BookingsMatch-take, IsBooked, IsBookedAt-stays, Stays, Stays-note, Stays-put, is_for}
 use Rattle.ccr_net.proofs.Starts.{starts, running_by-push, AreStarted-legal}
-use Rattle.ccr_net.proofs.WorkPart.{WorkMatches, WorkMatches-same, SaysSame, RunsTask, Idle, view-stays, quiet_says, start_says, end_says, running_by-end}
+use Rattle.ccr_net.proofs.WorkPart.{WorkMatches, WorkMatches-same, SaysSame, RunsTask, Idle, quiet_says, start_says, end_says, running_by-end}
 use Rattle.ccr_net.proofs.MeterPart.{MeterMatches-quiet, is_posting, is_shedding}
 use Rattle.ccr_net.proofs.Phases.{SpotFits, Fits, slot_had}
 use Rattle.ccr_net.proofs.Assembly.{ActorHolds, Holds, Holds-kept, is_port_place, is_queue_place, is_meter_place, meter_at, works_of, queue_changes, same_under_way, same_stays, same_ports, same_queues, same_meter, hand_settles}

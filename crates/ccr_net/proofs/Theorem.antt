@@ -2,12 +2,12 @@
 use Rattle.std.proofs.Common.{◌≡◌, ◌≤◌, ◌<◌, ℕ, List, [], ◌∷◌, ◌++◌, Some, refl, subst}
 use Rattle.ccr_wiring.specs.declared.parts.Parts.{Parts}
 use Rattle.ccr_model.specs.declared.history.Event.{Event}
-use Rattle.ccr_actor.specs.Actors.{State, Turn, settle, admit, drive, go_on, stop, turn, ask_in, spots_left}
+use Rattle.ccr_actor.specs.Actors.{State, Turn, settle, admit, drive, go_on, stop, turn, ask_in}
 use Rattle.ccr_net.specs.declared.entries.Entry.{Entry}
 use Rattle.ccr_net.specs.Runs.{Lacks, state_of, port_at}
 use Rattle.ccr_net.specs.Visible.{visible}
 use Rattle.ccr_net.proofs.Pushes.{Step}
-use Rattle.ccr_net.proofs.Assembly.{ActorHolds, Holds, arbiters_admit}
+use Rattle.ccr_net.proofs.Assembly.{ActorHolds, Holds}
 use Rattle.ccr_net.proofs.PlainFacts.{PlainFacts}
 use Rattle.ccr_net.proofs.Noted.{no_some}
 use Rattle.ccr_net.proofs.Driving.{settle_kept, drive_kept}

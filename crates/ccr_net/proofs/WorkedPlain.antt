@@ -1,9 +1,6 @@
 -- The history of the run in which a worker takes is legal by the theorem too.
 use Rattle.std.proofs.Common.{arith}
-use Rattle.std.specs.Option.{option_map_or}
-use Rattle.ccr_wiring.specs.Wirings.{Placement, placement}
 use Rattle.ccr_model.specs.Legal.{IsLegal}
-use Rattle.ccr_model.specs.Tasks.{is_interleave}
 use Rattle.ccr_net.specs.Visible.{visible}
 use Rattle.ccr_net.proofs.Refines.{visible_legal}
 use Rattle.ccr_net.proofs.WorkedTaker.{net, run, is_run, is_valid}

@@ -1,6 +1,5 @@
 -- A throttle queue with room for one: a poster's second firing finds it full, and the worker that takes the task drives the branch. Thirteen steps.
-use Rattle.std.proofs.Common.{◌≡◌, ℕ, zero, suc, false, List, [], ◌∷◌, take, Option, Some, None, refl, sym, ap, arith}
-use Rattle.std.specs.Option.{option_map_or}
+use Rattle.std.proofs.Common.{◌≡◌, false, List, [], ◌∷◌, take, Some, None, refl, arith}
 use Rattle.ccr_base.specs.declared.names.MsgId.TheVariants.{Script}
 use Rattle.ccr_base.specs.declared.names.Place.TheVariants as places
 use Rattle.ccr_base.specs.declared.names.Spot.TheVariants.{Branch}
@@ -11,10 +10,8 @@ use Rattle.ccr_wiring.specs.declared.parts.Parts.{Parts}
 use Rattle.ccr_wiring.specs.declared.parts.Kind.TheVariants as kinds
 use Rattle.ccr_wiring.specs.Codes.{code_of}
 use Rattle.ccr_wiring.specs.Valid.{IsValid}
-use Rattle.ccr_wiring.specs.Wirings.{Placement, placement}
 use Rattle.ccr_model.specs.declared.history.Event.TheVariants.{Post, Fire, Put, Start}
 use Rattle.ccr_model.specs.Legal.{IsLegal, first_refusal}
-use Rattle.ccr_model.specs.Tasks.{is_interleave}
 use Rattle.ccr_places.specs.declared.notes.Note.TheVariants as notes
 use Rattle.ccr_places.specs.declared.notes.ClaimNote.TheVariants.{Got}
 use Rattle.ccr_net.specs.declared.entries.Entry.{Entry}

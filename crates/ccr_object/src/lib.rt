@@ -12,6 +12,3 @@ pub use making::place_objects;
 pub use numbers::Numbers;
 pub use object::{Object, PlaceObject, Placed};
 pub use starting::{object_at, places_of};
-
-#[cfg(test)]
-mod tests;

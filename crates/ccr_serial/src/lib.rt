@@ -31,6 +31,3 @@ pub use ready_laws::{
     the_least_is_put_first,
 };
 pub use serial::{Serial, Stepped};
-
-#[cfg(test)]
-mod tests;

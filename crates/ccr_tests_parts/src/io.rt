@@ -4,8 +4,8 @@ ghost use Rattle.std.specs.Prelude.{◌≡◌, IfOk};
 
 use ccr_base::List;
 use ccr_io::{
-    Failed, MemorySink, MemorySource, ReadEnd, Sink, Source, StdSink, StdSource, read_all,
-    write_all,
+    Failed, MemorySink, MemorySource, ReadEnd, Sink, Source, StdSink, StdSource, SureSink,
+    SureSource, read_all, write_all,
 };
 use std::alloc::Global;
 use std::io;
@@ -64,6 +64,25 @@ fn writes_until_a_call_fails(rt: HostRuntime) {
         let mut sink = MemorySink::new(rt.alloc(), room, failing).expect(&rt, "memory");
         assert_eq!(rt; write_all(&mut sink, b"tea 95\n"), want, "room {room}");
         assert_eq!(rt; sink.written(), written, "room {room}");
+    }
+}
+
+#[test]
+fn sure_streams_never_fail(rt: HostRuntime) {
+    let bytes = b"tea 95\n".to_vec(rt.alloc()).expect(&rt, "memory");
+    let mut source = SureSource::new(List::from_vec(bytes));
+    let read = read_all(rt.alloc(), &mut source, 9);
+    assert_eq!(rt; read.map(|bytes| bytes.as_slice().len()), Ok(7));
+    assert_eq!(rt; source.rest().len(), 0);
+    for (room, is_whole, kept) in [
+        (7, true, b"tea 95\n".as_slice()),
+        (3, false, b"tea".as_slice()),
+        (0, false, b"".as_slice()),
+    ] {
+        let mut sink = SureSink::new(rt.alloc(), room).expect(&rt, "memory");
+        assert_eq!(rt; write_all(&mut sink, b"tea 95\n"), Ok(()), "room {room}");
+        assert_eq!(rt; sink.is_whole(), is_whole, "room {room}");
+        assert_eq!(rt; sink.kept(), kept, "room {room}");
     }
 }
 

@@ -31,6 +31,3 @@ pub use references::is_interleave;
 pub use repeats::are_apart;
 pub use unfit::Unfit;
 pub use wiring::Wiring;
-
-#[cfg(test)]
-mod tests;

@@ -67,9 +67,9 @@ bad_meaning workers g t is bad = ap (λ o. option_and_then (λ w. request_of w o
     go : (o : Option Text) → option_and_then (λ w. request_of w (Some t) (text_of size g) (has schedule g) (has json g)) o ≡ None
     go None = refl
     go (Some w) = table-none (bytes_eq w (codes "check")) (bytes_eq w (codes "run")) (bytes_eq w (codes "verify")) (bytes_eq w (codes "load")) _ _ _ _ refl
-        (cond_none (is_some (text_of size g) || has schedule g) _ (ap (option_map (λ (n : ℕ). Read Run (has json g))) (number-bad 0 0 t bad)))
+        (cond_none (is_some (text_of size g)) _ (ap (option_map (λ (n : ℕ). Read (Run n (has schedule g)) (has json g))) (number-bad 0 16 t bad)))
         refl
-        (cond_none (has schedule g) _ (ap (λ o. load_of o (number_or 1000 1 10000 (text_of size g)) (has json g)) (number-bad 0 0 t bad)))
+        (cond_none (has schedule g) _ (ap (λ o. load_of o (number_or 1000 1 10000 (text_of size g)) (has json g)) (number-bad 0 16 t bad)))
 bad_meaning size g t is bad = ap (λ o. option_and_then (λ w. request_of w (text_of workers g) o (has schedule g) (has json g)) (text_of word g)) is ∙ go (text_of word g)
   where
     go : (o : Option Text) → option_and_then (λ w. request_of w (text_of workers g) (Some t) (has schedule g) (has json g)) o ≡ None
@@ -78,7 +78,7 @@ bad_meaning size g t is bad = ap (λ o. option_and_then (λ w. request_of w (tex
         (check_none (is_some (text_of workers g)) (has schedule g) _)
         refl
         (check_none (is_some (text_of workers g)) (has schedule g || has json g) _)
-        (cond_none (has schedule g) _ (ap (λ o. load_of (number_or 0 0 0 (text_of workers g)) o (has json g)) (number-bad 1 10000 t bad) ∙ load_none (number_or 0 0 0 (text_of workers g)) (has json g)))
+        (cond_none (has schedule g) _ (ap (λ o. load_of (number_or 0 0 16 (text_of workers g)) o (has json g)) (number-bad 1 10000 t bad) ∙ load_none (number_or 0 0 16 (text_of workers g)) (has json g)))
 bad_meaning schedule g t is bad = absurd (cc)
 bad_meaning json g t is bad = absurd (cc)
 

@@ -8,6 +8,7 @@ use Rattle.ccr_words.specs.Parts.{Given, Text, has, text_of}
 use Rattle.ccr_words.specs.Parts as part
 use Rattle.ccr_words.specs.declared.requests.Request.{Request}
 use Rattle.ccr_words.specs.declared.requests.Request.TheVariants.{Read, Load}
+use Rattle.ccr_words.specs.declared.requests.Command.{Command}
 use Rattle.ccr_words.specs.declared.requests.Command.TheVariants.{Check, Run, Verify}
 
 -- decimal digits, and at least one
@@ -28,26 +29,32 @@ number_or default low high (Some text) = number low high text
 abbrev pub check_request : Option Text → Option Text → Bool → Bool → Option Request
 check_request workers size schedule json = if is_some workers || (is_some size || schedule) then None else Some (Read Check json)
 
--- `run` may have --workers, which is 0, and --json
+-- `run` may have --workers from 0 to 16, else 4, --schedule and --json
 abbrev pub run_request : Option Text → Option Text → Bool → Bool → Option Request
-run_request workers size schedule json = if is_some size || schedule then None else option_map (λ n. Read Run json) (number_or 0 0 0 workers)
+run_request workers size schedule json = if is_some size then None else option_map (λ n. Read (Run n schedule) json) (number_or 4 0 16 workers)
 
 -- `verify` has no option
 abbrev pub verify_request : Option Text → Option Text → Bool → Bool → Option Request
 verify_request workers size schedule json = if is_some workers || (is_some size || (schedule || json)) then None else Some (Read Verify false)
 
 abbrev pub load_of : Option ℕ → Option ℕ → Bool → Option Request
-load_of (Some workers) (Some size) json = Some (Load size json)
+load_of (Some workers) (Some size) json = Some (Load size workers json)
 load_of _ _ json = None
 
--- `load` may have --workers, which is 0, --size from 1 to 10,000, else 1,000, and --json
+-- `load` may have --workers from 0 to 16, else 0, --size from 1 to 10,000, else 1,000, and --json
 abbrev pub load_request : Option Text → Option Text → Bool → Bool → Option Request
-load_request workers size schedule json = if schedule then None else load_of (number_or 0 0 0 workers) (number_or 1000 1 10000 size) json
+load_request workers size schedule json = if schedule then None else load_of (number_or 0 0 16 workers) (number_or 1000 1 10000 size) json
 
--- a load is of 1 to 10,000 posts
-abbrev pub IsSized : Request → Type 0
-IsSized (Load size json) = (0 < size) × (size ≤ 10000)
-IsSized (Read command json) = Unit {0}
+-- a run has at most 16 workers
+abbrev pub HasFewWorkers : Command → Type 0
+HasFewWorkers Check = Unit {0}
+HasFewWorkers (Run workers schedule) = workers ≤ 16
+HasFewWorkers Verify = Unit {0}
+
+-- a load is of 1 to 10,000 posts and has at most 16 workers, and so has a run
+abbrev pub IsWithin : Request → Type 0
+IsWithin (Load size workers json) = ((0 < size) × (size ≤ 10000)) × (workers ≤ 16)
+IsWithin (Read command json) = HasFewWorkers command
 
 -- the word with the options that were given
 abbrev pub request_of : Text → Option Text → Option Text → Bool → Bool → Option Request

@@ -3,7 +3,7 @@
 ghost use Rattle.std.specs.Prelude.{◌≡◌, ◌≤◌, IfSome, option_map};
 ghost use Rattle.std.specs.List.{list_all};
 ghost use Rattle.std.specs.Char.{is_ascii_digit};
-ghost use Rattle.ccr_words.specs.Table.{is_number, number, number_or, check_request, run_request, verify_request, load_request, request_of, IsSized};
+ghost use Rattle.ccr_words.specs.Table.{is_number, number, number_or, check_request, run_request, verify_request, load_request, request_of, IsWithin};
 
 use crate::requests::{Command, Request};
 
@@ -51,7 +51,7 @@ fn check_request(
     json: bool,
 ) -> Option<Request>
     ensures request { result ≡ check_request (option_map (λ t. t.now) workers.entry) (option_map (λ t. t.now) size.entry) schedule json }
-    ensures sized { IfSome result IsSized }
+    ensures within { IfSome result IsWithin }
 {
     if workers.is_some() || size.is_some() || schedule {
         return None;
@@ -69,14 +69,14 @@ fn run_request(
     json: bool,
 ) -> Option<Request>
     ensures request { result ≡ run_request (option_map (λ t. t.now) workers.entry) (option_map (λ t. t.now) size.entry) schedule json }
-    ensures sized { IfSome result IsSized }
+    ensures within { IfSome result IsWithin }
 {
-    if size.is_some() || schedule {
+    if size.is_some() {
         return None;
     }
-    match number_or(workers, 0, 0, 0) {
-        Some(_) => Some(Request::Read {
-            command: Command::Run,
+    match number_or(workers, 4, 0, 16) {
+        Some(workers) => Some(Request::Read {
+            command: Command::Run { workers, schedule },
             json,
         }),
         None => None,
@@ -90,7 +90,7 @@ fn verify_request(
     json: bool,
 ) -> Option<Request>
     ensures request { result ≡ verify_request (option_map (λ t. t.now) workers.entry) (option_map (λ t. t.now) size.entry) schedule json }
-    ensures sized { IfSome result IsSized }
+    ensures within { IfSome result IsWithin }
 {
     if workers.is_some() || size.is_some() || schedule || json {
         return None;
@@ -108,16 +108,20 @@ fn load_request(
     json: bool,
 ) -> Option<Request>
     ensures request { result ≡ load_request (option_map (λ t. t.now) workers.entry) (option_map (λ t. t.now) size.entry) schedule json }
-    ensures sized { IfSome result IsSized }
+    ensures within { IfSome result IsWithin }
 {
     if schedule {
         return None;
     }
     match (
-        number_or(workers, 0, 0, 0),
+        number_or(workers, 0, 0, 16),
         number_or(size, 1000, 1, 10_000),
     ) {
-        (Some(_), Some(size)) => Some(Request::Load { size, json }),
+        (Some(workers), Some(size)) => Some(Request::Load {
+            size,
+            workers,
+            json,
+        }),
         _ => None,
     }
 }
@@ -131,7 +135,7 @@ pub fn request_of(
     json: bool,
 ) -> Option<Request>
     ensures request { result ≡ request_of word.now (option_map (λ t. t.now) workers.entry) (option_map (λ t. t.now) size.entry) schedule json }
-    ensures sized { IfSome result IsSized }
+    ensures within { IfSome result IsWithin }
 {
     if word == "check" {
         check_request(workers, size, schedule, json)

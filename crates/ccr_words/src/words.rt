@@ -2,7 +2,7 @@
 
 ghost use Rattle.std.specs.Prelude.{◌≡◌, IfOk, IfSome};
 ghost use Rattle.ccr_words.specs.Parts.{Given};
-ghost use Rattle.ccr_words.specs.Table.{meaning, IsSized};
+ghost use Rattle.ccr_words.specs.Table.{meaning, IsWithin};
 ghost use Rattle.ccr_words.specs.Said.{asked_for};
 ghost use Rattle.ccr_words.specs.Parsing.{HasGiven};
 
@@ -16,7 +16,7 @@ use std::alloc::Global;
 /// What the matches ask for.
 fn request_of_matches(matches: &ArgMatches) -> Option<Request>
     ensures request { (given : Given) → HasGiven matches.now given → result ≡ meaning given }
-    ensures sized { IfSome result IsSized }
+    ensures within { IfSome result IsWithin }
 {
     let workers = matches.get_str("workers");
     let size = matches.get_str("size");
@@ -32,7 +32,7 @@ fn request_of_matches(matches: &ArgMatches) -> Option<Request>
 #[tactic(auto, using(crate::proofs::Same::same_said))]
 pub fn read_words(alloc: Global, words: &[Name]) -> Result<Option<Request>, OutOfMemory>
     ensures asked_for { IfOk result (λ request. request ≡ asked_for words.now) }
-    ensures sized { IfOk result (λ request. IfSome request IsSized) }
+    ensures within { IfOk result (λ request. IfSome request IsWithin) }
 {
     match texts_of(alloc, words)? {
         Some(texts) => match matches_of(alloc, texts.as_slice())? {

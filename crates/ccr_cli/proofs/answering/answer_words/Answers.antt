@@ -22,5 +22,5 @@ returns-clause-faulty g c = λ json is verified. fault_status json c.args.words.
     (due_said c.in_ok-request.request c.args.words.now (g.S.Source.rest c.args.source.now) c.in_ok-answer.answer.status c.in_ok-answer.answer.text c.in_ok-request.ensures.asked_for c.in_ok-answer.ensures.due) is verified
 
 pub returns-clause-loaded : goal.returns-clause-loaded
-returns-clause-loaded g c = λ size json is. load_status size json c.args.words.now (g.S.Source.rest c.args.source.now) c.in_ok-answer.answer.status c.in_ok-answer.answer.text
+returns-clause-loaded g c = λ size workers json is. load_status size workers json c.args.words.now (g.S.Source.rest c.args.source.now) c.in_ok-answer.answer.status c.in_ok-answer.answer.text
     (due_said c.in_ok-request.request c.args.words.now (g.S.Source.rest c.args.source.now) c.in_ok-answer.answer.status c.in_ok-answer.answer.text c.in_ok-request.ensures.asked_for c.in_ok-answer.ensures.due) is

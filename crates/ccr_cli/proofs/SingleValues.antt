@@ -1,0 +1,289 @@
+-- In a wiring of version 1 each value of a legal history is one number at most.
+use Rattle.std.proofs.Common.{◌⊎◌, inl, inr, ◌≡◌, ℕ, zero, suc, ◌≤◌, Bool, true, false, ◌&&◌, List, [], ◌∷◌, ◌++◌, length, map, Option, Some, None, refl, sym, ap, subst, arith}
+use Rattle.std.specs.Prelude.{◌==◌, if◌then◌else◌, find, nat_eq, nat_lt, nat_le, option_map, option_to_list, slice_get, unwrap_or}
+use Rattle.std.specs.Cmp.Lexicographic.{pointwise}
+use Rattle.std.specs.List.{cons_option, list_any, range_with_len}
+use Rattle.std.specs.Option.{option_and_then, option_map_or}
+use Rattle.std.proofs.lemmas.Bool.Decides.{nat_tests}
+use Rattle.std.proofs.lemmas.List.{length-map}
+use Rattle.std.proofs.lemmas.List.FromFn.{length-range_with_len}
+use Rattle.ccr_base.specs.declared.handlers.Action.{Action}
+use Rattle.ccr_base.specs.declared.handlers.Action.TheVariants as actions
+use Rattle.ccr_base.specs.declared.handlers.Expr.{Expr}
+use Rattle.ccr_base.specs.declared.handlers.Expr.TheVariants.{Number, Arg, Part, Sum, Count}
+use Rattle.ccr_base.specs.declared.messages.Msg.{Msg}
+use Rattle.ccr_base.specs.declared.messages.Sent.{Sent}
+use Rattle.ccr_base.specs.declared.names.MsgId.{MsgId}
+use Rattle.ccr_base.specs.declared.names.MsgId.TheVariants as names
+use Rattle.ccr_base.specs.declared.names.Spot.{Spot}
+use Rattle.ccr_base.specs.declared.names.Spot.TheVariants.{Site}
+use Rattle.ccr_base.specs.declared.names.TaskId.{TaskId}
+use Rattle.ccr_base.specs.Names.{has_task, same_lists, same_message}
+use Rattle.ccr_base.specs.Values.{same_value, value_of_numbers}
+use Rattle.ccr_cause.specs.Causes.{with_cause, without_cause}
+use Rattle.ccr_handler.specs.declared.segments.Play.{Play}
+use Rattle.ccr_handler.specs.declared.segments.PlayEnd.{PlayEnd}
+use Rattle.ccr_handler.specs.declared.segments.PlayEnd.TheVariants as plays
+use Rattle.ccr_handler.specs.Evaluating.{longest, sum_at, sum_of, value_of}
+use Rattle.ccr_handler.specs.Playing.{actions_from, after_await, exceptions, is_await, play}
+use Rattle.ccr_wiring.specs.declared.parts.HandlerPart.{HandlerPart}
+use Rattle.ccr_wiring.specs.declared.parts.Parts.{Parts}
+use Rattle.ccr_wiring.specs.declared.parts.PosterPart.{PosterPart}
+use Rattle.ccr_wiring.specs.Versions.{action_is_newer, expr_is_newer, handler_is_newer, is_long, is_newer, poster_is_newer}
+use Rattle.ccr_wiring.specs.Wirings.{Placement, actions_of, branch_of, exception_port, placement, segment_of}
+use Rattle.ccr_wiring.proofs.Lists.{none_at}
+use Rattle.ccr_model.specs.declared.history.Event.{Event}
+use Rattle.ccr_model.specs.declared.history.Event.TheVariants as events
+use Rattle.ccr_model.specs.Firings.{Firing, firing_named, spot_of}
+use Rattle.ccr_model.specs.Legal.{IsAllowed, IsLegal}
+use Rattle.ccr_model.specs.Posts.{message_named, messages_named, post_of, posts, posts_of_poster, posts_of_task}
+use Rattle.ccr_model.specs.Rules.{is_play_post, is_post, is_script_line, refusal_of_post}
+use Rattle.ccr_model.specs.Sites.{before, is_firing_of, resumed}
+use Rattle.ccr_model.specs.TaskData.{Load, actions_at, load_after, load_at, messages_of, no_load, no_play, play_at, play_of, with_messages}
+use Rattle.ccr_model.specs.Tasks.{running}
+use Rattle.ccr_model.proofs.Booleans.{both, neither}
+use Rattle.ccr_model.proofs.Members.{Among, Among-at, Among-either, Among-left, Among-right}
+use Rattle.ccr_model.proofs.Options.{some_of, some_then}
+use Rattle.ccr_model.proofs.PostNames.{along, refused_not}
+use Rattle.ccr_model.proofs.Pushes.{posts-push}
+
+-- one number at most
+abbrev pub IsSingle : List ℕ → Type 0
+IsSingle value = length value ≤ 1
+
+abbrev AreSingle : List (List ℕ) → Type 0
+AreSingle values = (value : List ℕ) → Among value values → IsSingle value
+
+not_long : (value : List ℕ) → is_long value ≡ false → IsSingle value
+not_long value none = grind (arith, nat_tests, none)
+
+-- the same value has as many numbers
+pub same_value-length : (value other : List ℕ) → same_value value other ≡ true → length value ≡ length other
+same_value-length [] [] is = refl
+same_value-length [] (n ∷ other) is = absurd cc
+same_value-length (n ∷ value) [] is = absurd cc
+same_value-length (n ∷ value) (m ∷ other) is = ap suc (same_value-length value other (both (nat_eq n m) (pointwise nat_eq value other) is).1)
+
+pub same_single : (value other : List ℕ) → same_value value other ≡ true → IsSingle other → IsSingle value
+same_single value other is single = omega (arith, same_value-length value other is, single)
+
+-- ---- expressions
+
+longest_single : (values : List (List ℕ)) → AreSingle values → longest values ≤ 1
+longest_single [] single = omega arith
+longest_single (value ∷ values) single = omega (arith, single value (inl refl), longest_single values (λ v there. single v (inr there)))
+
+or_zero : (numbers : List ℕ) → IsSingle numbers → IsSingle (unwrap_or (value_of_numbers numbers) (0 ∷ []))
+or_zero numbers single = by (nat_lt 0 (length numbers) && nat_le (length numbers) 8)
+  where
+    by : (b : Bool) → IsSingle (unwrap_or (if b then Some numbers else None) (0 ∷ []))
+    by true = single
+    by false = omega arith
+
+sum_single : (values : List (List ℕ)) → AreSingle values → IsSingle (sum_of values)
+sum_single values single =
+    or_zero (map (sum_at values) (range_with_len 0 (longest values)))
+    (omega (arith, length-map (range_with_len 0 (longest values)) (sum_at values), length-range_with_len 0 (longest values), longest_single values single))
+
+value_single : (expr : Expr) (values : List (List ℕ)) → expr_is_newer expr ≡ false → AreSingle values → IsSingle (value_of expr values)
+value_single (Number value) values none single = not_long value none
+value_single (Arg k) values none single = by (slice_get values k) refl
+  where
+    by : (o : Option (List ℕ)) → slice_get values k ≡ o → IsSingle (unwrap_or o (0 ∷ []))
+    by None at = omega arith
+    by (Some value) at = single value (Among-at values k value at)
+value_single (Part k place) values none single = omega arith
+value_single Sum values none single = sum_single values single
+value_single Count values none single = omega arith
+
+-- ---- plays
+
+pub record IsPlaySingle (p : Play) : Type 0 where
+  pub posts : (sent : Sent) → Among sent p.posts → IsSingle sent.value
+  pub end : (value : List ℕ) → p.end ≡ plays.Failed value → IsSingle value
+
+no_failure : (end : PlayEnd) (value : List ℕ) → end ≡ plays.Done → end ≡ plays.Failed value → ⊥
+no_failure end value done failed = cc
+
+no_failure_at : (end : PlayEnd) (site : ℕ) (value : List ℕ) → end ≡ plays.Yield site → end ≡ plays.Failed value → ⊥
+no_failure_at end site value yields failed = cc
+
+failed_with : (value other : List ℕ) → plays.Failed value ≡ plays.Failed other → value ≡ other
+failed_with value other is = cc
+
+-- nothing of version 2 stands in the handlers and scripts
+module _ (w : Parts) (none : is_newer w ≡ false) where
+  exceptions_single : (value : List ℕ) (causes : List ℕ) → IsSingle value → (sent : Sent) → Among sent (exceptions (exception_port w) value causes) → IsSingle sent.value
+  exceptions_single value [] single sent is = absurd is
+  exceptions_single value (c ∷ causes) single sent is = of (Among-either sent (option_to_list (option_map (λ port. record { port = port; value = value; causes = [] }) (exception_port w c))) (exceptions (exception_port w) value causes) is) (exceptions_single value causes single sent)
+    where
+      one : (o : Option ℕ) → Among sent (option_to_list (option_map (λ port. record { port = port; value = value; causes = [] }) o)) → IsSingle sent.value
+      one None there = absurd there
+      one (Some port) (inl e) = subst (λ (s : Sent). IsSingle s.value) (sym e) single
+      one (Some port) (inr there) = absurd there
+
+      of : Among sent (option_to_list (option_map (λ port. record { port = port; value = value; causes = [] }) (exception_port w c))) ⊎ Among sent (exceptions (exception_port w) value causes) → (Among sent (exceptions (exception_port w) value causes) → IsSingle sent.value) → IsSingle sent.value
+      of (inl here) rest = one (exception_port w c) here
+      of (inr later) rest = rest later
+
+  play_single : (values : List (List ℕ)) (site : ℕ) (causes : List ℕ) (acts : List Action) → list_any action_is_newer acts ≡ false → AreSingle values → IsPlaySingle (play (exception_port w) values site causes acts)
+  play_single values site causes [] old single = record { posts = λ sent is. absurd is; end = λ value is. absurd (no_failure plays.Done value refl is) }
+  play_single values site causes (actions.Post port expr ∷ acts) old single =
+      let two = neither (expr_is_newer expr) (list_any action_is_newer acts) old in
+      let rest = play_single values site causes acts two.1 single in
+      record { posts = λ sent is. of sent rest (value_single expr values two.0 single) is; end = rest.end }
+    where
+      of : (sent : Sent) → IsPlaySingle (play (exception_port w) values site causes acts) → IsSingle (value_of expr values) → Among sent (record { port = port; value = value_of expr values; causes = causes } ∷ (play (exception_port w) values site causes acts).posts) → IsSingle sent.value
+      of sent rest first (inl e) = subst (λ (s : Sent). IsSingle s.value) (sym e) first
+      of sent rest first (inr is) = rest.posts sent is
+  play_single values site causes (actions.Fail expr ∷ acts) old single =
+      let first = value_single expr values (neither (expr_is_newer expr) (list_any action_is_newer acts) old).0 single in
+      record { posts = exceptions_single (value_of expr values) causes first; end = λ value is. subst IsSingle (failed_with (value_of expr values) value is) first }
+  play_single values site causes (actions.Add cause ∷ acts) old single = play_single values site (with_cause causes cause) acts old single
+  play_single values site causes (actions.Remove cause ∷ acts) old single = play_single values site (without_cause causes cause) acts old single
+  play_single values site causes (actions.Await port ∷ acts) old single = record { posts = λ sent is. absurd is; end = λ value is. absurd (no_failure_at (plays.Yield site) site value refl is) }
+
+  after_old : (acts : List Action) → list_any action_is_newer acts ≡ false → list_any action_is_newer (after_await acts) ≡ false
+  after_old [] old = refl
+  after_old (a ∷ acts) old = let two = neither (action_is_newer a) (list_any action_is_newer acts) old in by (is_await a) two.1 (after_old acts two.1)
+    where
+      by : (b : Bool) → list_any action_is_newer acts ≡ false → list_any action_is_newer (after_await acts) ≡ false → list_any action_is_newer (if b then acts else after_await acts) ≡ false
+      by true here later = here
+      by false here later = later
+
+  from_old : (k : ℕ) (acts : List Action) → list_any action_is_newer acts ≡ false → list_any action_is_newer (actions_from k acts) ≡ false
+  from_old zero acts old = old
+  from_old (suc k) acts old = after_old (actions_from k acts) (from_old k acts old)
+
+  handlers_old : list_any handler_is_newer w.handlers ≡ false
+  handlers_old = (neither (list_any handler_is_newer w.handlers) (list_any poster_is_newer w.posters) none).0
+
+  of_old : (handler : ℕ) → list_any action_is_newer (actions_of w handler) ≡ false
+  of_old handler = by (slice_get w.handlers handler) refl
+    where
+      by : (o : Option HandlerPart) → slice_get w.handlers handler ≡ o → list_any action_is_newer (option_map_or (λ (part : HandlerPart). part.handler.actions) o []) ≡ false
+      by None at = refl
+      by (Some part) at = none_at handler_is_newer w.handlers handler part handlers_old at
+
+  at_old : (branch : ℕ) → list_any action_is_newer (actions_at w branch) ≡ false
+  at_old branch = by (placement w branch)
+    where
+      by : (o : Option Placement) → list_any action_is_newer (option_map_or (λ (s : Placement). actions_of w s.branch.handler) o []) ≡ false
+      by None = refl
+      by (Some s) = of_old s.branch.handler
+
+  play_at-single : (branch segment : ℕ) (load : Load) → AreSingle load.values → IsPlaySingle (play_at w branch segment load)
+  play_at-single branch segment load single = play_single load.values segment load.causes (actions_from segment (actions_at w branch)) (from_old segment (actions_at w branch) (at_old branch)) single
+
+  -- ---- loads
+
+  abbrev ArePosted : List Event → Type 0
+  ArePosted h = (m : Msg) → Among m (posts h) → IsSingle m.value
+
+  before_posts : (t : TaskId) (h : List Event) (m : Msg) → Among m (posts (before t h)) → Among m (posts h)
+  before_posts t [] m is = absurd is
+  before_posts t (e ∷ h) m is = by (is_firing_of t e) is (before_posts t h m)
+    where
+      by : (b : Bool) → Among m (posts (if b then [] else e ∷ before t h)) → (Among m (posts (before t h)) → Among m (posts h)) → Among m (post_of e ++ posts h)
+      by true there rest = absurd there
+      by false there rest = of (Among-either m (post_of e) (posts (before t h)) there)
+        where
+          of : Among m (post_of e) ⊎ Among m (posts (before t h)) → Among m (post_of e ++ posts h)
+          of (inl here) = Among-left m (post_of e) (posts h) here
+          of (inr later) = Among-right m (post_of e) (posts h) (rest later)
+
+  found_among : (p : Msg → Bool) (ms : List Msg) (m : Msg) → find p ms ≡ Some m → Among m ms
+  found_among p [] m is = absurd cc
+  found_among p (x ∷ ms) m is = by (p x) is (found_among p ms m)
+    where
+      inside : {a b : Msg} → Some a ≡ Some b → b ≡ a
+      inside e = cc
+
+      by : (b : Bool) → (if b then Some x else find p ms) ≡ Some m → (find p ms ≡ Some m → Among m ms) → Among m (x ∷ ms)
+      by true here rest = inl (inside here)
+      by false later rest = inr (rest later)
+
+  named_among : (h : List Event) (ns : List MsgId) (m : Msg) → Among m (messages_named h ns) → Among m (posts h)
+  named_among h [] m is = absurd is
+  named_among h (name ∷ ns) m is = by (message_named h name) refl is (named_among h ns m)
+    where
+      by : (o : Option Msg) → message_named h name ≡ o → Among m (cons_option o (messages_named h ns)) → (Among m (messages_named h ns) → Among m (posts h)) → Among m (posts h)
+      by None at there rest = rest there
+      by (Some x) at (inl e) rest = subst (λ y. Among y (posts h)) (sym e) (found_among (λ (y : Msg). same_message y.id name) (posts h) x at)
+      by (Some x) at (inr later) rest = rest later
+
+  took_among : (h : List Event) (t : TaskId) (m : Msg) → Among m (messages_of h t) → Among m (posts h)
+  took_among h t m is = by (firing_named h t) is
+    where
+      by : (o : Option Firing) → Among m (option_map_or (λ (f : Firing). messages_named (before t h) f.messages) o []) → Among m (posts h)
+      by None there = absurd there
+      by (Some f) there = before_posts t h m (named_among (before t h) f.messages m there)
+
+  values_single : (ms : List Msg) → ((m : Msg) → Among m ms → IsSingle m.value) → AreSingle (map (λ (m : Msg). m.value) ms)
+  values_single [] single value is = absurd is
+  values_single (m ∷ ms) single value (inl e) = subst IsSingle (sym e) (single m (inl refl))
+  values_single (m ∷ ms) single value (inr is) = values_single ms (λ x there. single x (inr there)) value is
+
+  more_single : (h : List Event) (load : Load) (t : TaskId) → ArePosted h → AreSingle load.values → AreSingle (with_messages load (messages_of h t)).values
+  more_single h load t posted single value is = of (Among-either value load.values (map (λ (m : Msg). m.value) (messages_of h t)) is)
+    where
+      of : Among value load.values ⊎ Among value (map (λ (m : Msg). m.value) (messages_of h t)) → IsSingle value
+      of (inl here) = single value here
+      of (inr later) = values_single (messages_of h t) (λ m there. posted m (took_among h t m there)) value later
+
+  load_single : (h : List Event) → ArePosted h → (b k : ℕ) (t : TaskId) → AreSingle (load_at w h b k t).values
+  load_single h posted b zero t = more_single h no_load t posted (λ value is. absurd is)
+  load_single h posted b (suc k) t = more_single h (option_map_or (λ (u : TaskId). load_after w b k (load_at w h b k u)) (resumed h (Site b k) t) no_load) t posted (of_task (resumed h (Site b k) t) (λ u. load_single h posted b k u))
+    where
+      of_task : (o : Option TaskId) → ((u : TaskId) → AreSingle (load_at w h b k u).values) → AreSingle (option_map_or (λ (u : TaskId). load_after w b k (load_at w h b k u)) o no_load).values
+      of_task None rest = λ value is. absurd is
+      of_task (Some u) rest = rest u
+
+  play_of-single : (h : List Event) → ArePosted h → (t : TaskId) → IsPlaySingle (play_of w h t)
+  play_of-single h posted t = by (spot_of h t)
+    where
+      by : (o : Option Spot) → IsPlaySingle (option_map_or (λ spot. play_at w (branch_of spot) (segment_of spot) (load_at w h (branch_of spot) (segment_of spot) t)) o no_play)
+      by None = record { posts = λ sent is. absurd is; end = λ value is. absurd (no_failure plays.Done value refl is) }
+      by (Some spot) = play_at-single (branch_of spot) (segment_of spot) (load_at w h (branch_of spot) (segment_of spot) t) (load_single h posted (branch_of spot) (segment_of spot) t)
+
+  -- ---- posts
+
+  sent_as : (m : Msg) (sent : Sent) → is_post m sent ≡ true → IsSingle sent.value → IsSingle m.value
+  sent_as m sent is single =
+      let two = both ((m.port == sent.port) && same_value m.value sent.value) (same_lists (λ c d. c == d) m.causes sent.causes) is in
+      same_single m.value sent.value (both (m.port == sent.port) (same_value m.value sent.value) two.0).1 single
+
+  script_single : (poster place : ℕ) (part : PosterPart) (sent : Sent) → slice_get w.posters poster ≡ Some part → slice_get part.posts place ≡ Some sent → IsSingle sent.value
+  script_single poster place part sent is line =
+      let old : poster_is_newer part ≡ false = none_at poster_is_newer w.posters poster part (neither (list_any handler_is_newer w.handlers) (list_any poster_is_newer w.posters) none).1 is in
+      not_long sent.value (none_at (λ (post : Sent). is_long post.value) part.posts place sent old line)
+
+  post_allowed : (h : List Event) (m : Msg) → ArePosted h → (name : MsgId) → refusal_of_post w h m name ≡ None → IsSingle m.value
+  post_allowed h m posted (names.Script a k) allowed =
+      let line = (refused_not (is_script_line w h a k m) 1 None allowed).0 in
+      let found = some_of (is_post m) (option_and_then (λ (p : PosterPart). slice_get p.posts k) (slice_get w.posters a)) (both (k == posts_of_poster h a) _ line).1 in
+      let part = some_then (λ (p : PosterPart). slice_get p.posts k) (slice_get w.posters a) found.0 found.1 in
+      sent_as m found.0 found.2 (script_single a k part.0 found.0 part.1 part.2)
+  post_allowed h m posted (names.Task t k) allowed =
+      let line = (refused_not (is_play_post w h t k m) 2 _ allowed).0 in
+      let found = some_of (is_post m) (slice_get (play_of w h t).posts k) (both (has_task (running h) t && (k == posts_of_task h t)) _ line).1 in
+      sent_as m found.0 found.2 ((play_of-single h posted t).posts found.0 (Among-at (play_of w h t).posts k found.0 found.1))
+
+  posted_kept : (h : List Event) (e : Event) → ArePosted h → IsAllowed w h e → ArePosted (h ++ e ∷ [])
+  posted_kept h e posted allowed m is = of_either e allowed (Among-either m (posts h) (post_of e) (subst (Among m) (posts-push h e) is))
+    where
+      of_either : (e : Event) → IsAllowed w h e → Among m (posts h) ⊎ Among m (post_of e) → IsSingle m.value
+      of_either e allowed (inl old) = posted m old
+      of_either (events.Post x) allowed (inr (inl same)) = subst (λ (y : Msg). IsSingle y.value) (sym same) (post_allowed h x posted x.id allowed)
+      of_either (events.Post x) allowed (inr (inr there)) = absurd there
+      of_either (events.Fire t s ms cs) allowed (inr there) = absurd there
+      of_either (events.Admit t) allowed (inr there) = absurd there
+      of_either (events.Put t d) allowed (inr there) = absurd there
+      of_either (events.Start t a) allowed (inr there) = absurd there
+      of_either (events.End t how) allowed (inr there) = absurd there
+
+  pub posted_single : (h : List Event) → IsLegal w h → ArePosted h
+  posted_single h legal = along w ArePosted posted_kept (λ m is. absurd is) h legal
+
+  pub failed_single : (h : List Event) → IsLegal w h → (t : TaskId) (value : List ℕ) → (play_of w h t).end ≡ plays.Failed value → IsSingle value
+  failed_single h legal t value is = (play_of-single h (posted_single h legal) t).end value is

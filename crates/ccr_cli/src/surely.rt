@@ -1,0 +1,34 @@
+//! The top call over streams that never fail.
+
+ghost use Rattle.std.specs.Prelude.{◌≡◌, ◌≢◌, ℕ, Bool, [], ◌∷◌, Some, Contains};
+ghost use Rattle.ccr_io.specs.Memory.{told};
+ghost use Rattle.ccr_words.specs.Said.{asked_for};
+ghost use Rattle.ccr_words.specs.declared.requests.Command.{Command};
+ghost use Rattle.ccr_words.specs.declared.requests.Request.TheVariants.{Read, Load};
+ghost use Rattle.ccr_cli.specs.Answers.{IsAccepted, IsAnswered, statuses_of};
+ghost use Rattle.ccr_cli.specs.declared.status.Status.TheVariants.{Done};
+
+use crate::top::run_ccr;
+use ccr_base::{Gate, Name};
+use ccr_io::{SureSink, SureSource};
+use std::sync::Wait;
+use std::thread::Threads;
+
+/// Does what the words say, as `run_ccr`, and never ends for a fault of the source or the sink.
+pub fn run_surely<R: AllocGlobal + Threads + Wait + Sync, G: Gate + Sync>(
+    rt: &R,
+    words: &[Name],
+    source: &mut SureSource,
+    sink: &mut SureSink,
+    gate: &G,
+) -> u8
+    ensures read { result ≢ 3 }
+    ensures written { result ≢ 4 }
+    ensures done { result ≡ 0 → IsAnswered Done words.now (Some source.old.rest) (told sink.old) (told sink.new) }
+
+    // Words and input of their forms.
+    ensures complete { (command : Command) → (json : Bool) → asked_for words.now ≡ Some (Read command json) → IsAccepted command (Some source.old.rest) → Contains (statuses_of command) result }
+    ensures load_complete { (size workers : ℕ) → (json : Bool) → asked_for words.now ≡ Some (Load size workers json) → Contains (0 ∷ 5 ∷ []) result }
+{
+    run_ccr(rt, words, source, sink, gate)
+}

@@ -1,0 +1,52 @@
+//! A wiring is read from its text and run to its end by one thread, and its history is written.
+
+ghost use Rattle.std.specs.Prelude.{◌≡◌, ◌≤◌, length, true, IfOk};
+ghost use Rattle.ccr_model.specs.Legal.{IsLegal, IsQuiet, is_complete};
+ghost use Rattle.ccr_examples.specs.Runs.{IsRunOf, IsRunOfText};
+
+use ccr_base::{ActorNo, List, OutOfMemory};
+use ccr_model::History;
+use ccr_serial::Serial;
+use ccr_trace::write_history;
+use ccr_wiretext::{ReadRefused, read_wiring};
+use ccr_wiring::{Wiring, valid_wirings_are_sound};
+use std::alloc::Global;
+
+/// The actor that runs all tasks: the first number behind those of the posters.
+fn closer_of(wiring: &Wiring) -> ActorNo
+    ensures number { result ≡ length wiring.now.posters }
+    ensures low { result ≤ 16 }
+{
+    valid_wirings_are_sound();
+    wiring.parts().posters.as_slice().len() as ActorNo
+}
+
+/// The history of a run from its beginning until nothing more is allowed.
+fn run_to_the_end(alloc: Global, wiring: &Wiring) -> Result<History, OutOfMemory>
+    ensures legal { IfOk result (IsLegal wiring.now) }
+    ensures complete { IfOk result (λ history. is_complete wiring.now history ≡ true) }
+    ensures quiet { IfOk result (IsQuiet wiring.now) }
+{
+    let engine = Serial::start(alloc, wiring, closer_of(wiring))?;
+    engine.finish()
+}
+
+/// The text of the history of such a run.
+fn run(alloc: Global, wiring: &Wiring) -> Result<List<u8>, OutOfMemory>
+    ensures { IfOk result (IsRunOf wiring.now) }
+{
+    let history = run_to_the_end(alloc, wiring)?;
+    write_history(alloc, wiring, &history)
+}
+
+/// The text of the history of a run of the wiring that this text says, or the line that offends.
+pub fn run_text(alloc: Global, text: &[u8]) -> Result<List<u8>, ReadRefused>
+    requires { length text.now ≤ 1048576 }
+    ensures { IfOk result (IsRunOfText text.now) }
+{
+    let wiring = read_wiring(alloc, text)?;
+    match run(alloc, &wiring) {
+        Ok(written) => Ok(written),
+        Err(OutOfMemory) => Err(ReadRefused::Memory),
+    }
+}

@@ -1,0 +1,5 @@
+use Rattle.ccr_net.proofs.Closers.{closers_start}
+use Rattle.ccr_net.proofs.laws.closers_are_new_to_runs.Goals as goal
+
+pub returns : goal.returns
+returns c = record { attempts = closers_start }

@@ -1,0 +1,62 @@
+-- Turns of actors at the places on one thread.
+use Rattle.std.specs.Prelude.{◌≡◌, ◌≤◌, ℕ, ◌+◌, Bool, true, false, List, [], ◌∷◌, ◌++◌, length, slice_get, Option, Some, None, Ok}
+use Rattle.std.specs.Option.{is_some}
+use Rattle.ccr_base.specs.declared.names.Place.{Place}
+use Rattle.ccr_wiring.specs.declared.parts.Parts.{Parts}
+use Rattle.ccr_wiring.specs.Valid.{IsValid}
+use Rattle.ccr_claim.specs.declared.asks.Ask.{Ask}
+use Rattle.ccr_claim.specs.declared.asks.Asked.{Asked}
+use Rattle.ccr_claim.specs.declared.asks.Reply.{Reply}
+use Rattle.ccr_actor.specs.Acting.{Acting, at_state, next, sent, started, IsAfter}
+use Rattle.ccr_actor.specs.Actors.{state_after}
+use Rattle.ccr_object.specs.declared.deed.Answer.TheVariants.{Replied}
+use Rattle.ccr_object.specs.Objects.{note_of, reply_of}
+use Rattle.ccr_runs.specs.Runs.{IsRunFrom, cast}
+use Rattle.ccr_net.specs.declared.entries.Entry.{Entry}
+use Rattle.ccr_net.specs.Acted.{Stage, act_after, scene_after}
+use Rattle.ccr_net.specs.Played.{entries_of, entry_of, number_at, rules, scene}
+use Rattle.ccr_net.specs.Runs.{Lacks, replies_of}
+
+-- the actors before all turns
+abbrev pub AreStarted : Parts → ℕ → List Acting → Type 0
+AreStarted wiring count actors = (length actors ≡ count) × ((k : ℕ) (a : Acting) → slice_get actors k ≡ Some a → a ≡ started wiring k)
+
+-- the condition of the actor's next ask is met at its place
+abbrev pub IsMet : Stage → Acting → Type 0
+IsMet stage a = (one : Asked) → next a ≡ Some one → is_some (note_of (scene_after stage.wiring stage.acts (number_at stage.wiring one.place)).0 one.ask) ≡ true
+
+-- the ask that the actor made is answered at its place, and the actor took in the reply; one that had memory still has
+pub record IsAnswered (stage : Stage) (a : Acting) (entries : List Entry) (place : Place) (ask : Ask) (later : Stage) (b : Acting) (more : List Entry) : Type 0 where
+  pub wiring : later.wiring ≡ stage.wiring
+  pub acts : later.acts ≡ stage.acts ++ act_after stage.wiring stage.acts a.actor place ask ∷ []
+  pub entry : Entry
+  pub is_entry : entry_of stage.wiring (act_after stage.wiring stage.acts a.actor place ask) ≡ Some entry
+  pub added : more ≡ entries ++ entry ∷ []
+  pub reply : Reply
+  pub replied : reply_of (scene_after stage.wiring stage.acts (number_at stage.wiring place)).0 ask ≡ Replied reply
+  pub heard : IsAfter a (Ok reply) b
+  pub long : a.state.is_short ≡ false → b.state.is_short ≡ false
+
+-- the actor's next ask is answered so
+pub record IsStep (stage : Stage) (a : Acting) (entries : List Entry) (later : Stage) (b : Acting) (more : List Entry) : Type 0 where
+  pub one : Asked
+  pub asks : next a ≡ Some one
+  pub made : IsAnswered stage (sent a) entries one.place one.ask later b more
+
+-- it is short where it found no memory, after so many of these replies
+abbrev pub IsShortAfter : Option ℕ → List Reply → Bool → Type 0
+IsShortAfter None given short = short ≡ false
+IsShortAfter (Some n) given short = (n ≤ length given) × (short ≡ true)
+
+-- the actor stands where what it was replied in the entries leads it
+pub record IsActing (wiring : Parts) (lacks : Lacks) (entries : List Entry) (k : ℕ) (a : Acting) : Type 0 where
+  pub stands : a ≡ at_state wiring k (state_after wiring k (lacks k) (replies_of wiring entries k))
+  pub short : IsShortAfter (lacks k) (replies_of wiring entries k) a.state.is_short
+
+-- the acts are a run, the entries are theirs, and each actor stands where these lead it
+pub record IsPlayed (workers : ℕ) (lacks : Lacks) (stage : Stage) (actors : List Acting) (entries : List Entry) : Type 0 where
+  pub valid : IsValid stage.wiring
+  pub run : IsRunFrom (rules stage.wiring lacks) (length stage.wiring.posters + workers) (scene stage.wiring) (cast (rules stage.wiring lacks)) stage.acts
+  pub same : entries ≡ entries_of stage.wiring stage.acts
+  pub count : length actors ≡ length stage.wiring.posters + workers
+  pub acting : (k : ℕ) (a : Acting) → slice_get actors k ≡ Some a → IsActing stage.wiring lacks entries k a

@@ -1,0 +1,44 @@
+-- A net on one thread: the run so far, and the room for the entries that are owed.
+use Rattle.std.specs.Prelude.{◌≡◌, ◌<◌, ◌≤◌, ℕ, ◌+◌, List, [], length}
+use Rattle.ccr_wiring.specs.declared.parts.Parts.{Parts}
+use Rattle.ccr_wiring.specs.Valid.{IsValid}
+use Rattle.ccr_actor.specs.Nets.{AreNext}
+use Rattle.ccr_actor.specs.Nets as nets
+use Rattle.ccr_object.specs.declared.deed.Deed.{Deed}
+use Rattle.ccr_runs.specs.declared.acts.Act.{Act}
+use Rattle.ccr_runs.specs.Runs.{IsRunFrom, cast}
+use Rattle.ccr_net.specs.declared.entries.Entry.{Entry}
+use Rattle.ccr_net.specs.Acted.{Stage}
+use Rattle.ccr_net.specs.Owed.{owed_to, AreFitting}
+use Rattle.ccr_net.specs.Played.{entries_of, rules, scene, steps_in}
+use Rattle.ccr_net.specs.Runs.{Lacks, replies_of}
+
+-- the wiring, the acts so far, and their entries
+pub record Served : Type 0 where
+  pub wiring : Parts
+  pub acts : List (Act Deed)
+  pub entries : List Entry
+
+-- so many actors are served: the posters and 16 workers
+abbrev pub seats : Parts → ℕ
+seats wiring = length wiring.posters + 16
+
+-- the acts are a run, in which each actor found no memory after some number of its steps or never; its steps are what it asked next, with the
+-- replies of the entries, and no other actor has any
+pub record IsServing (wiring : Parts) (acts : List (Act Deed)) : Type 0 where
+  pub valid : IsValid wiring
+  pub lacks : Lacks
+  pub run : IsRunFrom (rules wiring lacks) (seats wiring) (scene wiring) (cast (rules wiring lacks)) acts
+  pub next : (actor : ℕ) → actor < seats wiring → AreNext wiring actor (lacks actor) [] (steps_in wiring acts actor)
+  pub heard : (actor : ℕ) → nets.replies_of (steps_in wiring acts actor) ≡ replies_of wiring (entries_of wiring acts) actor
+  pub fitting : (actor : ℕ) → AreFitting (steps_in wiring acts actor)
+  pub others : (actor : ℕ) → seats wiring ≤ actor → steps_in wiring acts actor ≡ []
+
+-- the entries are those of the acts, there is room for all that is owed, and so many actors are served
+pub record IsRoomy (stage : Stage) (entries : List Entry) (room owed count : ℕ) : Type 0 where
+  pub serving : IsServing stage.wiring stage.acts
+  pub same : entries ≡ entries_of stage.wiring stage.acts
+  pub owes : owed ≡ owed_to stage.wiring stage.acts (seats stage.wiring)
+  pub acts_room : owed ≤ stage.room
+  pub entries_room : owed ≤ room
+  pub seated : count ≡ seats stage.wiring

@@ -1,0 +1,114 @@
+//! Runs by a schedule of turns in which some asks find no memory.
+
+ghost use Rattle.std.specs.Prelude.{◌≡◌, ◌<◌, ◌≤◌, ◌+◌, ◌^◌, [], All, length, IfOk, is_some, true};
+ghost use Rattle.ccr_actor.specs.Acting.{next, quiet};
+ghost use Rattle.ccr_net.specs.Runs.{scheduled, Lacks, IsRun};
+ghost use Rattle.ccr_net.specs.Schedules.{IsMet, IsPlayed};
+ghost use Rattle.ccr_net.specs.Shortages.{is_refused, shortened, turned, HasPlayed, HasRun, IsTurn};
+
+use crate::plain::PlainPlaces;
+use crate::schedules::{all_actors, answer};
+use crate::{Entry, Full};
+use ccr_actor::Actor;
+use ccr_base::{ActorNo, List, OutOfMemory};
+use ccr_claim::settles;
+use ccr_wiring::Wiring;
+use std::alloc::Global;
+
+/// The run of `run_schedule` in which the asks of these numbers find no memory. The asks of all actors that don't settle
+/// are numbered from 0, as they are made. A refused one leaves no entry; its actor then only settles what it has in hand, one
+/// ask a turn. Any want of memory of the call's own ends it.
+pub fn run_short(
+    alloc: Global,
+    wiring: &Wiring,
+    workers: u32,
+    turns: &[ActorNo],
+    refused: &[u64],
+) -> Result<Full, OutOfMemory>
+    requires workers { workers ≤ 16 }
+    requires turns { All (λ turn. turn < length wiring.now.posters + workers) turns.now }
+    ensures short { IfOk result (λ full. full.entries ≡ shortened wiring.now refused.now turns.now) }
+    ensures run { IfOk result (λ full. IsRun wiring.now workers full.entries) }
+    ensures same { refused.now ≡ [] → IfOk result (λ full. full.entries ≡ scheduled wiring.now turns.now) }
+{
+    let count = wiring.parts().posters.as_slice().len() as u32 + workers;
+    let mut places = PlainPlaces::start(alloc, wiring)?;
+    let mut actors = all_actors(alloc, wiring, count)?;
+    let mut entries = Vec::new(alloc);
+    let mut asks = 0;
+    for turn in turns {
+        asks = take_turn(
+            &mut places,
+            &mut actors,
+            &mut entries,
+            workers,
+            refused,
+            asks,
+            *turn,
+        )?;
+    }
+    Ok(Full {
+        entries: List::from_vec(entries),
+    })
+}
+
+/// The actor's next ask, or nothing where it is at rest. Takes and answers how many asks that don't settle were made.
+fn take_turn(
+    places: &mut PlainPlaces<'_>,
+    actors: &mut [Actor<'_>],
+    entries: &mut Vec<Entry>,
+    workers: u32,
+    refused: &[u64],
+    asks: u64,
+    turn: ActorNo,
+) -> Result<u64, OutOfMemory>
+    requires workers { workers ≤ 16 }
+    requires turn { turn < length actors.old }
+    requires asks { asks + 1 < 2 ^ 64 }
+    requires played { HasPlayed workers places.old actors.old entries.old.items }
+    ensures run { IfOk result (λ number. (lacks : Lacks) → IsPlayed workers lacks places.old actors.old entries.old.items → HasRun workers (turned places.old.wiring refused.now (record { lacks = lacks; asks = asks; entries = entries.old.items }) turn) places.new actors.new entries.new.items number) }
+    ensures wiring { IfOk result (λ number. places.new.wiring ≡ places.old.wiring) }
+    ensures few { IfOk result (λ number. number ≤ asks + 1) }
+{
+    if actors[turn as usize].at_rest() {
+        return Ok(asks);
+    }
+    make_ask(places, &mut actors[turn as usize], entries, refused, asks)
+}
+
+/// The next ask of an actor that isn't at rest. Takes and answers how many asks that don't settle were made.
+fn make_ask(
+    places: &mut PlainPlaces<'_>,
+    actor: &mut Actor<'_>,
+    entries: &mut Vec<Entry>,
+    refused: &[u64],
+    asks: u64,
+) -> Result<u64, OutOfMemory>
+    requires seat { actor.old.actor < 32 }
+    requires quiet { actor.old.asking ≡ quiet }
+    requires asking { is_some (next actor.old) ≡ true }
+    requires met { IsMet places.old actor.old }
+    requires asks { asks + 1 < 2 ^ 64 }
+    ensures { IfOk result (λ number. IsTurn refused.now asks places.old actor.old entries.old.items places.new actor.new entries.new.items number) }
+{
+    let Some((place, ask)) = actor.next() else {
+        unreachable!();
+    };
+    if settles(&ask) {
+        answer(places, actor, entries, place, ask)?;
+        return Ok(asks);
+    }
+    if is_refused(refused, asks) {
+        actor.got(Err(OutOfMemory));
+        return Ok(asks + 1);
+    }
+    answer(places, actor, entries, place, ask)?;
+    Ok(asks + 1)
+}
+
+/// Whether the ask of this number finds no memory.
+fn is_refused(refused: &[u64], number: u64) -> bool
+    ensures { result ≡ is_refused refused.now number }
+{
+    refused.iter().any(|other| *other == number)
+}

@@ -1,0 +1,3 @@
+mod LineSaid
+mod LinesSaid
+mod Answered

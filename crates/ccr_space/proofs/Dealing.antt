@@ -1,0 +1,29 @@
+-- The passes before their first steps.
+use Rattle.std.proofs.Common.{◌≡◌, ℕ, zero, suc, ◌+◌, List, [], ◌∷◌, map, length, sym, refl, ap, ◌∙◌, subst, arith}
+use Rattle.std.specs.List.{range_with_len}
+use Rattle.ccr_wiring.specs.declared.parts.Parts.{Parts}
+use Rattle.ccr_turns.specs.declared.history.Mark.{Mark}
+use Rattle.ccr_object.specs.declared.deed.Deed.{Deed}
+use Rattle.ccr_object.specs.declared.object.Placed.{Placed}
+use Rattle.ccr_actor.specs.Acting.{Acting, started}
+use Rattle.ccr_actor.proofs.Followed.{follows_started}
+use Rattle.ccr_space.specs.Spaces.{IsGoing, heard_in}
+
+fresh : (wiring : Parts) (k : ℕ) → IsGoing wiring k [] (started wiring k)
+fresh wiring k = record { steps = []; follows = follows_started wiring k; replies = refl; long = refl }
+
+-- an actor that has begun, with no entries
+pub begun : (wiring : Parts) (k n : ℕ) (marks : List (Mark Deed Placed)) (a : Acting) → marks ≡ [] → a ≡ started wiring n → n ≡ k → IsGoing wiring k marks a
+begun wiring k n marks a none is same =
+    subst (λ (ms : List (Mark Deed Placed)). IsGoing wiring k ms a) (sym none) (subst (IsGoing wiring k []) (sym (is ∙ ap (started wiring) same)) (fresh wiring k))
+
+range_length : (q n : ℕ) → length (range_with_len q n) ≡ n
+range_length q zero = refl
+range_length q (suc n) = ap suc (range_length (q + 1) n)
+
+map_length : {X Y : Type 0} (f : X → Y) (xs : List X) → length (map f xs) ≡ length xs
+map_length f [] = refl
+map_length f (x ∷ xs) = ap suc (map_length f xs)
+
+pub length_by_number : {S : Type 0} (number : S → ℕ) (n : ℕ) (xs : List S) → map number xs ≡ range_with_len 0 n → length xs ≡ n
+length_by_number number n xs is = sym (map_length number xs) ∙ (ap length is ∙ range_length 0 n)

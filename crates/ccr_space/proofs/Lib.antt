@@ -1,0 +1,5 @@
+mod Stepping
+mod Closing
+mod Dealing
+mod Resting
+mod Through

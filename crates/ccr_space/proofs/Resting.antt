@@ -1,0 +1,86 @@
+-- Who is stopped, and whose actor is at rest.
+use Rattle.std.proofs.Common.{Bool, true, false, ◌≡◌, ℕ, zero, suc, ◌+◌, ◌<◌, List, [], ◌∷◌, ◌++◌, inl, inr, ◌⊎◌, sym, refl, ap, ◌∙◌, subst, arith, eqb, eq-eqb, Option, Some, None}
+use Rattle.std.specs.Prelude.{◌==◌, ◌&&◌, ◌||◌, filter, if◌then◌else◌}
+use Rattle.std.specs.List.{list_any, range_with_len}
+use Rattle.std.proofs.lemmas.Grind.{common_steps}
+use mathlib.Core.Option.{some, some-injective, some-ne-none}
+use lib.ListN.{get_elem?}
+use Rattle.ccr_wiring.specs.declared.parts.Parts.{Parts}
+use Rattle.ccr_turns.proofs.Rows.{range-more}
+use Rattle.ccr_claim.specs.declared.asks.Asked.{Asked}
+use Rattle.ccr_claim.specs.declared.asks.Reply.{Reply}
+use Rattle.ccr_actor.specs.Acting.{Acting, Asking, quiet, settling, going, at_state, is_at_rest, kept, kept_if, next as next_of, rests_by}
+use Rattle.ccr_actor.specs.Actors.{State, asked, next, state_after as state_of}
+use Rattle.ccr_actor.specs.Nets.{replies_of}
+use Rattle.ccr_actor.proofs.Followed.{follows_long}
+use Rattle.ccr_turns.specs.declared.history.Mark.{Mark}
+use Rattle.ccr_object.specs.declared.deed.Deed.{Deed}
+use Rattle.ccr_object.specs.declared.object.Placed.{Placed}
+use Rattle.ccr_space.specs.Spaces.{Pass, IsGoing, heard_in, is_stopped_in, number, stopped_of}
+
+filter_push : (test : ℕ → Bool) (xs : List ℕ) (x : ℕ) → filter test (xs ++ x ∷ []) ≡ filter test xs ++ (if test x then x ∷ [] else [])
+filter_push test [] x = grind (arith, common_steps)
+filter_push test (y ∷ ys) x = grind (arith, common_steps, filter_push test ys x)
+
+-- of one actor more
+pub stopped_more : (passes : List Pass) (n : ℕ) → stopped_of passes (n + 1) ≡ stopped_of passes n ++ (if is_stopped_in passes n then n ∷ [] else [])
+stopped_more passes n = ap (filter (is_stopped_in passes)) (range-more n) ∙ filter_push (is_stopped_in passes) (range_with_len 0 n) n
+
+any_in : (test : ℕ → Bool) (actor q n : ℕ) → test (q + actor) ≡ true → actor < n → list_any (λ m. m == q + actor) (filter test (range_with_len q n)) ≡ true
+any_in test actor q zero is low = absurd (omega arith)
+any_in test zero q (suc n) is low = let here : test q ≡ true = ap test (let z : q ≡ q + 0 = omega arith in z) ∙ is in rw here (let hit : (q == q + 0) ≡ true = eq-eqb q (q + 0) (omega arith) in rw hit refl)
+any_in test (suc actor) q (suc n) is low = by (test q) refl (any_in test actor (q + 1) n (ap test (let z : q + 1 + actor ≡ q + suc actor = omega arith in z) ∙ is) (omega arith))
+  where
+    also : (b : Bool) → b || true ≡ true
+    also true = refl
+    also false = refl
+
+    by : (b : Bool) → test q ≡ b → list_any (λ m. m == q + 1 + actor) (filter test (range_with_len (q + 1) n)) ≡ true → list_any (λ m. m == q + suc actor) (filter test (range_with_len q (suc n))) ≡ true
+    by b tests again = subst (λ k. list_any (λ m. m == k) (filter test (range_with_len q (suc n))) ≡ true) (let z : q + 1 + actor ≡ q + suc actor = omega arith in z) (of b tests)
+      where
+        of : (b : Bool) → test q ≡ b → list_any (λ m. m == q + 1 + actor) (filter test (range_with_len q (suc n))) ≡ true
+        of true in_it = rw in_it (ap (λ r. (q == q + 1 + actor) || r) again ∙ also (q == q + 1 + actor))
+        of false out = rw out again
+
+stopped_here : (passes : List Pass) (i : ℕ) (pass : Pass) (actor : ℕ) → get_elem? passes i ≡ some pass → number pass ≡ actor → pass.stopped ≡ true → is_stopped_in passes actor ≡ true
+stopped_here [] i pass actor at is stops = absurd (some-ne-none pass (sym at))
+stopped_here (x ∷ xs) zero pass actor at is stops =
+    let same : x ≡ pass = some-injective x pass at in
+    let stopped : x.stopped ≡ true = ap (λ (p : Pass). p.stopped) same ∙ stops in
+    let hit : (number x == actor) ≡ true = eq-eqb (number x) actor (ap number same ∙ is) in
+    rw (stopped, hit) refl
+stopped_here (x ∷ xs) (suc i) pass actor at is stops = let again = stopped_here xs i pass actor at is stops in ap (λ r. (x.stopped && (number x == actor)) || r) again ∙ also (x.stopped && (number x == actor))
+  where
+    also : (b : Bool) → b || true ≡ true
+    also true = refl
+    also false = refl
+
+-- the actor of a stopped pass is among them
+pub stopped_among : (passes : List Pass) (count i : ℕ) (pass : Pass) (actor : ℕ) → get_elem? passes i ≡ some pass → number pass ≡ actor → pass.stopped ≡ true → actor < count → list_any (λ n. n == actor) (stopped_of passes count) ≡ true
+stopped_among passes count i pass actor at is stops low =
+    subst (λ k. list_any (λ n. n == k) (stopped_of passes count) ≡ true) (let z : 0 + actor ≡ actor = omega arith in z)
+    (any_in (is_stopped_in passes) actor 0 count (subst (λ k. is_stopped_in passes k ≡ true) (let z : actor ≡ 0 + actor = omega arith in z) (stopped_here passes i pass actor at is stops)) low)
+
+rests : (asking : Asking) (o : Option Asked) → rests_by asking o ≡ true → o ≡ None
+rests quiet None is = refl
+rests quiet (Some one) is = absurd cc
+rests (settling due) None is = refl
+rests (settling due) (Some one) is = absurd cc
+rests (going due) None is = refl
+rests (going due) (Some one) is = absurd cc
+
+-- an actor at rest that isn't short has nothing to ask next
+no_next : (w : Parts) (k : ℕ) (given : List Reply) (a : Acting) → a ≡ at_state w k (state_of w k None given) → a.state.is_short ≡ false → is_at_rest a ≡ true → next w k None given ≡ None
+no_next w k given a is long rest = by (state_of w k None given).is_short refl
+  where
+    s : State
+    s = state_of w k None given
+
+    by : (b : Bool) → s.is_short ≡ b → next w k None given ≡ None
+    by true short = absurd (let lacks : a.state.is_short ≡ true = ap (λ (x : Acting). x.state.is_short) is ∙ ap (λ b. (kept_if b s).is_short) short in cc)
+    by false here = let same : kept s ≡ s = ap (λ b. kept_if b s) here in ap (asked w k) (sym same) ∙ (sym (ap next_of is) ∙ rests a.asking (next_of a) rest)
+
+pub nothing_next : (w : Parts) (k : ℕ) (marks : List (Mark Deed Placed)) (a : Acting) → IsGoing w k marks a → is_at_rest a ≡ true → next w k None (heard_in w k marks).given ≡ None
+nothing_next w k marks a goes rest =
+    let is = follows_long w k goes.steps a goes.follows goes.long in
+    subst (λ given. next w k None given ≡ None) goes.replies (no_next w k (replies_of goes.steps) a is.1 goes.long rest)

@@ -1,0 +1,50 @@
+use Rattle.std.proofs.Common.{◌≡◌, ◌∙◌, ℕ, [], sym, ap, subst, Some}
+use Rattle.ccr_base.specs.declared.names.Place.{Place}
+use Rattle.ccr_turns.specs.Locks.{log_of}
+use Rattle.ccr_runs.specs.Runs.{IsProper}
+use Rattle.ccr_claim.specs.declared.asks.Asked.{Asked}
+use Rattle.ccr_actor.specs.Acting.{Acting, next}
+use Rattle.ccr_net.specs.Played.{number_at, position_of, rules}
+use Rattle.ccr_net.specs.Runs.{never}
+use Rattle.ccr_space.specs.Spaces.{IsGoing, IsHeard, log, number, wiring_of}
+use Rattle.ccr_space.proofs.Stepping.{Stepped, asks_of, comes_next, heard_on, made_met, stepped, unmet_not}
+use Rattle.ccr_space.proofs.space.step.Space.advance.Goals as goal
+
+abbrev one_of : (g : _) (c : goal.After-pass-1 g) → Asked
+one_of g c = record { place = c.in-Some.place; ask = c.in-Some.ask }
+
+asks : (g : _) (c : goal.After-pass-1 g) → next c.args.pass.now.actor ≡ Some (one_of g c)
+asks g c = asks_of (next c.args.pass.now.actor) c.in-Some.place c.in-Some.ask c.in-Some.ensures.asked
+
+going : (g : _) (c : goal.After-pass-1 g) → IsGoing (wiring_of c.args.self.now) (number c.args.pass.now) (log c.args.pass.now) c.args.pass.now.actor
+going g c = c.requires.pass.going c.if-pass.false
+
+step : (g : _) (c : goal.After-pass-1 g) → Stepped (wiring_of c.args.self.now) (number c.args.pass.now) (log c.args.pass.now) (log_of c.act.new.seat) c.in-Ok.answer
+step g c =
+    let w = wiring_of c.args.self.now in
+    let k = number c.args.pass.now in
+    let there : c.number-at.result ≡ number_at w c.in-Some.place = c.number-at.ensures.number ∙ ap (position_of c.in-Some.place) c.requires.space.numbers in
+    stepped w k c.number-at.result (one_of g c) c.in-Ok.answer (log c.args.pass.now) (log_of c.act.new.seat) c.requires.pass.proper (comes_next w k (log c.args.pass.now) c.args.pass.now.actor (one_of g c) (going g c) (asks g c)) there c.in-Ok.ensures.ok
+
+pub returns-in-Ok-clause-pass : goal.returns-in-Ok-clause-pass
+returns-in-Ok-clause-pass g c =
+    let w = wiring_of c.args.self.now in
+    let k = number c.args.pass.now in
+    let s = step g c in
+    let same = c.act.ensures.seat.1 in
+    record {
+      seat = c.act.ensures.seat.0;
+      proper = subst (λ n. IsProper (rules w never) (record { actor = n; given = [] }) 0 (log_of c.act.new.seat)) (sym same) s.proper;
+      going = λ on. subst (λ n. IsGoing w n (log_of c.act.new.seat) c.heard-step.new.actor) (sym same)
+          (heard_on w k (log c.args.pass.now) (log_of c.act.new.seat) c.args.pass.now.actor c.heard-step.new.actor (one_of g c) c.in-Ok.answer (going g c) (asks g c)
+          (subst (λ (a : Acting). IsHeard a c.in-Ok.answer c.heard-step.new.actor) c.in-Some.ensures.sent (c.heard-step.ensures.going on)) s.state);
+    }
+
+pub returns-in-Ok-clause-made : goal.returns-in-Ok-clause-made
+returns-in-Ok-clause-made g c = λ is. let s = step g c in (s.added, (s.more, s.met ∙ made_met c.in-Ok.answer c.heard-step.result c.heard-step.ensures.replied c.heard-step.ensures.made is))
+
+pub returns-in-Ok-clause-unmet : goal.returns-in-Ok-clause-unmet
+returns-in-Ok-clause-unmet g c = λ is.
+    let s = step g c in
+    let not = unmet_not c.in-Ok.answer c.heard-step.result c.heard-step.ensures.replied c.heard-step.ensures.made is in
+    ((s.added, (s.more, s.met ∙ not.0)), not.1)

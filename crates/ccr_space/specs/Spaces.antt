@@ -1,0 +1,116 @@
+-- The locks of all places of a wiring, the passes of its actors through them, and what the closed locks tell.
+use Rattle.std.specs.Prelude.{◌≡◌, ◌⊎◌, ℕ, ◌+◌, ◌<◌, ◌≤◌, ◌==◌, ◌&&◌, Bool, true, false, List, [], ◌∷◌, ◌++◌, length, map, filter, None, Ok, slice_get, Some}
+use Rattle.std.specs.Option.{is_some}
+use Rattle.std.specs.Borrow.{Bor}
+use Rattle.std.specs.List.{list_any, range_with_len}
+use Rattle.ccr_base.specs.declared.names.Place.{Place}
+use Rattle.ccr_wiring.specs.declared.parts.Parts.{Parts}
+use Rattle.ccr_claim.specs.declared.asks.Ask.{Ask}
+use Rattle.ccr_claim.specs.declared.asks.Reply.{Reply}
+use Rattle.ccr_object.specs.declared.deed.Answer.{Answer}
+use Rattle.ccr_object.specs.declared.deed.Answer.TheVariants.{Replied, Unmet}
+use Rattle.ccr_object.specs.declared.deed.Deed.{Deed}
+use Rattle.ccr_object.specs.declared.object.Placed.{Placed}
+use Rattle.ccr_object.specs.declared.object.PlaceObject.{PlaceObject}
+use Rattle.ccr_object.specs.contracts.object.PlaceObjectKept.TheImpl.{ghosts}
+use Rattle.ccr_object.specs.Objects.{placed}
+use Rattle.ccr_object.specs.Starts.{placed_at, places_of}
+use Rattle.ccr_turns.specs.Locks.{starts, seat_count, place_count, IsSeatOf, number_of, log_of}
+use Rattle.ccr_turns.specs.declared.history.Mark.{Mark}
+use Rattle.ccr_turns.specs.declared.turns.Seat.{Seat}
+use Rattle.ccr_turns.specs.declared.turns.Turns.{Turns}
+use Rattle.ccr_runs.specs.Runs.{IsProper, state_after}
+use Rattle.ccr_actor.specs.Acting.{Acting, IsAfter, is_at_rest}
+use Rattle.ccr_actor.specs.Following.{Follows}
+use Rattle.ccr_actor.specs.Nets.{Step, replies_of}
+use Rattle.ccr_net.specs.Played.{Heard, rules}
+use Rattle.ccr_net.specs.Runs.{never}
+use Rattle.ccr_space.specs.declared.space.SpaceOf.{SpaceOf}
+use Rattle.ccr_space.specs.declared.space.PassOf.{PassOf}
+
+-- the locks with the places by their numbers and the wiring, and an actor with its seat
+abbrev pub Space : Type 0
+Space = SpaceOf (Turns PlaceObject Ask Answer Deed Placed) (List Place) (Bor Parts)
+
+abbrev pub Pass : Type 0
+Pass = PassOf Acting (Seat PlaceObject Ask Answer Deed Placed ghosts)
+
+-- ---- what was made together
+
+-- the wiring that the space serves
+abbrev pub wiring_of : Space → Parts
+wiring_of space = space.wiring.now
+
+-- how many actors it is for
+abbrev pub actor_count : Space → ℕ
+actor_count space = seat_count space.turns
+
+-- each place of the wiring is there, with its object before all notes
+pub record IsSpace (space : Space) : Type 0 where
+  pub objects : map placed (starts space.turns) ≡ map (placed_at space.wiring.now) (places_of space.wiring.now)
+  pub numbers : space.directory ≡ places_of space.wiring.now
+  pub places : place_count space.turns ≡ length (places_of space.wiring.now)
+  pub few : length (places_of space.wiring.now) ≤ 8192
+  pub seats : seat_count space.turns ≤ 32
+
+-- ---- passes
+
+-- the entries of the pass, in their order
+abbrev pub log : Pass → List (Mark Deed Placed)
+log pass = log_of pass.seat
+
+-- the actor's number
+abbrev pub number : Pass → ℕ
+number pass = number_of pass.seat
+
+-- what the actor was replied in these entries of its own
+abbrev pub heard_in : Parts → ℕ → List (Mark Deed Placed) → Heard
+heard_in wiring actor marks = state_after (rules wiring never) (record { actor = actor; given = [] }) marks
+
+-- the actor isn't short, and is where the replies of the log lead it
+pub record IsGoing (wiring : Parts) (actor : ℕ) (marks : List (Mark Deed Placed)) (acting : Acting) : Type 0 where
+  pub steps : List Step
+  pub follows : Follows wiring actor steps acting
+  pub replies : replies_of steps ≡ (heard_in wiring actor marks).given
+  pub long : acting.state.is_short ≡ false
+
+-- the pass was made with the space: its seat is of these locks, and each entry of its log is what its actor asks next; unless it
+-- is stopped, the actor is where the log leads it
+pub record IsPassOf (space : Space) (pass : Pass) : Type 0 where
+  pub seat : IsSeatOf space.turns pass.seat
+  pub proper : IsProper (rules (wiring_of space) never) (record { actor = number pass; given = [] }) 0 (log pass)
+  pub going : pass.stopped ≡ false → IsGoing (wiring_of space) (number pass) (log pass) pass.actor
+
+-- it took in the reply, and isn't short
+abbrev pub IsTaught : Acting → Reply → Acting → Type 0
+IsTaught old reply new = IsAfter old (Ok reply) new × (new.state.is_short ≡ false)
+
+abbrev pub IsHeard : Acting → Answer → Acting → Type 0
+IsHeard old Unmet new = ⊥
+IsHeard old (Replied reply) new = IsTaught old reply new
+
+-- the pass is stopped, or its actor has nothing to ask
+abbrev pub IsAtRest : Pass → Type 0
+IsAtRest pass = (pass.stopped ≡ true) ⊎ (is_at_rest pass.actor ≡ true)
+
+-- one entry more, with a note or without one
+abbrev pub IsMore : Bool → Pass → Pass → Type 0
+IsMore noted old new = (mark : Mark Deed Placed) × ((log new ≡ log old ++ mark ∷ []) × (is_some mark.note.note ≡ noted))
+
+-- ---- the close
+
+-- whether the pass of this actor is among them, and stopped
+abbrev pub is_stopped_in : List Pass → ℕ → Bool
+is_stopped_in passes actor = list_any (λ (pass : Pass). pass.stopped && (number pass == actor)) passes
+
+-- the actors whose passes are stopped, rising
+abbrev pub stopped_of : List Pass → ℕ → List ℕ
+stopped_of passes count = filter (is_stopped_in passes) (range_with_len 0 count)
+
+-- the seat of this actor is among them
+abbrev pub HasSeat : List (Seat PlaceObject Ask Answer Deed Placed ghosts) → ℕ → Type 0
+HasSeat seats actor = (at : ℕ) × (seat : Seat PlaceObject Ask Answer Deed Placed ghosts) × (slice_get seats at ≡ Some seat) × (number_of seat ≡ actor)
+
+-- the pass of this actor is among them
+abbrev pub HasPass : List Pass → ℕ → Type 0
+HasPass passes actor = (at : ℕ) × (pass : Pass) × (slice_get passes at ≡ Some pass) × (number pass ≡ actor)

@@ -1,0 +1,6 @@
+//! The locks of all places of a wiring, the passes of its actors through them, and the run that the closed locks tell.
+#![tactic(auto)]
+
+mod space;
+
+pub use space::{Closed, Pass, PassOf, Space, SpaceOf, Step, run_threads};

@@ -1,0 +1,127 @@
+//! Closing the space.
+
+ghost use Rattle.std.specs.Prelude.{◌≡◌, ◌≤◌, ℕ, ◌<◌, ◌++◌, ◌∷◌, [], if◌then◌else◌, length, map, All, IfOk, OnOk, vec_capacity};
+ghost use Rattle.ccr_turns.specs.Locks.{IsSeatOf, log_of, number_of};
+ghost use Rattle.ccr_runs.specs.Runs.{IsLog, IsMerged};
+ghost use Rattle.ccr_object.specs.Objects.{after_deed};
+ghost use Rattle.ccr_net.specs.Played.{rules, scene};
+ghost use Rattle.ccr_net.specs.Runs.{never};
+ghost use Rattle.ccr_net.specs.Visible.{visible as shown};
+ghost use Rattle.ccr_space.specs.Spaces.{IsPassOf, IsSpace, actor_count, is_stopped_in, log, number, stopped_of, wiring_of, HasSeat};
+ghost use Rattle.ccr_space.specs.Closes.{IsClosed};
+
+use super::{Pass, PassOf, Space, SpaceOf};
+use ccr_base::{ActorNo, List, OutOfMemory};
+use ccr_model::History;
+use ccr_net::{Full, full_of, visible};
+use ccr_object::{Deed, PlaceObject};
+use ccr_runs::{Act, merge};
+use ccr_turns::Seat;
+use std::alloc::Global;
+
+/// The entries of all places, the history that they show, and the actors whose passes are stopped.
+#[derive(Drop)]
+pub struct Closed {
+    pub full: Full,
+    pub history: History,
+    pub short: List<ActorNo>,
+}
+
+impl<'w> Space<'w> {
+    /// Closes the locks. All passes have to be handed in, in any order. Refused for want of memory alone; then the run is
+    /// given up.
+    pub fn close(self, alloc: Global, passes: List<Pass<'w>>) -> Result<Closed, OutOfMemory>
+        requires space { IsSpace self }
+        requires passes { All (λ pass. IsPassOf self pass) passes }
+        requires all { length passes ≡ actor_count self }
+        ensures run { IfOk result (λ closed. IsClosed (wiring_of self.entry) (actor_count self.entry) passes.entry closed.full.entries) }
+        ensures history { IfOk result (λ closed. closed.history ≡ shown closed.full.entries) }
+        ensures short { IfOk result (λ closed. closed.short ≡ stopped_of passes.entry (actor_count self.entry)) }
+    {
+        let wiring = self.wiring;
+        let passes = passes.into_vec();
+        let short = short_of(alloc, passes.as_slice(), passes.len() as u32)?;
+        let seats = Vec::with_capacity(alloc, passes.len())?;
+        let seats = seats_of(passes, seats);
+        let acts = self.tell(alloc, List::from_vec(seats))?;
+        let full = full_of(alloc, wiring, acts)?;
+        let history = visible(alloc, wiring, &full)?;
+        Ok(Closed {
+            full,
+            history,
+            short,
+        })
+    }
+
+    /// The acts of all places, once all seats are handed in.
+    fn tell(
+        self,
+        alloc: Global,
+        seats: List<Seat<PlaceObject>>,
+    ) -> Result<List<Act<Deed>>, OutOfMemory>
+        requires space { IsSpace self }
+        requires seats { All (λ seat. IsSeatOf self.turns seat) seats }
+        requires all { length seats ≡ actor_count self }
+        ensures merged { IfOk result (λ acts. IsMerged (rules (wiring_of self.entry) never) (actor_count self.entry) (scene (wiring_of self.entry)) acts) }
+        ensures logs { IfOk result (λ acts. All (λ seat. IsLog after_deed (scene (wiring_of self.entry)) (number_of seat) acts (log_of seat)) seats) }
+        ensures numbers { IfOk result (λ _. (actor : ℕ) → actor < actor_count self.entry → HasSeat seats actor) }
+    {
+        let SpaceOf {
+            turns,
+            directory: _,
+            wiring: _,
+        } = self;
+        match turns.close(alloc, seats) {
+            Ok(kept) => {
+                let entries = merge(alloc, kept)?;
+                Ok(entries)
+            }
+            Err(_) => Err(OutOfMemory),
+        }
+    }
+}
+
+/// The seats of the passes, in the room that was taken for them.
+fn seats_of(passes: Vec<Pass<'_>>, mut seats: Vec<Seat<PlaceObject>>) -> Vec<Seat<PlaceObject>>
+    requires seats { (seats.items ≡ []) × (length passes.items ≤ vec_capacity seats) }
+    ensures seats { result.items ≡ map (λ pass. pass.seat) passes.entry.items }
+{
+    for pass in passes {
+        let PassOf {
+            actor: _,
+            seat,
+            stopped: _,
+        } = pass;
+        seats.push_reserved(seat);
+    }
+    seats
+}
+
+/// Of so many actors, those whose passes are stopped.
+fn short_of(alloc: Global, passes: &[Pass<'_>], count: u32) -> Result<List<ActorNo>, OutOfMemory>
+    ensures { IfOk result (λ short. short ≡ stopped_of passes.now count) }
+{
+    let mut short = Vec::new(alloc);
+    for number in 0..count {
+        add_if(&mut short, is_stopped_in(passes, number), number)?;
+    }
+    Ok(List::from_vec(short))
+}
+
+/// Adds the actor where it is stopped.
+fn add_if(short: &mut Vec<ActorNo>, stopped: bool, actor: ActorNo) -> Result<(), OutOfMemory>
+    ensures { OnOk result (short.new.items ≡ short.old.items ++ (if stopped then actor ∷ [] else [])) }
+{
+    if stopped {
+        short.push(actor)?;
+    }
+    Ok(())
+}
+
+fn is_stopped_in(passes: &[Pass<'_>], number: ActorNo) -> bool
+    ensures { result ≡ is_stopped_in passes.now number }
+{
+    passes
+        .iter()
+        .any(|pass| pass.stopped && pass.seat.number() == number)
+}

@@ -1,0 +1,101 @@
+//! Making the space and its passes.
+
+ghost use Rattle.std.specs.Prelude.{◌≡◌, ◌+◌, ◌≤◌, [], length, map, All, IfOk};
+ghost use Rattle.std.specs.List.{range_with_len};
+ghost use Rattle.ccr_turns.specs.Locks.{IsSeatOf, number_of, log_of};
+ghost use Rattle.ccr_actor.specs.Acting.{started};
+ghost use Rattle.ccr_space.specs.Spaces.{IsPassOf, IsSpace, actor_count, log, number, wiring_of};
+
+use super::{Pass, PassOf, Space, SpaceOf};
+use ccr_actor::Actor;
+use ccr_base::{ActorNo, List, OutOfMemory};
+use ccr_net::Directory;
+use ccr_object::{PlaceObject, place_objects};
+use ccr_turns::{Seat, Turns};
+use ccr_wiring::{Wiring, valid_wirings_are_sound};
+use std::alloc::Global;
+
+/// How many actors there are with so many workers.
+fn actors_with(wiring: &Wiring, workers: u32) -> u32
+    requires { workers ≤ 16 }
+    ensures count { result ≡ length wiring.now.posters + workers }
+    ensures most { result ≤ 32 }
+{
+    valid_wirings_are_sound();
+    wiring.parts().posters.as_slice().len() as u32 + workers
+}
+
+impl<'w> Space<'w> {
+    /// The places of the wiring under their locks, and one pass for each poster and worker, in the order of the actors.
+    pub fn make(
+        alloc: Global,
+        wiring: &'w Wiring,
+        workers: u32,
+    ) -> Result<(Space<'w>, List<Pass<'w>>), OutOfMemory>
+        requires workers { workers ≤ 16 }
+        requires actors { 1 ≤ length wiring.now.posters + workers }
+        ensures space { IfOk result (λ made. IsSpace made.0) }
+        ensures wiring { IfOk result (λ made. wiring_of made.0 ≡ wiring.now) }
+        ensures count { IfOk result (λ made. actor_count made.0 ≡ length wiring.now.posters + workers) }
+        ensures passes { IfOk result (λ made. All (λ pass. IsPassOf made.0 pass) made.1) }
+        ensures numbers { IfOk result (λ made. map number made.1 ≡ range_with_len 0 (length wiring.now.posters + workers)) }
+        ensures logs { IfOk result (λ made. All (λ pass. log pass ≡ []) made.1) }
+    {
+        let directory = Directory::of(alloc, wiring)?;
+        let objects = place_objects(alloc, wiring)?;
+        let (turns, seats) = Turns::make(alloc, objects, actors_with(wiring, workers))?;
+        let space = SpaceOf {
+            turns,
+            directory,
+            wiring,
+        };
+        let passes = space.deal(alloc, seats.into_vec())?;
+        Ok((space, List::from_vec(passes)))
+    }
+
+    /// A pass for each seat, with the actor of its number.
+    fn deal(
+        &self,
+        alloc: Global,
+        seats: Vec<Seat<PlaceObject>>,
+    ) -> Result<Vec<Pass<'w>>, OutOfMemory>
+        requires seats { All (λ seat. IsSeatOf self.now.turns seat) seats.items }
+        requires logs { All (λ seat. log_of seat ≡ []) seats.items }
+        ensures passes { IfOk result (λ passes. All (λ pass. IsPassOf self.now pass) passes.items) }
+        ensures numbers { IfOk result (λ passes. map number passes.items ≡ map number_of seats.items) }
+        ensures logs { IfOk result (λ passes. All (λ pass. log pass ≡ []) passes.items) }
+    {
+        let mut passes = Vec::new(alloc);
+        for seat in seats {
+            passes.push(self.pass_of(alloc, seat)?)?;
+        }
+        Ok(passes)
+    }
+
+    /// The pass of this seat, before its first step.
+    fn pass_of(&self, alloc: Global, seat: Seat<PlaceObject>) -> Result<Pass<'w>, OutOfMemory>
+        requires seat { IsSeatOf self.now.turns seat }
+        requires log { log_of seat ≡ [] }
+        ensures pass { IfOk result (λ pass. IsPassOf self.now pass) }
+        ensures number { IfOk result (λ pass. number pass ≡ number_of seat) }
+        ensures log { IfOk result (λ pass. log pass ≡ []) }
+    {
+        let actor = actor_at(alloc, self.wiring, seat.number())?;
+        Ok(PassOf {
+            actor,
+            seat,
+            stopped: false,
+        })
+    }
+}
+
+/// The actor of this number, before its first step.
+fn actor_at(alloc: Global, wiring: &Wiring, number: ActorNo) -> Result<Actor<'_>, OutOfMemory>
+    ensures { IfOk result (λ actor. actor ≡ started wiring.now number) }
+{
+    if (number as usize) < wiring.parts().posters.as_slice().len() {
+        Actor::poster(alloc, wiring, number)
+    } else {
+        Actor::worker(alloc, wiring, number)
+    }
+}

@@ -1,0 +1,125 @@
+//! Steps of a pass.
+
+ghost use Rattle.std.specs.Prelude.{◌≡◌, ◌≢◌, true, false};
+ghost use Rattle.ccr_space.specs.Spaces.{IsPassOf, IsSpace, IsAtRest, IsHeard, IsMore, IsTaught, log, number};
+
+use super::{Pass, Space};
+use ccr_actor::Actor;
+use ccr_base::{ActorNo, Gate, OpenGate};
+use ccr_claim::{Reply, fits};
+use ccr_dispatch::{point_after, point_before};
+use ccr_object::Answer;
+use std::sync::Wait;
+
+/// What a step of a pass came to.
+#[derive(Clone, Copy, Debug, PartialEq, Eq)]
+pub enum Step {
+    Made,
+    NoMemory,
+    Rest,
+    Unmet,
+}
+
+impl Space<'_> {
+    /// Does the next step of the pass's actor, under one lock. It waits while another pass has that lock.
+    pub fn step<R: Wait>(&self, rt: &R, pass: &mut Pass<'_>) -> Step
+        requires space { IsSpace self.now }
+        requires pass { IsPassOf self.now pass.old }
+        ensures pass { IsPassOf self.now pass.new }
+        ensures number { number pass.new ≡ number pass.old }
+        ensures rest { result ≡ Step.Rest → (pass.new ≡ pass.old) × IsAtRest pass.old }
+        ensures stepped { result ≢ Step.Rest → pass.old.stopped ≡ false }
+        ensures made { result ≡ Step.Made → IsMore true pass.old pass.new }
+        ensures unmet { result ≡ Step.Unmet → IsMore false pass.old pass.new × (pass.new.stopped ≡ true) }
+        ensures memory { result ≡ Step.NoMemory → (log pass.new ≡ log pass.old) × (pass.new.stopped ≡ true) }
+    {
+        self.advance(rt, &OpenGate, pass)
+    }
+
+    /// A step that asks the gate at its points.
+    fn advance<R: Wait, G: Gate>(&self, rt: &R, gate: &G, pass: &mut Pass<'_>) -> Step
+        requires space { IsSpace self.now }
+        requires pass { IsPassOf self.now pass.old }
+        ensures pass { IsPassOf self.now pass.new }
+        ensures number { number pass.new ≡ number pass.old }
+        ensures rest { result ≡ Step.Rest → (pass.new ≡ pass.old) × IsAtRest pass.old }
+        ensures stepped { result ≢ Step.Rest → pass.old.stopped ≡ false }
+        ensures made { result ≡ Step.Made → IsMore true pass.old pass.new }
+        ensures unmet { result ≡ Step.Unmet → IsMore false pass.old pass.new × (pass.new.stopped ≡ true) }
+        ensures memory { result ≡ Step.NoMemory → (log pass.new ≡ log pass.old) × (pass.new.stopped ≡ true) }
+    {
+        if pass.stopped {
+            return Step::Rest;
+        }
+        if pass.actor.at_rest() {
+            return Step::Rest;
+        }
+        let number = pass.seat.number();
+        let Some((place, ask)) = pass.actor.next() else {
+            unreachable!();
+        };
+        if let Some(point) = point_before(&ask) {
+            gate.at(point, number);
+        }
+        let at = self.directory.number(place);
+        match self.turns.act(rt, &mut pass.seat, at, ask) {
+            Ok(answer) => {
+                let (step, stopped) = heard(gate, number, &mut pass.actor, answer);
+                pass.stopped = stopped;
+                step
+            }
+            Err(_) => {
+                pass.stopped = true;
+                Step::NoMemory
+            }
+        }
+    }
+
+    /// Steps until the pass is at rest, and asks the gate. It answers how many steps there were, or the last number of 64
+    /// bits where there were more.
+    pub fn run<R: Wait, G: Gate>(&self, rt: &R, gate: &G, pass: &mut Pass<'_>) -> u64
+        requires space { IsSpace self.now }
+        requires pass { IsPassOf self.now pass.old }
+        ensures pass { IsPassOf self.now pass.new }
+        ensures number { number pass.new ≡ number pass.old }
+        ensures rest { IsAtRest pass.new }
+    {
+        let mut steps = 0u64;
+        for _ in rt.forever() {
+            if self.advance(rt, gate, pass) == Step::Rest {
+                return steps;
+            }
+            steps = steps.saturating_add(1);
+        }
+        unreachable!()
+    }
+}
+
+/// Hands the answer to the actor, and tells what the step came to, and whether the pass is stopped.
+fn heard<G: Gate>(gate: &G, number: ActorNo, actor: &mut Actor<'_>, answer: Answer) -> (Step, bool)
+    ensures made { answer ≡ Answer.Unmet → result ≡ (Step.Unmet, true) }
+    ensures replied { (reply : _) → answer ≡ Answer.Replied reply → result.0 ≡ Step.Made }
+    ensures going { result.1 ≡ false → IsHeard actor.old answer actor.new }
+{
+    match answer {
+        Answer::Replied(reply) => {
+            if let Some(point) = point_after(&reply) {
+                gate.at(point, number);
+            }
+            (Step::Made, told(actor, reply))
+        }
+        Answer::Unmet => (Step::Unmet, true),
+    }
+}
+
+/// Hands the reply to the actor, and tells whether it is short. An object keeps only what fits its place, so each of its
+/// replies is one that the ask may have; this is looked at here, since a lock's contract doesn't say what its object keeps.
+fn told(actor: &mut Actor<'_>, reply: Reply) -> bool
+    ensures going { result ≡ false → IsTaught actor.old reply actor.new }
+{
+    if !fits(actor.due(), &reply) {
+        return true;
+    }
+    actor.got(Ok(reply));
+    actor.short()
+}

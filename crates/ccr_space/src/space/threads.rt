@@ -1,0 +1,102 @@
+//! All passes side by side.
+
+ghost use Rattle.std.specs.Prelude.{◌≡◌, ◌+◌, ◌≤◌, ◌<◌, ℕ, [], length, true, All, IfOk};
+ghost use Rattle.ccr_model.specs.Legal.{IsLegal, is_covered};
+ghost use Rattle.ccr_net.specs.Runs.{IsRunAfter, never};
+ghost use Rattle.ccr_net.specs.Visible.{visible as shown};
+ghost use Rattle.ccr_space.specs.Spaces.{IsAtRest, IsPassOf, IsSpace};
+ghost use Rattle.ccr_space.specs.Closes.{IsAtEnd, IsDone};
+
+use super::{Closed, Pass, Space};
+use ccr_base::{Gate, List, OutOfMemory};
+use ccr_net::{played_runs_are_runs, visible_runs_are_legal_and_covered};
+use ccr_wiring::Wiring;
+use std::alloc::{AllocError, Global};
+use std::sync::Wait;
+use std::thread;
+use std::thread::Threads;
+
+/// Runs all posters and so many workers to rest, each in a thread of its own where one can be made, and closes. What they did is a
+/// run in which each step was its actor's next one, and after it each actor that isn't short has no next step.
+pub fn run_threads<R: Threads + Wait + Sync, G: Gate + Sync>(
+    rt: &R,
+    alloc: Global,
+    wiring: &Wiring,
+    workers: u32,
+    gate: &G,
+) -> Result<Closed, OutOfMemory>
+    requires workers { workers ≤ 16 }
+    requires actors { 1 ≤ length wiring.now.posters + workers }
+    ensures run { IfOk result (λ closed. IsRunAfter wiring.now workers never [] closed.full.entries) }
+    ensures rest { IfOk result (λ closed. (actor : ℕ) → actor < length wiring.now.posters + workers → IsAtEnd wiring.now closed.full.entries closed.short actor) }
+    ensures history { IfOk result (λ closed. closed.history ≡ shown closed.full.entries) }
+    ensures legal { IfOk result (λ closed. IsLegal wiring.now closed.history) }
+    ensures covered { IfOk result (λ closed. is_covered wiring.now closed.history ≡ true) }
+{
+    played_runs_are_runs();
+    visible_runs_are_legal_and_covered();
+    let _valid = wiring.parts();
+    let closed = closed_threads(rt, alloc, wiring, workers, gate)?;
+    Ok(closed)
+}
+
+/// The same, as the objects of the places play it.
+fn closed_threads<R: Threads + Wait + Sync, G: Gate + Sync>(
+    rt: &R,
+    alloc: Global,
+    wiring: &Wiring,
+    workers: u32,
+    gate: &G,
+) -> Result<Closed, OutOfMemory>
+    requires workers { workers ≤ 16 }
+    requires actors { 1 ≤ length wiring.now.posters + workers }
+    ensures done { IfOk result (λ closed. IsDone wiring.now (length wiring.now.posters + workers) closed.full.entries closed.short) }
+    ensures history { IfOk result (λ closed. closed.history ≡ shown closed.full.entries) }
+{
+    let (space, passes) = Space::make(alloc, wiring, workers)?;
+    let passes = space.all_through(rt, gate, passes.into_vec())?;
+    let closed = space.close(alloc, List::from_vec(passes))?;
+    Ok(closed)
+}
+
+impl Space<'_> {
+    /// Each pass to rest, each in a thread of its own where one can be made.
+    pub fn all_through<'p, R: Threads + Wait + Sync, G: Gate + Sync>(
+        &self,
+        rt: &R,
+        gate: &G,
+        passes: Vec<Pass<'p>>,
+    ) -> Result<Vec<Pass<'p>>, AllocError>
+        requires space { IsSpace self.now }
+        requires passes { All (λ pass. IsPassOf self.now pass) passes.items }
+        ensures len { IfOk result (λ v. length v.items ≡ length passes.entry.items) }
+        ensures passes { IfOk result (λ v. All (λ pass. IsPassOf self.now pass) v.items) }
+        ensures rest { IfOk result (λ v. All (λ pass. IsAtRest pass) v.items) }
+    {
+        let passes = thread::map_vec(
+            rt,
+            passes,
+            &|pass: Pass| -> Pass
+                requires { IsSpace self.now × IsPassOf self.now pass }
+                ensures pass { IsPassOf self.entry.now result }
+                ensures rest { IsAtRest result }
+            { through(rt, gate, self, pass) },
+        )?;
+        Ok(passes)
+    }
+}
+
+fn through<'p, R: Wait, G: Gate>(
+    rt: &R,
+    gate: &G,
+    space: &Space<'_>,
+    mut pass: Pass<'p>,
+) -> Pass<'p>
+    requires space { IsSpace space.now }
+    requires pass { IsPassOf space.now pass }
+    ensures pass { IsPassOf space.now result }
+    ensures rest { IsAtRest result }
+{
+    space.run(rt, gate, &mut pass);
+    pass
+}

@@ -1,0 +1,13 @@
+//! Tests of runs of many actors, by turns and over the net of one thread, as a user of each would call them.
+#![tactic(auto)]
+
+#[cfg(test)]
+mod directories;
+#[cfg(test)]
+mod nets;
+#[cfg(test)]
+mod schedules;
+#[cfg(test)]
+mod shortages;
+#[cfg(test)]
+mod showing;

@@ -1,0 +1,7 @@
+//! Tests of the program's top call, on one thread and on several.
+#![tactic(auto)]
+
+#[cfg(test)]
+mod program;
+#[cfg(test)]
+mod threads;
