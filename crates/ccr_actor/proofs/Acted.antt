@@ -57,18 +57,6 @@ never-refused dues.Take settles may = absurd settles
 never-refused dues.Draw settles may = absurd settles
 never-refused dues.Left settles may = absurd settles
 
--- the answer is one to the ask of this part
-pub answered_so : (course : Course) (part : Part) (due : Due) (answer : Answer) → IsAsked course part due → due_at course.attempt ≡ attempt_due part due → may_come due answer ≡ true → IsAnswered course part answer
-answered_so course parts.Over due (Ok reply) asked is may = (asked.dropped, (asked.past, is))
-answered_so course parts.Over due (Err refused) asked is may = absurd (never-refused due asked.due_is may)
-answered_so course parts.Hand due (Ok reply) asked is may = (asked.dropped, (asked.past, subst (λ (d : Due). IsToldSo parts.Hand d (Ok reply)) (sym is) (asked.due_is, may)))
-answered_so course parts.Hand due (Err refused) asked is may = absurd (never-refused due asked.due_is may)
-answered_so course parts.Put due (Ok reply) asked is may = (asked.dropped, (asked.past, is))
-answered_so course parts.Put due (Err refused) asked is may = absurd (never-refused due asked.due_is may)
-answered_so course parts.Admit due answer asked is may = (asked.0, (asked.1, is))
-answered_so course parts.Drive due answer asked is may = (asked.0, (asked.1.0, (is ∙ asked.1.1, subst (λ (d : Due). may_come d answer ≡ true) (sym is) may)))
-answered_so course parts.Work due answer asked is may = (asked.0, (asked.1.0, (asked.1.1, is)))
-
 -- ---- the state after an answer
 
 pub target_short : (part : Part) (wiring : Parts) (actor : ℕ) (state : State) (answer : Answer) → (target part wiring actor state answer).is_short ≡ state.is_short

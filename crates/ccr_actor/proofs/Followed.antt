@@ -214,10 +214,6 @@ lack-more : (lack : Option ℕ) (steps : List Step) (step : Step) (short other :
 lack-more None steps step short other same is = same ∙ is
 lack-more (Some n) steps step short other same is = ((let more = steps-more steps step in let within = is.0 in omega (arith, within, more)), same ∙ is.1)
 
-no-lack : (lack : Option ℕ) (steps : List Step) (short : Bool) → IsShortFrom lack steps short → short ≡ false → lack ≡ None
-no-lack None steps short is long = refl
-no-lack (Some n) steps short is long = cc (sym is.1 ∙ long)
-
 -- before its first step
 pub follows_started : (wiring : Parts) (actor : ℕ) → Follows wiring actor [] (started wiring actor)
 follows_started wiring actor = (None, (tt, (refl, refl)))

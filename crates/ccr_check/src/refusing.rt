@@ -8,7 +8,7 @@ use ccr_base::{ActorNo, Msg, MsgId, OutOfMemory, Spot, TaskId};
 use ccr_handler::PlayEnd;
 use ccr_ledger::Ledger;
 use ccr_model::{EndHow, Event};
-use ccr_wiring::Wiring;
+use ccr_wiring::{MAX_ACTOR, Wiring};
 
 /// Whether the message is the poster's next line.
 fn is_next_line(wiring: &Wiring, ledger: &Ledger, actor: ActorNo, place: u32, message: &Msg) -> bool
@@ -48,14 +48,14 @@ fn is_next_post(ledger: &Ledger, task: TaskId, place: u32, message: &Msg) -> boo
 fn is_unused(ledger: &Ledger, task: TaskId) -> bool
     ensures { result ≡ is_unused ledger.now task }
 {
-    !ledger.has_fired(task) && task.actor <= 32
+    !ledger.has_fired(task) && task.actor <= MAX_ACTOR
 }
 
 fn is_idle(wiring: &Wiring, ledger: &Ledger, actor: ActorNo) -> bool
     ensures { result ≡ is_idle wiring.now ledger.now actor }
 {
     let posters = wiring.parts().posters.as_slice().len();
-    posters <= actor as usize && actor <= 32 && !ledger.is_busy(actor)
+    posters <= actor as usize && actor <= MAX_ACTOR && !ledger.is_busy(actor)
 }
 
 fn sheds(wiring: &Wiring, ledger: &Ledger, task: TaskId) -> bool

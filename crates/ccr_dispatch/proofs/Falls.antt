@@ -151,10 +151,6 @@ admit_falls state arbiter more (replies.Drawn n) none at few = strike-falls stat
 admit_falls state arbiter more replies.Spent none at few = strike-falls state arbiter more none at
 admit_falls state arbiter more (replies.Left n) none at few = strike-falls state arbiter more none at
 
--- few are left where few Interleaves stand and little is to be put
-few-left : (state : State) (arbiters puts : ℕ) → length state.arbiters ≤ arbiters → puts_in state.hand ≤ puts → arbiters + 2 * puts ≤ 3 → admissions_left state < 98400
-few-left state arbiters puts some little few = omega (arith, some, little, few)
-
 none-waits : (state : State) → state.hand ≡ [] → state.arbiters ≡ [] → admissions_left state < 98400
 none-waits state none at =
     let puts : puts_in state.hand ≡ 0 = ap puts_in none in

@@ -63,16 +63,3 @@ by-test false false false n m one two all = grind (arith, nat_tests, one, two, a
 
 counts-join : (n m : ℕ) → counted (n + m) ≡ min (counted n + counted m) (2 ^ 64 - 1)
 counts-join n m = by-test (nat_lt n (2 ^ 64)) (nat_lt m (2 ^ 64)) (nat_lt (n + m) (2 ^ 64)) n m refl refl refl
-
--- steps that were added after others
-pub adds_join : (old mid new : List Step) (one two both : ℕ) → Adds old mid one → Adds mid new two → both ≡ min (one + two) (2 ^ 64 - 1) → Adds old new both
-adds_join old mid new one two both (first, (at, n)) (second, (then_at, m)) is = (
-  first ++ second,
-  (
-    then_at ∙ (ap (λ (l : List Step). l ++ second) at ∙ append_assoc old first second),
-    is ∙ (rw (n, m) (sym (counts-join (length first) (length second))) ∙ sym (ap counted (length-append first second))),
-  ),
-)
-
-pub adds_none : (old : List Step) → Adds old old 0
-adds_none old = ([], (sym (append-nil old), refl))

@@ -9,7 +9,7 @@ ghost use Rattle.ccr_ledger.specs.Events.{after_admit, after_discard, after_drop
 
 use crate::counts::{add_one, take_one};
 use crate::ports::{empty_ports, post_to};
-use crate::tasks::{admit_root, count_post, end_root, move_to, stop, suspend};
+use crate::tasks::{SITES_EACH, admit_root, count_post, end_root, move_to, stop, suspend};
 use crate::{Card, Runner, Stage};
 use ccr_base::{ActorNo, Msg, MsgId, OutOfMemory, QueueNo, Spot, TaskId};
 use ccr_held::HeldMessages;
@@ -33,7 +33,7 @@ pub struct Ledger {
     pub(crate) queued: Rows<TaskId>,
     /// The tasks of each domain that wait for their admission.
     pub(crate) waiting: Rows<TaskId>,
-    /// The suspended tasks of each site, 16 rows for each branch.
+    /// The suspended tasks of each site, `SITES_EACH` rows for each branch.
     pub(crate) suspended: Rows<TaskId>,
     /// By their starts.
     pub(crate) running: Vec<Runner>,
@@ -117,7 +117,7 @@ impl Ledger {
         let queues = parts.queues.as_slice().len();
         let domains = parts.arbiters.as_slice().len();
         let branches = count_branches(parts.arbiters.as_slice())?;
-        let Some(sites) = branches.checked_mul(16) else {
+        let Some(sites) = branches.checked_mul(SITES_EACH as usize) else {
             return Err(OutOfMemory);
         };
         Ok(Ledger {

@@ -11,6 +11,9 @@ use ccr_base::{BranchNo, OutOfMemory, TaskId};
 use ccr_rows::Rows;
 use indexmap::IndexMap;
 
+/// The await sites of a branch, at most: it has as many actions.
+pub(crate) const SITES_EACH: u32 = 16;
+
 /// The task comes to this stage.
 pub(crate) fn move_to(tasks: &mut IndexMap<TaskId, Card>, task: TaskId, stage: Stage)
     ensures { tasks.new.entries ≡ moved stage task tasks.old.entries }
@@ -70,11 +73,11 @@ pub(crate) fn first_suspended(
 ) -> Option<TaskId>
     ensures { result ≡ slice_get (suspended_at suspended.now branch site) 0 }
 {
-    if site >= 16 {
+    if site >= SITES_EACH {
         return None;
     }
     suspended
-        .first(branch as usize * 16 + site as usize)
+        .first(branch as usize * SITES_EACH as usize + site as usize)
         .copied()
 }
 
@@ -82,8 +85,8 @@ pub(crate) fn first_suspended(
 pub(crate) fn resume(suspended: &mut Rows<TaskId>, branch: BranchNo, site: u32)
     ensures { suspended.new ≡ with_suspended suspended.old branch site (drop 1 (suspended_at suspended.old branch site)) }
 {
-    if site < 16 {
-        suspended.leave(branch as usize * 16 + site as usize);
+    if site < SITES_EACH {
+        suspended.leave(branch as usize * SITES_EACH as usize + site as usize);
     }
 }
 
@@ -96,8 +99,8 @@ pub(crate) fn suspend(
 ) -> Result<(), OutOfMemory>
     ensures { OnOk result (suspended.new ≡ with_suspended suspended.old branch site (suspended_at suspended.old branch site ++ task ∷ [])) }
 {
-    if site < 16 {
-        suspended.enter(branch as usize * 16 + site as usize, task)?;
+    if site < SITES_EACH {
+        suspended.enter(branch as usize * SITES_EACH as usize + site as usize, task)?;
     }
     Ok(())
 }

@@ -15,7 +15,7 @@ use crate::tasks::{
 use crate::{EndHow, Event};
 use ccr_base::{ActorNo, CauseNo, Msg, MsgId, OutOfMemory, Policy, Sent, Spot, TaskId};
 use ccr_handler::PlayEnd;
-use ccr_wiring::Wiring;
+use ccr_wiring::{MAX_ACTOR, Wiring};
 use std::alloc::Global;
 
 fn are_same_causes(causes: &[CauseNo], others: &[CauseNo]) -> bool
@@ -95,7 +95,7 @@ pub fn has_budget(wiring: &Wiring, events: &[Event]) -> bool
 pub(crate) fn is_new(alloc: Global, events: &[Event], task: TaskId) -> Result<bool, OutOfMemory>
     ensures { IfOk result (λ is. is ≡ is_new events.now task) }
 {
-    Ok(!has_task(&fired(alloc, events)?, task) && task.actor <= 32)
+    Ok(!has_task(&fired(alloc, events)?, task) && task.actor <= MAX_ACTOR)
 }
 
 /// The tasks that a firing at the spot cuts, in order of their firing.
@@ -286,7 +286,7 @@ pub(crate) fn may_start(
 {
     let posters = wiring.parts().posters.as_slice().len();
     let running = running_by(alloc, events, actor)?;
-    Ok(posters <= actor as usize && actor <= 32 && running.is_empty())
+    Ok(posters <= actor as usize && actor <= MAX_ACTOR && running.is_empty())
 }
 
 fn ends_so(how: &EndHow, end: &PlayEnd) -> bool

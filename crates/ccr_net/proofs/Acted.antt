@@ -134,24 +134,6 @@ module _ (w : Parts) (places : List Place) (objects later : List PlaceObject) (p
     actor_few = few_set qs actor (omega (arith, left.actor_count)) left.actor_few;
   }
 
--- want of memory leaves them
-pub IsLeft-kept : (w : Parts) (places : List Place) (objects later : List PlaceObject) (ps qs : List ℕ) (acts : List (Act Deed)) (number : ℕ) → IsLeft w places objects ps qs acts → length later ≡ length objects → placed_in later number ≡ placed_in objects number → ((k : ℕ) → k ≢ number → placed_in later k ≡ placed_in objects k) → IsLeft w places later ps qs acts
-IsLeft-kept w places objects later ps qs acts number left same here others = record {
-  all = left.all;
-  count = same ∙ left.count;
-  place_count = left.place_count;
-  actor_count = left.actor_count;
-  stand = λ k. by k (number == k) refl ∙ left.stand k;
-  place_last = left.place_last;
-  actor_last = left.actor_last;
-  place_few = left.place_few;
-  actor_few = left.actor_few;
-}
-  where
-    by : (k : ℕ) (b : Bool) → (number == k) ≡ b → placed_in later k ≡ placed_in objects k
-    by k true is = subst (λ n. placed_in later n ≡ placed_in objects n) (same_number number k is) here
-    by k false is = others k (differs number k is)
-
 -- ---- the start
 
 pub placed_in-map : (objects : List PlaceObject) (n : ℕ) → placed_in objects n ≡ option_map_or (λ (x : Placed). x) (slice_get (map placed objects) n) nothing

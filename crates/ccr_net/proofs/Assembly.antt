@@ -52,16 +52,6 @@ pub record SameParts (st st' : State) : Type 0 where
   pub attempt : st'.attempt ≡ st.attempt
   pub work : st'.work ≡ st.work
 
-pub ActorHolds-same : (w : Parts) (h : List Event) (port : ℕ → PortState) (a : ℕ) (st st' : State) → SameParts st st' → ActorHolds w h port a st → ActorHolds w h port a st'
-ActorHolds-same w h port a st st' same holds = record {
-  claims = ActorMatches-same w h port a st st' same.hand (ap had_in same.phase) same.attempt holds.claims;
-  work = subst (WorkMatches w h a) (sym same.work) holds.work;
-  fits = record {
-    spots_so = λ s is. holds.fits.spots_so s (subst (Among s) same.spots is);
-    phase_so = rw (same.attempt, same.phase, same.spots) holds.fits.phase_so;
-  };
-}
-
 pub ActorHolds-short : (w : Parts) (h : List Event) (port : ℕ → PortState) (a : ℕ) (st : State) → ActorHolds w h port a st → ActorHolds w h port a (shorten w a st)
 ActorHolds-short w h port a st holds = record {
   claims = ActorMatches-short w h port a st holds.claims;

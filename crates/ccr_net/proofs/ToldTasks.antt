@@ -61,9 +61,6 @@ named_has name (y ∷ xs) x (inr is) = or_right (same_task (name x) (name y)) (h
 pub suspended_view-stays : (w : Parts) (h more : List Event) (t : TaskId) → IsFired h t → suspended_view w (h ++ more) t ≡ suspended_view w h t
 suspended_view-stays w h more t fires = λ j. record (view-stays w h more t fires j) { causes = (play_of-append w h more t fires.0 fires.1 j).causes }
 
-pub cut_view-stays : (w : Parts) (h more : List Event) (t : TaskId) → IsFired h t → cut_view w (h ++ more) t ≡ cut_view w h t
-cut_view-stays w h more t fires = ap (λ (x : Task). record { task = x.id; queue = x.queue }) (view-stays w h more t fires)
-
 -- lists of them, by anything that names them
 pub views-stay : {X : Type 0} (name : X → TaskId) (w : Parts) (h more : List Event) (xs : List X) → ((x : X) → Among x xs → IsFired h (name x)) → map (λ x. view w (h ++ more) (name x)) xs ≡ map (λ x. view w h (name x)) xs
 views-stay name w h more xs fires = map_on (λ x. view w (h ++ more) (name x)) (λ x. view w h (name x)) xs (λ x is. view-stays w h more (name x) (fires x is))

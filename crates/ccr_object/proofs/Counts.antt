@@ -22,6 +22,3 @@ by_test false n m c messages = omega arith
 by_claim : (claim : Option StandingClaim) (number : ℕ) (items : List Msg) (slot : Slot) → got_count (claim_reply (record { number = number; items = items; claim = claim }) slot) ≤ slot.most
 by_claim None number items slot = by_test (is_choosable slot items) slot.most 0 (length (fitting slot.pred items)) (fitting slot.pred items)
 by_claim (Some claim) number items slot = omega arith
-
-pub got_few : (port : PortState) (slot : Slot) → got_count (claim_reply port slot) ≤ slot.most
-got_few port slot = by_claim port.claim port.number port.items slot

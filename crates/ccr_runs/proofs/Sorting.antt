@@ -15,9 +15,6 @@ use Rattle.std.specs.Ordering.{is_lt, nat_cmp}
 use Rattle.std.proofs.lemmas.Bool.Decides.{nat_tests}
 use Rattle.ccr_runs.proofs.Telling.{climbs_from}
 
-stamp_below : {N : Type 0} → Act N → Act N → Bool
-stamp_below x y = is_lt (nat_cmp x.stamp y.stamp)
-
 pub tie : (x y : ℕ) → not (is_lt (nat_cmp x y)) && not (is_lt (nat_cmp y x)) ≡ eqb y x
 tie x y = grind (arith, nat_tests)
 

@@ -47,15 +47,6 @@ live_before w h e n a groups.Teardown is = none_fired_before _ h e is
 abbrev gone : List Event → List TaskId
 gone h = started h ++ dropped h ++ cut h
 
-over_three : (a b c x y z : Bool) → (a || x) || ((b || y) || (c || z)) ≡ (a || (b || c)) || (x || (y || z))
-over_three true b c x y z = refl
-over_three false true c true y z = refl
-over_three false true c false y z = refl
-over_three false false true true y z = refl
-over_three false false true false true z = refl
-over_three false false true false false z = refl
-over_three false false false x y z = refl
-
 gone-push : (h : List Event) (e : Event) (u : TaskId) → has_task (freed_by e) u ≡ false → has_task (gone (h ++ e ∷ [])) u ≡ has_task (gone h) u
 gone-push h (Post m) u out = rw (started-push, dropped-push, cut-push, append-nil (started h), append-nil (dropped h), append-nil (cut h)) refl
 gone-push h (Admit t) u out = rw (started-push, dropped-push, cut-push, append-nil (started h), append-nil (dropped h), append-nil (cut h)) refl

@@ -13,7 +13,7 @@ ghost use Rattle.ccr_serial.specs.Places.{AreFirst, first_keyed, first_place, is
 
 use ccr_base::{OutOfMemory, Pattern, Policy, PortNo, QueueNo, Slot, Spot};
 use ccr_model::placements::{placement, policy_of, site_port};
-use ccr_wiring::{Parts, Wiring};
+use ccr_wiring::{MAX_BRANCHES, Parts, Wiring};
 use std::alloc::Global;
 use std::marker::Model;
 
@@ -133,17 +133,17 @@ fn all_first(
     Ok(firsts)
 }
 
-/// How many branches the wiring has, which are at most 256.
+/// How many branches the wiring has.
 fn count_branches(wiring: &Wiring) -> u32
     ensures { result ≡ length (placements wiring.now) }
 {
     let _valid = wiring.parts();
-    for branch in 0..256 {
+    for branch in 0..MAX_BRANCHES as u32 {
         if placement(wiring, branch).is_none() {
             return branch;
         }
     }
-    256
+    MAX_BRANCHES as u32
 }
 
 /// The first place of the number, where the list has one.

@@ -74,9 +74,3 @@ pieces_whole (b ∷ bytes) marks =
     let mark : is_mark b ≡ true = marks 0 (omega arith) in
     let rest : pieces bytes ≡ bytes ∷ [] = pieces_whole bytes (λ k h. marks (suc k) (omega arith)) in
     rw (mark, rest) refl
-
--- the last element taken out, and then the first n
-pub take_removed : (xs : List ℕ) (n : ℕ) → n < length xs → take n (take (length xs - 1) xs ++ drop (suc (length xs - 1)) xs) ≡ take n xs
-take_removed xs n below =
-    let front : n ≤ length (take (length xs - 1) xs) = omega (arith, length-take (length xs - 1) xs) in
-    take-append-le n (take (length xs - 1) xs) (drop (suc (length xs - 1)) xs) front ∙ (sym (take-append-le n (take (length xs - 1) xs) (drop (length xs - 1) xs) front) ∙ ap (λ (t : List ℕ). take n t) (take-append-drop (length xs - 1) xs))

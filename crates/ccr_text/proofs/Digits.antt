@@ -20,9 +20,6 @@ read_after (Some n) (d ∷ digits) = read_after (with_digit n d) digits
 abbrev pub value_from : ℕ → List ℕ → Option ℕ
 value_from n digits = if list_all is_ascii_digit digits && nat_lt (value_after n digits) (2 ^ 64) then Some (value_after n digits) else None
 
-pub read_after-none : (digits : List ℕ) → read_after None digits ≡ None
-read_after-none digits = refl
-
 pub read_after-is : (digits : List ℕ) (n : ℕ) → n < 2 ^ 64 → read_after (Some n) digits ≡ value_from n digits
 read_after-is [] n fits = grind (arith, nat_tests)
 read_after-is (d ∷ digits) n fits = of_test (is_ascii_digit d) (nat_lt (n * 10 + (d - 48)) (2 ^ 64)) (n * 10 + (d - 48)) refl (λ h. read_after-is digits (n * 10 + (d - 48)) h)

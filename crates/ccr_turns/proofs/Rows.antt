@@ -197,9 +197,6 @@ take_all [] (suc n) h = refl
 take_all (x ∷ xs) zero h = absurd (omega arith)
 take_all (x ∷ xs) (suc n) h = ap (λ (l : List _). x ∷ l) (take_all xs n (omega arith))
 
-pub take_next : {A : Type 0} (l : List A) (i j : ℕ) (a : A) → j ≡ i + 1 → get_elem? l i ≡ some a → take j l ≡ take i l ++ a ∷ []
-take_next l i j a e at = let n : j ≡ suc i = omega arith in ap (λ k. take k l) n ∙ take_more l i a at
-
 -- what holds of each element holds of one that was read
 pub all_at : {A : Type 0} (P : A → Type 0) (xs : List A) (i : ℕ) (a : A) → All P xs → get_elem? xs i ≡ some a → P a
 all_at P xs i a all at = subst P (read xs i a at) (all i a (within xs i a at))

@@ -45,6 +45,8 @@ pub const MAX_ARG: u32 = 65_535;
 pub const MAX_PLACE: u32 = 7;
 
 pub const MAX_POSTERS: usize = 16;
+/// The largest number of an actor: posters come first, then at most 16 workers, then who finishes the run.
+pub const MAX_ACTOR: u32 = 32;
 /// The posts of all scripts together.
 pub const MAX_SCRIPT_POSTS: usize = 10_000;
 /// The spots that name one port.

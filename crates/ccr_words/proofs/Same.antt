@@ -316,13 +316,6 @@ not_fine p w u takes bad up = go (fine p u) refl
     go true e = absurd (no_ascii w bad (up (fine_ascii p u takes e)))
     go false e = refl
 
-name_ascii : (p : Part) → ascii (name_of p) ≡ true
-name_ascii word = refl
-name_ascii workers = refl
-name_ascii size = refl
-name_ascii schedule = refl
-name_ascii json = refl
-
 option_name : (name : Text) (q : Part) → option_of name ≡ Some q → ascii name ≡ true
 option_name name q is = go (bytes_eq (codes "workers") name) (bytes_eq (codes "size") name) (bytes_eq (codes "schedule") name) (bytes_eq (codes "json") name) refl refl refl refl is
   where

@@ -34,10 +34,6 @@ pub clean-first : (a b : Kinds) → clean a ≡ true → or_else a b ≡ b
 clean-first [] b h = refl
 clean-first (k ∷ ks) b h = absurd (cc)
 
-pub clean-nil : (a : Kinds) → clean a ≡ true → a ≡ []
-clean-nil [] h = refl
-clean-nil (k ∷ ks) h = absurd (cc)
-
 -- ---- the walk, with what is given so far
 
 abbrev pub held : List Row → Option (Text × List Text) → Held
@@ -275,20 +271,6 @@ is_word o = option_map_or (λ part. bytes_eq (name_of part) (name_of word)) o fa
 
 option_of-not_word : (name : Text) → option_map_or (λ part. bytes_eq (name_of part) (name_of word)) (option_of name) false ≡ false
 option_of-not_word name = option_not_word (bytes_eq (codes "workers") name) (bytes_eq (codes "size") name) (bytes_eq (codes "schedule") name) (bytes_eq (codes "json") name)
-
-takes_values-rule : (part : Part) → takes_values (rule_for part) ≡ takes_value part
-takes_values-rule word = refl
-takes_values-rule workers = refl
-takes_values-rule size = refl
-takes_values-rule schedule = refl
-takes_values-rule json = refl
-
-rule_id : (part : Part) → (rule_for part).id ≡ name_of part
-rule_id word = refl
-rule_id workers = refl
-rule_id size = refl
-rule_id schedule = refl
-rule_id json = refl
 
 -- what a part with a value comes to, where its row may be there already
 module _ (rows : List Row) (pending : Option (Text × List Text)) (given : Given) (fit : IsSettled rows pending given) (part : Part) (other : bytes_eq (name_of part) (name_of word) ≡ false) where

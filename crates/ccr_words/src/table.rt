@@ -7,6 +7,14 @@ ghost use Rattle.ccr_words.specs.Table.{is_number, number, number_or, check_requ
 
 use crate::requests::{Command, Request};
 
+const MAX_WORKERS: u32 = 16;
+/// The workers of a run that names none.
+const USUAL_WORKERS: u32 = 4;
+/// The posts of a load, at most.
+const MAX_LOAD: u32 = 10_000;
+/// The posts of a load that names no size.
+const USUAL_LOAD: u32 = 1_000;
+
 fn has_only_digits(text: &str) -> bool
     ensures { result ≡ list_all is_ascii_digit text.now }
 {
@@ -74,7 +82,7 @@ fn run_request(
     if size.is_some() {
         return None;
     }
-    match number_or(workers, 4, 0, 16) {
+    match number_or(workers, USUAL_WORKERS, 0, MAX_WORKERS) {
         Some(workers) => Some(Request::Read {
             command: Command::Run { workers, schedule },
             json,
@@ -114,8 +122,8 @@ fn load_request(
         return None;
     }
     match (
-        number_or(workers, 0, 0, 16),
-        number_or(size, 1000, 1, 10_000),
+        number_or(workers, 0, 0, MAX_WORKERS),
+        number_or(size, USUAL_LOAD, 1, MAX_LOAD),
     ) {
         (Some(workers), Some(size)) => Some(Request::Load {
             size,
