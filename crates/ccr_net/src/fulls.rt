@@ -16,7 +16,7 @@ pub fn full_of(alloc: Global, wiring: &Wiring, acts: List<Act<Deed>>) -> Result<
     ensures { IfOk result (λ full. full.entries ≡ entries_of wiring.now acts) }
 {
     let places = places_of(alloc, wiring)?;
-    let mut entries = Vec::new(alloc);
+    let mut entries = Vec::with_capacity(alloc, acts.len())?;
     for act in acts.into_vec() {
         if let Some(entry) = entry_of(wiring, places.as_slice(), act) {
             entries.push(entry)?;

@@ -24,7 +24,7 @@ pub fn merge<O: Drop, N: Drop>(
     ensures by_place { IfOk result (λ entries. IsByPlace entries) }
 {
     let mut entries = all(alloc, kept.into_vec())?;
-    entries.sort_by_key(|entry| entry.stamp)?;
+    entries.sort_by_cached_key(|entry| entry.stamp)?;
     Ok(List::from_vec(entries))
 }
 
