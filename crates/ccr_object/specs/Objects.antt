@@ -47,7 +47,7 @@ noted given = option_map (λ (g : Reply × Note). g.1) given
 
 -- what contracts see of a place
 abbrev pub placed : PlaceObject → Placed
-placed place = record { numbers = place.numbers.value; object = place.object }
+placed place = record { numbers = place.numbers.value; object = place.object.value }
 
 -- what stands where there is no place
 abbrev pub nothing : Placed

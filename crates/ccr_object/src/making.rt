@@ -52,6 +52,6 @@ fn place_object(
     Ok(PlaceObject {
         alloc,
         numbers: Arc::try_clone(numbers)?,
-        object: object_at(alloc, wiring, place)?,
+        object: Box::new(alloc, object_at(alloc, wiring, place)?)?,
     })
 }

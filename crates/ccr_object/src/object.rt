@@ -39,11 +39,12 @@ pub enum Object {
 }
 
 /// The object of a place, with the allocator that copies for its notes come from, and the numbers that its asks may name.
+/// It is boxed, since each turn moves it out of its lock and back.
 #[derive(Drop)]
 pub struct PlaceObject {
     pub alloc: Global,
     pub numbers: Arc<Numbers>,
-    pub object: Object,
+    pub object: Box<Object>,
 }
 
 /// What contracts see of it. No value of it is made.
@@ -66,7 +67,7 @@ impl PlaceObject {
     {
         let asked = Snapshot::of(&ask);
         let given = if self.numbers.knows(&ask) {
-            act(self.alloc, &mut self.object, ask)?
+            act(self.alloc, &mut *self.object, ask)?
         } else {
             None
         };

@@ -1,4 +1,4 @@
-//! Tests of runs of many actors, by turns and over the net of one thread, as a user of each would call them.
+//! Tests of runs of many actors, by turns, over the net of one thread and through a space, as a user of each would call them.
 #![tactic(auto)]
 
 #[cfg(test)]
@@ -11,3 +11,5 @@ mod schedules;
 mod shortages;
 #[cfg(test)]
 mod showing;
+#[cfg(test)]
+mod spaces;

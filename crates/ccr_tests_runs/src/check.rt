@@ -173,11 +173,13 @@ fn count_repeats(rt: &impl Abort, judge: &mut Judge<'_>, event: &Event, count: u
     (refused, judge.len())
 }
 
+fn repeats_over(rt: &impl Abort, alloc: Global, wiring: &Wiring, count: u32) -> (u32, u32) {
+    let mut judge = Judge::new(alloc, wiring).expect(rt, "memory");
+    count_repeats(rt, &mut judge, &post(alloc, 0), count)
+}
+
 fn repeats(rt: &impl Abort, alloc: Global, count: u32) -> (u32, u32) {
-    let wiring = wiring(rt, alloc, 1);
-    let event = post(alloc, 0);
-    let mut judge = Judge::new(alloc, &wiring).expect(rt, "memory");
-    count_repeats(rt, &mut judge, &event, count)
+    repeats_over(rt, alloc, &wiring(rt, alloc, 1), count)
 }
 
 #[test]
@@ -215,10 +217,13 @@ fn judge_posts(
     )
 }
 
-fn run(rt: &impl Abort, alloc: Global, count: u32) -> (u32, bool, bool) {
-    let wiring = wiring(rt, alloc, count);
-    let mut judge = Judge::new(alloc, &wiring).expect(rt, "memory");
+fn run_over(rt: &impl Abort, alloc: Global, wiring: &Wiring, count: u32) -> (u32, bool, bool) {
+    let mut judge = Judge::new(alloc, wiring).expect(rt, "memory");
     judge_posts(rt, alloc, &mut judge, count)
+}
+
+fn run(rt: &impl Abort, alloc: Global, count: u32) -> (u32, bool, bool) {
+    run_over(rt, alloc, &wiring(rt, alloc, count), count)
 }
 
 #[test]

@@ -14,6 +14,7 @@ use ccr_queue::{Meter, QueueObject};
 use ccr_samples::{one_handler, one_receiver, only};
 use ccr_wiring::{Parts, Wiring};
 use std::alloc::Global;
+use std::process::Abort;
 use std::sync::Arc;
 use std::test::*;
 
@@ -30,24 +31,24 @@ const SLOT: Slot = Slot {
 };
 
 /// A post of this at port 0, and an await there.
-fn awaiting(alloc: Global, expr: Expr) -> Result<List<Action>, OutOfMemory> {
+fn awaiting(rt: &impl Abort, alloc: Global, expr: Expr) -> List<Action> {
     let mut actions = List::new(alloc);
-    actions.add(Action::Post(0, expr))?;
-    actions.add(Action::Await(0))?;
-    Ok(actions)
+    actions.add(Action::Post(0, expr)).expect(rt, "memory");
+    actions.add(Action::Await(0)).expect(rt, "memory");
+    actions
 }
 
 /// The receive of port 0, whose handler awaits port 0.
-fn parts(alloc: Global) -> Result<Parts, Fail> {
-    let mut parts = one_receiver(alloc).ok().ok_or("memory")?;
-    let actions = awaiting(alloc, Expr::Count).ok().ok_or("memory")?;
-    parts.handlers = one_handler(alloc, actions).ok().ok_or("memory")?;
-    Ok(parts)
+fn parts(rt: &impl Abort, alloc: Global) -> Parts {
+    let mut parts = one_receiver(alloc).expect(rt, "memory");
+    parts.handlers = one_handler(alloc, awaiting(rt, alloc, Expr::Count)).expect(rt, "memory");
+    parts
 }
 
-fn wiring(alloc: Global) -> Result<Wiring, Fail> {
-    let parts = parts(alloc)?;
-    Ok(Wiring::check(alloc, parts).ok().ok_or("not valid")?)
+fn wiring(rt: &impl Abort, alloc: Global) -> Wiring {
+    Wiring::check(alloc, parts(rt, alloc))
+        .ok()
+        .expect(rt, "not valid")
 }
 
 fn message(alloc: Global) -> Msg {
@@ -168,37 +169,48 @@ fn ask_of(alloc: Global, word: Word, spot: Spot) -> Ask {
     }
 }
 
-fn place(alloc: Global, kind: Kind) -> Result<PlaceObject, Fail> {
-    let wiring = wiring(alloc)?;
-    let numbers = Numbers::of(alloc, &wiring).ok().ok_or("memory")?;
-    Ok(PlaceObject {
+fn numbers(rt: &impl Abort, alloc: Global) -> Arc<Numbers> {
+    let numbers = Numbers::of(alloc, &wiring(rt, alloc)).expect(rt, "memory");
+    Arc::new(alloc, numbers).expect(rt, "memory")
+}
+
+fn place(rt: &impl Abort, alloc: Global, kind: Kind) -> PlaceObject {
+    let object = fresh(alloc, kind).expect(rt, "memory");
+    PlaceObject {
         alloc,
-        numbers: Arc::new(alloc, numbers)?,
-        object: fresh(alloc, kind).ok().ok_or("memory")?,
-    })
+        numbers: numbers(rt, alloc),
+        object: Box::new(alloc, object).expect(rt, "memory"),
+    }
 }
 
 /// Whether the ask was met, which its note and its answer tell alike.
-fn is_met(place: &mut PlaceObject, ask: Ask) -> Result<bool, Fail> {
-    let (answer, deed) = place.answer(ask).ok().ok_or("memory")?;
+fn is_met(rt: &impl Abort, place: &mut PlaceObject, ask: Ask) -> bool {
+    let (answer, deed) = place.answer(ask).expect(rt, "memory");
     let replied = matches!(answer, Answer::Replied(_));
-    if replied == deed.note.is_some() {
-        Ok(replied)
-    } else {
-        Err("answer and note differ")?
-    }
+    assert_eq!(rt; replied, deed.note.is_some());
+    replied
 }
 
-/// How many of the asks are met, one after the other, at a new object.
-fn met(alloc: Global, kind: Kind, words: &[Word]) -> Result<u32, Fail> {
-    let mut place = place(alloc, kind)?;
+/// How many of the asks are met, one after the other.
+fn count_met(
+    rt: &impl Abort,
+    alloc: Global,
+    place: &mut PlaceObject,
+    kind: Kind,
+    words: &[Word],
+) -> u32 {
     let mut count: u32 = 0;
     for word in words {
-        if is_met(&mut place, ask_of(alloc, *word, spot_of(kind)))? {
+        if is_met(rt, place, ask_of(alloc, *word, spot_of(kind))) {
             count = count.saturating_add(1);
         }
     }
-    Ok(count)
+    count
+}
+
+/// How many of the asks are met at a new object.
+fn met(rt: &impl Abort, alloc: Global, kind: Kind, words: &[Word]) -> u32 {
+    count_met(rt, alloc, &mut place(rt, alloc, kind), kind, words)
 }
 
 /// Which asks a new object meets.
@@ -212,14 +224,13 @@ const FIRST: [(Kind, &[Word]); 6] = [
 ];
 
 #[test]
-fn new_objects_meet_these_asks(rt: HostRuntime) -> Result<(), Fail> {
+fn new_objects_meet_these_asks(rt: HostRuntime) {
     for (kind, words) in FIRST.iter() {
         for word in WORDS.iter() {
-            let count = met(rt.alloc(), *kind, &[*word])?;
+            let count = met(&rt, rt.alloc(), *kind, &[*word]);
             assert_eq!(rt; count == 1, words.contains(word));
         }
     }
-    Ok(())
 }
 
 /// Asks in a row, and how many of them are met.
@@ -244,16 +255,14 @@ const ROWS: [(Kind, &[Word], u32); 9] = [
 ];
 
 #[test]
-fn what_was_met_changes_what_is(rt: HostRuntime) -> Result<(), Fail> {
+fn what_was_met_changes_what_is(rt: HostRuntime) {
     for (kind, words, due) in ROWS.iter() {
-        let count = met(rt.alloc(), *kind, words)?;
-        assert_eq!(rt; count, *due);
+        assert_eq!(rt; met(&rt, rt.alloc(), *kind, words), *due);
     }
-    Ok(())
 }
 
 fn kind_of(place: &PlaceObject) -> Kind {
-    match &place.object {
+    match &*place.object {
         Object::Port(_) => Kind::Port,
         Object::Arbiter(_) => Kind::Arbiter,
         Object::Interleave(_) => Kind::Interleave,
@@ -263,20 +272,24 @@ fn kind_of(place: &PlaceObject) -> Kind {
     }
 }
 
+fn are_kinds(places: &[PlaceObject], kinds: &[Kind]) -> bool {
+    places.len() == kinds.len()
+        && places
+            .iter()
+            .zip(kinds)
+            .all(|(place, kind)| kind_of(place) == *kind)
+}
+
 #[test]
-fn a_wiring_has_these_places(rt: HostRuntime) -> Result<(), Fail> {
-    let wiring = wiring(rt.alloc())?;
-    let places = place_objects(rt.alloc(), &wiring).ok().ok_or("memory")?;
-    let due = [
+fn a_wiring_has_these_places(rt: HostRuntime) {
+    let wiring = wiring(&rt, rt.alloc());
+    let places = place_objects(rt.alloc(), &wiring).expect(&rt, "memory");
+    let kinds = [
         Kind::Port,
         Kind::Arbiter,
         Kind::Site,
         Kind::Queue,
         Kind::Meter,
     ];
-    assert_eq!(rt; places.as_slice().len(), due.len());
-    for (place, kind) in places.as_slice().iter().zip(due.iter()) {
-        assert_eq!(rt; kind_of(place), *kind);
-    }
-    Ok(())
+    assert!(rt; are_kinds(places.as_slice(), &kinds));
 }

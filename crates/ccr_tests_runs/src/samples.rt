@@ -11,11 +11,15 @@ fn checked(rt: &impl Abort, alloc: Global, parts: Parts) -> Wiring {
     Wiring::check(alloc, parts).ok().expect(rt, "not valid")
 }
 
+/// Whether the parts are those of a wiring with these spots.
+fn have_spots(rt: &impl Abort, alloc: Global, parts: Parts, spots: &[Spot]) -> bool {
+    checked(rt, alloc, parts).spots() == spots
+}
+
 #[test]
 fn one_receiver_is_a_wiring(rt: HostRuntime) {
     let parts = one_receiver(rt.alloc()).expect(&rt, "memory");
-    let wiring = checked(&rt, rt.alloc(), parts);
-    assert_eq!(rt; wiring.spots(), [Spot::Branch(0)].as_slice());
+    assert!(rt; have_spots(&rt, rt.alloc(), parts, &[Spot::Branch(0)]));
 }
 
 #[test]
@@ -47,11 +51,7 @@ fn changed(rt: &impl Abort, alloc: Global) -> Parts {
 #[test]
 fn changed_parts_are_a_wiring(rt: HostRuntime) {
     let parts = changed(&rt, rt.alloc());
-    let wiring = checked(&rt, rt.alloc(), parts);
-    assert_eq!(rt;
-        wiring.spots(),
-        [Spot::Branch(0), Spot::Site(0, 0)].as_slice()
-    );
+    assert!(rt; have_spots(&rt, rt.alloc(), parts, &[Spot::Branch(0), Spot::Site(0, 0)]));
 }
 
 /// Parts whose cause has a port that they lack are refused with code 7.
