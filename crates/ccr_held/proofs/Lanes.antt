@@ -1,18 +1,19 @@
 -- How lanes stay lanes while messages come and go.
-use Rattle.std.proofs.Common.{◌≡◌, ℕ, zero, suc, ◌+◌, ◌<◌, ◌≤◌, Bool, true, false, not, ◌&&◌, List, [], ◌∷◌, ◌++◌, length, filter, map, take, drop, Option, Some, None, refl, sym, ap, ◌∙◌, arith, length-append, append-nil, append_assoc}
+use Rattle.std.proofs.Common.{◌≡◌, ℕ, zero, suc, ◌+◌, ◌-◌, ◌<◌, ◌≤◌, Bool, true, false, not, ◌&&◌, List, [], ◌∷◌, ◌++◌, length, filter, map, take, drop, Option, Some, None, refl, sym, ap, ◌∙◌, arith, length-append, append-nil, append_assoc, add-one}
 use Rattle.std.specs.Prelude.{◌==◌, nat_lt, is_some, option_map, option_to_list, if◌then◌else◌}
-use Rattle.std.specs.List.{slice_get, list_all}
+use Rattle.std.specs.List.{slice_get, list_all, remove}
 use Rattle.std.proofs.lemmas.List.Elements.{filter-append}
-use Rattle.std.proofs.lemmas.List.{set_at, length-set, take_at, take_all}
+use Rattle.std.proofs.lemmas.List.{set_at, length-set, take_all}
+use Rattle.std.proofs.lemmas.List.Edits.{length-remove}
 use Rattle.std.proofs.lemmas.Grind.{common_steps}
 use Rattle.std.proofs.lemmas.Bool.Decides.{nat_tests}
 use Rattle.std.proofs.Math.ListN.{set, get_or}
-use Rattle.std.proofs.lemmas.Option.{get_or_from_slice_get}
+use Rattle.std.proofs.lemmas.Option.{get_or_from_slice_get, slice_get_within}
 use Rattle.ccr_base.specs.declared.names.MsgId.{MsgId}
 use Rattle.ccr_base.specs.declared.messages.Msg.{Msg}
 use Rattle.ccr_base.specs.declared.patterns.Pred.{Pred}
 use Rattle.ccr_base.specs.Choice.{holds, fitting}
-use Rattle.ccr_held.specs.Lanes.{Places, present, is_here, fits, fitting_places, name_at, names_at, entered, entered_item, entered_up_to, IsLane, AreLanes, HasLane}
+use Rattle.ccr_held.specs.Lanes.{Places, present, is_here, fits, fitting_places, name_at, names_at, entered, entered_item, lost, IsLane, AreLanes, HasLane, HasFront}
 use Rattle.ccr_held.specs.Taken.{without_first}
 
 -- ---- one place more
@@ -52,15 +53,19 @@ low-append n [] js one other = other
 low-append n (k ∷ ks) js one other = let parts = both (nat_lt k n) (list_all (λ k. nat_lt k n) ks) one in rw (parts.0) (low-append n ks js parts.1 other)
 
 -- a lane that the last place was put behind, where it fits
-lane-more : (items : List (Option Msg)) (item : Option Msg) (lane : Places) (more : List ℕ) → IsLane items lane
+lane-more : (items : List (Option Msg)) (item : Option Msg) (lane : Places) (more : List ℕ) (count : ℕ) → IsLane items lane
     → list_all (λ k. nat_lt k (length items + 1)) more ≡ true
     → filter (is_here (items ++ item ∷ [])) more ≡ (if fits lane.pred item then length items ∷ [] else [])
-    → IsLane (items ++ item ∷ []) (record { pred = lane.pred; places = lane.places ++ more })
-lane-more items item lane more is low fit = record {
-  low = rw (length-append items (item ∷ [])) (low-append (length items + 1) lane.places more (low-more (length items + 1) (length items) lane.places (omega arith) is.low) low);
-  whole = filter-append (is_here (items ++ item ∷ [])) lane.places more
-      ∙ rw (filter-below items item lane.places is.low, is.whole, fit) (sym (fitting_places-last 0 (length items) lane.pred items item (omega arith)));
-}
+    → count ≡ lane.count + length (if fits lane.pred item then length items ∷ [] else [])
+    → IsLane (items ++ item ∷ []) (record { pred = lane.pred; places = lane.places ++ more; count = count })
+lane-more items item lane more count is low fit counted =
+    let last = fitting_places-last 0 (length items) lane.pred items item (omega arith) in
+    let long = length-append (fitting_places 0 lane.pred items) (if fits lane.pred item then length items ∷ [] else []) in
+    record {
+      low = rw (length-append items (item ∷ [])) (low-append (length items + 1) lane.places more (low-more (length items + 1) (length items) lane.places (omega arith) is.low) low);
+      whole = filter-append (is_here (items ++ item ∷ [])) lane.places more ∙ rw (filter-below items item lane.places is.low, is.whole, fit) (sym last);
+      counted = omega (arith, counted, is.counted, long, ap length last);
+    }
 
 last_low : (n : ℕ) → list_all (λ k. nat_lt k (n + 1)) (n ∷ []) ≡ true
 last_low n = grind (arith, nat_tests)
@@ -68,19 +73,12 @@ last_low n = grind (arith, nat_tests)
 lane-posted : (items : List (Option Msg)) (m : Msg) (lane : Places) → IsLane items lane → IsLane (items ++ Some m ∷ []) (entered (length items) m.value lane)
 lane-posted items m lane is = of_test (holds lane.pred m.value) refl
   where
-    of_test : (b : Bool) → holds lane.pred m.value ≡ b → IsLane (items ++ Some m ∷ []) (if b then record { pred = lane.pred; places = lane.places ++ length items ∷ [] } else lane)
-    of_test true holding = lane-more items (Some m) lane (length items ∷ []) is (last_low (length items)) (rw (holding, is_here-last items (Some m)) refl)
-    of_test false holding = rw (← append-nil lane.places) (lane-more items (Some m) lane [] is refl (rw holding refl))
+    of_test : (b : Bool) → holds lane.pred m.value ≡ b → IsLane (items ++ Some m ∷ []) (if b then record { pred = lane.pred; places = lane.places ++ length items ∷ []; count = lane.count + 1 } else lane)
+    of_test true holding = lane-more items (Some m) lane (length items ∷ []) (lane.count + 1) is (last_low (length items)) (rw (holding, is_here-last items (Some m)) refl) (rw holding refl)
+    of_test false holding = rw (← append-nil lane.places) (lane-more items (Some m) lane [] lane.count is refl (rw holding refl) (rw holding (omega arith)))
 
 lane-gone : (items : List (Option Msg)) (lane : Places) → IsLane items lane → IsLane (items ++ None ∷ []) lane
-lane-gone items lane is = rw (← append-nil lane.places) (lane-more items None lane [] is refl refl)
-
-lane-entered : (items : List (Option Msg)) (value : List ℕ) (lane : Places) → IsLane items lane → IsLane (items ++ None ∷ []) (entered (length items) value lane)
-lane-entered items value lane is = of_test (holds lane.pred value)
-  where
-    of_test : (b : Bool) → IsLane (items ++ None ∷ []) (if b then record { pred = lane.pred; places = lane.places ++ length items ∷ [] } else lane)
-    of_test true = lane-more items None lane (length items ∷ []) is (last_low (length items)) (rw (is_here-last items None) refl)
-    of_test false = lane-gone items lane is
+lane-gone items lane is = rw (← append-nil lane.places) (lane-more items None lane [] lane.count is refl refl (omega arith))
 
 pub lane-item : (items : List (Option Msg)) (n : ℕ) (item : Option Msg) (lane : Places) → n ≡ length items → IsLane items lane → IsLane (items ++ item ∷ []) (entered_item n item lane)
 lane-item items n None lane last is = lane-gone items lane is
@@ -90,7 +88,7 @@ pub pred-item : (n : ℕ) (item : Option Msg) (lane : Places) → (entered_item 
 pred-item n None lane = refl
 pred-item n (Some m) lane = of_test (holds lane.pred m.value)
   where
-    of_test : (b : Bool) → (if b then record { pred = lane.pred; places = lane.places ++ n ∷ [] } else lane).pred ≡ lane.pred
+    of_test : (b : Bool) → (if b then record { pred = lane.pred; places = lane.places ++ n ∷ []; count = lane.count + 1 } else lane).pred ≡ lane.pred
     of_test true = refl
     of_test false = refl
 
@@ -98,40 +96,104 @@ pub posted : (items : List (Option Msg)) (m : Msg) (lanes : List Places) → Are
 posted items m [] are = tt
 posted items m (lane ∷ lanes) are = (lane-posted items m lane are.0, posted items m lanes are.1)
 
-pub gone : (items : List (Option Msg)) (lanes : List Places) → AreLanes items lanes → AreLanes (items ++ None ∷ []) lanes
-gone items [] are = tt
-gone items (lane ∷ lanes) are = (lane-gone items lane are.0, gone items lanes are.1)
+-- ---- a lane that is tidy up to a place
 
-pub entered_some : (items : List (Option Msg)) (value : List ℕ) (count : ℕ) (lanes : List Places) → AreLanes items lanes → AreLanes (items ++ None ∷ []) (entered_up_to count (length items) value lanes)
-entered_some items value zero [] are = tt
-entered_some items value (suc count) [] are = tt
-entered_some items value zero (lane ∷ lanes) are = gone items (lane ∷ lanes) are
-entered_some items value (suc count) (lane ∷ lanes) are = (lane-entered items value lane are.0, entered_some items value count lanes are.1)
+none-long : (ks : List ℕ) (n : ℕ) → slice_get ks n ≡ None → length ks ≤ n
+none-long [] n at = omega arith
+none-long (k ∷ ks) zero at = absurd (cc)
+none-long (k ∷ ks) (suc n) at = omega (arith, none-long ks n at)
 
--- ---- the first place of a lane
+pub take-past : (ks : List ℕ) (n most : ℕ) → slice_get ks n ≡ None → n ≤ most → take n ks ≡ take most ks
+take-past ks n most at less = let long = none-long ks n at in take_all n ks long ∙ sym (take_all most ks (omega (arith, long)))
 
-module _ (items : List (Option Msg)) (pred : Pred) (k : ℕ) where
-  pub lane-first : (ks : List ℕ) → IsLane items (record { pred = pred; places = ks }) → slice_get ks 0 ≡ Some k → is_here items k ≡ true → slice_get (fitting_places 0 pred items) 0 ≡ Some k
-  lane-first [] is at here = absurd (cc)
-  lane-first (j ∷ ks) is at here = let same : j ≡ k = cc in rw (← is.whole, same, here) refl
+pub take-one : (ks : List ℕ) (n k : ℕ) → slice_get ks n ≡ Some k → take (n + 1) ks ≡ take n ks ++ k ∷ []
+take-one [] n k at = absurd (cc)
+take-one (j ∷ ks) zero k at = let same : j ≡ k = cc in rw same refl
+take-one (j ∷ ks) (suc n) k at = rw add-one (ap (λ (js : List ℕ). j ∷ js) (rw add-one at (take-one ks n k at)))
 
-  pub lane-left : (ks : List ℕ) → IsLane items (record { pred = pred; places = ks }) → slice_get ks 0 ≡ Some k → is_here items k ≡ false → IsLane items (record { pred = pred; places = drop 1 ks })
-  lane-left [] is at out = absurd (cc)
-  lane-left (j ∷ ks) is at out =
-      let same : j ≡ k = cc in
-      let gone : is_here items j ≡ false = rw same out in
-      record { low = (both _ _ is.low).1; whole = rw gone at is.whole }
+-- those that are here among the first stand first
+here-parts : (items : List (Option Msg)) (ks : List ℕ) (n : ℕ) → filter (is_here items) ks ≡ filter (is_here items) (take n ks) ++ filter (is_here items) (drop n ks)
+here-parts items [] zero = refl
+here-parts items [] (suc n) = refl
+here-parts items (k ∷ ks) zero = refl
+here-parts items (k ∷ ks) (suc n) = grind (arith, common_steps, here-parts items ks n)
 
-pub lane-none : (items : List (Option Msg)) (pred : Pred) (ks : List ℕ) → IsLane items (record { pred = pred; places = ks }) → slice_get ks 0 ≡ None → slice_get (fitting_places 0 pred items) 0 ≡ None
-lane-none items pred [] is at = rw (← is.whole) refl
-lane-none items pred (j ∷ ks) is at = absurd (cc)
+take-of : (most n : ℕ) (ks rest : List ℕ) → most ≤ n → n ≤ length ks → take most (take n ks ++ rest) ≡ take most ks
+take-of zero n ks rest less within = refl
+take-of (suc most) zero ks rest less within = absurd (omega arith)
+take-of (suc most) (suc n) [] rest less within = absurd (omega arith)
+take-of (suc most) (suc n) (k ∷ ks) rest less within = ap (λ (js : List ℕ). k ∷ js) (take-of most n ks rest (omega arith) (omega arith))
+
+-- the first places of a lane, up to one, are of messages that are here
+pub record IsTidy (items : List (Option Msg)) (lane : Places) (n : ℕ) : Type 0 where
+  pub here : filter (is_here items) (take n lane.places) ≡ take n lane.places
+  pub within : n ≤ length lane.places
+
+module _ (items : List (Option Msg)) (lane : Places) (n : ℕ) (is : IsLane items lane) (tidy : IsTidy items lane n) where
+  pub tidy-front : (most : ℕ) → most ≤ n → take most lane.places ≡ take most (fitting_places 0 lane.pred items)
+  tidy-front most less =
+      let parts = here-parts items lane.places n in
+      rw (← is.whole, parts, tidy.here) (sym (take-of most n lane.places (filter (is_here items) (drop n lane.places)) less tidy.within))
+
+  pub tidy-all : (most : ℕ) → slice_get lane.places n ≡ None → take most lane.places ≡ take most (fitting_places 0 lane.pred items)
+  tidy-all most at =
+      let all = take_all n lane.places (none-long lane.places n at) in
+      let here : filter (is_here items) lane.places ≡ lane.places = rw all at tidy.here in
+      rw (← is.whole, here) refl
+
+  pub tidy-more : (k : ℕ) → slice_get lane.places n ≡ Some k → is_here items k ≡ true → IsTidy items lane (n + 1)
+  tidy-more k at here =
+      let one = take-one lane.places n k at in
+      let low = slice_get_within lane.places n k at in
+      record {
+        here = rw (one, filter-append (is_here items) (take n lane.places) (k ∷ []), tidy.here, here) refl;
+        within = omega (arith, low);
+      }
+
+  -- the place of this number leaves, whose message is gone
+  module _ (k : ℕ) (at : slice_get lane.places n ≡ Some k) (gone : is_here items k ≡ false) where
+    pub lane-left : IsLane items (record { pred = lane.pred; places = remove lane.places n; count = lane.count })
+    lane-left = record {
+      low = low-removed lane.places n is.low;
+      whole = here-removed lane.places n k at gone ∙ is.whole;
+      counted = is.counted;
+    }
+      where
+        low-removed : (ks : List ℕ) (i : ℕ) → list_all (λ k. nat_lt k (length items)) ks ≡ true → list_all (λ k. nat_lt k (length items)) (remove ks i) ≡ true
+        low-removed [] zero low = refl
+        low-removed [] (suc i) low = refl
+        low-removed (j ∷ ks) zero low = (both (nat_lt j (length items)) _ low).1
+        low-removed (j ∷ ks) (suc i) low = let parts = both (nat_lt j (length items)) _ low in rw (parts.0) (low-removed ks i parts.1)
+
+        here-removed : (ks : List ℕ) (i j : ℕ) → slice_get ks i ≡ Some j → is_here items j ≡ false → filter (is_here items) (remove ks i) ≡ filter (is_here items) ks
+        here-removed [] i j at out = absurd (cc)
+        here-removed (l ∷ ks) zero j at out = let same : l ≡ j = cc in rw (same, out) refl
+        here-removed (l ∷ ks) (suc i) j at out = grind (arith, common_steps, here-removed ks i j at out)
+
+    pub tidy-left : IsTidy items (record { pred = lane.pred; places = remove lane.places n; count = lane.count }) n
+    tidy-left = record {
+      here = rw (front lane.places n k at) tidy.here;
+      within = omega (arith, length-remove lane.places n (slice_get_within lane.places n k at), slice_get_within lane.places n k at);
+    }
+      where
+        front : (ks : List ℕ) (i j : ℕ) → slice_get ks i ≡ Some j → take i (remove ks i) ≡ take i ks
+        front [] i j at = absurd (cc)
+        front (l ∷ ks) zero j at = refl
+        front (l ∷ ks) (suc i) j at = ap (λ (js : List ℕ). l ∷ js) (front ks i j at)
+
+pub fewer-left : (ks : List ℕ) (n k : ℕ) → slice_get ks n ≡ Some k → length (remove ks n) - n < length ks - n
+fewer-left ks n k at = let low = slice_get_within ks n k at in omega (arith, length-remove ks n low, low)
+
+-- the first of the front
+pub front-first : (ks js : List ℕ) → take 1 ks ≡ take 1 js → slice_get ks 0 ≡ slice_get js 0
+front-first [] [] is = refl
+front-first [] (j ∷ js) is = absurd (cc)
+front-first (k ∷ ks) [] is = absurd (cc)
+front-first (k ∷ ks) (j ∷ js) is = cc
 
 -- ---- a post, whole
 
 module _ (items now : List (Option Msg)) (lanes then' : List Places) (n : ℕ) (last : n ≡ length items) (grown : now ≡ items ++ None ∷ []) (are : AreLanes items lanes) where
-  pub after_failed : (value : List ℕ) (count : ℕ) → then' ≡ entered_up_to count n value lanes → AreLanes now then'
-  after_failed value count is = rw (grown, is, last) (entered_some items value count lanes are)
-
   pub after_post : (m : Msg) → then' ≡ map (entered n m.value) lanes → AreLanes (set now n (Some m)) then'
   after_post m is = rw (grown, is, last, set_at items None [] (Some m) (length items) refl) (posted items m lanes are)
 
@@ -185,15 +247,43 @@ fitting_places-set n i j pred [] is low = absurd (omega arith)
 fitting_places-set n zero j pred (x ∷ items) is low = grind (arith, nat_tests, common_steps, fitting-above (n + 1) j pred items (omega arith))
 fitting_places-set n (suc i) j pred (x ∷ items) is low = grind (arith, nat_tests, common_steps, fitting_places-set (n + 1) i j pred items (omega arith) (omega arith))
 
-lane-taken : (items : List (Option Msg)) (j : ℕ) (lane : Places) → j < length items → IsLane items lane → IsLane (set items j None) lane
-lane-taken items j lane low is = record {
-  low = rw (length-set items j None) is.low;
-  whole = filter_here-set items j lane.places ∙ rw is.whole (sym (fitting_places-set 0 j j lane.pred items (omega arith) low));
-}
+-- one that fits is one less
+count-set : (n i : ℕ) (pred : Pred) (m : Msg) (items : List (Option Msg)) → slice_get items i ≡ Some (Some m)
+    → length (fitting_places n pred (set items i None)) + (if holds pred m.value then 1 else 0) ≡ length (fitting_places n pred items)
+count-set n i pred m [] at = absurd (cc)
+count-set n zero pred m (x ∷ items) at = let same : x ≡ Some m = cc in rw same (of_test (holds pred m.value))
+  where
+    of_test : (b : Bool) → length (fitting_places (n + 1) pred items) + (if b then 1 else 0) ≡ length (if b then n ∷ fitting_places (n + 1) pred items else fitting_places (n + 1) pred items)
+    of_test true = omega arith
+    of_test false = omega arith
+count-set n (suc i) pred m (x ∷ items) at = of_test (fits pred x) (count-set (n + 1) i pred m items at)
+  where
+    of_test : (b : Bool) → length (fitting_places (n + 1) pred (set items i None)) + (if holds pred m.value then 1 else 0) ≡ length (fitting_places (n + 1) pred items)
+        → length (if b then n ∷ fitting_places (n + 1) pred (set items i None) else fitting_places (n + 1) pred (set items i None)) + (if holds pred m.value then 1 else 0) ≡ length (if b then n ∷ fitting_places (n + 1) pred items else fitting_places (n + 1) pred items)
+    of_test true rest = omega (arith, rest)
+    of_test false rest = rest
 
-pub taken : (items : List (Option Msg)) (j : ℕ) (lanes : List Places) → j < length items → AreLanes items lanes → AreLanes (set items j None) lanes
-taken items j [] low are = tt
-taken items j (lane ∷ lanes) low are = (lane-taken items j lane low are.0, taken items j lanes low are.1)
+lane-taken : (items : List (Option Msg)) (j : ℕ) (m : Msg) (lane : Places) → slice_get items j ≡ Some (Some m) → IsLane items lane → IsLane (set items j None) (lost m.value lane)
+lane-taken items j m lane at is = of_test (holds lane.pred m.value) (count-set 0 j lane.pred m items at)
+  where
+    low : j < length items
+    low = slice_get_within items j (Some m) at
+
+    of_count : (count : ℕ) → count ≡ length (fitting_places 0 lane.pred (set items j None)) → IsLane (set items j None) (record { pred = lane.pred; places = lane.places; count = count })
+    of_count count counted = record {
+      low = rw (length-set items j None) is.low;
+      whole = filter_here-set items j lane.places ∙ rw is.whole (sym (fitting_places-set 0 j j lane.pred items (omega arith) low));
+      counted = counted;
+    }
+
+    of_test : (b : Bool) → length (fitting_places 0 lane.pred (set items j None)) + (if b then 1 else 0) ≡ length (fitting_places 0 lane.pred items)
+        → IsLane (set items j None) (if b then record { pred = lane.pred; places = lane.places; count = lane.count - 1 } else lane)
+    of_test true fewer = of_count (lane.count - 1) (omega (arith, fewer, is.counted))
+    of_test false fewer = of_count lane.count (omega (arith, fewer, is.counted))
+
+pub taken : (items : List (Option Msg)) (j : ℕ) (m : Msg) (lanes : List Places) → slice_get items j ≡ Some (Some m) → AreLanes items lanes → AreLanes (set items j None) (map (lost m.value) lanes)
+taken items j m [] at are = tt
+taken items j m (lane ∷ lanes) at are = (lane-taken items j m lane at are.0, taken items j m lanes at are.1)
 
 -- ---- what the first place is of
 
@@ -263,42 +353,13 @@ set_found [] n lane now at = absurd (cc)
 set_found (l ∷ lanes) zero lane now at = refl
 set_found (l ∷ lanes) (suc n) lane now at = set_found lanes n lane now at
 
--- those that are here among the first stand first
-here-parts : (items : List (Option Msg)) (ks : List ℕ) (n : ℕ) → filter (is_here items) ks ≡ filter (is_here items) (take n ks) ++ filter (is_here items) (drop n ks)
-here-parts items [] zero = refl
-here-parts items [] (suc n) = refl
-here-parts items (k ∷ ks) zero = refl
-here-parts items (k ∷ ks) (suc n) = grind (arith, common_steps, here-parts items ks n)
-
-pub few_first : (items : List (Option Msg)) (ks : List ℕ) (n : ℕ) → length (filter (is_here items) (take n ks)) ≤ length (filter (is_here items) ks)
-few_first items ks n = rw (here-parts items ks n, length-append) (omega arith)
-
--- each place that is here has a name
-one_name : (items : List (Option Msg)) (k : ℕ) → is_here items k ≡ true → length (option_to_list (name_at items k)) ≡ 1
-one_name items k here = of_item (slice_get items k) refl
+-- one name more, where the place has one
+pub names-more : (items : List (Option Msg)) (ks : List ℕ) (n k : ℕ) → slice_get ks n ≡ Some k → names_at items (take (n + 1) ks) ≡ names_at items (take n ks) ++ option_to_list (name_at items k)
+names-more items ks n k at = rw (take-one ks n k at) (of_front (take n ks))
   where
-    of_item : (o : Option (Option Msg)) → slice_get items k ≡ o → length (option_to_list (name_at items k)) ≡ 1
-    of_item None at = absurd (cc (rw at at here))
-    of_item (Some None) at = absurd (cc (rw at at here))
-    of_item (Some (Some m)) at = rw at refl
-
-length-names : (items : List (Option Msg)) (ks : List ℕ) → length (names_at items (filter (is_here items) ks)) ≡ length (filter (is_here items) ks)
-length-names items [] = refl
-length-names items (k ∷ ks) = of_test (is_here items k) refl (length-names items ks)
-  where
-    of_test : (b : Bool) → is_here items k ≡ b → length (names_at items (filter (is_here items) ks)) ≡ length (filter (is_here items) ks) → length (names_at items (filter (is_here items) (k ∷ ks))) ≡ length (filter (is_here items) (k ∷ ks))
-    of_test true here rest = rw (here, length-append (option_to_list (name_at items k)) (names_at items (filter (is_here items) ks)), one_name items k here, rest) (omega arith)
-    of_test false here rest = rw here rest
-
-pub names-early : (items : List (Option Msg)) (ks : List ℕ) (n most : ℕ) (names : List MsgId) → names ≡ names_at items (filter (is_here items) (take n ks)) → length names ≡ most → names ≡ names_at items (take most (filter (is_here items) ks))
-names-early items ks n most names is full =
-    let long : length (filter (is_here items) (take n ks)) ≡ most = sym (length-names items (take n ks)) ∙ ap length (sym is) ∙ full in
-    is ∙ ap (names_at items) (sym (ap (take most) (here-parts items ks n) ∙ take_at (filter (is_here items) (take n ks)) (filter (is_here items) (drop n ks)) most long))
-
-pub names-late : (items : List (Option Msg)) (ks : List ℕ) (most : ℕ) (names : List MsgId) → names ≡ names_at items (filter (is_here items) ks) → length names ≤ most → names ≡ names_at items (take most (filter (is_here items) ks))
-names-late items ks most names is few =
-    let low : length (filter (is_here items) ks) ≤ most = omega (arith, length-names items ks, ap length is) in
-    is ∙ ap (names_at items) (sym (take_all most (filter (is_here items) ks) low))
+    of_front : (js : List ℕ) → names_at items (js ++ k ∷ []) ≡ names_at items js ++ option_to_list (name_at items k)
+    of_front [] = append-nil (option_to_list (name_at items k))
+    of_front (j ∷ js) = ap (λ (names : List MsgId). option_to_list (name_at items j) ++ names) (of_front js) ∙ sym (append_assoc (option_to_list (name_at items j)) (names_at items js) (option_to_list (name_at items k)))
 
 -- ---- what a lane says of the messages
 
@@ -320,25 +381,19 @@ names-fitting front (Some m ∷ items) pred n most is = of_test (holds pred m.va
     of_test true out zero rest = refl
     of_test true out (suc more) rest = rw (out, is, name-behind front items (Some m), ← is) (ap (λ (names : List MsgId). m.id ∷ names) (rest more))
 
--- a lane of the predicate, its count and its names
-module _ (items : List (Option Msg)) (lane : Places) (pred : Pred) (is : IsLane items lane) (of : lane.pred ≡ pred) where
-  pub lane-count : length (filter (is_here items) lane.places) ≡ length (fitting pred (present items))
-  lane-count = rw (is.whole, of) (length-fitting 0 pred items)
+pub names-of : (items : List (Option Msg)) (pred : Pred) (most : ℕ) → names_at items (take most (fitting_places 0 pred items)) ≡ map (λ (m : Msg). m.id) (take most (fitting pred (present items)))
+names-of items pred most = names-fitting [] items pred 0 most refl
 
-  pub lane-names : (most : ℕ) → names_at items (take most (filter (is_here items) lane.places)) ≡ map (λ (m : Msg). m.id) (take most (fitting pred (present items)))
-  lane-names most = rw (is.whole, of) (names-fitting [] items pred 0 most refl)
+-- the count of the lane that stands at a number
+pub count-told : (items now : List (Option Msg)) (lanes : List Places) (n : ℕ) (lane : Places) (pred : Pred) → now ≡ items → AreLanes now lanes → HasLane lanes n pred → lane ≡ get_or lanes n lane
+    → lane.count ≡ length (fitting pred (present items))
+count-told items now lanes n lane pred same are found read =
+    let this : lane ≡ found.0 = read ∙ get_or_from_slice_get lanes n found.0 lane found.1 in
+    let here : IsLane items found.0 = is-at items lanes n found.0 (rw same at are) found.1 in
+    rw this (here.counted ∙ rw found.2 (length-fitting 0 pred items))
 
--- the lane that stands at a number
-module _ (items now : List (Option Msg)) (lanes : List Places) (n : ℕ) (lane : Places) (pred : Pred) (ps : List ℕ)
-    (are : AreLanes items lanes) (found : HasLane lanes n pred) (read : lane ≡ get_or lanes n lane) (same : now ≡ items) (seen : ps ≡ lane.places) where
-  this : lane ≡ found.0
-  this = read ∙ get_or_from_slice_get lanes n found.0 lane found.1
-
-  here : IsLane items lane
-  here = rw this (is-at items lanes n found.0 are found.1)
-
-  pub count-told : length (filter (is_here now) ps) ≡ length (fitting pred (present items))
-  count-told = rw (same, seen) (lane-count items lane pred here (rw this found.2))
-
-  pub names-told : (most : ℕ) → names_at now (take most (filter (is_here now) ps)) ≡ map (λ (m : Msg). m.id) (take most (fitting pred (present items)))
-  names-told most = rw (same, seen) (lane-names items lane pred here (rw this found.2) most)
+-- the front of the lane that stands at a number
+pub front-told : (lanes : List Places) (n most : ℕ) (lane : Places) (front : List ℕ) → HasFront lanes n front most → lane ≡ get_or lanes n lane → take most lane.places ≡ front
+front-told lanes n most lane front found read =
+    let this : lane ≡ found.0 = read ∙ get_or_from_slice_get lanes n found.0 lane found.1 in
+    rw this found.2

@@ -1,5 +1,5 @@
 -- Places of messages, and the lanes that find the oldest that satisfy a predicate.
-use Rattle.std.specs.Prelude.{◌≡◌, ℕ, ◌+◌, Bool, true, false, nat_lt, List, [], ◌∷◌, ◌++◌, length, filter, flat_map, map, take, drop, Option, Some, None, is_some, option_to_list, option_map, option_and_then, if◌then◌else◌}
+use Rattle.std.specs.Prelude.{◌≡◌, ℕ, ◌+◌, ◌-◌, Bool, true, false, nat_lt, List, [], ◌∷◌, ◌++◌, length, filter, flat_map, take, Option, Some, None, is_some, option_to_list, option_map, option_and_then, if◌then◌else◌}
 use Rattle.std.specs.List.{slice_get, list_all}
 use Rattle.std.specs.Option.{option_map_or}
 use Rattle.ccr_base.specs.declared.names.MsgId.{MsgId}
@@ -7,10 +7,11 @@ use Rattle.ccr_base.specs.declared.messages.Msg.{Msg}
 use Rattle.ccr_base.specs.declared.patterns.Pred.{Pred}
 use Rattle.ccr_base.specs.Choice.{holds}
 
--- the predicate of a lane, and its places
+-- the predicate of a lane, its places, and how many messages that satisfy the predicate are there
 pub record Places : Type 0 where
   pub pred : Pred
   pub places : List ℕ
+  pub count : ℕ
 
 -- the messages that are still there
 abbrev pub present : List (Option Msg) → List Msg
@@ -29,32 +30,37 @@ abbrev pub fitting_places : ℕ → Pred → List (Option Msg) → List ℕ
 fitting_places place pred [] = []
 fitting_places place pred (item ∷ items) = if fits pred item then place ∷ fitting_places (place + 1) pred items else fitting_places (place + 1) pred items
 
--- the lane with the place last, where the value satisfies its predicate
+-- the lane with the place last and one message more, where the value satisfies its predicate
 abbrev pub entered : ℕ → List ℕ → Places → Places
-entered place value lane = if holds lane.pred value then record lane { places = lane.places ++ place ∷ [] } else lane
+entered place value lane = if holds lane.pred value then record lane { places = lane.places ++ place ∷ []; count = lane.count + 1 } else lane
+
+-- the lane with one message less, where the value satisfies its predicate
+abbrev pub lost : List ℕ → Places → Places
+lost value lane = if holds lane.pred value then record lane { count = lane.count - 1 } else lane
 
 -- the lane with the place last, where a message is there and satisfies its predicate
 abbrev pub entered_item : ℕ → Option Msg → Places → Places
 entered_item place None lane = lane
 entered_item place (Some m) lane = entered place m.value lane
 
--- the places of a lane whose messages are still there are those that fit
+-- the places of a lane whose messages are still there are those that fit, and it counts these
 pub record IsLane (items : List (Option Msg)) (lane : Places) : Type 0 where
   pub low : list_all (λ place. nat_lt place (length items)) lane.places ≡ true
   pub whole : filter (is_here items) lane.places ≡ fitting_places 0 lane.pred items
+  pub counted : lane.count ≡ length (fitting_places 0 lane.pred items)
 
 -- each of the lanes
 abbrev pub AreLanes : List (Option Msg) → List Places → Type 0
 AreLanes items [] = Unit {0}
 AreLanes items (lane ∷ lanes) = IsLane items lane × AreLanes items lanes
 
--- the lanes, of which the first so many have the place entered
-abbrev pub entered_up_to : ℕ → ℕ → List ℕ → List Places → List Places
-entered_up_to count place value lanes = map (entered place value) (take count lanes) ++ drop count lanes
-
 -- a lane of the predicate stands at the number
 abbrev pub HasLane : List Places → ℕ → Pred → Type 0
 HasLane lanes number pred = (lane : Places) × (slice_get lanes number ≡ Some lane) × (lane.pred ≡ pred)
+
+-- a lane whose first places, so many, are these stands at the number
+abbrev pub HasFront : List Places → ℕ → List ℕ → ℕ → Type 0
+HasFront lanes number front most = (lane : Places) × (slice_get lanes number ≡ Some lane) × (take most lane.places ≡ front)
 
 -- the name of the message of the place, while it is there
 abbrev pub name_at : List (Option Msg) → ℕ → Option MsgId

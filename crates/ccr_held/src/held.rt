@@ -1,16 +1,15 @@
 //! The messages of a port.
 
-ghost use Rattle.std.specs.Prelude.{ℕ, ◌≡◌, ◌<◌, ◌≤◌, [], ◌∷◌, ◌++◌, IfOk, OnOk, OnErr, length, map, filter, take, drop, nat_le};
+ghost use Rattle.std.specs.Prelude.{◌≡◌, ◌<◌, ◌≤◌, [], ◌∷◌, ◌++◌, IfOk, OnOk, OnErr, length, map, take, drop, nat_le};
 ghost use Rattle.std.specs.List.{slice_get};
 ghost use Rattle.ccr_base.specs.declared.messages.Msg.{Msg};
 ghost use Rattle.ccr_base.specs.Choice.{fitting};
-ghost use Rattle.ccr_held.specs.Lanes.{AreLanes, HasLane, IsLane, entered, entered_item, entered_up_to, fitting_places, is_here, name_at, names_at};
+ghost use Rattle.ccr_held.specs.Lanes.{AreLanes, HasFront, HasLane, IsLane, entered, entered_item, fitting_places, is_here, lost, name_at, names_at};
 ghost use Rattle.ccr_held.specs.Taken.{same_front, shared, without_first, without_some};
 
 use crate::lane::Lane;
 use ccr_base::{Msg, MsgId, OutOfMemory, Pred, Value};
 use std::alloc::Global;
-use std::collections::VecDeque;
 use std::marker::Model;
 
 /// What a port holds, oldest first. Each place is of one message that was posted; it is empty once that was taken.
@@ -38,14 +37,23 @@ impl Model for HeldMessages {
 
 /// Enters the place into each lane whose predicate the value satisfies.
 fn enter_all(lanes: &mut Vec<Lane>, place: usize, value: Value) -> Result<(), OutOfMemory>
-    ensures ok { OnOk result (lanes.new.items ≡ map (entered place value) lanes.old.items) }
-    ensures err { OnErr result ((count : ℕ) × (lanes.new.items ≡ entered_up_to count place value lanes.old.items)) }
+    ensures { OnOk result (lanes.new.items ≡ map (entered place value) lanes.old.items) }
 {
     for number in 0..lanes.len() {
         let lane = &mut lanes[number];
         lane.enter(place, value)?;
     }
     Ok(())
+}
+
+/// A message of this value was taken: it no longer counts in the lanes whose predicates it satisfies.
+fn lose_all(lanes: &mut Vec<Lane>, value: Value)
+    ensures { lanes.new.items ≡ map (lost value) lanes.old.items }
+{
+    for number in 0..lanes.len() {
+        let lane = &mut lanes[number];
+        lane.lose(value);
+    }
 }
 
 /// Whether the message of the place is still there.
@@ -58,20 +66,24 @@ fn is_here(items: &[Option<Msg>], place: usize) -> bool
     }
 }
 
-/// The place of the oldest message that satisfies the lane's predicate. Places of messages that are gone leave the lane.
-fn first_place(items: &[Option<Msg>], lane: &mut Lane) -> Option<usize>
+/// Places of messages that are gone leave the lane, until so many at its front, or all, are of messages that are there.
+fn tidy(items: &[Option<Msg>], lane: &mut Lane, most: usize)
     requires { IsLane items.now lane.old }
-    ensures place { result ≡ slice_get (fitting_places 0 lane.old.pred items.now) 0 }
     ensures lane { IsLane items.now lane.new }
     ensures pred { lane.new.pred ≡ lane.old.pred }
+    ensures front { take most lane.new.places ≡ take most (fitting_places 0 lane.old.pred items.now) }
 {
-    while let Some(place) = lane.first() {
+    let mut number = 0;
+    'place: while number < most {
+        let Some(place) = lane.at(number) else {
+            return;
+        };
         if is_here(items, place) {
-            return Some(place);
+            number += 1;
+        } else {
+            lane.remove(number);
         }
-        lane.leave();
     }
-    None
 }
 
 /// Enters the place, where a message is there that satisfies the lane's predicate.
@@ -117,53 +129,38 @@ fn lane_for(
     Ok(number)
 }
 
-/// The number of the lane of the predicate. Its first place, if any, is of a message that is still there.
-fn fit_lane(
+/// The number of the lane of the predicate, which is tidy up to so many places.
+fn tidy_lane(
     alloc: Global,
     items: &[Option<Msg>],
     lanes: &mut Vec<Lane>,
     pred: Pred,
+    most: usize,
 ) -> Result<usize, OutOfMemory>
     requires { AreLanes items.now lanes.old.items }
     ensures lanes { AreLanes items.now lanes.new.items }
-    ensures found { IfOk result (λ number. HasLane lanes.new.items number pred) }
+    ensures found { IfOk result (λ number. HasFront lanes.new.items number (take most (fitting_places 0 pred items.now)) most) }
 {
     let number = lane_for(alloc, items, lanes, pred)?;
-    first_place(items, &mut lanes[number]);
+    tidy(items, &mut lanes[number], most);
     Ok(number)
 }
 
-/// Whether at least so many of the places are of messages that are still there.
-fn are_here(items: &[Option<Msg>], places: &VecDeque<usize>, least: usize) -> bool
-    ensures { result ≡ nat_le least (length (filter (is_here items.now) places.now.items)) }
-{
-    let mut found = 0;
-    for at in 0..places.len() {
-        if least <= found {
-            return true;
-        }
-        if is_here(items, places[at]) {
-            found += 1;
-        }
-    }
-    least <= found
-}
-
-/// The names of the first messages of the places that are still there, at most so many.
+/// The names of the messages of the lane's first places, at most so many.
 fn first_names(
     alloc: Global,
     items: &[Option<Msg>],
-    places: &VecDeque<usize>,
+    lane: &Lane,
     most: usize,
 ) -> Result<Vec<MsgId>, OutOfMemory>
-    ensures { IfOk result (λ names. names.items ≡ names_at items.now (take most (filter (is_here items.now) places.now.items))) }
+    ensures { IfOk result (λ names. names.items ≡ names_at items.now (take most lane.now.places)) }
 {
     let mut names = Vec::new(alloc);
-    for at in 0..places.len() {
-        if most <= names.len() {
+    for number in 0..most {
+        let Some(place) = lane.at(number) else {
             return Ok(names);
-        }
-        if let Some(name) = name_at(items, places[at]) {
+        };
+        if let Some(name) = name_at(items, place) {
             names.push(name)?;
         }
     }
@@ -207,9 +204,8 @@ fn first_fitting(
     ensures lanes { AreLanes items.now lanes.new.items }
     ensures place { IfOk result (λ place. place ≡ slice_get (fitting_places 0 pred items.now) 0) }
 {
-    let number = lane_for(alloc, items, lanes, pred)?;
-    let lane = &mut lanes[number];
-    Ok(first_place(items, lane))
+    let number = tidy_lane(alloc, items, lanes, pred, 1)?;
+    Ok(lanes[number].at(0))
 }
 
 impl HeldMessages {
@@ -232,7 +228,10 @@ impl HeldMessages {
     {
         let place = self.items.len();
         self.items.push(None)?;
-        enter_all(&mut self.lanes, place, message.value)?;
+        if let Err(refused) = enter_all(&mut self.lanes, place, message.value) {
+            self.lanes.clear();
+            return Err(refused);
+        }
         self.items[place] = Some(message);
         self.left += 1;
         Ok(())
@@ -243,9 +242,8 @@ impl HeldMessages {
         ensures enough { IfOk result (λ enough. enough ≡ nat_le least (length (fitting pred self.old))) }
         ensures kept { self.new ≡ self.old }
     {
-        let number = fit_lane(self.alloc, &self.items, &mut self.lanes, pred)?;
-        let lane = &self.lanes[number];
-        Ok(are_here(&self.items, lane.places(), least))
+        let number = lane_for(self.alloc, &self.items, &mut self.lanes, pred)?;
+        Ok(least <= self.lanes[number].count())
     }
 
     /// The names of the oldest messages that satisfy the predicate, at most so many.
@@ -253,9 +251,8 @@ impl HeldMessages {
         ensures names { IfOk result (λ names. names.items ≡ map (λ (m : Msg). m.id) (take most (fitting pred self.old))) }
         ensures kept { self.new ≡ self.old }
     {
-        let number = fit_lane(self.alloc, &self.items, &mut self.lanes, pred)?;
-        let lane = &self.lanes[number];
-        first_names(self.alloc, &self.items, lane.places(), most)
+        let number = tidy_lane(self.alloc, &self.items, &mut self.lanes, pred, most)?;
+        first_names(self.alloc, &self.items, &self.lanes[number], most)
     }
 
     /// Takes out the oldest message that satisfies the predicate.
@@ -267,8 +264,12 @@ impl HeldMessages {
         let Some(place) = first_fitting(self.alloc, &self.items, &mut self.lanes, pred)? else {
             return Ok(None);
         };
+        let Some(message) = self.items[place].take() else {
+            return Ok(None);
+        };
+        lose_all(&mut self.lanes, message.value);
         self.left = self.left.saturating_sub(1);
-        Ok(self.items[place].take())
+        Ok(Some(message))
     }
 
     /// Takes out so many of the oldest messages that satisfy the predicate, or all of them where they are fewer. They are put

@@ -34,5 +34,6 @@ pub mod Counted
 pub mod Suspended
 pub mod Places
 pub mod Keeping
+pub mod Lacking
 pub mod Telling
 pub mod RulesTold

@@ -114,6 +114,9 @@ pub(crate) fn names_of_slots(
     ensures names { IfOk result (λ names. option_map (λ found. found.items) names ≡ option_map names_of (choice_of_slots (row ports.old.items) slots.now)) }
     ensures kept { OnOk result (ports.new.items ≡ ports.old.items) }
 {
+    if !slots_have_enough(ports, slots)? {
+        return Ok(None);
+    }
     let mut names = Vec::new(alloc);
     for slot in slots {
         let Some(found) = choice_names(alloc, ports, slot)? else {

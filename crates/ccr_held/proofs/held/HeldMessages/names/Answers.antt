@@ -1,8 +1,8 @@
-use Rattle.ccr_held.proofs.Lanes.{names-told}
+use Rattle.ccr_held.proofs.Lanes.{front-told, names-of}
 use Rattle.ccr_held.proofs.held.HeldMessages.names.Goals as goal
 
 pub returns-clause-names : goal.returns-clause-names
 returns-clause-names c =
-    let told = names-told c.self.inside.items.items _ c.fit_lane.new.lanes.items c.in_ok-number.number c.index-lane.result.now c.args.pred c.places.result.now.items
-    (rw c.deref.ensures.value at c.in_ok-number.ensures.lanes) c.in_ok-number.ensures.found c.index-lane.ensures c.deref-2.ensures.value c.places.ensures c.args.most in
-    rw (← c.self.view_is, ← told) c.first_names.ensures
+    let told = front-told c.tidy_lane.new.lanes.items c.in_ok-number.number c.args.most c.index.result.now _ c.in_ok-number.ensures.found c.index.ensures in
+    let items = c.self.inside.items.items in
+    rw (← c.self.view_is, ← names-of items c.args.pred c.args.most) (rw (told, c.deref.ensures.value, c.deref-2.ensures.value) at c.first_names.ensures)

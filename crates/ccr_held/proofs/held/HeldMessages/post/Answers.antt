@@ -1,19 +1,12 @@
 use Rattle.std.proofs.Common.{◌≡◌, length, arith}
-use Rattle.ccr_held.proofs.Lanes.{after_failed, after_post, present-failed, present-post}
+use Rattle.ccr_held.proofs.Lanes.{after_post, present-post}
 use Rattle.ccr_held.proofs.Taking.{few-present, one_more}
 use Rattle.ccr_held.proofs.held.HeldMessages.post.Goals as goal
-
-pub invariant_of-self-in_err-enter_all : goal.invariant_of-self-in_err-enter_all
-invariant_of-self-in_err-enter_all c =
-    let last : c.len-place.result ≡ length c.self.inside.items.items = omega arith in (
-      after_failed c.self.inside.items.items _ c.self.inside.lanes.items _ c.len-place.result last c.in_ok-push.ensures.items c.self.invariant.0 c.args.message.value _ c.in_err-enter_all.ensures.err.1,
-      rw (present-failed c.self.inside.items.items _ c.in_ok-push.ensures.items) c.self.invariant.1,
-    )
 
 pub invariant_of-self-2 : goal.invariant_of-self-2
 invariant_of-self-2 c =
     let last : c.len-place.result ≡ length c.self.inside.items.items = omega arith in (
-      after_post c.self.inside.items.items _ c.self.inside.lanes.items _ c.len-place.result last c.in_ok-push.ensures.items c.self.invariant.0 c.args.message c.in_ok-enter_all.ensures.ok,
+      after_post c.self.inside.items.items _ c.self.inside.lanes.items _ c.len-place.result last c.in_ok-push.ensures.items c.self.invariant.0 c.args.message c.in_default.ensures,
       rw (present-post c.self.inside.items.items _ c.len-place.result c.args.message last c.in_ok-push.ensures.items) (one_more _ _ c.args.message c.self.invariant.1),
     )
 
