@@ -1,5 +1,5 @@
 -- What the object of an Interleave answers, and what it keeps then.
-use Rattle.std.specs.Prelude.{List, [], ◌∷◌, ◌++◌, drop, map, slice_get, is_some, Option, Some, None, if◌then◌else◌}
+use Rattle.std.specs.Prelude.{ℕ, List, [], ◌∷◌, ◌++◌, drop, length, map, slice_get, is_some, Option, Some, None, if◌then◌else◌}
 use Rattle.ccr_base.specs.declared.names.Spot.{Spot}
 use Rattle.ccr_base.specs.declared.tasks.Task.{Task}
 use Rattle.ccr_base.specs.declared.tasks.Cut.{Cut}
@@ -31,6 +31,14 @@ commit_reply kept task = reply (dead_by kept.state)
     reply : Option By → Commit
     reply None = Fired None (cuts_at kept task.spot)
     reply (Some by) = Dead by
+
+-- how many waiting tasks the commit of the task cuts: those that its firing cuts, and none where a teardown fired before
+abbrev pub cut_count : InterleaveTasks → Task → ℕ
+cut_count kept task = count (dead_by kept.state)
+  where
+    count : Option By → ℕ
+    count None = length (cuts_at kept task.spot)
+    count (Some by) = 0
 
 -- the task waits last, beside those that it doesn't cut
 abbrev pub after_wait : InterleaveTasks → Task → InterleaveTasks

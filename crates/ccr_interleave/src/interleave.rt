@@ -8,7 +8,7 @@ ghost use Rattle.ccr_base.specs.declared.names.MsgId.{MsgId};
 ghost use Rattle.ccr_places.specs.Commits.{commit_note};
 ghost use Rattle.ccr_places.specs.Interleaves.{start, group_at as group_of, is_teardown as is_teardown_group, may_commit as can_commit, may_over as can_over, dead_by, may_admit as can_admit, admit_note, after_over, after, IsGiven};
 ghost use Rattle.ccr_places.specs.declared.notes.Note.TheVariants.{Admit, Over};
-ghost use Rattle.ccr_interleave.specs.Replies.{cut_of, commit_reply, after_commit, after_wait, next_task, after_oldest, after_next};
+ghost use Rattle.ccr_interleave.specs.Replies.{cut_of, commit_reply, cut_count as count_of_cuts, after_commit, after_wait, next_task, after_oldest, after_next};
 
 use crate::admission::{self, Admission};
 use crate::groups::{group_at, is_concurrent, is_teardown};
@@ -96,6 +96,19 @@ impl InterleaveObject {
     {
         group_at(&self.branches, &self.groups, task.spot).is_some()
             && !self.fired.contains_key(&task.id)
+    }
+
+    /// How many waiting tasks a commit of this task would cut: all that wait, where it is a teardown's and none fired
+    /// before, and else none.
+    pub fn cut_count(&self, task: &Task) -> usize
+        ensures { result ≡ count_of_cuts self.now task.now }
+    {
+        let group = group_at(&self.branches, &self.groups, task.spot);
+        if self.teardown.is_none() && is_teardown(group) {
+            self.waiting.len()
+        } else {
+            0
+        }
     }
 
     /// The task fires and waits, unless a teardown fired before. A teardown cuts all tasks that wait.

@@ -56,6 +56,7 @@ fn over(place: &mut InterleaveObject, task: TaskId, root: TaskId, how: How) -> O
     Some((Reply::Done, note))
 }
 
+#[tactic(auto, using(crate::proofs::Cuts::cuts_counted))]
 fn commit(
     alloc: Global,
     place: &mut InterleaveObject,
@@ -71,12 +72,12 @@ fn commit(
     }
     let id = task.id;
     let spot = task.spot;
-    let names = Vec::with_capacity(alloc, place.waiting())?;
+    let names = Vec::with_capacity(alloc, place.cut_count(&task))?;
     let commit = place.commit(task)?;
     Ok(Some(committed(id, spot, messages, commit, names)))
 }
 
-/// Of a commit, with room for the names of what it cut.
+/// Of a commit, with room for the names of what it cut and for no more.
 fn committed(
     id: TaskId,
     spot: Spot,
@@ -84,7 +85,7 @@ fn committed(
     commit: Commit,
     names: Vec<TaskId>,
 ) -> (Reply, Note)
-    requires room { length (cuts_of commit) ≤ vec_capacity names }
+    requires room { vec_capacity names ≡ length (cuts_of commit) }
     requires empty { names.items ≡ [] }
     ensures reply { result.0 ≡ commit_reply commit }
     ensures note { result.1 ≡ noted id spot messages commit }
