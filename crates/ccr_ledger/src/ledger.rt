@@ -1,8 +1,9 @@
 //! The tables.
 
-ghost use Rattle.std.specs.Prelude.{◌≡◌, [], ◌∷◌, ◌++◌, OnOk, IfOk, length, if◌then◌else◌};
+ghost use Rattle.std.specs.Prelude.{◌≡◌, [], ◌∷◌, ◌++◌, OnOk, IfOk, length, replicate, false, if◌then◌else◌};
 ghost use Rattle.ccr_wiring.specs.Wirings.{branch_of, is_branch, placements_from, segment_of};
 ghost use Rattle.std.specs.Option.{option_map_or};
+ghost use Rattle.ccr_rows.specs.Rows.{empty_rows};
 ghost use Rattle.ccr_ledger.specs.Books.{card_at, less, suspended_at, with_suspended};
 ghost use Rattle.ccr_ledger.specs.Posting.{after_post, counted};
 ghost use Rattle.ccr_ledger.specs.Events.{after_admit, after_discard, after_drop, after_dropped, after_end, after_enter, after_event, after_last, after_start, empty_books, is_yield};
@@ -108,6 +109,49 @@ fn count_branches(arbiters: &[ArbiterPart]) -> Result<usize, OutOfMemory>
     Ok(count)
 }
 
+/// No task in any row: of the queues, of the domains, and of the sites.
+fn rows_of_tasks(
+    alloc: Global,
+    queues: usize,
+    domains: usize,
+    sites: usize,
+) -> Result<(Rows<TaskId>, Rows<TaskId>, Rows<TaskId>), OutOfMemory>
+    ensures { IfOk result (λ rows. (rows.0 ≡ empty_rows queues) × (rows.1 ≡ empty_rows domains) × (rows.2 ≡ empty_rows sites)) }
+{
+    let queued = Rows::new(alloc, queues)?;
+    let waiting = Rows::new(alloc, domains)?;
+    let suspended = Rows::new(alloc, sites)?;
+    Ok((queued, waiting, suspended))
+}
+
+/// No branch has fired: of all, of each domain, and none of a teardown.
+fn flags(
+    alloc: Global,
+    branches: usize,
+    domains: usize,
+) -> Result<(Vec<bool>, Vec<bool>, Vec<bool>), OutOfMemory>
+    ensures { IfOk result (λ flags. (flags.0.items ≡ replicate branches false) × (flags.1.items ≡ replicate domains false) × (flags.2.items ≡ replicate domains false)) }
+{
+    let spent = vec![in alloc; false; branches]?;
+    let chosen = vec![in alloc; false; domains]?;
+    let torn = vec![in alloc; false; domains]?;
+    Ok((spent, chosen, torn))
+}
+
+/// No root is admitted, in any group or alone, and no task is on its way to a queue.
+fn counts(
+    alloc: Global,
+    domains: usize,
+    queues: usize,
+) -> Result<(Vec<u32>, Vec<u32>, Vec<u32>), OutOfMemory>
+    ensures { IfOk result (λ counts. (counts.0.items ≡ replicate domains 0) × (counts.1.items ≡ replicate domains 0) × (counts.2.items ≡ replicate queues 0)) }
+{
+    let admitted = vec![in alloc; 0; domains]?;
+    let alone = vec![in alloc; 0; domains]?;
+    let coming = vec![in alloc; 0; queues]?;
+    Ok((admitted, alone, coming))
+}
+
 impl Ledger {
     /// The tables of the empty history of the wiring.
     pub fn new(alloc: Global, wiring: &Wiring) -> Result<Self, OutOfMemory>
@@ -120,22 +164,26 @@ impl Ledger {
         let Some(sites) = branches.checked_mul(SITES_EACH as usize) else {
             return Err(OutOfMemory);
         };
+        let (spent, chosen, torn) = flags(alloc, branches, domains)?;
+        let (admitted, alone, coming) = counts(alloc, domains, queues)?;
+        let script_posts = vec![in alloc; 0; parts.posters.as_slice().len()]?;
+        let (queued, waiting, suspended) = rows_of_tasks(alloc, queues, domains, sites)?;
         Ok(Ledger {
             alloc,
             ports: empty_ports(alloc, parts.ports.as_slice().len())?,
             tasks: IndexMap::new(alloc),
-            queued: Rows::new(alloc, queues)?,
-            waiting: Rows::new(alloc, domains)?,
-            suspended: Rows::new(alloc, sites)?,
+            queued,
+            waiting,
+            suspended,
             running: Vec::new(alloc),
-            script_posts: vec![in alloc; 0; parts.posters.as_slice().len()]?,
+            script_posts,
             task_posts: 0,
-            spent: vec![in alloc; false; branches]?,
-            chosen: vec![in alloc; false; domains]?,
-            torn: vec![in alloc; false; domains]?,
-            admitted: vec![in alloc; 0; domains]?,
-            alone: vec![in alloc; 0; domains]?,
-            coming: vec![in alloc; 0; queues]?,
+            spent,
+            chosen,
+            torn,
+            admitted,
+            alone,
+            coming,
         })
     }
 
