@@ -61,6 +61,14 @@ fn once_receiver(rt: HostRuntime) {
     assert!(rt; has_fired(&reply, FIRST));
     let reply = commit(&rt, alloc, &mut arbiter, SECOND, 3);
     assert!(rt; is_dead_by(&reply, FIRST));
+}
+
+#[test]
+fn what_fired_is_over_once(rt: HostRuntime) {
+    let alloc = rt.alloc();
+    let mut arbiter = ArbiterObject::receiver(alloc, 3, true);
+    let reply = commit(&rt, alloc, &mut arbiter, FIRST, 3);
+    assert!(rt; has_fired(&reply, FIRST));
     assert!(rt; !arbiter.may_over(SECOND, SECOND, How::Done));
     assert!(rt; arbiter.may_over(FIRST, FIRST, How::Done));
     arbiter.over(FIRST, FIRST, How::Done);

@@ -63,27 +63,27 @@ fn slot(least: u32, most: u32, pred: Pred) -> Slot
     }
 }
 
+/// The places that the slot chooses of these messages.
+fn chosen(rt: &impl Abort, alloc: Global, items: &[Msg], slot: &Slot) -> Option<List<u32>> {
+    choose(alloc, items, slot).expect(rt, "memory")
+}
+
 #[test]
 fn chooses_the_oldest(rt: HostRuntime) {
     let items = messages(&rt, rt.alloc(), &[3, 12, 4, 15, 9]);
     assert!(rt; items.len() == 5);
-    let large = slot(1, 2, Pred::Ge(9));
-    let places = choose(rt.alloc(), &items, &large)
-        .expect(&rt, "memory")
-        .expect(&rt, "a choice");
-    assert_eq!(rt; places.as_slice(), [1, 3].as_slice());
-    assert!(rt; can_choose(&items, &large));
-    let small = slot(2, 9, Pred::Lt(5));
-    let places = choose(rt.alloc(), &items, &small)
-        .expect(&rt, "memory")
-        .expect(&rt, "a choice");
-    assert_eq!(rt; places.as_slice(), [0, 2].as_slice());
+    let large = chosen(&rt, rt.alloc(), &items, &slot(1, 2, Pred::Ge(9))).expect(&rt, "a choice");
+    assert_eq!(rt; large.as_slice(), [1, 3].as_slice());
+    let small = chosen(&rt, rt.alloc(), &items, &slot(2, 9, Pred::Lt(5))).expect(&rt, "a choice");
+    assert_eq!(rt; small.as_slice(), [0, 2].as_slice());
+    assert!(rt; can_choose(&items, &slot(1, 2, Pred::Ge(9))));
+}
+
+#[test]
+fn chooses_nothing_of_too_few(rt: HostRuntime) {
+    let items = messages(&rt, rt.alloc(), &[3, 12, 4, 15, 9]);
     let twelve = slot(2, 2, Pred::Eq(12));
-    assert!(rt;
-        choose(rt.alloc(), &items, &twelve)
-            .expect(&rt, "memory")
-            .is_none()
-    );
+    assert!(rt; chosen(&rt, rt.alloc(), &items, &twelve).is_none());
     assert!(rt; !can_choose(&items, &twelve));
 }
 
@@ -101,27 +101,37 @@ fn chooses_among_references(rt: HostRuntime) {
 }
 
 #[test]
-fn copies_are_equal(rt: HostRuntime) {
-    let original = message(rt.alloc(), 7, 5);
-    let copied = original.copy(rt.alloc()).expect(&rt, "memory");
+fn a_copied_message_is_equal(rt: HostRuntime) {
+    let copied = message(rt.alloc(), 7, 5)
+        .copy(rt.alloc())
+        .expect(&rt, "memory");
     assert_eq!(rt; copied.id, MsgId::Script { actor: 0, place: 7 });
     assert_eq!(rt; copied.value, Value::one(5));
-    let id = TaskId {
-        actor: 1,
-        attempt: 2,
-    };
-    let task = Task {
+}
+
+/// A task of this name with values 5 and 6.
+fn task(rt: &impl Abort, alloc: Global, id: TaskId) -> Task {
+    let values = Vec::from_slice(alloc, &[Value::one(5), Value::one(6)]).expect(rt, "memory");
+    Task {
         id,
         root: id,
         spot: Spot::Branch(0),
         arbiter: 0,
         queue: 0,
-        values: List::from_vec(Vec::from_slice(rt.alloc(), &[Value::one(5), Value::one(6)]).expect(
-            &rt, "memory",
-        )),
-        causes: List::new(rt.alloc()),
+        values: List::from_vec(values),
+        causes: List::new(alloc),
+    }
+}
+
+#[test]
+fn a_copied_task_is_equal(rt: HostRuntime) {
+    let id = TaskId {
+        actor: 1,
+        attempt: 2,
     };
-    let copied = task.copy(rt.alloc()).expect(&rt, "memory");
+    let copied = task(&rt, rt.alloc(), id)
+        .copy(rt.alloc())
+        .expect(&rt, "memory");
     assert_eq!(rt; copied.id, id);
     assert_eq!(rt;
         copied.values.as_slice(),

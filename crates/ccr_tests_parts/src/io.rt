@@ -51,6 +51,12 @@ fn each_read_fails_in_turn(rt: HostRuntime) {
     }
 }
 
+/// A sink with so much room, of which one call fails.
+fn sink(rt: &impl Abort, alloc: Global, room: usize, failing: u64) -> MemorySink {
+    let failing = Vec::from_slice(alloc, &[failing]).expect(rt, "memory");
+    MemorySink::new(alloc, room, List::from_vec(failing)).expect(rt, "memory")
+}
+
 #[test]
 fn writes_until_a_call_fails(rt: HostRuntime) {
     for (room, failing, want, written) in [
@@ -60,8 +66,7 @@ fn writes_until_a_call_fails(rt: HostRuntime) {
         (3, 0, Err(Failed), b"".as_slice()),
         (3, 1, Err(Failed), b"tea".as_slice()),
     ] {
-        let failing = List::from_vec([failing].to_vec(rt.alloc()).expect(&rt, "memory"));
-        let mut sink = MemorySink::new(rt.alloc(), room, failing).expect(&rt, "memory");
+        let mut sink = sink(&rt, rt.alloc(), room, failing);
         assert_eq!(rt; write_all(&mut sink, b"tea 95\n"), want, "room {room}");
         assert_eq!(rt; sink.written(), written, "room {room}");
     }
