@@ -5,6 +5,7 @@ pub mod Said
 pub mod Places
 pub mod Forms
 pub mod Known
+pub mod Values
 pub mod Reading
 pub mod Answers
 pub mod Codes

@@ -14,10 +14,12 @@ mod places;
 mod reading;
 mod refused;
 mod stop;
+mod values;
 mod words;
 mod writing;
 
 pub use laws::{lines_are_read_exactly, what_is_read_is_written, what_is_written_is_read};
 pub use reading::{ReadHistory, read_history};
-pub use refused::HistoryRefused;
+pub use refused::{Code, HistoryRefused};
+pub use values::values_are_small;
 pub use writing::write_history;

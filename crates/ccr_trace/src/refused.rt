@@ -8,8 +8,8 @@ use ccr_base::OutOfMemory;
 use thiserror::Error;
 
 /// What is wrong with a line.
-#[derive(Clone, Copy)]
-pub(crate) enum Code {
+#[derive(Clone, Copy, Debug, PartialEq, Eq)]
+pub enum Code {
     /// It has none of the forms.
     Malformed,
     /// It names what the wiring doesn't have.
@@ -20,7 +20,7 @@ pub(crate) enum Code {
 
 impl Code {
     /// The number of the code (docs/FORMATS.md).
-    pub(crate) fn number(self) -> u8
+    pub fn number(self) -> u8
         ensures { result ≡ code_number self }
     {
         match self {
