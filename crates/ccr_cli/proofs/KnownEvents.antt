@@ -1,6 +1,6 @@
 -- The events of a legal history name what the wiring has, their values are of its version, and each firing names a message.
-use Rattle.std.proofs.Common.{inl, ◌≡◌, ◌≤◌, ℕ, Bool, true, false, not, ◌&&◌, List, [], ◌∷◌, ◌++◌, length, Option, Some, None, refl, sym, ap, subst}
-use Rattle.std.specs.Prelude.{◌==◌, All, IsSome, if◌then◌else◌, is_some}
+use Rattle.std.proofs.Common.{inl, ◌≡◌, ℕ, true, not, List, [], ◌∷◌, ◌++◌, Option, Some, None, refl, sym, ap, subst}
+use Rattle.std.specs.Prelude.{All, IsSome, is_some}
 use Rattle.std.proofs.lemmas.List.Elements.{All-nil, All-push}
 use Rattle.ccr_base.specs.declared.messages.Msg.{Msg}
 use Rattle.ccr_base.specs.declared.names.MsgId.{MsgId}
@@ -13,10 +13,8 @@ use Rattle.ccr_handler.specs.declared.segments.PlayEnd.{PlayEnd}
 use Rattle.ccr_handler.specs.declared.segments.PlayEnd.TheVariants as plays
 use Rattle.ccr_wiring.specs.declared.parts.Parts.{Parts}
 use Rattle.ccr_wiring.specs.Valid.{IsSound, IsValid}
-use Rattle.ccr_wiring.specs.Versions.{is_newer}
 use Rattle.ccr_wiring.specs.Wirings.{Placement, placement, site_port}
 use Rattle.ccr_wiring.proofs.Soundness.{sound}
-use Rattle.ccr_wiring.proofs.Validity.{no_codes}
 use Rattle.ccr_model.specs.declared.history.Event.{Event}
 use Rattle.ccr_model.specs.declared.history.Event.TheVariants as events
 use Rattle.ccr_model.specs.declared.history.EndHow.{EndHow}
@@ -36,9 +34,10 @@ use Rattle.ccr_model.proofs.PostNames.{refused_not}
 use Rattle.ccr_model.proofs.Pushes.{posts-push}
 use Rattle.ccr_model.proofs.TakenOnce.{FireFacts-allowed}
 use Rattle.ccr_net.proofs.KnownCauses.{fine_causes, posted_fine}
-use Rattle.ccr_trace.specs.Known.{AreKnown, HasMessages, HaveMessages, IsKnown, IsKnownEnd, IsKnownSpot, IsOfVersion}
-use Rattle.ccr_cli.specs.Values.{HasSmallValue, HaveSmallValues, IsSmallEnd, IsSmallValue}
-use Rattle.ccr_cli.proofs.SingleValues.{IsSingle, failed_single, posted_single, same_single}
+use Rattle.ccr_trace.specs.Known.{AreKnown, HasMessages, HaveMessages, IsKnown, IsKnownEnd, IsKnownSpot}
+use Rattle.ccr_trace.specs.Values.{HasSmallValue, HaveSmallValues, IsSmallEnd, IsSmallValue}
+use Rattle.ccr_trace.proofs.SingleValues.{of_version, same_single}
+use Rattle.ccr_cli.proofs.SinglePosts.{failed_single, posted_single}
 use Rattle.ccr_cli.proofs.Taking.{choice_takes_some}
 
 -- a task failed with the value with which its play ends
@@ -54,29 +53,11 @@ module _ (w : Parts) (valid : IsValid w) where
   all : IsSound w
   all = sound w valid
 
-  -- in another version than 2 nothing of version 2 stands in the wiring
-  old : (w.version == 2) ≡ false → is_newer w ≡ false
-  old other =
-      let codes = no_codes w valid in
-      let one : (w.version == 1) ≡ true = by (w.version == 1) (subst (λ b. not (w.version == 1) && not b ≡ false) other codes.version) in
-      subst (λ b. b && is_newer w ≡ false) one codes.newer
-    where
-      by : (b : Bool) → not b && not false ≡ false → b ≡ true
-      by true is = refl
-      by false is = absurd cc
-
-  of_version : (value : List ℕ) → IsSmallValue value → (is_newer w ≡ false → IsSingle value) → IsOfVersion w value
-  of_version value small single = by (w.version == 2) refl
-    where
-      by : (b : Bool) → (w.version == 2) ≡ b → length value ≤ (if b then 8 else 1)
-      by true is = small
-      by false is = single (old is)
-
   post_known : (h : List Event) (m : Msg) → IsLegal w (h ++ events.Post m ∷ []) → IsSmallValue m.value → IsKnown w (events.Post m)
   post_known h m legal small =
       let among : Among m (posts (h ++ events.Post m ∷ [])) = subst (Among m) (sym (posts-push h (events.Post m))) (Among-right m (posts h) (post_of (events.Post m)) (inl refl)) in
       let fine = posted_fine w all (h ++ events.Post m ∷ []) legal m among in
-      (fine.0, (fine_causes w m.causes fine.1).0, of_version m.value small (λ none. posted_single w none (h ++ events.Post m ∷ []) legal m among))
+      (fine.0, (fine_causes w m.causes fine.1).0, of_version w valid m.value small (λ none. posted_single w none (h ++ events.Post m ∷ []) legal m among))
 
   spot_known : (h : List Event) (spot : Spot) (names : List MsgId) → is_live w h spot ≡ true → is_choice w h spot names ≡ true → IsKnownSpot w spot
   spot_known h (Branch branch) names live is = let found = some_of (λ (s : Placement). is_live_in w h branch s.arbiter s.branch.group) (placement w branch) live in there_some (placement w branch) found.0 found.1
@@ -87,7 +68,7 @@ module _ (w : Parts) (valid : IsValid w) where
       let running_so = refused_not (has_task (running h) task) 15 _ allowed in
       let may = (refused_not (may_end w h task (ends.Failed value)) 16 None running_so.1).0 in
       let so = failed_as value (play_of w h task).end (both (not (has_post_left w h task)) (ends_so (ends.Failed value) (play_of w h task).end) may).1 in
-      of_version value small (λ none. same_single value so.0 so.2 (failed_single w none h legal task so.0 so.1))
+      of_version w valid value small (λ none. same_single value so.0 so.2 (failed_single w none h legal task so.0 so.1))
   end_known h task ends.Done legal allowed small = tt
   end_known h task ends.Yield legal allowed small = tt
   end_known h task ends.Shed legal allowed small = tt

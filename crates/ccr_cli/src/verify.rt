@@ -21,6 +21,9 @@ use std::alloc::Global;
 /// The most bytes that a wiring text may have.
 pub(crate) const MAX_WIRING_TEXT: usize = 1_048_576;
 
+/// The code of refusal for what is outside a limit (docs/FORMATS.md).
+const OVER_LIMIT: u8 = 10;
+
 /// The wiring that the text says. A text that is too long is refused at the line of the first byte too many.
 fn read_part(alloc: Global, part: &[u8]) -> Result<Wiring, ReadRefused>
     ensures { IsReading result (reading_part part.now) }
@@ -28,7 +31,7 @@ fn read_part(alloc: Global, part: &[u8]) -> Result<Wiring, ReadRefused>
     if part.len() > MAX_WIRING_TEXT {
         return Err(ReadRefused::At {
             line: line_at(MAX_WIRING_TEXT, part),
-            code: 10,
+            code: OVER_LIMIT,
         });
     }
     read_wiring(alloc, part)

@@ -1,16 +1,9 @@
 -- In a wiring of version 1 each value of a legal history is one number at most.
-use Rattle.std.proofs.Common.{◌⊎◌, inl, inr, ◌≡◌, ℕ, zero, suc, ◌≤◌, Bool, true, false, ◌&&◌, List, [], ◌∷◌, ◌++◌, length, map, Option, Some, None, refl, sym, ap, subst, arith}
-use Rattle.std.specs.Prelude.{◌==◌, if◌then◌else◌, find, nat_eq, nat_lt, nat_le, option_map, option_to_list, slice_get, unwrap_or}
-use Rattle.std.specs.Cmp.Lexicographic.{pointwise}
-use Rattle.std.specs.List.{cons_option, list_any, range_with_len}
+use Rattle.std.proofs.Common.{◌⊎◌, inl, inr, ◌≡◌, ℕ, zero, suc, Bool, true, false, ◌&&◌, List, [], ◌∷◌, ◌++◌, map, Option, Some, None, refl, sym, subst}
+use Rattle.std.specs.Prelude.{◌==◌, if◌then◌else◌, find, slice_get}
+use Rattle.std.specs.List.{cons_option, list_any}
 use Rattle.std.specs.Option.{option_and_then, option_map_or}
-use Rattle.std.proofs.lemmas.Bool.Decides.{nat_tests}
-use Rattle.std.proofs.lemmas.List.{length-map}
-use Rattle.std.proofs.lemmas.List.FromFn.{length-range_with_len}
 use Rattle.ccr_base.specs.declared.handlers.Action.{Action}
-use Rattle.ccr_base.specs.declared.handlers.Action.TheVariants as actions
-use Rattle.ccr_base.specs.declared.handlers.Expr.{Expr}
-use Rattle.ccr_base.specs.declared.handlers.Expr.TheVariants.{Number, Arg, Part, Sum, Count}
 use Rattle.ccr_base.specs.declared.messages.Msg.{Msg}
 use Rattle.ccr_base.specs.declared.messages.Sent.{Sent}
 use Rattle.ccr_base.specs.declared.names.MsgId.{MsgId}
@@ -19,17 +12,13 @@ use Rattle.ccr_base.specs.declared.names.Spot.{Spot}
 use Rattle.ccr_base.specs.declared.names.Spot.TheVariants.{Site}
 use Rattle.ccr_base.specs.declared.names.TaskId.{TaskId}
 use Rattle.ccr_base.specs.Names.{has_task, same_lists, same_message}
-use Rattle.ccr_base.specs.Values.{same_value, value_of_numbers}
-use Rattle.ccr_cause.specs.Causes.{with_cause, without_cause}
-use Rattle.ccr_handler.specs.declared.segments.Play.{Play}
-use Rattle.ccr_handler.specs.declared.segments.PlayEnd.{PlayEnd}
+use Rattle.ccr_base.specs.Values.{same_value}
 use Rattle.ccr_handler.specs.declared.segments.PlayEnd.TheVariants as plays
-use Rattle.ccr_handler.specs.Evaluating.{longest, sum_at, sum_of, value_of}
-use Rattle.ccr_handler.specs.Playing.{actions_from, after_await, exceptions, is_await, play}
+use Rattle.ccr_handler.specs.Playing.{actions_from, after_await, is_await}
 use Rattle.ccr_wiring.specs.declared.parts.HandlerPart.{HandlerPart}
 use Rattle.ccr_wiring.specs.declared.parts.Parts.{Parts}
 use Rattle.ccr_wiring.specs.declared.parts.PosterPart.{PosterPart}
-use Rattle.ccr_wiring.specs.Versions.{action_is_newer, expr_is_newer, handler_is_newer, is_long, is_newer, poster_is_newer}
+use Rattle.ccr_wiring.specs.Versions.{action_is_newer, handler_is_newer, is_long, is_newer, poster_is_newer}
 use Rattle.ccr_wiring.specs.Wirings.{Placement, actions_of, branch_of, exception_port, placement, segment_of}
 use Rattle.ccr_wiring.proofs.Lists.{none_at}
 use Rattle.ccr_model.specs.declared.history.Event.{Event}
@@ -46,103 +35,12 @@ use Rattle.ccr_model.proofs.Members.{Among, Among-at, Among-either, Among-left, 
 use Rattle.ccr_model.proofs.Options.{some_of, some_then}
 use Rattle.ccr_model.proofs.PostNames.{along, refused_not}
 use Rattle.ccr_model.proofs.Pushes.{posts-push}
-
--- one number at most
-abbrev pub IsSingle : List ℕ → Type 0
-IsSingle value = length value ≤ 1
-
-abbrev AreSingle : List (List ℕ) → Type 0
-AreSingle values = (value : List ℕ) → Among value values → IsSingle value
-
-not_long : (value : List ℕ) → is_long value ≡ false → IsSingle value
-not_long value none = grind (arith, nat_tests, none)
-
--- the same value has as many numbers
-pub same_value-length : (value other : List ℕ) → same_value value other ≡ true → length value ≡ length other
-same_value-length [] [] is = refl
-same_value-length [] (n ∷ other) is = absurd cc
-same_value-length (n ∷ value) [] is = absurd cc
-same_value-length (n ∷ value) (m ∷ other) is = ap suc (same_value-length value other (both (nat_eq n m) (pointwise nat_eq value other) is).1)
-
-pub same_single : (value other : List ℕ) → same_value value other ≡ true → IsSingle other → IsSingle value
-same_single value other is single = omega (arith, same_value-length value other is, single)
-
--- ---- expressions
-
-longest_single : (values : List (List ℕ)) → AreSingle values → longest values ≤ 1
-longest_single [] single = omega arith
-longest_single (value ∷ values) single = omega (arith, single value (inl refl), longest_single values (λ v there. single v (inr there)))
-
-or_zero : (numbers : List ℕ) → IsSingle numbers → IsSingle (unwrap_or (value_of_numbers numbers) (0 ∷ []))
-or_zero numbers single = by (nat_lt 0 (length numbers) && nat_le (length numbers) 8)
-  where
-    by : (b : Bool) → IsSingle (unwrap_or (if b then Some numbers else None) (0 ∷ []))
-    by true = single
-    by false = omega arith
-
-sum_single : (values : List (List ℕ)) → AreSingle values → IsSingle (sum_of values)
-sum_single values single =
-    or_zero (map (sum_at values) (range_with_len 0 (longest values)))
-    (omega (arith, length-map (range_with_len 0 (longest values)) (sum_at values), length-range_with_len 0 (longest values), longest_single values single))
-
-value_single : (expr : Expr) (values : List (List ℕ)) → expr_is_newer expr ≡ false → AreSingle values → IsSingle (value_of expr values)
-value_single (Number value) values none single = not_long value none
-value_single (Arg k) values none single = by (slice_get values k) refl
-  where
-    by : (o : Option (List ℕ)) → slice_get values k ≡ o → IsSingle (unwrap_or o (0 ∷ []))
-    by None at = omega arith
-    by (Some value) at = single value (Among-at values k value at)
-value_single (Part k place) values none single = omega arith
-value_single Sum values none single = sum_single values single
-value_single Count values none single = omega arith
-
--- ---- plays
-
-pub record IsPlaySingle (p : Play) : Type 0 where
-  pub posts : (sent : Sent) → Among sent p.posts → IsSingle sent.value
-  pub end : (value : List ℕ) → p.end ≡ plays.Failed value → IsSingle value
-
-no_failure : (end : PlayEnd) (value : List ℕ) → end ≡ plays.Done → end ≡ plays.Failed value → ⊥
-no_failure end value done failed = cc
-
-no_failure_at : (end : PlayEnd) (site : ℕ) (value : List ℕ) → end ≡ plays.Yield site → end ≡ plays.Failed value → ⊥
-no_failure_at end site value yields failed = cc
-
-failed_with : (value other : List ℕ) → plays.Failed value ≡ plays.Failed other → value ≡ other
-failed_with value other is = cc
+use Rattle.ccr_trace.specs.Values.{IsSingle}
+use Rattle.ccr_trace.proofs.SingleValues.{AreSingle, not_long, same_single}
+use Rattle.ccr_trace.proofs.SinglePlays.{IsPlaySingle, no_play_single, play_single}
 
 -- nothing of version 2 stands in the handlers and scripts
 module _ (w : Parts) (none : is_newer w ≡ false) where
-  exceptions_single : (value : List ℕ) (causes : List ℕ) → IsSingle value → (sent : Sent) → Among sent (exceptions (exception_port w) value causes) → IsSingle sent.value
-  exceptions_single value [] single sent is = absurd is
-  exceptions_single value (c ∷ causes) single sent is = of (Among-either sent (option_to_list (option_map (λ port. record { port = port; value = value; causes = [] }) (exception_port w c))) (exceptions (exception_port w) value causes) is) (exceptions_single value causes single sent)
-    where
-      one : (o : Option ℕ) → Among sent (option_to_list (option_map (λ port. record { port = port; value = value; causes = [] }) o)) → IsSingle sent.value
-      one None there = absurd there
-      one (Some port) (inl e) = subst (λ (s : Sent). IsSingle s.value) (sym e) single
-      one (Some port) (inr there) = absurd there
-
-      of : Among sent (option_to_list (option_map (λ port. record { port = port; value = value; causes = [] }) (exception_port w c))) ⊎ Among sent (exceptions (exception_port w) value causes) → (Among sent (exceptions (exception_port w) value causes) → IsSingle sent.value) → IsSingle sent.value
-      of (inl here) rest = one (exception_port w c) here
-      of (inr later) rest = rest later
-
-  play_single : (values : List (List ℕ)) (site : ℕ) (causes : List ℕ) (acts : List Action) → list_any action_is_newer acts ≡ false → AreSingle values → IsPlaySingle (play (exception_port w) values site causes acts)
-  play_single values site causes [] old single = record { posts = λ sent is. absurd is; end = λ value is. absurd (no_failure plays.Done value refl is) }
-  play_single values site causes (actions.Post port expr ∷ acts) old single =
-      let two = neither (expr_is_newer expr) (list_any action_is_newer acts) old in
-      let rest = play_single values site causes acts two.1 single in
-      record { posts = λ sent is. of sent rest (value_single expr values two.0 single) is; end = rest.end }
-    where
-      of : (sent : Sent) → IsPlaySingle (play (exception_port w) values site causes acts) → IsSingle (value_of expr values) → Among sent (record { port = port; value = value_of expr values; causes = causes } ∷ (play (exception_port w) values site causes acts).posts) → IsSingle sent.value
-      of sent rest first (inl e) = subst (λ (s : Sent). IsSingle s.value) (sym e) first
-      of sent rest first (inr is) = rest.posts sent is
-  play_single values site causes (actions.Fail expr ∷ acts) old single =
-      let first = value_single expr values (neither (expr_is_newer expr) (list_any action_is_newer acts) old).0 single in
-      record { posts = exceptions_single (value_of expr values) causes first; end = λ value is. subst IsSingle (failed_with (value_of expr values) value is) first }
-  play_single values site causes (actions.Add cause ∷ acts) old single = play_single values site (with_cause causes cause) acts old single
-  play_single values site causes (actions.Remove cause ∷ acts) old single = play_single values site (without_cause causes cause) acts old single
-  play_single values site causes (actions.Await port ∷ acts) old single = record { posts = λ sent is. absurd is; end = λ value is. absurd (no_failure_at (plays.Yield site) site value refl is) }
-
   after_old : (acts : List Action) → list_any action_is_newer acts ≡ false → list_any action_is_newer (after_await acts) ≡ false
   after_old [] old = refl
   after_old (a ∷ acts) old = let two = neither (action_is_newer a) (list_any action_is_newer acts) old in by (is_await a) two.1 (after_old acts two.1)
@@ -173,7 +71,7 @@ module _ (w : Parts) (none : is_newer w ≡ false) where
       by (Some s) = of_old s.branch.handler
 
   play_at-single : (branch segment : ℕ) (load : Load) → AreSingle load.values → IsPlaySingle (play_at w branch segment load)
-  play_at-single branch segment load single = play_single load.values segment load.causes (actions_from segment (actions_at w branch)) (from_old segment (actions_at w branch) (at_old branch)) single
+  play_at-single branch segment load single = play_single (exception_port w) load.values segment load.causes (actions_from segment (actions_at w branch)) (from_old segment (actions_at w branch) (at_old branch)) single
 
   -- ---- loads
 
@@ -243,7 +141,7 @@ module _ (w : Parts) (none : is_newer w ≡ false) where
   play_of-single h posted t = by (spot_of h t)
     where
       by : (o : Option Spot) → IsPlaySingle (option_map_or (λ spot. play_at w (branch_of spot) (segment_of spot) (load_at w h (branch_of spot) (segment_of spot) t)) o no_play)
-      by None = record { posts = λ sent is. absurd is; end = λ value is. absurd (no_failure plays.Done value refl is) }
+      by None = no_play_single
       by (Some spot) = play_at-single (branch_of spot) (segment_of spot) (load_at w h (branch_of spot) (segment_of spot) t) (load_single h posted (branch_of spot) (segment_of spot) t)
 
   -- ---- posts
