@@ -6,9 +6,11 @@ use Rattle.std.proofs.lemmas.Bool.Decides.{nat_tests}
 use Rattle.std.proofs.lemmas.List.{map-append}
 use Rattle.ccr_base.specs.declared.names.TaskId.{TaskId}
 use Rattle.ccr_wiring.specs.declared.parts.Parts.{Parts}
+use Rattle.ccr_wiring.specs.Wirings.{spots}
 use Rattle.ccr_wiring.specs.Valid.{IsValid}
 use Rattle.ccr_model.specs.declared.history.Event.{Event}
 use Rattle.ccr_model.specs.Firings.{Firing, firings, fired}
+use Rattle.ccr_model.specs.Enough.{can_fire}
 use Rattle.ccr_model.specs.Legal.{IsAllowed, IsLegal}
 use Rattle.ccr_model.specs.Order.{next_attempt}
 use Rattle.ccr_model.proofs.LegalParts.{Parted-legal}
@@ -21,6 +23,8 @@ use Rattle.ccr_serial.specs.Engine.{next_event}
 use Rattle.ccr_serial.proofs.DeskSteps.{attempt_kept, stands-event}
 use Rattle.ccr_serial.proofs.Firsts.{first_told, idle_stands, stands_ahead}
 use Rattle.ccr_serial.proofs.Telling.{TablesTell-keeps}
+use Rattle.ccr_serial.proofs.Gaining.{passes-never}
+use Rattle.ccr_serial.proofs.Beginning.{nothing_fires}
 
 told_by : (w : Parts) → IsValid w → (c : ℕ) (h : List Event) (d : Desk) → IsLegal w h → Stands w c h d → TablesTell w h d.books
 told_by w valid c h d legal stands = TablesTell-keeps w valid h legal d.books stands.books
@@ -28,8 +32,8 @@ told_by w valid c h d legal stands = TablesTell-keeps w valid h legal d.books st
 pub stands_next : (w : Parts) → IsValid w → (c : ℕ) (h : List Event) (e : Event) (old new : Desk) → IsLegal w h → IsAllowed w h e → Stands w c h old → Follows w c e old new → Stands w c (h ++ e ∷ []) new
 stands_next w valid c h e old new legal allowed stands follows = stands-event w c h e old new legal allowed (told_by w valid c h old legal stands) (keeps-event w valid h e old.books legal allowed stands.books) stands follows
 
-pub stands_none : (w : Parts) (c : ℕ) → Stands w c [] (record { books = empty_books w; attempt = 0; poster = 0; place = 0; ready = [] })
-stands_none w c = record { books = keeps-none w; attempt = refl; poster = done w.posters; place = refl; ready = λ n. refl; least = λ n at. absurd (cc) }
+pub stands_none : (w : Parts) → IsValid w → (c : ℕ) → Stands w c [] (record { books = empty_books w; attempt = 0; poster = 0; touched = []; ready = [] })
+stands_none w valid c = record { books = keeps-none w; attempt = refl; poster = done w.posters; touched = λ n out. passes-never (can_fire w []) (spots w) (nothing_fires w valid) n; lowest = λ n at. absurd (cc); ready = λ n. refl; least = λ n at. absurd (cc) }
   where
     done : {X : Type 0} (ps : List X) → true ≡ true
     done ps = refl

@@ -1,54 +1,15 @@
--- The first place where a test passes, and what it makes of a place to which it lowers.
-use Rattle.std.proofs.Common.{◌≡◌, ◌∙◌, ℕ, zero, suc, ◌+◌, ◌<◌, ◌≤◌, Bool, true, false, ◌||◌, List, [], ◌∷◌, ◌++◌, length, take, Option, None, Some, refl, ap, sym, arith}
-use Rattle.std.specs.Prelude.{if◌then◌else◌, option_map}
+-- The places where a test passes, and the first of them.
+use Rattle.std.proofs.Common.{◌≡◌, ◌∙◌, ℕ, zero, suc, ◌+◌, ◌<◌, ◌≤◌, Bool, true, false, ◌&&◌, ◌||◌, List, [], ◌∷◌, ◌++◌, length, take, Option, None, Some, refl, ap, sym, subst, arith}
+use Rattle.std.specs.Prelude.{◌==◌, if◌then◌else◌, option_map}
+use Rattle.std.specs.Option.{option_map_or}
 use Rattle.std.specs.List.{slice_get, list_any}
 use Rattle.std.proofs.Math.ListN.{get_or}
 use Rattle.std.proofs.lemmas.Bool.Decides.{nat_tests}
 use Rattle.ccr_model.proofs.Booleans.{neither}
-use Rattle.ccr_serial.specs.Cursor.{lowered}
-use Rattle.ccr_serial.specs.Places.{first_place, at_most}
-use Rattle.ccr_serial.proofs.PartSteps.{read}
-
--- a test lowers the place to the first one where it passes
-pub lowered-first : {T : Type 0} (test : T → Bool) (xs : List T) (n : ℕ) → lowered test xs n ≡ at_most (first_place test xs) n
-lowered-first test xs zero = of_option (first_place test xs)
-  where
-    of_option : (o : Option ℕ) → 0 ≡ at_most o 0
-    of_option None = refl
-    of_option (Some k) = grind (arith, nat_tests)
-lowered-first test [] (suc n) = refl
-lowered-first test (x ∷ xs) (suc n) = of_test (test x) (lowered-first test xs n)
-  where
-    of_option : (o : Option ℕ) → suc (at_most o n) ≡ at_most (option_map suc o) (suc n)
-    of_option None = refl
-    of_option (Some k) = grind (arith, nat_tests)
-
-    of_test : (b : Bool) → lowered test xs n ≡ at_most (first_place test xs) n → (if b then zero else suc (lowered test xs n)) ≡ at_most (if b then Some zero else option_map suc (first_place test xs)) (suc n)
-    of_test true rest = grind (arith, nat_tests)
-    of_test false rest = ap suc rest ∙ of_option (first_place test xs)
-
-pub lowered-same : {T : Type 0} (p q : T → Bool) (xs : List T) (n : ℕ) → ((x : T) → p x ≡ q x) → lowered p xs n ≡ lowered q xs n
-lowered-same p q [] zero same = refl
-lowered-same p q (x ∷ xs) zero same = refl
-lowered-same p q [] (suc n) same = refl
-lowered-same p q (x ∷ xs) (suc n) same = rw (same x, lowered-same p q xs n same) refl
-
--- one test after the other
-pub lowered-or : {T : Type 0} (p q : T → Bool) (xs : List T) (n : ℕ) → lowered (λ x. p x || q x) xs n ≡ lowered q xs (lowered p xs n)
-lowered-or p q [] zero = refl
-lowered-or p q (x ∷ xs) zero = refl
-lowered-or p q [] (suc n) = refl
-lowered-or p q (x ∷ xs) (suc n) = of_test (p x) (lowered-or p q xs n)
-  where
-    of_test : (b : Bool) → lowered (λ x. p x || q x) xs n ≡ lowered q xs (lowered p xs n) → (if b || q x then zero else suc (lowered (λ x. p x || q x) xs n)) ≡ lowered q (x ∷ xs) (if b then zero else suc (lowered p xs n))
-    of_test true rest = refl
-    of_test false rest = rw rest refl
-
-pub lowered-never : {T : Type 0} (xs : List T) (n : ℕ) → lowered (λ x. false) xs n ≡ n
-lowered-never [] zero = refl
-lowered-never (x ∷ xs) zero = refl
-lowered-never [] (suc n) = refl
-lowered-never (x ∷ xs) (suc n) = ap suc (lowered-never xs n)
+use Rattle.ccr_serial.specs.Ready.{has_number}
+use Rattle.ccr_serial.specs.Numbered.{ArePlaces, passes_at}
+use Rattle.ccr_serial.specs.Places.{first_place}
+use Rattle.ccr_serial.proofs.Gaining.{read, has-more, take-all}
 
 -- the first place is within the list
 pub first_within : {T : Type 0} (test : T → Bool) (xs : List T) (k : ℕ) → first_place test xs ≡ Some k → k < length xs
@@ -120,3 +81,85 @@ first_passes test ss xs i d r same low none asked is = none_on test xs i (get_or
 
 pub first_ends : {T : Type 0} (test : T → Bool) (ss xs : List T) (i : ℕ) → ss ≡ xs → length ss ≤ i → list_any test (take i xs) ≡ false → None ≡ first_place test xs
 first_ends test ss xs i same all none = sym (first_past test xs i none (rw (← same) all))
+
+-- a test that passes at one place alone
+abbrev pub IsOnce : {T : Type 0} → (T → Bool) → List T → Type 0
+IsOnce test xs = (n : ℕ) → passes_at test xs n ≡ option_map_or (λ k. n == k) (first_place test xs) false
+
+pub never_at : {T : Type 0} (test : T → Bool) (xs : List T) → list_any test xs ≡ false → (n : ℕ) → passes_at test xs n ≡ false
+never_at test [] none n = refl
+never_at test (x ∷ xs) none zero = (neither (test x) (list_any test xs) none).0
+never_at test (x ∷ xs) none (suc n) = never_at test xs (neither (test x) (list_any test xs) none).1 n
+
+pub once_never : {T : Type 0} (test : T → Bool) (xs : List T) → list_any test xs ≡ false → IsOnce test xs
+once_never test xs none n = rw (first_never test xs none) (never_at test xs none n)
+
+pub once_later : {T : Type 0} (test : T → Bool) (x : T) (xs : List T) → test x ≡ false → IsOnce test xs → IsOnce test (x ∷ xs)
+once_later test x xs out once zero = rw out (of_option (first_place test xs))
+  where
+    of_option : (o : Option ℕ) → false ≡ option_map_or (λ k. 0 == k) (option_map suc o) false
+    of_option None = refl
+    of_option (Some k) = grind (arith, nat_tests)
+once_later test x xs out once (suc n) = rw out (once n ∙ of_option (first_place test xs))
+  where
+    of_option : (o : Option ℕ) → option_map_or (λ k. n == k) o false ≡ option_map_or (λ k. suc n == k) (option_map suc o) false
+    of_option None = refl
+    of_option (Some k) = grind (arith, nat_tests)
+
+pub once_here : {T : Type 0} (test : T → Bool) (x : T) (xs : List T) → test x ≡ true → list_any test xs ≡ false → IsOnce test (x ∷ xs)
+once_here test x xs is none zero = rw is refl
+once_here test x xs is none (suc n) = let later : (suc n == 0) ≡ false = grind (arith, nat_tests) in rw (is, later) (never_at test xs none n)
+
+pub once_behind : {T : Type 0} (test : T → Bool) (xs ys : List T) → list_any test xs ≡ false → IsOnce test ys → IsOnce test (xs ++ ys)
+once_behind test [] ys none once = once
+once_behind test (x ∷ xs) ys none once =
+    let outs = neither (test x) (list_any test xs) none in
+    once_later test x (xs ++ ys) outs.0 (once_behind test xs ys outs.1 once)
+
+-- a walk over the items keeps the places of those that passed
+pub places_start : {T : Type 0} (test : T → Bool) (xs : List T) → ArePlaces test (take 0 xs) []
+places_start test [] n = refl
+places_start test (x ∷ xs) n = refl
+
+passes-more : {T : Type 0} (test : T → Bool) (xs : List T) (i : ℕ) (x : T) (n : ℕ) → slice_get xs i ≡ Some x → passes_at test (take (i + 1) xs) n ≡ passes_at test (take i xs) n || ((n == i) && test x)
+passes-more test [] i x n at = absurd (cc)
+passes-more test (y ∷ xs) zero x zero at = let one : y ≡ x = cc in rw one refl
+passes-more test (y ∷ xs) zero x (suc n) at = let later : (suc n == 0) ≡ false = grind (arith, nat_tests) in rw later (none xs)
+  where
+    none : (zs : List _) → passes_at test (take 0 zs) n ≡ false
+    none [] = refl
+    none (z ∷ zs) = refl
+passes-more test (y ∷ xs) (suc i) x zero at =
+    let more : suc i + 1 ≡ suc (i + 1) = omega arith in
+    let first : (0 == suc i) ≡ false = grind (arith, nat_tests) in
+    rw (more, first) (or_nothing (test y))
+  where
+    or_nothing : (b : Bool) → b ≡ b || false
+    or_nothing true = refl
+    or_nothing false = refl
+passes-more test (y ∷ xs) (suc i) x (suc n) at =
+    let more : suc i + 1 ≡ suc (i + 1) = omega arith in
+    let same : (suc n == suc i) ≡ (n == i) = grind (arith, nat_tests) in
+    rw (more, same) (passes-more test xs i x n at)
+
+pub places_pass : {T : Type 0} (test : T → Bool) (ss xs : List T) (i : ℕ) (d : T) (r : Bool) (places : List ℕ) → ss ≡ xs → i < length ss → ArePlaces test (take i xs) places → r ≡ test (get_or ss i d) → r ≡ true → ArePlaces test (take (i + 1) xs) (places ++ i ∷ [])
+places_pass test ss xs i d r places same low known asked is n =
+    let passes : test (get_or ss i d) ≡ true = sym asked ∙ is in
+    has-more places i n ∙ (ap (λ b. b || (n == i)) (known n) ∙ sym (passes-more test xs i (get_or ss i d) n (read ss xs i d same low) ∙ rw passes (ap (λ b. passes_at test (take i xs) n || b) (and_true (n == i)))))
+  where
+    and_true : (b : Bool) → b && true ≡ b
+    and_true true = refl
+    and_true false = refl
+
+pub places_fail : {T : Type 0} (test : T → Bool) (ss xs : List T) (i : ℕ) (d : T) (r : Bool) (places : List ℕ) → ss ≡ xs → i < length ss → ArePlaces test (take i xs) places → r ≡ test (get_or ss i d) → r ≡ false → ArePlaces test (take (i + 1) xs) places
+places_fail test ss xs i d r places same low known asked is n =
+    let fails : test (get_or ss i d) ≡ false = sym asked ∙ is in
+    known n ∙ sym (passes-more test xs i (get_or ss i d) n (read ss xs i d same low) ∙ rw fails (of_bools (passes_at test (take i xs) n) (n == i)))
+  where
+    of_bools : (a b : Bool) → a || (b && false) ≡ a
+    of_bools true b = refl
+    of_bools false true = refl
+    of_bools false false = refl
+
+pub places_end : {T : Type 0} (test : T → Bool) (ss xs : List T) (i : ℕ) (places : List ℕ) → ss ≡ xs → length ss ≤ i → ArePlaces test (take i xs) places → ArePlaces test xs places
+places_end test ss xs i places same all known = subst (λ ys. ArePlaces test ys places) (take-all xs i (rw (← same) all)) known

@@ -1,7 +1,7 @@
 -- The event that comes first, by the desk.
-use Rattle.std.proofs.Common.{◌≡◌, ◌∙◌, ℕ, zero, suc, ◌+◌, ◌≤◌, Bool, List, [], ◌∷◌, length, take, refl, ap, sym, arith}
+use Rattle.std.proofs.Common.{◌≡◌, ◌∙◌, ℕ, zero, suc, ◌+◌, ◌≤◌, List, [], ◌∷◌, length, take, refl, ap, sym, arith}
 use Rattle.std.specs.Prelude.{is_some, option_and_then}
-use Rattle.std.specs.List.{slice_get, list_any}
+use Rattle.std.specs.List.{slice_get}
 use Rattle.ccr_base.specs.declared.names.Spot.{Spot}
 use Rattle.ccr_wiring.specs.declared.parts.Parts.{Parts}
 use Rattle.ccr_wiring.specs.declared.parts.PosterPart.{PosterPart}
@@ -13,13 +13,11 @@ use Rattle.ccr_model.specs.Order.{first, fire_from, next_attempt, put_first}
 use Rattle.ccr_model.proofs.CanFire.{some_fire_at}
 use Rattle.ccr_serial.specs.Cursor.{are_done}
 use Rattle.ccr_serial.specs.Ready.{AreReady, IsLeastFirst}
-use Rattle.ccr_serial.specs.Parts.{fire_in, first_fire_in, put_in, are_done_in, some_fires_in}
+use Rattle.ccr_serial.specs.Parts.{fire_in, first_fire_in, put_in, are_done_in, fires_in}
+use Rattle.ccr_serial.specs.Numbered.{passes_at}
 use Rattle.ccr_serial.specs.Desk.{Desk, Stands, TablesTell, IsIdle, IsAhead, first_in}
+use Rattle.ccr_serial.proofs.Gaining.{passes-same}
 use Rattle.ccr_serial.proofs.Told.{post_told, fire_told, first_fire_told, first_admit_told, put_told, none_put_told, first_run_told, start_told}
-
-any_same : {X : Type 0} (p q : X → Bool) (xs : List X) → ((x : X) → p x ≡ q x) → list_any p xs ≡ list_any q xs
-any_same p q [] same = refl
-any_same p q (x ∷ xs) same = rw (same x, any_same p q xs same) refl
 
 length-take : {X : Type 0} (n : ℕ) (xs : List X) → length (take n xs) ≤ length xs
 length-take zero [] = omega arith
@@ -35,13 +33,14 @@ module _ (w : Parts) (c : ℕ) (h : List Event) (d : Desk) (told : TablesTell w 
   done_so : (k : ℕ) → are_done_in d.books 0 (take k w.posters) ≡ are_done h 0 (take k w.posters)
   done_so k = done_told 0 (take k w.posters) (omega (arith, length-take k w.posters))
 
-  fires_so : (ss : List Spot) → d.attempt ≡ next_attempt c (fired h) → some_fires_in w (record { actor = c; attempt = d.attempt }) d.books ss ≡ list_any (can_fire w h) ss
-  fires_so ss same = any_same (λ (s : Spot). is_some (fire_in w (record { actor = c; attempt = d.attempt }) d.books s)) (can_fire w h) ss (λ s. rw same (ap is_some (fire_told w c h d.books told s) ∙ some_fire_at w c h s))
+  fires_so : d.attempt ≡ next_attempt c (fired h) → (n : ℕ) → passes_at (fires_in w (record { actor = c; attempt = d.attempt }) d.books) (spots w) n ≡ passes_at (can_fire w h) (spots w) n
+  fires_so same n = passes-same (fires_in w (record { actor = c; attempt = d.attempt }) d.books) (can_fire w h) (spots w) (λ s. rw same (ap is_some (fire_told w c h d.books told s) ∙ some_fire_at w c h s)) n
 
   pub idle_stands : Stands w c h d → IsIdle w c d
   idle_stands stands = record {
     posters = done_so d.poster ∙ stands.poster;
-    spots = fires_so (take d.place (spots w)) stands.attempt ∙ stands.place;
+    spots = λ n out. fires_so stands.attempt n ∙ stands.touched n out;
+    lowest = stands.lowest;
   }
 
   put_so : (ns : List ℕ) → AreReady w h ns → IsLeastFirst ns → option_and_then (put_in w d.books) (slice_get ns 0) ≡ put_first w h
@@ -61,7 +60,8 @@ stands_ahead w c h old new told stands ahead =
       books = rw ahead.books stands.books;
       attempt = attempt;
       poster = sym (done_so w c h new told_now new.poster) ∙ ahead.idle.posters;
-      place = sym (fires_so w c h new told_now (take new.place (spots w)) attempt) ∙ ahead.idle.spots;
+      touched = λ n out. sym (fires_so w c h new told_now attempt n) ∙ ahead.idle.spots n out;
+      lowest = ahead.idle.lowest;
       ready = rw ahead.ready stands.ready;
       least = rw ahead.ready stands.least;
     }

@@ -10,7 +10,9 @@ pub mod Finished
 pub mod Rooms
 pub mod Takes
 pub mod Touching
-pub mod Lowering
+pub mod Gaining
+pub mod Stillness
+pub mod Beginning
 pub mod Posters
 pub mod MayPut
 pub mod NumberSets
@@ -24,4 +26,4 @@ pub mod Along
 pub mod Reading
 pub mod FirstPlaces
 pub mod SpotPlaces
-pub mod TouchedPlaces
+pub mod TouchedSpots

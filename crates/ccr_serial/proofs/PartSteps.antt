@@ -2,14 +2,15 @@
 use Rattle.std.proofs.Common.{◌≡◌, ◌∙◌, ℕ, zero, suc, ◌+◌, ◌<◌, ◌≤◌, true, false, List, [], ◌∷◌, length, take, drop, Option, None, Some, refl, sym, subst, arith}
 use Rattle.std.specs.Prelude.{nat_le, is_some}
 use Rattle.std.proofs.Math.ListN.{get_or}
-use Rattle.std.proofs.lemmas.Option.{slice_get-get_or, slice_get_past}
+use Rattle.std.proofs.lemmas.Option.{slice_get_past}
 use Rattle.std.proofs.lemmas.Bool.Decides.{nat_tests}
-use Rattle.std.specs.Prelude.{option_map}
-use Rattle.std.specs.List.{slice_get}
-use Rattle.std.specs.Option.{option_or}
+use Rattle.std.specs.Prelude.{option_map, option_and_then, IfSome}
+use Rattle.std.specs.List.{slice_get, list_any}
+use Rattle.std.specs.Option.{option_or, option_map_or}
 use Rattle.ccr_base.specs.declared.names.TaskId.{TaskId}
 use Rattle.ccr_base.specs.declared.names.Spot.{Spot}
 use Rattle.ccr_wiring.specs.declared.parts.Parts.{Parts}
+use Rattle.ccr_wiring.specs.Wirings.{spots}
 use Rattle.ccr_wiring.specs.declared.parts.PosterPart.{PosterPart}
 use Rattle.ccr_wiring.specs.declared.parts.ArbiterPart.{ArbiterPart}
 use Rattle.ccr_wiring.specs.declared.parts.QueuePart.{QueuePart}
@@ -17,10 +18,13 @@ use Rattle.ccr_model.specs.declared.history.Event.{Event}
 use Rattle.ccr_model.specs.declared.history.Event.TheVariants.{Start}
 use Rattle.ccr_model.specs.Order.{script_post}
 use Rattle.ccr_model.proofs.Booleans.{both, neither}
-use Rattle.ccr_model.proofs.Options.{none-above, none_map}
+use Rattle.ccr_model.proofs.Options.{none-above, no_head, none_map, some_then}
 use Rattle.ccr_rows.specs.Rows.{row}
 use Rattle.ccr_ledger.specs.Books.{Books, number}
-use Rattle.ccr_serial.specs.Parts.{admit_in, are_done_in, fire_in, first_admit_in, first_fire_in, line_in, post_in, some_fires_in, start_in}
+use Rattle.ccr_serial.specs.Parts.{admit_in, are_done_in, fire_in, first_admit_in, first_fire_in, line_in, post_in, fires_in, IsStillIn, start_in}
+use Rattle.ccr_serial.specs.Ready.{has_number, IsLeast}
+use Rattle.ccr_serial.specs.Numbered.{passes_at}
+use Rattle.ccr_serial.proofs.Gaining.{read, none_before, out_of_rest, head_is}
 
 -- a poster is done where it has no next line
 no_line : (b : Books) (n : ℕ) (p : PosterPart) → nat_le (length p.posts) (number b.script_posts n) ≡ true → line_in b n p ≡ None
@@ -46,10 +50,6 @@ pub start_in-drop : (c : ℕ) (b : Books) (qs : List QueuePart) (i n : ℕ) → 
 start_in-drop c b [] i n lt = absurd (omega arith)
 start_in-drop c b (q ∷ qs) zero n lt = refl
 start_in-drop c b (q ∷ qs) (suc i) n lt = let e : suc i + 1 ≡ suc (i + 1) = omega arith in rw e (start_in-drop c b qs i n (omega arith))
-
--- the item at a place is read
-pub read : {T : Type 0} (ss xs : List T) (i : ℕ) (d : T) → ss ≡ xs → i < length ss → slice_get xs i ≡ Some (get_or ss i d)
-read ss xs i d same lt = rw (← same) (slice_get-get_or ss i d lt)
 
 -- the poster there has the first line
 post_at : (b : Books) (n k : ℕ) (ps : List PosterPart) (p : PosterPart) (e : Event) → are_done_in b n (take k ps) ≡ true → slice_get ps k ≡ Some p → line_in b (n + k) p ≡ Some e → post_in b n ps ≡ Some e
@@ -101,26 +101,39 @@ pub post_ends : (b : Books) (xs : List PosterPart) (i : ℕ) → are_done_in b 0
 post_ends b xs i done all = sym (post_none b 0 i xs done all)
 
 -- the spot there is the first that can fire
-fire_at_place : (w : Parts) (t : TaskId) (b : Books) (k : ℕ) (xs : List Spot) (x : Spot) (e : Event) → some_fires_in w t b (take k xs) ≡ false → slice_get xs k ≡ Some x → fire_in w t b x ≡ Some e → first_fire_in w t b xs ≡ Some e
+fire_at_place : (w : Parts) (t : TaskId) (b : Books) (k : ℕ) (xs : List Spot) (x : Spot) (e : Event) → list_any (fires_in w t b) (take k xs) ≡ false → slice_get xs k ≡ Some x → fire_in w t b x ≡ Some e → first_fire_in w t b xs ≡ Some e
 fire_at_place w t b k [] x e none at fires = absurd (cc)
 fire_at_place w t b zero (y ∷ xs) x e none at fires =
     let one : y ≡ x = cc in
     rw (one, fires) refl
 fire_at_place w t b (suc k) (y ∷ xs) x e none at fires =
-    let outs = neither (is_some (fire_in w t b y)) (some_fires_in w t b (take k xs)) none in
+    let outs = neither (fires_in w t b y) (list_any (fires_in w t b) (take k xs)) none in
     rw (not_some (fire_in w t b y) outs.0) (fire_at_place w t b k xs x e outs.1 at fires)
 
-fire_none : (w : Parts) (t : TaskId) (b : Books) (k : ℕ) (xs : List Spot) → some_fires_in w t b (take k xs) ≡ false → length xs ≤ k → first_fire_in w t b xs ≡ None
+fire_none : (w : Parts) (t : TaskId) (b : Books) (k : ℕ) (xs : List Spot) → list_any (fires_in w t b) (take k xs) ≡ false → length xs ≤ k → first_fire_in w t b xs ≡ None
 fire_none w t b k [] none all = refl
 fire_none w t b zero (y ∷ xs) none all = absurd (omega (arith, all))
 fire_none w t b (suc k) (y ∷ xs) none all =
-    let outs = neither (is_some (fire_in w t b y)) (some_fires_in w t b (take k xs)) none in
+    let outs = neither (fires_in w t b y) (list_any (fires_in w t b) (take k xs)) none in
     rw (not_some (fire_in w t b y) outs.0) (fire_none w t b k xs outs.1 (omega (arith, all)))
 
-pub fire_stops : (w : Parts) (t : TaskId) (b now : Books) (ss xs : List Spot) (i : ℕ) (d : Spot) (r : Option Event) (e : Event) → now ≡ b → ss ≡ xs → i < length ss → some_fires_in w t now (take i xs) ≡ false → r ≡ fire_in w t now (get_or ss i d) → r ≡ Some e → Some e ≡ first_fire_in w t b xs
-fire_stops w t b now ss xs i d r e kept same lt none asked is = rw (← kept) (sym (fire_at_place w t now i xs (get_or ss i d) e none (read ss xs i d same lt) (sym asked ∙ is)))
+pub fire_stops : (w : Parts) (t : TaskId) (b now : Books) (touched : List ℕ) (i : ℕ) (r : Option Event) (e : Event) → now ≡ b → IsStillIn w t now touched → IsLeast touched i → r ≡ option_and_then (fire_in w t now) (slice_get (spots w) i) → r ≡ Some e → Some e ≡ first_fire_in w t b (spots w)
+fire_stops w t b now touched i r e kept known least asked is =
+    let there = some_then (fire_in w t now) (slice_get (spots w) i) e (sym asked ∙ is) in
+    rw (← kept) (sym (fire_at_place w t now i (spots w) there.0 e (none_before (fires_in w t now) (spots w) i (λ place low. known place (least.low place low))) there.1 there.2))
 
-pub fire_ends : (w : Parts) (t : TaskId) (b now : Books) (xs : List Spot) (i : ℕ) → now ≡ b → some_fires_in w t now (take i xs) ≡ false → length xs ≤ i → None ≡ first_fire_in w t b xs
-fire_ends w t b now xs i kept none all = rw (← kept) (sym (fire_none w t now i xs none all))
+-- none of it can fire: it is touched no longer
+pub fire_passes : (w : Parts) (t : TaskId) (now : Books) (old new : List ℕ) (i : ℕ) (r : Option Event) → IsStillIn w t now old → slice_get old 0 ≡ Some i → IfSome (slice_get old 0) (λ number. old ≡ number ∷ new) → r ≡ option_and_then (fire_in w t now) (slice_get (spots w) i) → r ≡ None → IsStillIn w t now new
+fire_passes w t now old new i r known at rest asked is = out_of_rest old new i (λ n. passes_at (fires_in w t now) (spots w) n ≡ false) (head_is old new i at rest) known (of_option (slice_get (spots w) i) (sym asked ∙ is))
+  where
+    of_option : (o : Option Spot) → option_and_then (fire_in w t now) o ≡ None → option_map_or (fires_in w t now) o false ≡ false
+    of_option None none = refl
+    of_option (Some s) none = rw none refl
+
+-- nothing is touched
+pub fire_ends : (w : Parts) (t : TaskId) (b now : Books) (touched : List ℕ) → now ≡ b → IsStillIn w t now touched → slice_get touched 0 ≡ None → None ≡ first_fire_in w t b (spots w)
+fire_ends w t b now touched kept known none =
+    let empty = no_head touched none in
+    rw (← kept) (sym (fire_none w t now (length (spots w)) (spots w) (none_before (fires_in w t now) (spots w) (length (spots w)) (λ place low. known place (rw empty refl))) (omega arith)))
 
 pub ruleset part_steps = (first_admit_in-drop, start_in-drop)

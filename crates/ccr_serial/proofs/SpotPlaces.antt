@@ -1,5 +1,5 @@
 -- Where a wiring's spots stand: numbers past its own have none, and a branch's sites stand behind it.
-use Rattle.std.proofs.Common.{◌≡◌, ◌∙◌, ℕ, zero, suc, ◌+◌, ◌<◌, ◌≤◌, ◌⊎◌, inl, inr, Bool, true, false, ◌&&◌, List, [], ◌∷◌, ◌++◌, length, Option, None, Some, refl, ap, sym, arith}
+use Rattle.std.proofs.Common.{◌≡◌, ◌∙◌, ℕ, zero, suc, ◌+◌, ◌<◌, ◌≤◌, ◌⊎◌, inl, inr, Bool, true, false, ◌&&◌, List, [], ◌∷◌, ◌++◌, length, Option, None, Some, Vec, Global, refl, ap, sym, subst, arith, length-append}
 use Rattle.std.specs.Prelude.{◌==◌, ◌^◌, option_map, option_and_then}
 use Rattle.std.specs.List.{slice_get, list_any}
 use Rattle.std.specs.Option.{option_map_or}
@@ -25,8 +25,9 @@ use Rattle.ccr_model.proofs.Options.{none-above, some-below}
 use Rattle.ccr_serial.specs.declared.places.Key.{Key}
 use Rattle.ccr_serial.specs.declared.places.Key.TheVariants as keys
 use Rattle.ccr_serial.specs.Touched.{names_any, is_throttle}
-use Rattle.ccr_serial.specs.Places.{first_place, first_keyed, is_keyed, count_of, AreFirst}
-use Rattle.ccr_serial.proofs.FirstPlaces.{first_never, first_behind, first_within}
+use Rattle.ccr_serial.specs.Numbered.{ArePlaces}
+use Rattle.ccr_serial.specs.Places.{first_place, first_keyed, is_keyed, count_of, AreFirst, AreListed}
+use Rattle.ccr_serial.proofs.FirstPlaces.{IsOnce, first_never, first_behind, first_within, never_at, once_never, once_later, once_here, once_behind}
 
 nowhere : {T : Type 0} (test : T → Bool) (xs : List T) → ((x : T) → test x ≡ false) → list_any test xs ≡ false
 nowhere test [] never = refl
@@ -99,10 +100,10 @@ site_alone n k (Branch b) differs = refl
 site_alone n k (Site b j) differs = rw differs refl
 
 -- a number past the wiring's has no place
-pub none_keyed : (w : Parts) → IsValid w → (key : Key) (n : ℕ) → count_of w key ≤ n → first_keyed w key n ≡ None
-none_keyed w valid keys.Port n past = first_never (is_keyed w keys.Port n) (spots w) (nowhere (is_keyed w keys.Port n) (spots w) (no_port w valid n past))
-none_keyed w valid keys.Queue n past = first_never (is_keyed w keys.Queue n) (spots w) (nowhere (is_keyed w keys.Queue n) (spots w) (no_queue w valid n past))
-none_keyed w valid keys.Branch n past = first_never (is_keyed w keys.Branch n) (spots w) (others_never w n (is_keyed w keys.Branch n) (branch_alone w n) 0 (placements w) (inr (omega (arith, past))))
+pub none_keyed : (w : Parts) → IsValid w → (key : Key) (n : ℕ) → count_of w key ≤ n → list_any (is_keyed w key n) (spots w) ≡ false
+none_keyed w valid keys.Port n past = nowhere (is_keyed w keys.Port n) (spots w) (no_port w valid n past)
+none_keyed w valid keys.Queue n past = nowhere (is_keyed w keys.Queue n) (spots w) (no_queue w valid n past)
+none_keyed w valid keys.Branch n past = (others_never w n (is_keyed w keys.Branch n) (branch_alone w n) 0 (placements w) (inr (omega (arith, past))))
 
 -- among a branch's own sites
 own_site : (n k j i : ℕ) (ports : List ℕ) (rest : List Spot) → k ≡ j + i → first_place (same_spot (Site n k)) rest ≡ None → first_place (same_spot (Site n k)) (sites_from n j ports ++ rest) ≡ option_map (λ port. i) (slice_get ports i)
@@ -186,8 +187,42 @@ listed w valid key n firsts first = of_option (slice_get firsts n) refl
     some_is p q same = cc
 
     of_option : (o : Option (Option ℕ)) → slice_get firsts n ≡ o → option_and_then (λ first. first) o ≡ first_keyed w key n
-    of_option None at = sym (none_keyed w valid key n (omega (arith, first.size, none-above firsts n at)))
+    of_option None at = sym (first_never (is_keyed w key n) (spots w) (none_keyed w valid key n (omega (arith, first.size, none-above firsts n at))))
     of_option (Some place) at = some_is place (first_keyed w key n) (sym at ∙ first.each n (omega (arith, first.size, some-below firsts n place at)))
+
+-- what the list of all places says of a number
+pub all_listed : (w : Parts) → IsValid w → (key : Key) (n : ℕ) (lists : List (Vec ℕ Global)) → AreListed w key (count_of w key) lists → ArePlaces (is_keyed w key n) (spots w) (option_map_or (λ (list : Vec ℕ Global). list.items) (slice_get lists n) [])
+all_listed w valid key n lists all = of_option (slice_get lists n) refl
+  where
+    of_option : (o : Option (Vec ℕ Global)) → slice_get lists n ≡ o → ArePlaces (is_keyed w key n) (spots w) (option_map_or (λ (list : Vec ℕ Global). list.items) o [])
+    of_option None at = λ place. sym (never_at (is_keyed w key n) (spots w) (none_keyed w valid key n (omega (arith, all.size, none-above lists n at))) place)
+    of_option (Some list) at = all.each n list at
+
+-- one more list
+last_or_before : {X : Type 0} (xs : List X) (x y : X) (i : ℕ) → slice_get (xs ++ x ∷ []) i ≡ Some y → (slice_get xs i ≡ Some y) ⊎ ((i ≡ length xs) × (x ≡ y))
+last_or_before [] x y zero at = let one : x ≡ y = cc in inr (refl, one)
+last_or_before [] x y (suc i) at = absurd (cc)
+last_or_before (z ∷ xs) x y zero at = inl at
+last_or_before (z ∷ xs) x y (suc i) at = of_either (last_or_before xs x y i at)
+  where
+    of_either : (slice_get xs i ≡ Some y) ⊎ ((i ≡ length xs) × (x ≡ y)) → (slice_get xs i ≡ Some y) ⊎ ((suc i ≡ suc (length xs)) × (x ≡ y))
+    of_either (inl before) = inl before
+    of_either (inr last) = inr (ap suc last.0, last.1)
+
+pub lists_start : (w : Parts) (key : Key) → AreListed w key 0 []
+lists_start w key = record { size = refl; each = λ number list at. absurd (cc) }
+
+pub lists_next : (w : Parts) (key : Key) (count : ℕ) (lists : List (Vec ℕ Global)) (list : Vec ℕ Global) → AreListed w key count lists → ArePlaces (is_keyed w key count) (spots w) list.items → AreListed w key (count + 1) (lists ++ list ∷ [])
+lists_next w key count lists list known places = record {
+  size = length-append lists (list ∷ []) ∙ ap (λ n. n + 1) known.size;
+  each = λ number other at. of_either number other (last_or_before lists list other number at);
+}
+  where
+    of_either : (number : ℕ) (other : Vec ℕ Global) → (slice_get lists number ≡ Some other) ⊎ ((number ≡ length lists) × (list ≡ other)) → ArePlaces (is_keyed w key number) (spots w) other.items
+    of_either number other (inl before) = known.each number other before
+    of_either number other (inr last) =
+        let here : count ≡ number = sym (last.0 ∙ known.size) in
+        subst (λ (v : Vec ℕ Global). ArePlaces (is_keyed w key number) (spots w) v.items) last.1 (subst (λ n. ArePlaces (is_keyed w key n) (spots w) list.items) here places)
 
 -- the place of a site, by that of its branch
 pub site_stands : (w : Parts) (n k port i : ℕ) → site_port w n k ≡ Some port → first_keyed w keys.Branch n ≡ Some i → Some (i + 1 + k) ≡ first_place (same_spot (Site n k)) (spots w)
@@ -205,3 +240,38 @@ no_such_branch w n k none = sym (site_place w n k ∙ rw none (of_option (site_p
     of_option : (o : Option ℕ) → option_and_then (λ port. option_map (λ i. i + 1 + k) None) o ≡ None
     of_option None = refl
     of_option (Some port) = refl
+
+-- a site stands at one place alone
+sites_past : (n k j : ℕ) (ports : List ℕ) → k < j → list_any (same_spot (Site n k)) (sites_from n j ports) ≡ false
+sites_past n k j [] past = refl
+sites_past n k j (port ∷ ports) past =
+    let differs : (k == j) ≡ false = grind (arith, nat_tests, past) in
+    rw (differs, and_false (n == n)) (sites_past n k (j + 1) ports (omega (arith, past)))
+
+either_never : (n k j : ℕ) (ports : List ℕ) (rest : List Spot) → k < j → list_any (same_spot (Site n k)) rest ≡ false → list_any (same_spot (Site n k)) (sites_from n j ports ++ rest) ≡ false
+either_never n k j ports rest past none = rw (list_any-append (same_spot (Site n k)) (sites_from n j ports) rest, sites_past n k j ports past) none
+
+own_once : (n k j : ℕ) (ports : List ℕ) (rest : List Spot) → list_any (same_spot (Site n k)) rest ≡ false → IsOnce (same_spot (Site n k)) (sites_from n j ports ++ rest)
+own_once n k j [] rest none = once_never (same_spot (Site n k)) rest none
+own_once n k j (port ∷ ports) rest none = of_test (k == j) refl (own_once n k (j + 1) ports rest none)
+  where
+    of_test : (b : Bool) → (k == j) ≡ b → IsOnce (same_spot (Site n k)) (sites_from n (j + 1) ports ++ rest) → IsOnce (same_spot (Site n k)) (Site n j ∷ sites_from n (j + 1) ports ++ rest)
+    of_test true same more =
+        let is : same_spot (Site n k) (Site n j) ≡ true = rw (eq-self n, same) refl in
+        once_here (same_spot (Site n k)) (Site n j) (sites_from n (j + 1) ports ++ rest) is (either_never n k (j + 1) ports rest (grind (arith, nat_tests, same)) none)
+    of_test false differs more =
+        let out : same_spot (Site n k) (Site n j) ≡ false = rw (differs, and_false (n == n)) refl in
+        once_later (same_spot (Site n k)) (Site n j) (sites_from n (j + 1) ports ++ rest) out more
+
+once_from : (w : Parts) (n k m : ℕ) (ss : List Placement) → IsOnce (same_spot (Site n k)) (spots_from w m ss)
+once_from w n k m [] = once_never (same_spot (Site n k)) [] refl
+once_from w n k m (s ∷ ss) = once_later (same_spot (Site n k)) (Branch m) (sites_from m 0 (awaited (actions_of w s.branch.handler)) ++ spots_from w (m + 1) ss) refl (of_test (n == m) refl (once_from w n k (m + 1) ss))
+  where
+    of_test : (b : Bool) → (n == m) ≡ b → IsOnce (same_spot (Site n k)) (spots_from w (m + 1) ss) → IsOnce (same_spot (Site n k)) (sites_from m 0 (awaited (actions_of w s.branch.handler)) ++ spots_from w (m + 1) ss)
+    of_test true same rest =
+        let one : n ≡ m = grind (arith, nat_tests, same) in
+        subst (λ i. IsOnce (same_spot (Site n k)) (sites_from i 0 (awaited (actions_of w s.branch.handler)) ++ spots_from w (m + 1) ss)) one (own_once n k 0 (awaited (actions_of w s.branch.handler)) (spots_from w (m + 1) ss) (others_never w n (same_spot (Site n k)) (site_alone n k) (m + 1) ss (inl (omega (arith, one)))))
+    of_test false differs rest = once_behind (same_spot (Site n k)) (sites_from m 0 (awaited (actions_of w s.branch.handler))) (spots_from w (m + 1) ss) (sites_never (same_spot (Site n k)) m 0 (awaited (actions_of w s.branch.handler)) (λ j. site_alone n k (Site m j) differs)) rest
+
+pub site_once : (w : Parts) (n k : ℕ) → IsOnce (same_spot (Site n k)) (spots w)
+site_once w n k = once_from w n k 0 (placements w)

@@ -33,9 +33,10 @@ use Rattle.ccr_serial.specs.Touched.{posts_to, freed_by, names_any, frees, is_th
 use Rattle.ccr_serial.specs.Cursor.{IsStill}
 use Rattle.ccr_serial.specs.Ready.{AreReady, IsLeast}
 use Rattle.ccr_serial.specs.Parts.{post_in, fire_in, first_fire_in, admit_in, first_admit_in, put_in, run_in, run_with_in, start_in, comes_to, yields_in, touches_branch_in, touches_in}
-use Rattle.ccr_serial.specs.Desk.{TablesTell, after_place}
+use Rattle.ccr_serial.specs.Numbered.{Gains, passes_at}
+use Rattle.ccr_serial.specs.Desk.{TablesTell}
 use Rattle.ccr_serial.proofs.Touching.{still}
-use Rattle.ccr_serial.proofs.Lowering.{lowered-none}
+use Rattle.ccr_serial.proofs.Stillness.{still-gains}
 use Rattle.ccr_serial.proofs.ReadyNumbers.{first_ready, none_ready}
 
 -- over plain lists: who passes nowhere by the wider test passes nowhere by the narrower
@@ -114,5 +115,5 @@ module _ (w : Parts) (c : ℕ) (h : List Event) (b : Books) (told : TablesTell w
       let outs = neither (option_map_or (posts_to e) (site_port w n k) false) (list_any (yields_in b (Site n k)) (yielded_by e)) none in
       rw outs.0 (none_narrower (yields_at h (Site n k)) (yields_in b (Site n k)) (yielded_by e) (λ t is. told.yields_so (Site n k) t ∙ is) outs.1)
 
-  pub place_kept : (e : Event) (n : ℕ) → IsLegal w h → IsStill w h n → IsStill w (h ++ e ∷ []) (after_place w b e n)
-  place_kept e n legal known = lowered-none (can_fire w h) (can_fire w (h ++ e ∷ [])) (touches_in w b e) (spots w) n (λ s none was. still w h e s legal (untouched e s none) was) known
+  pub touched_kept : (e : Event) (old new : List ℕ) → IsLegal w h → IsStill w h old → Gains (passes_at (touches_in w b e) (spots w)) old new → IsStill w (h ++ e ∷ []) new
+  touched_kept e old new legal known gains = still-gains (can_fire w h) (can_fire w (h ++ e ∷ [])) (touches_in w b e) (spots w) old new (λ s none was. still w h e s legal (untouched e s none) was) known gains

@@ -24,17 +24,18 @@ use Rattle.ccr_ledger.specs.Asked.{lives, room, choice_at, cuts, may_admit_task,
 use Rattle.ccr_ledger.specs.declared.cards.Card.{Card}
 use Rattle.ccr_ledger.specs.Events.{after_event}
 use Rattle.ccr_ledger.specs.Kept.{Keeps}
-use Rattle.ccr_serial.specs.Cursor.{lowered, IsStill, are_done}
 use Rattle.ccr_serial.specs.Ready.{has_number, AreReady, IsLeastFirst}
+use Rattle.ccr_serial.specs.Numbered.{Gains, passes_at}
+use Rattle.ccr_serial.specs.Cursor.{IsStill, are_done}
 use Rattle.ccr_serial.specs.Engine.{Engine, IsSound}
-use Rattle.ccr_serial.specs.Parts.{post_in, first_fire_in, first_admit_in, put_in, run_in, start_in, are_done_in, some_fires_in, touches_in, comes_to, yields_in}
+use Rattle.ccr_serial.specs.Parts.{post_in, first_fire_in, first_admit_in, put_in, run_in, start_in, are_done_in, IsStillIn, touches_in, comes_to, yields_in}
 
--- the tables; the closer's next attempt; no poster before this one has a line left, and no spot before the place can fire; the numbers of the tasks that may be put
+-- the tables; the closer's next attempt; no poster before this one has a line left; no spots can fire but those of the numbers touched; the numbers of the tasks that may be put
 pub record Desk : Type 0 where
   pub books : Books
   pub attempt : ℕ
   pub poster : ℕ
-  pub place : ℕ
+  pub touched : List ℕ
   pub ready : List ℕ
 
 -- each says what the model says
@@ -42,7 +43,8 @@ pub record Stands (wiring : Parts) (closer : ℕ) (history : List Event) (desk :
   pub books : Keeps wiring history desk.books
   pub attempt : desk.attempt ≡ next_attempt closer (fired history)
   pub poster : are_done history 0 (take desk.poster wiring.posters) ≡ true
-  pub place : IsStill wiring history desk.place
+  pub touched : IsStill wiring history desk.touched
+  pub lowest : IsLeastFirst desk.touched
   pub ready : AreReady wiring history desk.ready
   pub least : IsLeastFirst desk.ready
 
@@ -51,12 +53,13 @@ pub record IsRead (engine : Engine) (desk : Desk) (current : Bool) : Type 0 wher
   pub sound : IsSound engine
   pub stands : current ≡ true → Stands engine.wiring engine.closer engine.history desk
 
--- no poster before the desk's has a line left, and no spot before its place can fire, by the tables
+-- no poster before the desk's has a line left, and no spot can fire but those that it holds as touched, by the tables
 pub record IsIdle (wiring : Parts) (closer : ℕ) (desk : Desk) : Type 0 where
   pub posters : are_done_in desk.books 0 (take desk.poster wiring.posters) ≡ true
-  pub spots : some_fires_in wiring (record { actor = closer; attempt = desk.attempt }) desk.books (take desk.place (spots_of wiring)) ≡ false
+  pub spots : IsStillIn wiring (record { actor = closer; attempt = desk.attempt }) desk.books desk.touched
+  pub lowest : IsLeastFirst desk.touched
 
--- the desk with its poster and its place gone on past what was asked in vain
+-- the desk past posters and without spots that were asked in vain
 pub record IsAhead (wiring : Parts) (closer : ℕ) (old new : Desk) : Type 0 where
   pub books : new.books ≡ old.books
   pub attempt : new.attempt ≡ old.attempt
@@ -92,10 +95,6 @@ pub record TablesTell (wiring : Parts) (history : List Event) (books : Books) : 
   pub comes_so : (queue : ℕ) (task : TaskId) → has_task (fired_by wiring (λ s. s.branch.queue == queue) history) task ≡ true → comes_to books queue task ≡ true
   pub yields_so : (site : Spot) (task : TaskId) → yields_in books site task ≡ yields_at history site task
 
--- the place after the event
-abbrev pub after_place : Parts → Books → Event → ℕ → ℕ
-after_place wiring books event place = lowered (touches_in wiring books event) (spots_of wiring) place
-
 -- the closer's next attempt after the event
 abbrev pub after_attempt : ℕ → Event → ℕ → ℕ
 after_attempt closer (Fire task spot messages cuts) attempt = if task.actor == closer then max (task.attempt + 1) attempt else attempt
@@ -117,6 +116,6 @@ pub record Follows (wiring : Parts) (closer : ℕ) (event : Event) (old new : De
   pub books : new.books ≡ after_event wiring event old.books
   pub attempt : new.attempt ≡ after_attempt closer event old.attempt
   pub poster : new.poster ≡ old.poster
-  pub place : new.place ≡ after_place wiring old.books event old.place
+  pub touched : Gains (passes_at (touches_in wiring old.books event) (spots_of wiring)) old.touched new.touched
   pub ready : (number : ℕ) → has_number new.ready number ≡ after_ready wiring old.books event old.ready number
   pub least : IsLeastFirst old.ready → IsLeastFirst new.ready

@@ -3,7 +3,8 @@ pub mod Engine
 pub mod Steps
 pub mod Touched
 pub mod Places
-pub mod Cursor
 pub mod Ready
+pub mod Numbered
+pub mod Cursor
 pub mod Parts
 pub mod Desk

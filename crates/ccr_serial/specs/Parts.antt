@@ -1,5 +1,5 @@
 -- The parts of the order, by the tables.
-use Rattle.std.specs.Prelude.{ℕ, ◌+◌, ◌&&◌, ◌||◌, true, false, nat_le, length, is_some, List, [], ◌∷◌, Option, Some, None, option_map, if◌then◌else◌}
+use Rattle.std.specs.Prelude.{◌≡◌, ℕ, ◌+◌, ◌&&◌, ◌||◌, true, false, nat_le, length, is_some, List, [], ◌∷◌, Option, Some, None, option_map, if◌then◌else◌}
 use Rattle.std.specs.List.{slice_get, list_any}
 use Rattle.std.specs.Option.{option_or, option_map_or}
 use Rattle.std.specs.Prelude.{◌==◌, Bool}
@@ -13,7 +13,7 @@ use Rattle.ccr_wiring.specs.declared.parts.Parts.{Parts}
 use Rattle.ccr_wiring.specs.declared.parts.PosterPart.{PosterPart}
 use Rattle.ccr_wiring.specs.declared.parts.ArbiterPart.{ArbiterPart}
 use Rattle.ccr_wiring.specs.declared.parts.QueuePart.{QueuePart}
-use Rattle.ccr_wiring.specs.Wirings.{Placement, placement, policy_of, site_port, is_branch, next_site}
+use Rattle.ccr_wiring.specs.Wirings.{Placement, placement, policy_of, site_port, is_branch, next_site, spots}
 use Rattle.ccr_model.specs.declared.history.Event.{Event}
 use Rattle.ccr_model.specs.declared.history.Event.TheVariants.{Fire, Admit, Put, Start, End}
 use Rattle.ccr_model.specs.declared.history.EndHow.TheVariants as ends
@@ -25,6 +25,8 @@ use Rattle.ccr_ledger.specs.declared.cards.Card.{Card}
 use Rattle.ccr_ledger.specs.Books.{Books, number, card_at}
 use Rattle.ccr_ledger.specs.Asked.{lives, room, choice_at, cuts, may_admit_task, drops, play_in, made_in, budget_lasts}
 use Rattle.ccr_serial.specs.Touched.{posts_to, freed_by, names_any, is_throttle}
+use Rattle.ccr_serial.specs.Ready.{has_number}
+use Rattle.ccr_serial.specs.Numbered.{passes_at}
 
 -- the next line of the poster of this number
 abbrev pub line_in : Books → ℕ → PosterPart → Option Event
@@ -102,6 +104,10 @@ abbrev pub are_done_in : Books → ℕ → List PosterPart → Bool
 are_done_in books actor [] = true
 are_done_in books actor (poster ∷ posters) = nat_le (length poster.posts) (number books.script_posts actor) && are_done_in books (actor + 1) posters
 
--- whether some of the spots can fire
-abbrev pub some_fires_in : Parts → TaskId → Books → List Spot → Bool
-some_fires_in wiring task books spots = list_any (λ (spot : Spot). is_some (fire_in wiring task books spot)) spots
+-- whether the spot can fire
+abbrev pub fires_in : Parts → TaskId → Books → Spot → Bool
+fires_in wiring task books spot = is_some (fire_in wiring task books spot)
+
+-- no spot can fire but those of these numbers
+abbrev pub IsStillIn : Parts → TaskId → Books → List ℕ → Type 0
+IsStillIn wiring task books touched = (number : ℕ) → has_number touched number ≡ false → passes_at (fires_in wiring task books) (spots wiring) number ≡ false

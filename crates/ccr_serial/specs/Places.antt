@@ -1,5 +1,6 @@
--- The first places of the spots that take from a port, of the branches on a throttle queue, and of a branch.
-use Rattle.std.specs.Prelude.{◌≡◌, ℕ, zero, suc, ◌<◌, min, ◌==◌, ◌&&◌, Bool, false, List, [], ◌∷◌, length, Option, None, Some, option_map, if◌then◌else◌}
+-- The places of the spots that take from a port, of the branches on a throttle queue, and of a branch.
+use Rattle.std.specs.Prelude.{◌≡◌, ℕ, zero, suc, ◌<◌, ◌==◌, ◌&&◌, Bool, false, List, [], ◌∷◌, length, Option, None, Some, option_map, if◌then◌else◌, Vec}
+use Rattle.std.specs.Global.{Global}
 use Rattle.std.specs.List.{slice_get}
 use Rattle.std.specs.Option.{option_map_or}
 use Rattle.ccr_base.specs.declared.names.Spot.{Spot}
@@ -10,16 +11,12 @@ use Rattle.ccr_wiring.specs.Valid.{IsValid}
 use Rattle.ccr_serial.specs.declared.places.Key.{Key}
 use Rattle.ccr_serial.specs.declared.places.Key.TheVariants as keys
 use Rattle.ccr_serial.specs.Touched.{names_any, is_throttle}
+use Rattle.ccr_serial.specs.Numbered.{ArePlaces}
 
 -- the place of the first item that passes the test
 abbrev pub first_place : {T : Type 0} → (T → Bool) → List T → Option ℕ
 first_place test [] = None
 first_place test (item ∷ items) = if test item then Some zero else option_map suc (first_place test items)
-
--- the number, or the place where that is less
-abbrev pub at_most : Option ℕ → ℕ → ℕ
-at_most None number = number
-at_most (Some place) number = min number place
 
 -- whether the spot takes from the port of this number, is a branch on the queue of this number and held back by it, or is the branch of this number
 abbrev pub is_keyed : Parts → Key → ℕ → Spot → Bool
@@ -45,9 +42,14 @@ pub record AreFirst (wiring : Parts) (key : Key) (count : ℕ) (firsts : List (O
   pub size : length firsts ≡ count
   pub each : (number : ℕ) → number < count → slice_get firsts number ≡ Some (first_keyed wiring key number)
 
--- a valid wiring and the first places of all its numbers
-pub record AreKeyed (wiring : Parts) (ports queues branches : List (Option ℕ)) : Type 0 where
+-- these are all the places of so many of the first numbers
+pub record AreListed (wiring : Parts) (key : Key) (count : ℕ) (lists : List (Vec ℕ Global)) : Type 0 where
+  pub size : length lists ≡ count
+  pub each : (number : ℕ) (list : Vec ℕ Global) → slice_get lists number ≡ Some list → ArePlaces (is_keyed wiring key number) (spots wiring) list.items
+
+-- a valid wiring, all the places of its ports and queues, and the first places of its branches
+pub record AreKeyed (wiring : Parts) (ports queues : List (Vec ℕ Global)) (branches : List (Option ℕ)) : Type 0 where
   pub valid : IsValid wiring
-  pub by_port : AreFirst wiring keys.Port (count_of wiring keys.Port) ports
-  pub by_queue : AreFirst wiring keys.Queue (count_of wiring keys.Queue) queues
+  pub by_port : AreListed wiring keys.Port (count_of wiring keys.Port) ports
+  pub by_queue : AreListed wiring keys.Queue (count_of wiring keys.Queue) queues
   pub by_branch : AreFirst wiring keys.Branch (count_of wiring keys.Branch) branches

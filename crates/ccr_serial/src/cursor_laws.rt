@@ -1,4 +1,4 @@
-//! Laws of the place from which the spots are to be asked. Each is the contract of a function that does nothing.
+//! Laws of the spots and posters that are to be asked. Each is the contract of a function that does nothing.
 
 ghost use Rattle.std.specs.Prelude.{◌≡◌, ◌++◌, ◌∷◌, [], ℕ, List, false, true, take, drop, ◌+◌};
 ghost use Rattle.ccr_base.specs.declared.names.Spot.{Spot};
@@ -10,21 +10,23 @@ ghost use Rattle.ccr_model.specs.Enough.{can_fire};
 ghost use Rattle.ccr_model.specs.Legal.{IsAllowed, IsLegal};
 ghost use Rattle.ccr_model.specs.Order.{fire_from, post_from};
 ghost use Rattle.ccr_serial.specs.Touched.{touches};
-ghost use Rattle.ccr_serial.specs.Cursor.{IsStill, after_touch, are_done};
+ghost use Rattle.ccr_serial.specs.Ready.{IsLeast};
+ghost use Rattle.ccr_serial.specs.Numbered.{Gains, passes_at};
+ghost use Rattle.ccr_serial.specs.Cursor.{IsStill, are_done};
 
 /// A spot that cannot fire cannot after an event that does not touch it.
 pub fn spots_stay_still()
     ensures { (wiring : Parts) (history : List Event) (event : Event) (spot : Spot) → IsLegal wiring history → IsAllowed wiring history event → touches wiring history event spot ≡ false → can_fire wiring history spot ≡ false → can_fire wiring (history ++ event ∷ []) spot ≡ false }
 {}
 
-/// Each event keeps it that no spot before the place can fire.
-pub fn the_place_is_kept()
-    ensures { (wiring : Parts) (history : List Event) (event : Event) (place : ℕ) → IsLegal wiring history → IsStill wiring history place → IsStill wiring (history ++ event ∷ []) (after_touch wiring history event place) }
+/// Each event keeps it that no spots can fire but the touched ones, where those that it touches come in.
+pub fn touched_spots_are_kept()
+    ensures { (wiring : Parts) (history : List Event) (event : Event) (old new : List ℕ) → IsLegal wiring history → IsStill wiring history old → Gains (passes_at (touches wiring history event) (spots wiring)) old new → IsStill wiring (history ++ event ∷ []) new }
 {}
 
-/// The first firing is the first at the place or behind it.
+/// The first firing is at the least of the touched spots or behind it.
 pub fn the_search_goes_on()
-    ensures { (wiring : Parts) (closer : ℕ) (history : List Event) (place : ℕ) → IsStill wiring history place → fire_from wiring closer history (spots wiring) ≡ fire_from wiring closer history (drop place (spots wiring)) }
+    ensures { (wiring : Parts) (closer : ℕ) (history : List Event) (touched : List ℕ) (place : ℕ) → IsStill wiring history touched → IsLeast touched place → fire_from wiring closer history (spots wiring) ≡ fire_from wiring closer history (drop place (spots wiring)) }
 {}
 
 /// A poster that has no line left never has one again.

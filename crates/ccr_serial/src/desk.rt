@@ -9,7 +9,7 @@ ghost use Rattle.ccr_serial.specs.Desk.{Follows, IsAhead, IsIdle, after_attempt,
 use crate::numbers::Numbers;
 use crate::parts::{first_admit, first_fire, first_post, first_put, first_run, first_start};
 use crate::places::Places;
-use crate::touched::place_after;
+use crate::touched::note_touched;
 use ccr_base::{ActorNo, OutOfMemory, Spot, TaskId};
 use ccr_ledger::Ledger;
 use ccr_model::Event;
@@ -26,8 +26,8 @@ pub(crate) struct Desk {
     attempt: u32,
     /// No poster before it has a line left.
     poster: usize,
-    /// No spot before it can fire.
-    place: usize,
+    /// The places of the spots that may fire: no other can.
+    touched: Numbers,
     /// The numbers of the firings whose tasks may be put.
     ready: Numbers,
 }
@@ -96,19 +96,19 @@ impl Model for Desk {
 
     ghost Value = { Seen };
 
-    ghost view = { λ d. record { books = d.ledger; attempt = d.attempt; poster = d.poster; place = d.place; ready = d.ready } };
+    ghost view = { λ d. record { books = d.ledger; attempt = d.attempt; poster = d.poster; touched = d.touched; ready = d.ready } };
 }
 
 impl Desk {
     /// The desk of the empty history.
     pub(crate) fn new(alloc: Global, wiring: &Wiring) -> Result<Self, OutOfMemory>
-        ensures { IfOk result (λ desk. desk ≡ record { books = empty_books wiring.now; attempt = 0; poster = 0; place = 0; ready = [] }) }
+        ensures { IfOk result (λ desk. desk ≡ record { books = empty_books wiring.now; attempt = 0; poster = 0; touched = []; ready = [] }) }
     {
         Ok(Desk {
             ledger: Ledger::new(alloc, wiring)?,
             attempt: 0,
             poster: 0,
-            place: 0,
+            touched: Numbers::new(alloc),
             ready: Numbers::new(alloc),
         })
     }
@@ -134,7 +134,7 @@ impl Desk {
             actor: closer,
             attempt: self.attempt,
         };
-        if let Some(event) = first_fire(wiring, &mut self.ledger, task, &mut self.place)? {
+        if let Some(event) = first_fire(wiring, &mut self.ledger, task, &mut self.touched)? {
             return Ok(Some(event));
         }
         if let Some(event) = first_admit(wiring, &self.ledger) {
@@ -160,11 +160,10 @@ impl Desk {
         ensures { OnOk result (Follows places.now closer event.now self.old self.new) }
     {
         let wiring = places.wiring();
-        let place = place_after(&self.ledger, places, event, self.place);
         let attempt = attempt_after(closer, event, self.attempt);
+        note_touched(&self.ledger, places, event, &mut self.touched)?;
         note_ready(&self.ledger, wiring, event, &mut self.ready)?;
         self.ledger.push(wiring, event)?;
-        self.place = place;
         self.attempt = attempt;
         Ok(())
     }

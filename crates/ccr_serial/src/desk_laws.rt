@@ -15,8 +15,9 @@ ghost use Rattle.ccr_ledger.specs.Events.{after_event};
 ghost use Rattle.ccr_ledger.specs.Kept.{Keeps};
 ghost use Rattle.ccr_serial.specs.Cursor.{IsStill};
 ghost use Rattle.ccr_serial.specs.Ready.{AreReady, IsLeast};
-ghost use Rattle.ccr_serial.specs.Parts.{post_in, first_fire_in, first_admit_in, put_in, run_in, start_in};
-ghost use Rattle.ccr_serial.specs.Desk.{TablesTell, Desk, Follows, IsAhead, IsIdle, Stands, after_place, first_in};
+ghost use Rattle.ccr_serial.specs.Numbered.{Gains, passes_at};
+ghost use Rattle.ccr_serial.specs.Parts.{post_in, first_fire_in, first_admit_in, put_in, run_in, start_in, touches_in};
+ghost use Rattle.ccr_serial.specs.Desk.{TablesTell, Desk, Follows, IsAhead, IsIdle, Stands, first_in};
 
 /// The next line by the tables.
 pub fn posts_are_told()
@@ -48,9 +49,9 @@ pub fn starts_are_told()
     ensures { (wiring : Parts) (closer : ℕ) (history : List Event) (books : Books) → TablesTell wiring history books → start_in closer books 0 wiring.queues ≡ start_from wiring closer history 0 wiring.queues }
 {}
 
-/// What an event touches by the tables is enough to lower the place by.
-pub fn the_place_is_told()
-    ensures { (wiring : Parts) (history : List Event) (books : Books) (event : Event) (place : ℕ) → IsLegal wiring history → TablesTell wiring history books → IsStill wiring history place → IsStill wiring (history ++ event ∷ []) (after_place wiring books event place) }
+/// It is enough that the spots come in that an event touches by the tables.
+pub fn touched_spots_are_told()
+    ensures { (wiring : Parts) (history : List Event) (books : Books) (event : Event) (old new : List ℕ) → IsLegal wiring history → TablesTell wiring history books → IsStill wiring history old → Gains (passes_at (touches_in wiring books event) (spots wiring)) old new → IsStill wiring (history ++ event ∷ []) new }
 {}
 
 /// After each allowed event the desk still says what the model says.
@@ -73,7 +74,7 @@ pub fn the_desk_goes_ahead()
     ensures { (wiring : Parts) (closer : ℕ) (history : List Event) (old new : Desk) → TablesTell wiring history old.books → Stands wiring closer history old → IsAhead wiring closer old new → Stands wiring closer history new }
 {}
 
-/// Before the desk's poster and place nothing is left by the tables too.
+/// Before the desk's poster and but for its touched spots nothing is left by the tables too.
 pub fn the_desk_is_idle_behind()
     ensures { (wiring : Parts) (closer : ℕ) (history : List Event) (desk : Desk) → TablesTell wiring history desk.books → Stands wiring closer history desk → IsIdle wiring closer desk }
 {}

@@ -14,12 +14,13 @@ mod standing;
 mod touched;
 
 pub use cursor_laws::{
-    done_posters_stay_done, posts_go_on, spots_stay_still, the_place_is_kept, the_search_goes_on,
+    done_posters_stay_done, posts_go_on, spots_stay_still, the_search_goes_on,
+    touched_spots_are_kept,
 };
 pub use desk_laws::{
     admissions_are_told, firings_are_told, posts_are_told, puts_are_told, runs_are_told,
     starts_are_told, the_desk_follows, the_desk_goes_ahead, the_desk_is_idle_behind,
-    the_order_is_told, the_place_is_told, the_tables_tell,
+    the_order_is_told, the_tables_tell, touched_spots_are_told,
 };
 pub use laws::{
     finished_is_legal, histories_are_short, one_history_is_finished, quiet_is_complete,

@@ -1,8 +1,9 @@
 //! A set of numbers, of which the least is found at once.
 
-ghost use Rattle.std.specs.Prelude.{◌≡◌, [], ℕ, ◌==◌, ◌&&◌, ◌||◌, not, OnOk};
+ghost use Rattle.std.specs.Prelude.{◌≡◌, [], ◌∷◌, ℕ, ◌==◌, ◌&&◌, ◌||◌, not, IfSome, OnOk};
 ghost use Rattle.std.specs.List.{slice_get};
 ghost use Rattle.ccr_serial.specs.Ready.{has_number, IsLeastFirst};
+ghost use Rattle.ccr_serial.specs.Numbered.{Gains};
 
 use ccr_base::OutOfMemory;
 use std::alloc::Global;
@@ -48,6 +49,24 @@ impl Numbers {
     {
         self.numbers.insert(number)?;
         Ok(())
+    }
+
+    /// All these numbers are among them.
+    pub(crate) fn enter_all(&mut self, numbers: &[usize]) -> Result<(), OutOfMemory>
+        ensures { OnOk result (Gains (has_number numbers.now) self.old self.new) }
+    {
+        for number in numbers {
+            self.enter(*number)?;
+        }
+        Ok(())
+    }
+
+    /// Without the least.
+    pub(crate) fn leave_first(&mut self)
+        ensures rest { IfSome (slice_get self.old 0) (λ number. self.old ≡ number ∷ self.new) }
+        ensures least { IsLeastFirst self.new }
+    {
+        self.numbers.pop_first();
     }
 
     /// The number is none of them.

@@ -1,13 +1,14 @@
 //! The parts of the order, asked of the tables.
 
-ghost use Rattle.std.specs.Prelude.{◌≡◌, ◌<◌, ◌≤◌, ◌^◌, IfOk, OnOk, false, true, length, take};
+ghost use Rattle.std.specs.Prelude.{◌≡◌, ◌<◌, ◌≤◌, ◌^◌, IfOk, OnOk, true, length, take};
 ghost use Rattle.std.specs.List.{slice_get};
 ghost use Rattle.std.specs.Option.{option_map, option_and_then};
 ghost use Rattle.ccr_wiring.specs.Wirings.{spots};
 ghost use Rattle.ccr_model.specs.Order.{how_of};
 ghost use Rattle.ccr_rows.specs.Rows.{row};
 ghost use Rattle.ccr_ledger.specs.Books.{runners};
-ghost use Rattle.ccr_serial.specs.Parts.{admit_in, are_done_in, fire_in, first_admit_in, first_fire_in, line_in, post_in, put_in, run_in, some_fires_in, start_in};
+ghost use Rattle.ccr_serial.specs.Ready.{IsLeastFirst};
+ghost use Rattle.ccr_serial.specs.Parts.{IsStillIn, admit_in, are_done_in, fire_in, first_admit_in, first_fire_in, line_in, post_in, put_in, run_in, start_in};
 
 use crate::numbers::Numbers;
 use ccr_base::{ActorNo, List, Msg, MsgId, OutOfMemory, Sent, Spot, TaskId};
@@ -96,24 +97,41 @@ fn fire_at(
     }))
 }
 
-/// The firing of the task at the first spot that can fire, which the place goes on to.
+/// The firing of the task at the spot of this number, where there is one and it can fire.
+fn fire_number(
+    wiring: &Wiring,
+    ledger: &mut Ledger,
+    task: TaskId,
+    number: usize,
+) -> Result<Option<Event>, OutOfMemory>
+    ensures event { IfOk result (λ event. event ≡ option_and_then (fire_in wiring.now task ledger.old) (slice_get (spots wiring.now) number)) }
+    ensures kept { OnOk result (ledger.new ≡ ledger.old) }
+{
+    match wiring.spots().get(number) {
+        Some(spot) => fire_at(wiring, ledger, task, *spot),
+        None => Ok(None),
+    }
+}
+
+/// The firing of the task at the first spot that can fire, which is a touched one. Those that are asked in vain are touched no longer.
 pub(crate) fn first_fire(
     wiring: &Wiring,
     ledger: &mut Ledger,
     task: TaskId,
-    place: &mut usize,
+    touched: &mut Numbers,
 ) -> Result<Option<Event>, OutOfMemory>
-    requires still { some_fires_in wiring.now task ledger.old (take place.old (spots wiring.now)) ≡ false }
+    requires still { IsStillIn wiring.now task ledger.old touched.old }
+    requires least { IsLeastFirst touched.old }
     ensures event { IfOk result (λ event. event ≡ first_fire_in wiring.now task ledger.old (spots wiring.now)) }
     ensures kept { OnOk result (ledger.new ≡ ledger.old) }
-    ensures still { some_fires_in wiring.now task ledger.old (take place.new (spots wiring.now)) ≡ false }
+    ensures still { IsStillIn wiring.now task ledger.old touched.new }
+    ensures least { IsLeastFirst touched.new }
 {
-    let spots = wiring.spots();
-    for number in *place..spots.len() {
-        if let Some(event) = fire_at(wiring, ledger, task, spots[number])? {
+    'asking: while let Some(number) = touched.first() {
+        if let Some(event) = fire_number(wiring, ledger, task, number)? {
             return Ok(Some(event));
         }
-        *place = number + 1;
+        touched.leave_first();
     }
     Ok(None)
 }

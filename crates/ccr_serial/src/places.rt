@@ -1,7 +1,8 @@
-//! A wiring with the first places of its spots, so that an event looks at none that it does not touch.
+//! A wiring with the places of its spots, so that an event looks at none that it does not touch.
 
-ghost use Rattle.std.specs.Prelude.{◌≡◌, ◌==◌, IfOk, length, option_and_then};
+ghost use Rattle.std.specs.Prelude.{◌≡◌, ◌==◌, [], IfOk, length, option_and_then};
 ghost use Rattle.std.specs.List.{list_any, slice_get};
+ghost use Rattle.std.specs.Option.{option_map_or};
 ghost use Rattle.ccr_base.specs.declared.names.Spot.TheVariants.{Site};
 ghost use Rattle.ccr_base.specs.declared.patterns.Slot.{Slot};
 ghost use Rattle.ccr_base.specs.Names.{same_spot};
@@ -9,7 +10,8 @@ ghost use Rattle.ccr_wiring.specs.Wirings.{next_site, placements, spots};
 ghost use Rattle.ccr_wiring.specs.Valid.{IsValid};
 ghost use Rattle.ccr_serial.specs.declared.places.Key.TheVariants as keys;
 ghost use Rattle.ccr_serial.specs.Touched.{is_throttle, names_any};
-ghost use Rattle.ccr_serial.specs.Places.{AreFirst, first_keyed, first_place, is_keyed};
+ghost use Rattle.ccr_serial.specs.Numbered.{ArePlaces};
+ghost use Rattle.ccr_serial.specs.Places.{AreFirst, AreListed, first_keyed, first_place, is_keyed};
 
 use ccr_base::{OutOfMemory, Pattern, Policy, PortNo, QueueNo, Slot, Spot};
 use ccr_model::placements::{placement, policy_of, site_port};
@@ -133,6 +135,41 @@ fn all_first(
     Ok(firsts)
 }
 
+/// All the places of the spots of this number.
+fn all_keyed(
+    alloc: Global,
+    wiring: &Wiring,
+    key: Key,
+    number: u32,
+) -> Result<Vec<usize>, OutOfMemory>
+    ensures { IfOk result (λ places. ArePlaces (is_keyed wiring.now key number) (spots wiring.now) places.items) }
+{
+    let mut places = Vec::new(alloc);
+    let spots = wiring.spots();
+    for place in 0..spots.len() {
+        if is_keyed(wiring, key, number, spots[place]) {
+            places.push(place)?;
+        }
+    }
+    Ok(places)
+}
+
+/// All the places of so many of the first numbers.
+fn all_listed(
+    alloc: Global,
+    wiring: &Wiring,
+    key: Key,
+    count: u32,
+) -> Result<Vec<Vec<usize>>, OutOfMemory>
+    ensures { IfOk result (λ lists. AreListed wiring.now key count lists.items) }
+{
+    let mut lists = Vec::new(alloc);
+    for number in 0..count {
+        lists.push(all_keyed(alloc, wiring, key, number)?)?;
+    }
+    Ok(lists)
+}
+
 /// How many branches the wiring has.
 fn count_branches(wiring: &Wiring) -> u32
     ensures { result ≡ length (placements wiring.now) }
@@ -146,6 +183,16 @@ fn count_branches(wiring: &Wiring) -> u32
     MAX_BRANCHES as u32
 }
 
+/// The list of this number, empty where there is none.
+fn list_of(lists: &[Vec<usize>], number: u32) -> &[usize]
+    ensures { result.now ≡ option_map_or (λ list. list.items) (slice_get lists.now number) [] }
+{
+    match lists.get(number as usize) {
+        Some(list) => list.as_slice(),
+        None => &[],
+    }
+}
+
 /// The first place of the number, where the list has one.
 fn listed(firsts: &[Option<usize>], number: u32) -> Option<usize>
     ensures { result ≡ option_and_then (λ first. first) (slice_get firsts.now number) }
@@ -156,12 +203,12 @@ fn listed(firsts: &[Option<usize>], number: u32) -> Option<usize>
     }
 }
 
-/// A wiring, and of each port, queue and branch the first place of its spots.
+/// A wiring, of each port and queue all the places of its spots, and of each branch its place.
 #[derive(Drop)]
 pub(crate) struct Places<'w> {
     wiring: &'w Wiring,
-    ports: Vec<Option<usize>>,
-    queues: Vec<Option<usize>>,
+    ports: Vec<Vec<usize>>,
+    queues: Vec<Vec<usize>>,
     branches: Vec<Option<usize>>,
 }
 
@@ -177,18 +224,18 @@ impl<'w> Model for Places<'w> {
 }
 
 impl<'w> Places<'w> {
-    /// The first places of the wiring's spots.
+    /// The places of the wiring's spots.
     pub(crate) fn new(alloc: Global, wiring: &'w Wiring) -> Result<Self, OutOfMemory>
         ensures { IfOk result (λ places. places ≡ wiring.now) }
     {
         let parts = wiring.parts();
-        let ports = all_first(
+        let ports = all_listed(
             alloc,
             wiring,
             Key::Port,
             parts.ports.as_slice().len() as u32,
         )?;
-        let queues = all_first(
+        let queues = all_listed(
             alloc,
             wiring,
             Key::Queue,
@@ -218,15 +265,25 @@ impl<'w> Places<'w> {
         self.wiring.parts()
     }
 
-    /// The place of the first spot of this number.
-    pub(crate) fn first(&self, key: Key, number: u32) -> Option<usize>
-        ensures { result ≡ first_keyed self.now key number }
+    /// The places of the spots that take from the port.
+    pub(crate) fn at_port(&self, port: PortNo) -> &[usize]
+        ensures { ArePlaces (is_keyed self.now keys.Port port) (spots self.now) result.now }
     {
-        match key {
-            Key::Port => listed(&self.ports, number),
-            Key::Queue => listed(&self.queues, number),
-            Key::Branch => listed(&self.branches, number),
-        }
+        list_of(&self.ports, port)
+    }
+
+    /// The places of the branches that the queue holds back.
+    pub(crate) fn on_queue(&self, queue: QueueNo) -> &[usize]
+        ensures { ArePlaces (is_keyed self.now keys.Queue queue) (spots self.now) result.now }
+    {
+        list_of(&self.queues, queue)
+    }
+
+    /// The place of the branch.
+    fn of_branch(&self, branch: u32) -> Option<usize>
+        ensures { result ≡ first_keyed self.now keys.Branch branch }
+    {
+        listed(&self.branches, branch)
     }
 
     /// The place of the site: its branch's sites stand behind it.
@@ -237,7 +294,7 @@ impl<'w> Places<'w> {
         let Some(_port) = site_port(self.wiring, branch, site) else {
             return None;
         };
-        match self.first(Key::Branch, branch) {
+        match self.of_branch(branch) {
             Some(place) => Some(place + 1 + site as usize),
             None => None,
         }

@@ -51,7 +51,7 @@ impl<'w> Model for Serial<'w> {
 /// The wiring's first places, and an empty desk.
 fn begin<'w>(alloc: Global, wiring: &'w Wiring) -> Result<(Places<'w>, Desk), OutOfMemory>
     ensures places { IfOk result (λ both. both.0 ≡ wiring.now) }
-    ensures desk { IfOk result (λ both. both.1 ≡ record { books = empty_books wiring.now; attempt = 0; poster = 0; place = 0; ready = [] }) }
+    ensures desk { IfOk result (λ both. both.1 ≡ record { books = empty_books wiring.now; attempt = 0; poster = 0; touched = []; ready = [] }) }
 {
     Ok((Places::new(alloc, wiring)?, Desk::new(alloc, wiring)?))
 }

@@ -1,92 +1,99 @@
-//! What an event touches: the place from which the spots are to be asked after it.
+//! What an event touches: the spots that are to be asked after it.
 
-ghost use Rattle.std.specs.Prelude.{◌≡◌};
+ghost use Rattle.std.specs.Prelude.{OnOk, false, ◌==◌};
 ghost use Rattle.std.specs.List.{list_any};
+ghost use Rattle.std.specs.Option.{option_map_or};
 ghost use Rattle.ccr_base.specs.declared.names.Spot.{Spot as SomeSpot};
 ghost use Rattle.ccr_base.specs.declared.names.TaskId.{TaskId as SomeTask};
 ghost use Rattle.ccr_wiring.specs.Wirings.{spots};
-ghost use Rattle.ccr_serial.specs.Cursor.{lowered};
-ghost use Rattle.ccr_serial.specs.Places.{at_most, is_keyed};
-ghost use Rattle.ccr_serial.specs.Parts.{frees_in, yields_in};
-ghost use Rattle.ccr_serial.specs.Desk.{after_place};
+ghost use Rattle.ccr_serial.specs.Numbered.{Gains, passes_at};
+ghost use Rattle.ccr_serial.specs.Parts.{frees_in, touches_in, yields_in};
 
-use crate::places::{Key, Places};
-use ccr_base::{Spot, TaskId};
+use crate::numbers::Numbers;
+use crate::places::Places;
+use ccr_base::{OutOfMemory, Spot, TaskId};
 use ccr_ledger::Ledger;
 use ccr_model::{EndHow, Event};
 
-/// The place, or the first one where that is less.
-fn at_most(first: Option<usize>, place: usize) -> usize
-    ensures { result ≡ at_most first place }
-{
-    match first {
-        Some(first) => place.min(first),
-        None => place,
-    }
-}
-
-/// The place, lowered to the first spot of this number.
-fn lower(places: &Places<'_>, key: Key, number: u32, place: usize) -> usize
-    ensures { result ≡ lowered (is_keyed places.now key number) (spots places.now) place }
-{
-    at_most(places.first(key, number), place)
-}
-
-/// The place, lowered to the first branch that waits for a place in the task's queue, where a branch fired the task.
-fn after_freed(ledger: &Ledger, places: &Places<'_>, task: TaskId, place: usize) -> usize
-    ensures { result ≡ lowered (frees_in places.now ledger.now task) (spots places.now) place }
+/// The branches that wait for a place in the task's queue come in, where a branch fired the task.
+fn note_freed(
+    ledger: &Ledger,
+    places: &Places<'_>,
+    task: TaskId,
+    touched: &mut Numbers,
+) -> Result<(), OutOfMemory>
+    ensures { OnOk result (Gains (passes_at (frees_in places.now ledger.now task) (spots places.now)) touched.old touched.new) }
 {
     match ledger.card(task) {
         Some(card) => match card.spot {
-            Spot::Branch(_) => lower(places, Key::Queue, card.queue, place),
-            Spot::Site(_, _) => place,
+            Spot::Branch(_) => touched.enter_all(places.on_queue(card.queue)),
+            Spot::Site(_, _) => Ok(()),
         },
-        None => place,
+        None => Ok(()),
     }
 }
 
 /// The same for all the tasks.
-fn after_all_freed(ledger: &Ledger, places: &Places<'_>, tasks: &[TaskId], place: usize) -> usize
-    ensures { result ≡ lowered (λ (spot : SomeSpot). list_any (λ (task : SomeTask). frees_in places.now ledger.now task spot) tasks.now) (spots places.now) place }
+fn note_all_freed(
+    ledger: &Ledger,
+    places: &Places<'_>,
+    tasks: &[TaskId],
+    touched: &mut Numbers,
+) -> Result<(), OutOfMemory>
+    ensures { OnOk result (Gains (passes_at (λ (spot : SomeSpot). list_any (λ (task : SomeTask). frees_in places.now ledger.now task spot) tasks.now) (spots places.now)) touched.old touched.new) }
 {
-    let mut lowest = place;
     for task in tasks {
-        lowest = after_freed(ledger, places, *task, lowest);
+        note_freed(ledger, places, *task, touched)?;
     }
-    lowest
+    Ok(())
 }
 
-/// The place, lowered to the site at which the task is suspended.
-fn after_yield(ledger: &Ledger, places: &Places<'_>, task: TaskId, place: usize) -> usize
-    ensures { result ≡ lowered (λ (spot : SomeSpot). yields_in ledger.now spot task) (spots places.now) place }
+/// The place comes in, if there is one.
+fn note_place(place: Option<usize>, touched: &mut Numbers) -> Result<(), OutOfMemory>
+    ensures { OnOk result (Gains (λ number. option_map_or (λ one. number == one) place false) touched.old touched.new) }
+{
+    match place {
+        Some(place) => touched.enter(place),
+        None => Ok(()),
+    }
+}
+
+/// The site comes in at which the task is suspended.
+fn note_yield(
+    ledger: &Ledger,
+    places: &Places<'_>,
+    task: TaskId,
+    touched: &mut Numbers,
+) -> Result<(), OutOfMemory>
+    ensures { OnOk result (Gains (passes_at (λ (spot : SomeSpot). yields_in ledger.now spot task) (spots places.now)) touched.old touched.new) }
 {
     match ledger.card(task) {
-        Some(card) => at_most(places.next_site(card.spot), place),
-        None => place,
+        Some(card) => note_place(places.next_site(card.spot), touched),
+        None => Ok(()),
     }
 }
 
-/// The place from which the spots are to be asked after the event: the first before it that the event touches, or it.
-pub(crate) fn place_after(
+/// The spots come in that the event touches.
+pub(crate) fn note_touched(
     ledger: &Ledger,
     places: &Places<'_>,
     event: &Event,
-    place: usize,
-) -> usize
-    ensures { result ≡ after_place places.now ledger.now event.now place }
+    touched: &mut Numbers,
+) -> Result<(), OutOfMemory>
+    ensures { OnOk result (Gains (passes_at (touches_in places.now ledger.now event.now) (spots places.now)) touched.old touched.new) }
 {
     match event {
-        Event::Post(message) => lower(places, Key::Port, message.port, place),
-        Event::Fire { cuts, .. } => after_all_freed(ledger, places, cuts.as_slice(), place),
+        Event::Post(message) => touched.enter_all(places.at_port(message.port)),
+        Event::Fire { cuts, .. } => note_all_freed(ledger, places, cuts.as_slice(), touched),
         Event::Put { dropped, .. } => match dropped {
-            Some(task) => after_freed(ledger, places, *task, place),
-            None => place,
+            Some(task) => note_freed(ledger, places, *task, touched),
+            None => Ok(()),
         },
-        Event::Start { task, .. } => after_freed(ledger, places, *task, place),
+        Event::Start { task, .. } => note_freed(ledger, places, *task, touched),
         Event::End { task, how } => match how {
-            EndHow::Yield => after_yield(ledger, places, *task, place),
-            _ => place,
+            EndHow::Yield => note_yield(ledger, places, *task, touched),
+            _ => Ok(()),
         },
-        Event::Admit(_) => place,
+        Event::Admit(_) => Ok(()),
     }
 }

@@ -1,7 +1,10 @@
-use Rattle.std.proofs.Common.{◌≡◌, false, take}
-use Rattle.ccr_wiring.specs.Wirings.{spots}
-use Rattle.ccr_serial.specs.Parts.{some_fires_in}
+use Rattle.std.proofs.Common.{◌≡◌, length}
+use Rattle.ccr_serial.specs.Ready.{IsLeastFirst}
+use Rattle.ccr_serial.specs.Parts.{IsStillIn}
 use Rattle.ccr_serial.proofs.parts.first_fire.Given as goal
 
-abbrev pub invariant-loop-number : goal.invariant-loop-number
-invariant-loop-number l = (l.ledger ≡ l.fn.ledger) × (l.place ≡ l.number) × (some_fires_in l.wiring l.task l.ledger (take l.number (spots l.wiring)) ≡ false)
+abbrev pub invariant-asking : goal.invariant-asking
+invariant-asking l = (l.ledger ≡ l.fn.ledger) × IsStillIn l.wiring l.task l.ledger l.touched × IsLeastFirst l.touched
+
+abbrev pub decreases-asking : goal.decreases-asking
+decreases-asking l = length l.touched

@@ -7,18 +7,18 @@ returns-in_default c = rw (← c.self.view_is) (no_such_site c.self.inside.wirin
 
 pub overflow_add-result : goal.overflow_add-result
 overflow_add-result c =
-    let low = site_fits c.self.inside.wiring.now c.args.branch c.args.site c.in-Some._port c.in-Some-first.place (grind arith) (grind arith) in
+    let low = site_fits c.self.inside.wiring.now c.args.branch c.args.site c.in-Some._port c.in-Some-of_branch.place (grind arith) (grind arith) in
     let same = ap length c.spots-spots.ensures.spots in
     grind (arith, low, same)
 
-pub overflow_add-result-in-Some-first : goal.overflow_add-result-in-Some-first
-overflow_add-result-in-Some-first c =
-    let low = site_fits c.self.inside.wiring.now c.args.branch c.args.site c.in-Some._port c.in-Some-first.place (grind arith) (grind arith) in
+pub overflow_add-result-in-Some-of_branch : goal.overflow_add-result-in-Some-of_branch
+overflow_add-result-in-Some-of_branch c =
+    let low = site_fits c.self.inside.wiring.now c.args.branch c.args.site c.in-Some._port c.in-Some-of_branch.place (grind arith) (grind arith) in
     let same = ap length c.spots-spots.ensures.spots in
     grind (arith, low, same)
 
-pub returns-in-Some-first : goal.returns-in-Some-first
-returns-in-Some-first c = rw (← c.self.view_is) (site_stands c.self.inside.wiring.now c.args.branch c.args.site c.in-Some._port c.in-Some-first.place (grind arith) (grind arith))
+pub returns-in-Some-of_branch : goal.returns-in-Some-of_branch
+returns-in-Some-of_branch c = rw (← c.self.view_is) (site_stands c.self.inside.wiring.now c.args.branch c.args.site c.in-Some._port c.in-Some-of_branch.place (grind arith) (grind arith))
 
 pub returns-in-None : goal.returns-in-None
 returns-in-None c = rw (← c.self.view_is) (no_such_branch c.self.inside.wiring.now c.args.branch c.args.site (grind arith))
