@@ -1,5 +1,5 @@
 -- Before the first event no spot can fire.
-use Rattle.std.proofs.Common.{◌≡◌, ◌∙◌, ℕ, ◌≤◌, Bool, true, false, ◌&&◌, ◌||◌, List, [], ◌∷◌, Option, Some, None, refl, arith}
+use Rattle.std.proofs.Common.{◌≡◌, Bool, true, false, ◌&&◌, ◌||◌, List, [], ◌∷◌, Option, Some, None, refl, arith}
 use Rattle.std.specs.Prelude.{nat_le}
 use Rattle.std.specs.List.{list_any, list_all}
 use Rattle.std.specs.Option.{option_map_or}
@@ -16,7 +16,7 @@ use Rattle.ccr_wiring.specs.Valid.{IsValid}
 use Rattle.ccr_model.specs.Posts.{held}
 use Rattle.ccr_model.specs.Live.{is_live_in, has_room_in}
 use Rattle.ccr_model.specs.Enough.{can_fire, has_enough}
-use Rattle.ccr_model.proofs.Booleans.{both, and_false}
+use Rattle.ccr_model.proofs.Booleans.{and_false}
 use Rattle.ccr_serial.specs.Potential.{takes_some}
 use Rattle.ccr_serial.proofs.Valid.{TakesSome-valid}
 

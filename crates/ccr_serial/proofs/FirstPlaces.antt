@@ -6,7 +6,6 @@ use Rattle.std.specs.List.{slice_get, list_any}
 use Rattle.std.proofs.Math.ListN.{get_or}
 use Rattle.std.proofs.lemmas.Bool.Decides.{nat_tests}
 use Rattle.ccr_model.proofs.Booleans.{neither}
-use Rattle.ccr_serial.specs.Ready.{has_number}
 use Rattle.ccr_serial.specs.Numbered.{ArePlaces, passes_at}
 use Rattle.ccr_serial.specs.Places.{first_place}
 use Rattle.ccr_serial.proofs.Gaining.{read, has-more, take-all}

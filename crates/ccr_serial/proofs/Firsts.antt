@@ -2,7 +2,6 @@
 use Rattle.std.proofs.Common.{◌≡◌, ◌∙◌, ℕ, zero, suc, ◌+◌, ◌≤◌, List, [], ◌∷◌, length, take, refl, ap, sym, arith}
 use Rattle.std.specs.Prelude.{is_some, option_and_then}
 use Rattle.std.specs.List.{slice_get}
-use Rattle.ccr_base.specs.declared.names.Spot.{Spot}
 use Rattle.ccr_wiring.specs.declared.parts.Parts.{Parts}
 use Rattle.ccr_wiring.specs.declared.parts.PosterPart.{PosterPart}
 use Rattle.ccr_wiring.specs.Wirings.{spots}
@@ -13,7 +12,7 @@ use Rattle.ccr_model.specs.Order.{first, fire_from, next_attempt, put_first}
 use Rattle.ccr_model.proofs.CanFire.{some_fire_at}
 use Rattle.ccr_serial.specs.Cursor.{are_done}
 use Rattle.ccr_serial.specs.Ready.{AreReady, IsLeastFirst}
-use Rattle.ccr_serial.specs.Parts.{fire_in, first_fire_in, put_in, are_done_in, fires_in}
+use Rattle.ccr_serial.specs.Parts.{first_fire_in, put_in, are_done_in, fires_in}
 use Rattle.ccr_serial.specs.Numbered.{passes_at}
 use Rattle.ccr_serial.specs.Desk.{Desk, Stands, TablesTell, IsIdle, IsAhead, first_in}
 use Rattle.ccr_serial.proofs.Gaining.{passes-same}

@@ -6,9 +6,8 @@ use Rattle.std.specs.Option.{option_map_or}
 use Rattle.std.proofs.Math.ListN.{get_or}
 use Rattle.std.proofs.lemmas.Option.{slice_get-get_or}
 use Rattle.std.proofs.lemmas.Bool.Decides.{nat_tests}
-use Rattle.ccr_model.proofs.Booleans.{neither}
 use Rattle.ccr_model.proofs.ListParts.{take_more}
-use Rattle.ccr_serial.specs.Ready.{has_number, IsLeast, IsLeastFirst}
+use Rattle.ccr_serial.specs.Ready.{has_number, IsLeastFirst}
 use Rattle.ccr_serial.specs.Numbered.{Gains, passes_at}
 
 -- what holds on success gives what follows from it

@@ -22,7 +22,7 @@ use Rattle.ccr_model.proofs.Options.{none-above, no_head, none_map, some_then}
 use Rattle.ccr_rows.specs.Rows.{row}
 use Rattle.ccr_ledger.specs.Books.{Books, number}
 use Rattle.ccr_serial.specs.Parts.{admit_in, are_done_in, fire_in, first_admit_in, first_fire_in, line_in, post_in, fires_in, IsStillIn, start_in}
-use Rattle.ccr_serial.specs.Ready.{has_number, IsLeast}
+use Rattle.ccr_serial.specs.Ready.{IsLeast}
 use Rattle.ccr_serial.specs.Numbered.{passes_at}
 use Rattle.ccr_serial.proofs.Gaining.{read, none_before, out_of_rest, head_is}
 

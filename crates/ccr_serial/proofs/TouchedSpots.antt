@@ -1,5 +1,5 @@
 -- Which spots come in after an event, by the places of what it touches.
-use Rattle.std.proofs.Common.{◌≡◌, ◌∙◌, ℕ, zero, suc, ◌+◌, ◌<◌, Bool, true, false, ◌&&◌, ◌||◌, List, [], ◌∷◌, length, take, ◌++◌, Option, None, Some, refl, ap, sym, subst, arith}
+use Rattle.std.proofs.Common.{◌≡◌, ◌∙◌, ℕ, ◌+◌, ◌<◌, Bool, true, false, ◌&&◌, ◌||◌, List, [], ◌∷◌, length, take, Option, None, Some, refl, ap, sym}
 use Rattle.std.specs.Prelude.{◌==◌}
 use Rattle.std.specs.List.{slice_get, list_any}
 use Rattle.std.proofs.Math.ListN.{get_or}
@@ -28,10 +28,10 @@ use Rattle.ccr_ledger.specs.Books.{Books, card_at}
 use Rattle.ccr_serial.specs.declared.places.Key.TheVariants as keys
 use Rattle.ccr_serial.specs.Touched.{posts_to, freed_by, names_any, is_throttle}
 use Rattle.ccr_serial.specs.Numbered.{Gains, ArePlaces, passes_at}
-use Rattle.ccr_serial.specs.Ready.{has_number, IsLeastFirst}
+use Rattle.ccr_serial.specs.Ready.{has_number}
 use Rattle.ccr_serial.specs.Places.{first_place, is_keyed}
 use Rattle.ccr_serial.specs.Parts.{comes_to, frees_in, yields_in, touches_branch_in, touches_in}
-use Rattle.ccr_serial.proofs.Gaining.{gains-same, gains-none, gains-or, gains-one, passes-same, passes-never, passes-or}
+use Rattle.ccr_serial.proofs.Gaining.{gains-same, gains-none, gains-or, passes-same, passes-never, passes-or}
 use Rattle.ccr_serial.proofs.SpotPlaces.{site_once}
 
 or_nothing : (a : Bool) → a || false ≡ a
