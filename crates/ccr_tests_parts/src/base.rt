@@ -63,27 +63,33 @@ fn slot(least: u32, most: u32, pred: Pred) -> Slot
     }
 }
 
-/// The places that the slot chooses of these messages.
-fn chosen(rt: &impl Abort, alloc: Global, items: &[Msg], slot: &Slot) -> Option<List<u32>> {
-    choose(alloc, items, slot).expect(rt, "memory")
-}
-
 #[test]
 fn chooses_the_oldest(rt: HostRuntime) {
     let items = messages(&rt, rt.alloc(), &[3, 12, 4, 15, 9]);
     assert!(rt; items.len() == 5);
-    let large = chosen(&rt, rt.alloc(), &items, &slot(1, 2, Pred::Ge(9))).expect(&rt, "a choice");
-    assert_eq!(rt; large.as_slice(), [1, 3].as_slice());
-    let small = chosen(&rt, rt.alloc(), &items, &slot(2, 9, Pred::Lt(5))).expect(&rt, "a choice");
-    assert_eq!(rt; small.as_slice(), [0, 2].as_slice());
-    assert!(rt; can_choose(&items, &slot(1, 2, Pred::Ge(9))));
+    let large = slot(1, 2, Pred::Ge(9));
+    let places = choose(rt.alloc(), &items, &large)
+        .expect(&rt, "memory")
+        .expect(&rt, "a choice");
+    assert_eq!(rt; places.as_slice(), [1, 3].as_slice());
+    assert!(rt; can_choose(&items, &large));
+    let small = slot(2, 9, Pred::Lt(5));
+    let places = choose(rt.alloc(), &items, &small)
+        .expect(&rt, "memory")
+        .expect(&rt, "a choice");
+    assert_eq!(rt; places.as_slice(), [0, 2].as_slice());
 }
 
 #[test]
 fn chooses_nothing_of_too_few(rt: HostRuntime) {
     let items = messages(&rt, rt.alloc(), &[3, 12, 4, 15, 9]);
+    assert!(rt; items.len() == 5);
     let twelve = slot(2, 2, Pred::Eq(12));
-    assert!(rt; chosen(&rt, rt.alloc(), &items, &twelve).is_none());
+    assert!(rt;
+        choose(rt.alloc(), &items, &twelve)
+            .expect(&rt, "memory")
+            .is_none()
+    );
     assert!(rt; !can_choose(&items, &twelve));
 }
 
