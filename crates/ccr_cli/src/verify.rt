@@ -10,7 +10,7 @@ ghost use Rattle.ccr_words.specs.declared.requests.Command.TheVariants.{Verify};
 use crate::answers::{Answer, refused};
 use crate::comparing::line_at;
 use crate::findings::{Finding, finding_text};
-use crate::judging::find;
+use crate::judging::finding_of;
 use crate::status::Status;
 use ccr_base::OutOfMemory;
 use ccr_text::line_of;
@@ -60,7 +60,7 @@ fn judge_output(
     requires length { length output.now ≤ 33554432 }
     ensures { IfOk result (λ due. VerifyGives wiring.now before output.now due.status due.text) }
 {
-    let finding = find(alloc, wiring, before, output)?;
+    let finding = finding_of(alloc, wiring, before, output)?;
     Ok(Answer {
         status: status_of(finding),
         text: finding_text(alloc, finding)?,

@@ -1,9 +1,7 @@
 -- One step over a net.
-use Rattle.std.proofs.Common.{◌≡◌, ℕ, ◌+◌, ◌-◌, ◌^◌, Bool, true, false, List, [], ◌∷◌, ◌++◌, length, min, Option, Some, None, Ok, Err, refl, sym, ap, subst, cond, arith, ◌∙◌}
-use Rattle.std.specs.Prelude.{IfOk, OnErr, IsOk, nat_lt}
+use Rattle.std.proofs.Common.{◌≡◌, ℕ, ◌+◌, ◌-◌, true, List, [], ◌∷◌, ◌++◌, Option, Some, None, Ok, Err, refl, sym, ap, subst}
+use Rattle.std.specs.Prelude.{IfOk, OnErr, IsOk}
 use Rattle.std.specs.Option.{option_map}
-use Rattle.std.proofs.lemmas.Bool.Decides.{nat_tests}
-use Rattle.std.proofs.lemmas.List.{length-append, append-nil, append_assoc}
 use Rattle.ccr_base.specs.declared.names.Place.{Place}
 use Rattle.ccr_wiring.specs.declared.parts.Parts.{Parts}
 use Rattle.ccr_claim.specs.declared.asks.Ask.{Ask}
@@ -14,7 +12,6 @@ use Rattle.ccr_actor.specs.Acting.{Acting, due_in, next, pair_of, sent, IsAfter}
 use Rattle.ccr_actor.specs.Nets.{Step}
 use Rattle.ccr_actor.specs.Following.{Follows}
 use Rattle.ccr_actor.proofs.Followed.{follows_reply, follows_refusal}
-use Rattle.ccr_dispatch.specs.Driving.{Adds, counted}
 
 pub asks_of : (o : Option Asked) (place : Place) (ask : Ask) → Some (place, ask) ≡ option_map pair_of o → o ≡ Some (record { place = place; ask = ask })
 asks_of None place ask is = cc is
@@ -50,16 +47,3 @@ stepped wiring actor old new a b one (Err e) follows asks may so added refused =
 
 pub actor_is : (wiring : Parts) (actor : ℕ) (steps : List Step) (a : Acting) → Follows wiring actor steps a → a.actor ≡ actor
 actor_is wiring actor steps a (lack, (all, (is, from))) = ap (λ (x : Acting). x.actor) is
-
-by-test : (b c d : Bool) (n m : ℕ) → nat_lt n (2 ^ 64) ≡ b → nat_lt m (2 ^ 64) ≡ c → nat_lt (n + m) (2 ^ 64) ≡ d → cond d (n + m) (2 ^ 64 - 1) ≡ min (cond b n (2 ^ 64 - 1) + cond c m (2 ^ 64 - 1)) (2 ^ 64 - 1)
-by-test true true true n m one two all = grind (arith, nat_tests, one, two, all)
-by-test true true false n m one two all = grind (arith, nat_tests, one, two, all)
-by-test true false true n m one two all = grind (arith, nat_tests, one, two, all)
-by-test true false false n m one two all = grind (arith, nat_tests, one, two, all)
-by-test false true true n m one two all = grind (arith, nat_tests, one, two, all)
-by-test false true false n m one two all = grind (arith, nat_tests, one, two, all)
-by-test false false true n m one two all = grind (arith, nat_tests, one, two, all)
-by-test false false false n m one two all = grind (arith, nat_tests, one, two, all)
-
-counts-join : (n m : ℕ) → counted (n + m) ≡ min (counted n + counted m) (2 ^ 64 - 1)
-counts-join n m = by-test (nat_lt n (2 ^ 64)) (nat_lt m (2 ^ 64)) (nat_lt (n + m) (2 ^ 64)) n m refl refl refl

@@ -7,6 +7,9 @@ ghost use Rattle.ccr_text.specs.Words.{is_mark, is_clean, pieces, words_of, is_n
 use ccr_base::{List, Name, OutOfMemory};
 use std::alloc::Global;
 
+/// How many bytes a name has at most.
+const MAX_NAME_BYTES: usize = 16;
+
 fn is_mark_byte(byte: u8) -> bool
     ensures { result ≡ is_mark byte }
 {
@@ -70,7 +73,7 @@ pub fn is_name(word: &[u8]) -> bool
     let Some((first, others)) = word.split_first() else {
         return false;
     };
-    if !first.is_ascii_alphabetic() || others.len() >= 16 {
+    if !first.is_ascii_alphabetic() || others.len() >= MAX_NAME_BYTES {
         return false;
     }
     are_name_bytes(others)
