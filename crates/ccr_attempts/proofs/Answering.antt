@@ -1,7 +1,7 @@
 -- One more answer to an attempt: its state, its steps, and that its answers are such as may come.
-use Rattle.std.proofs.Common.{◌≡◌, ◌≤◌, ℕ, true, List, [], ◌∷◌, ◌++◌, length, take, drop, Option, Some, None, refl, sym, ap, subst, cond, arith, ◌∙◌, append_assoc, append-nil}
+use Rattle.std.proofs.Common.{◌≡◌, ◌≤◌, ℕ, true, List, [], ◌∷◌, ◌++◌, length, take, drop, Option, Some, None, sym, ap, subst, cond, arith, ◌∙◌, append_assoc, append-nil}
 use Rattle.std.proofs.lemmas.Bool.{le-leb}
-use Rattle.std.proofs.lemmas.List.{length-append, take-append-le, drop-append-le}
+use Rattle.std.proofs.lemmas.List.{length-append, take-append-le, drop-append-le, take_all, drop_all}
 use Rattle.std.proofs.lemmas.Grind.{fold-append}
 use Rattle.ccr_base.specs.declared.names.TaskId.{TaskId}
 use Rattle.ccr_claim.specs.declared.plan.ClaimPlan.{ClaimPlan}
@@ -78,31 +78,29 @@ module _ (plan : ClaimPlan) (task : TaskId) where
 
   -- ---- want of memory now
 
-  take-all : (answers : List Answer) → take (length answers) answers ≡ answers
-  take-all [] = refl
-  take-all (answer ∷ answers) = ap (λ more. answer ∷ more) (take-all answers)
+  all-taken : (answers : List Answer) → take (length answers) answers ≡ answers
+  all-taken answers = take_all (length answers) answers (omega arith)
 
-  drop-all : (answers : List Answer) → drop (length answers) answers ≡ []
-  drop-all [] = refl
-  drop-all (answer ∷ answers) = drop-all answers
+  none-dropped : (answers : List Answer) → drop (length answers) answers ≡ []
+  none-dropped answers = drop_all (length answers) answers (omega arith)
 
   wanting-now : (answers : List Answer) → wanting plan task (length answers) answers ≡ in_want (after_all (begun plan task) answers)
-  wanting-now answers = ap (λ front. in_want (after_all (begun plan task) front)) (take-all answers)
+  wanting-now answers = ap (λ front. in_want (after_all (begun plan task) front)) (all-taken answers)
 
   pub state_lacking : (answers : List Answer) → attempt_after plan task (Some (length answers)) answers ≡ in_want (attempt_after plan task None answers)
   state_lacking answers =
       lacking-state (length answers) answers (omega arith)
-      ∙ (ap (λ back. after_all (wanting plan task (length answers) answers) back) (drop-all answers)
+      ∙ (ap (λ back. after_all (wanting plan task (length answers) answers) back) (none-dropped answers)
       ∙ wanting-now answers)
 
   pub steps_lacking : (answers : List Answer) → steps plan task (Some (length answers)) answers ≡ steps plan task None answers
   steps_lacking answers =
       lacking-steps (length answers) answers (omega arith)
-      ∙ (ap (λ back. steps_from (begun plan task) (take (length answers) answers) ++ steps_from (wanting plan task (length answers) answers) back) (drop-all answers)
+      ∙ (ap (λ back. steps_from (begun plan task) (take (length answers) answers) ++ steps_from (wanting plan task (length answers) answers) back) (none-dropped answers)
       ∙ (append-nil (steps_from (begun plan task) (take (length answers) answers))
-      ∙ ap (steps_from (begun plan task)) (take-all answers)))
+      ∙ ap (steps_from (begun plan task)) (all-taken answers)))
 
   pub may_lacking : (answers : List Answer) → AreAnswers plan task None answers → AreAnswers plan task (Some (length answers)) answers
   may_lacking answers may =
       subst (λ b. AreSplit b plan task (length answers) answers) (sym (le-leb (length answers) (length answers) (omega arith)))
-      (subst (MayFollow (begun plan task)) (sym (take-all answers)) may, subst (MayFollow (wanting plan task (length answers) answers)) (sym (drop-all answers)) tt)
+      (subst (MayFollow (begun plan task)) (sym (all-taken answers)) may, subst (MayFollow (wanting plan task (length answers) answers)) (sym (none-dropped answers)) tt)

@@ -22,7 +22,7 @@ use Rattle.ccr_actor.specs.Plans.{plan_of}
 use Rattle.ccr_actor.specs.Actors.{State, Work, lines, round, taking, playing, posting, shedding, resting, Turn, settle, admit, go_on, stop, turn, turn_of, spots_left, name_at, asked, ask_in, work_ask, play_ask, line_ask, end_ask, settled, after_admit, after_in, after, after_work, after_line, after_round, after_take, take_from, after_play, after_end, in_attempt, shorten}
 use Rattle.ccr_attempts.specs.Trials.{Trial, between, is_of_attempt}
 use Rattle.ccr_attempts.proofs.Answering.{state_lacking, steps_lacking, may_lacking}
-use Rattle.ccr_attempts.proofs.Hands.{IsBetween, release_ordered}
+use Rattle.ccr_attempts.proofs.Hands.{one_ask, IsBetween, release_ordered}
 use Rattle.ccr_attempts.proofs.Going.{and, Idle, Runs, Goes, ends, runs_go, settles_go}
 
 -- ---- what the work asks, and what a reply to it leaves
@@ -49,10 +49,7 @@ work-asks : (actor : ℕ) (work : Work) (one : Asked) → work_ask actor work �
 work-asks actor work one is = by work is
   where
     told : (x : Asked) → Some x ≡ Some one → is_of_attempt x.ask ≡ false → is_of_attempt one.ask ≡ false
-    told x same apart = subst (λ (y : Asked). is_of_attempt y.ask ≡ false) (inside same) apart
-      where
-        inside : {x y : Asked} → Some x ≡ Some y → x ≡ y
-        inside e = cc
+    told x same apart = subst (λ (y : Asked). is_of_attempt y.ask ≡ false) (one_ask same) apart
 
     by : (work : Work) → work_ask actor work ≡ Some one → is_of_attempt one.ask ≡ false
     by (lines place sents) now = told (line_ask actor place sents) now (line-ask actor place sents)
@@ -186,9 +183,6 @@ module _ (w : Parts) (a : ℕ) (past : List Step) (st : State) (idle : Idle w a 
   asks-in : (t : Turn) → turn st ≡ t → ask_in w a st t ≡ Some one
   asks-in t is = sym (ap (ask_in w a st) is) ∙ asks
 
-  inside : {x y : Asked} → Some x ≡ Some y → x ≡ y
-  inside is = cc
-
   -- a step that belongs to no attempt, which leaves this state
   aside : (t : Turn) → turn st ≡ t → is_of_attempt one.ask ≡ false → IsBetween (after_in w a st t reply).hand → (after_in w a st t reply).phase ≡ st.phase → Goal
   aside t is apart hand phase =
@@ -205,7 +199,7 @@ module _ (w : Parts) (a : ℕ) (past : List Step) (st : State) (idle : Idle w a 
   settles x [] is =
       let turns : turn st ≡ settle x [] = rw is refl in
       let facts = settled-aside w st reply in
-      let apart : is_of_attempt one.ask ≡ false = subst (λ (y : Asked). is_of_attempt y.ask ≡ false) (inside (asks-in (settle x []) turns)) (subst IsBetween is idle.hand) in
+      let apart : is_of_attempt one.ask ≡ false = subst (λ (y : Asked). is_of_attempt y.ask ≡ false) (one_ask (asks-in (settle x []) turns)) (subst IsBetween is idle.hand) in
       aside (settle x []) turns apart facts.0 facts.1
 
   -- the first step of an attempt
@@ -231,7 +225,7 @@ module _ (w : Parts) (a : ℕ) (past : List Step) (st : State) (idle : Idle w a 
   step-in false [] (arbiter ∷ more) spots is own at left =
       let turns : turn st ≡ admit arbiter more = rw (is, own, at) refl in
       let facts = admitted-aside st more reply own in
-      let apart : is_of_attempt one.ask ≡ false = subst (λ (y : Asked). is_of_attempt y.ask ≡ false) (inside (asks-in (admit arbiter more) turns)) refl in
+      let apart : is_of_attempt one.ask ≡ false = subst (λ (y : Asked). is_of_attempt y.ask ≡ false) (one_ask (asks-in (admit arbiter more) turns)) refl in
       aside (admit arbiter more) turns apart facts.0 facts.1
   step-in false [] [] (spot ∷ more) is own at left = begins spot more is own at left
   step-in false [] [] [] is own at left =

@@ -24,7 +24,7 @@ use Rattle.ccr_actor.specs.Plans.{plan_of}
 use Rattle.ccr_actor.specs.Actors.{State, settle, drive, turn, name_at, asked, ask_in, settled, after_attempt, fire, give_up, after_in, after}
 use Rattle.ccr_attempts.specs.Trials.{Trial, state_of, steps_of, Stretch, attempt, steps_in, GaveUp, Fired, IsOwn, IsDone, AreDone}
 use Rattle.ccr_attempts.proofs.Answering.{IsWithin, state_more, steps_more, may_more}
-use Rattle.ccr_attempts.proofs.Hands.{IsOrdered, release_ordered, firing_ordered, IsBetween, done_alone, dropped_alone, is_heard, heard_alone}
+use Rattle.ccr_attempts.proofs.Hands.{one_ask, IsOrdered, release_ordered, firing_ordered, IsBetween, done_alone, dropped_alone, is_heard, heard_alone}
 
 -- ---- stretches
 
@@ -219,14 +219,11 @@ module _ (w : Parts) (a : ℕ) (past : List Step) (st : State) (run : Runs w a p
 
   pub runs_go : (one : Asked) (reply : Reply) → asked w a st ≡ Some one → fits (due_of one.ask) reply ≡ true → Goes w a (past ++ (record { asked = one; answer = Ok reply }) ∷ []) (after w a st reply)
   runs_go one reply asks fit =
-      let is : attempt_ask plan name st.phase ≡ one = inside (sym (ap (ask_in w a st) turns) ∙ asks) in
+      let is : attempt_ask plan name st.phase ≡ one = one_ask (sym (ap (ask_in w a st) turns) ∙ asks) in
       let may : fits (due_of (attempt_ask plan name st.phase).ask) reply ≡ true = subst (λ (x : Asked). fits (due_of x.ask) reply ≡ true) (sym is) fit in
       let goes : Goes w a (past ++ step reply ∷ []) (after_attempt w a st run.spot run.more reply) = driven reply may (heard_alone plan name st.phase reply may) in
       let same : after_attempt w a st run.spot run.more reply ≡ after w a st reply = sym (ap (λ t. after_in w a st t reply) turns) in
       subst (λ (x : Asked). Goes w a (past ++ (record { asked = x; answer = Ok reply }) ∷ []) (after w a st reply)) is (subst (Goes w a (past ++ step reply ∷ [])) same goes)
-    where
-      inside : {x y : Asked} → Some x ≡ Some y → x ≡ y
-      inside is = cc
 
 -- ---- a reply to what an attempt that has ended settles
 
@@ -295,11 +292,8 @@ module _ (w : Parts) (a : ℕ) (past : List Step) (st : State) (at : Settles w a
 
   pub settles_go : (one : Asked) (reply : Reply) → asked w a st ≡ Some one → fits (due_of one.ask) reply ≡ true → Goes w a (past ++ (record { asked = one; answer = Ok reply }) ∷ []) (after w a st reply)
   settles_go one reply asks fit =
-      let is : at.first ≡ one = inside (sym (ap (ask_in w a st) turns-so) ∙ asks) in
+      let is : at.first ≡ one = one_ask (sym (ap (ask_in w a st) turns-so) ∙ asks) in
       let may : fits (due_of at.first.ask) reply ≡ true = subst (λ (x : Asked). fits (due_of x.ask) reply ≡ true) (sym is) fit in
       let goes : Goes w a (past ++ ask-step reply ∷ []) (settled w st at.rest reply) = replied reply (due-is at.rest at.order) may in
       let same : settled w st at.rest reply ≡ after w a st reply = sym (ap (λ t. after_in w a st t reply) turns-so) in
       subst (λ (x : Asked). Goes w a (past ++ (record { asked = x; answer = Ok reply }) ∷ []) (after w a st reply)) is (subst (Goes w a (past ++ ask-step reply ∷ [])) same goes)
-    where
-      inside : {x y : Asked} → Some x ≡ Some y → x ≡ y
-      inside is = cc

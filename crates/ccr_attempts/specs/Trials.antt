@@ -59,7 +59,7 @@ GaveUp t = (why : Why) × ((state_of t).ended ≡ Some (outcomes.GaveUp why)) ×
 abbrev pub Fired : Trial → Type 0
 Fired t = (shot : Shot) × (dropped : Option Task) × ((state_of t).ended ≡ Some (outcomes.Fired (waits shot.task) dropped)) × (shots (steps_of t) ≡ shot ∷ []) × (settling (asks_of (steps_of t)) ≡ completed t.task (steps_of t))
 
--- the attempt is one of the actor's, at a spot of the wiring
+-- it bears the actor's name, and its plan is that of a spot
 abbrev pub IsOwn : Parts → ℕ → Trial → Type 0
 IsOwn wiring actor t = (t.task.actor ≡ actor) × (spot : Spot) × (t.plan ≡ plan_of wiring spot)
 
