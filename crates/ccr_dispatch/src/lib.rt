@@ -8,6 +8,3 @@ mod points;
 pub use driving::drive;
 pub use laws::actors_rest;
 pub use points::{point_after, point_before};
-
-#[cfg(test)]
-mod tests;

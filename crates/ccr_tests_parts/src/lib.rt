@@ -25,3 +25,5 @@ mod rows;
 mod site;
 #[cfg(test)]
 mod text;
+#[cfg(test)]
+mod turns;

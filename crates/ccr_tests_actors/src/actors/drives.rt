@@ -3,8 +3,8 @@
 use super::plays::one_wait;
 use super::script::Script;
 use super::{Says, first, one_line};
-use crate::drive;
 use ccr_base::{ActorNo, Gate, Point};
+use ccr_dispatch::drive;
 use ccr_wiring::Wiring;
 use std::alloc::Global;
 use std::cell::Cell;

@@ -3,8 +3,8 @@
 ghost use Rattle.std.specs.Prelude.{◌≡◌};
 ghost use Rattle.ccr_turns.specs.Locks.{place_count, IsSeatOf};
 
-use crate::{Kept, Seat, Turns};
 use ccr_base::{List, OutOfMemory};
+use ccr_turns::{Kept, Seat, Turns};
 use std::alloc::Global;
 use std::sync::atomic::{AtomicU64, Ordering};
 use std::sync::{Arc, Wait};

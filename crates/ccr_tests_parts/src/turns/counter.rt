@@ -2,8 +2,8 @@
 
 ghost use Rattle.std.specs.Prelude.{◌≡◌, ◌+◌, IfOk, length};
 
-use crate::Kept;
 use ccr_base::{List, OutOfMemory};
+use ccr_turns::Kept;
 use std::alloc::Global;
 
 #[derive(Drop)]

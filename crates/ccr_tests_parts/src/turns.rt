@@ -3,8 +3,8 @@
 ghost use Rattle.std.specs.Prelude.{◌≡◌, ◌<◌, IfOk};
 ghost use Rattle.ccr_turns.specs.Locks.{place_count, IsSeatOf};
 
-use super::*;
-use ccr_base::{List, OutOfMemory};
+use ccr_base::List;
+use ccr_turns::{Held, Seat, Turns};
 use std::alloc::Global;
 use std::sync::Wait;
 use std::test::*;

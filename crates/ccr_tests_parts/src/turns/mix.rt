@@ -5,8 +5,8 @@ ghost use Rattle.ccr_turns.specs.Locks.{place_count, IsSeatOf};
 
 use super::counter::{Ask, Counter, counters};
 use super::entries_of;
-use crate::{Held, Seat, Turns};
 use ccr_base::List;
+use ccr_turns::{Held, Seat, Turns};
 use std::sync::Wait;
 use std::test::*;
 use std::thread;
