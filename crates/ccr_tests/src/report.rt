@@ -1,5 +1,6 @@
 //! The report and the totals of one history, counted by hand.
 
+use ccr_asserts::same;
 use crate::steps::{LINE_0, LINE_1, LINE_2, LINE_3, Step, TASK_0, TASK_1, history};
 use crate::wirings::{AWAITING, wiring};
 use ccr_base::{List, Spot, TaskId};
@@ -42,7 +43,7 @@ total posted 4 taken 3 held 1 fired 3 done 0 failed 0 shed 0 yield 1 cut 0 dropp
     let wiring = wiring(&rt, rt.alloc(), AWAITING);
     let history = history(&rt, rt.alloc(), &STEPS, STEPS.len());
     let text = report_text(rt.alloc(), &wiring, &history).expect(&rt, "memory");
-    assert_eq!(rt; text.as_slice(), wanted);
+    same(&rt, text.as_slice(), wanted);
 }
 
 #[test]
@@ -63,10 +64,10 @@ fn counts_of_a_history(rt: HostRuntime) {
         dropped: 1,
         unended: 1,
     };
-    assert_eq!(rt; found, wanted);
+    same(&rt, found, wanted);
     let mut line = List::new(rt.alloc());
     put_total(rt.alloc(), &mut line, &wanted).expect(&rt, "memory");
     let words: &[u8] =
         b"total posted 4 taken 3 held 1 fired 3 done 0 failed 0 shed 0 yield 1 cut 0 dropped 1 left 1\n";
-    assert_eq!(rt; line.as_slice(), words);
+    same(&rt, line.as_slice(), words);
 }

@@ -1,5 +1,6 @@
 //! The places of a wiring by number, and the entries of acts, where there is memory.
 
+use ccr_asserts::same;
 use ccr_base::{List, Place};
 use ccr_claim::Ask;
 use ccr_net::{Directory, Full, full_of};
@@ -51,15 +52,15 @@ fn first_place(alloc: Global, note: Option<Note>) -> Option<Place> {
 #[test]
 fn places_by_number(rt: HostRuntime) {
     let alloc = rt.alloc();
-    assert_eq!(rt; found(alloc, Place::Port(0)), Some((0, Place::Port(0))));
-    assert_eq!(rt; found(alloc, Place::Queue(0)), Some((2, Place::Queue(0))));
-    assert_eq!(rt; found(alloc, Place::Meter), Some((3, Place::Meter)));
+    same(&rt, found(alloc, Place::Port(0)), Some((0, Place::Port(0))));
+    same(&rt, found(alloc, Place::Queue(0)), Some((2, Place::Queue(0))));
+    same(&rt, found(alloc, Place::Meter), Some((3, Place::Meter)));
 }
 
 #[test]
 fn acts_that_were_met_have_entries(rt: HostRuntime) {
     let alloc = rt.alloc();
     let met = first_place(alloc, Some(Note::Take(None)));
-    assert_eq!(rt; met, Some(Place::Queue(0)));
-    assert_eq!(rt; first_place(alloc, None), None);
+    same(&rt, met, Some(Place::Queue(0)));
+    same(&rt, first_place(alloc, None), None);
 }

@@ -4,6 +4,7 @@ ghost use Rattle.std.specs.Prelude.{◌≡◌, ◌≢◌, [], ℕ};
 ghost use Rattle.ccr_actor.specs.Acting.{started};
 ghost use Rattle.ccr_net.specs.Played.{steps_in};
 
+use ccr_asserts::same;
 use ccr_actor::Actor;
 use ccr_base::{ActorNo, OpenGate, Spot};
 use ccr_dispatch::drive;
@@ -80,7 +81,7 @@ fn run_of(rt: &impl Abort, alloc: Global, wiring: &Wiring) -> Full {
     let posted = rest(rt, alloc, wiring, &mut net, 0);
     let worked = rest(rt, alloc, wiring, &mut net, 1);
     let full = net.full();
-    assert_eq!(rt; full.entries.len() as u64, posted.saturating_add(worked));
+    same(rt, full.entries.len() as u64, posted.saturating_add(worked));
     full
 }
 

@@ -7,6 +7,7 @@ ghost use Rattle.ccr_model.specs.Legal.{IsLegal};
 ghost use Rattle.ccr_model.specs.Order.{next_attempt};
 ghost use Rattle.ccr_net.specs.Runs.{IsRun};
 
+use ccr_asserts::same;
 use crate::schedules::{Told, are_below, are_notes, rivals, task};
 use ccr_base::{ActorNo, Msg, MsgId, PortNo, Spot, TaskId};
 use ccr_model::{EndHow, Event, History};
@@ -70,7 +71,7 @@ fn finished(rt: &impl Abort, alloc: Global, wiring: &Wiring, first: History) -> 
     requires attempts { next_attempt (length wiring.now.posters + 0) (fired first) ≤ 2 ^ 31 }
 {
     let posters = wiring.parts().posters.as_slice().len();
-    assert_eq!(rt; posters, CLOSER as usize);
+    same(rt, posters, CLOSER as usize);
     let engine = Serial::resume(alloc, wiring, posters as ActorNo, first)
         .ok()
         .expect(rt, "memory");

@@ -1,5 +1,6 @@
 //! What no clause says: that `visible` answers where there is memory.
 
+use ccr_asserts::same;
 use ccr_base::{ActorNo, How, List, Place, TaskId};
 use ccr_model::Event;
 use ccr_net::{Entry, Full, visible};
@@ -52,14 +53,14 @@ fn shows(alloc: Global, actor: ActorNo, note: Note) -> Option<(usize, u32)> {
 #[test]
 fn starts_ends_and_nothing(rt: HostRuntime) {
     let alloc = rt.alloc();
-    assert_eq!(rt; shows(alloc, 7, Note::Take(Some(TASK))), Some((1, 7)));
-    assert_eq!(rt; shows(alloc, 7, Note::Suspend(TASK)), Some((1, 101)));
+    same(&rt, shows(alloc, 7, Note::Take(Some(TASK))), Some((1, 7)));
+    same(&rt, shows(alloc, 7, Note::Suspend(TASK)), Some((1, 101)));
     let over = Note::Over {
         task: TASK,
         root: TASK,
         how: How::Dropped,
     };
-    assert_eq!(rt; shows(alloc, 7, over), Some((0, 0)));
-    assert_eq!(rt; shows(alloc, 7, Note::Take(None)), Some((0, 0)));
-    assert_eq!(rt; shows(alloc, 7, Note::Unbook(TASK)), Some((0, 0)));
+    same(&rt, shows(alloc, 7, over), Some((0, 0)));
+    same(&rt, shows(alloc, 7, Note::Take(None)), Some((0, 0)));
+    same(&rt, shows(alloc, 7, Note::Unbook(TASK)), Some((0, 0)));
 }

@@ -3,6 +3,7 @@
 ghost use Rattle.std.specs.Prelude.{All};
 ghost use Rattle.ccr_space.specs.Spaces.{IsPassOf, IsSpace};
 
+use ccr_asserts::same;
 use ccr_base::{Gate, OpenGate, Point};
 use ccr_space::{Pass, Space, Step};
 use ccr_wiretext::read_wiring;
@@ -57,7 +58,7 @@ fn make<R: Wait + Abort>(rt: &R, space: &Space<'_>, pass: &mut Pass<'_>, count: 
     ensures { IsPassOf space.now pass.new }
 {
     for _ in 0..count {
-        assert_eq!(rt; space.step(rt, pass), Step::Made);
+        same(rt, space.step(rt, pass), Step::Made);
     }
 }
 
@@ -66,7 +67,7 @@ fn make_nine<R: Wait + Abort>(rt: &R, space: &Space<'_>, passes: &mut [Pass<'_>]
     requires space { IsSpace space.now }
     requires passes { All (λ pass. IsPassOf space.now pass) passes.old }
 {
-    assert_eq!(rt; passes.len(), 2);
+    same(rt, passes.len(), 2);
     make(rt, space, &mut passes[0], 6);
     make(rt, space, &mut passes[1], 3);
 }
@@ -110,7 +111,7 @@ fn rest_first<R: Wait + Abort>(rt: &R, space: &Space<'_>, passes: &mut Vec<Pass<
     requires passes { All (λ pass. IsPassOf space.now pass) passes.old.items }
     ensures { All (λ pass. IsPassOf space.now pass) passes.new.items }
 {
-    assert_eq!(rt; passes.len(), 3);
+    same(rt, passes.len(), 3);
     space.run(rt, &OpenGate, &mut passes[0]);
 }
 
@@ -128,5 +129,5 @@ fn two_handlers_at_once(rt: HostRuntime) {
     };
     let through = space.all_through(&rt, &gate, passes);
     assert!(rt; through.is_ok());
-    assert_eq!(rt; gate.met.load(Ordering::SeqCst), 2);
+    same(&rt, gate.met.load(Ordering::SeqCst), 2);
 }

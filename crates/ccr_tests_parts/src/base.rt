@@ -2,6 +2,7 @@
 
 ghost use Rattle.std.specs.Prelude.{◌≡◌};
 
+use ccr_asserts::same;
 use ccr_base::{List, Msg, MsgId, Pred, Slot, Spot, Task, TaskId, Value, can_choose, choose};
 use std::alloc::Global;
 use std::process::Abort;
@@ -13,15 +14,15 @@ fn pushes_and_removes(rt: HostRuntime) {
     for number in 0..3u32 {
         assert!(rt; list.push(number).is_ok());
     }
-    assert_eq!(rt; list.len(), 3);
+    assert!(rt; list.len() == 3);
     list.add(7).expect(&rt, "memory");
     let last = list.remove(3);
-    assert_eq!(rt; last, 7);
+    same(&rt, last, 7);
     let second = list.remove(1);
-    assert_eq!(rt; second, 1);
-    assert_eq!(rt; list.as_slice(), [0, 2].as_slice());
+    same(&rt, second, 1);
+    same(&rt, list.as_slice(), [0, 2].as_slice());
     list.extend(&[5, 6]).expect(&rt, "memory");
-    assert_eq!(rt; list.as_slice(), [0, 2, 5, 6].as_slice());
+    same(&rt, list.as_slice(), [0, 2, 5, 6].as_slice());
 }
 
 /// A message of value `value`, the post `place` of a poster.
@@ -71,13 +72,13 @@ fn chooses_the_oldest(rt: HostRuntime) {
     let places = choose(rt.alloc(), &items, &large)
         .expect(&rt, "memory")
         .expect(&rt, "a choice");
-    assert_eq!(rt; places.as_slice(), [1, 3].as_slice());
+    same(&rt, places.as_slice(), [1, 3].as_slice());
     assert!(rt; can_choose(&items, &large));
     let small = slot(2, 9, Pred::Lt(5));
     let places = choose(rt.alloc(), &items, &small)
         .expect(&rt, "memory")
         .expect(&rt, "a choice");
-    assert_eq!(rt; places.as_slice(), [0, 2].as_slice());
+    same(&rt, places.as_slice(), [0, 2].as_slice());
 }
 
 #[test]
@@ -102,7 +103,7 @@ fn chooses_among_references(rt: HostRuntime) {
     let places = choose(rt.alloc(), &waiting, &large)
         .expect(&rt, "memory")
         .expect(&rt, "a choice");
-    assert_eq!(rt; places.as_slice(), [1, 3].as_slice());
+    same(&rt, places.as_slice(), [1, 3].as_slice());
     assert!(rt; can_choose(&waiting, &large));
 }
 
@@ -111,8 +112,8 @@ fn a_copied_message_is_equal(rt: HostRuntime) {
     let copied = message(rt.alloc(), 7, 5)
         .copy(rt.alloc())
         .expect(&rt, "memory");
-    assert_eq!(rt; copied.id, MsgId::Script { actor: 0, place: 7 });
-    assert_eq!(rt; copied.value, Value::one(5));
+    same(&rt, copied.id, MsgId::Script { actor: 0, place: 7 });
+    same(&rt, copied.value, Value::one(5));
 }
 
 /// A task of this name with values 5 and 6.
@@ -138,11 +139,8 @@ fn a_copied_task_is_equal(rt: HostRuntime) {
     let copied = task(&rt, rt.alloc(), id)
         .copy(rt.alloc())
         .expect(&rt, "memory");
-    assert_eq!(rt; copied.id, id);
-    assert_eq!(rt;
-        copied.values.as_slice(),
-        [Value::one(5), Value::one(6)].as_slice()
-    );
+    same(&rt, copied.id, id);
+    same(&rt, copied.values.as_slice(), [Value::one(5), Value::one(6)].as_slice());
 }
 
 #[test]
@@ -150,7 +148,7 @@ fn values_are_one_to_eight_numbers(rt: HostRuntime) {
     assert!(rt; Value::of(&[]).is_none());
     assert!(rt; Value::of(&[1; 9]).is_none());
     let value = Value::of(&[5, 0, 7]).expect(&rt, "a value");
-    assert_eq!(rt; value.numbers(), [5, 0, 7].as_slice());
+    same(&rt, value.numbers(), [5, 0, 7].as_slice());
     assert!(rt; value != Value::one(5));
     assert!(rt; Pred::Ge(5).holds(&value));
     assert!(rt; !Pred::Eq(7).holds(&value));

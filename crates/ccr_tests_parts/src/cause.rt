@@ -1,5 +1,6 @@
 //! Lists of causes.
 
+use ccr_asserts::same;
 use ccr_base::{CauseNo, List};
 use ccr_cause::{add, remove, union};
 use std::test::*;
@@ -18,7 +19,7 @@ fn joins_lists(rt: HostRuntime) {
         let first = List::from_vec(first.to_vec(rt.alloc()).expect(&rt, "memory"));
         let second = List::from_vec(second.to_vec(rt.alloc()).expect(&rt, "memory"));
         let found = union(rt.alloc(), &first, &second).expect(&rt, "memory");
-        assert_eq!(rt; found.as_slice(), *joined);
+        same(&rt, found.as_slice(), *joined);
     }
 }
 
@@ -28,11 +29,11 @@ fn adds_and_removes(rt: HostRuntime) {
     for cause in [4, 7, 4, 1] {
         add(&mut causes, cause).expect(&rt, "memory");
     }
-    assert_eq!(rt; causes.as_slice(), [4, 7, 1].as_slice());
+    same(&rt, causes.as_slice(), [4, 7, 1].as_slice());
     remove(&mut causes, 7);
-    assert_eq!(rt; causes.as_slice(), [4, 1].as_slice());
+    same(&rt, causes.as_slice(), [4, 1].as_slice());
     remove(&mut causes, 7);
-    assert_eq!(rt; causes.as_slice(), [4, 1].as_slice());
+    same(&rt, causes.as_slice(), [4, 1].as_slice());
     add(&mut causes, 7).expect(&rt, "memory");
-    assert_eq!(rt; causes.as_slice(), [4, 1, 7].as_slice());
+    same(&rt, causes.as_slice(), [4, 1, 7].as_slice());
 }

@@ -1,5 +1,6 @@
 //! Segments that are played.
 
+use ccr_asserts::same_in;
 use ccr_base::{Action, CauseNo, Expr, Handler, List, PortNo, Value};
 use ccr_handler::{PlayEnd, plays};
 use std::alloc::Global;
@@ -41,14 +42,14 @@ fn check(rt: &impl Abort, alloc: Global, row: &Row<'_>) {
     )
     .expect(rt, "memory");
     let posts = play.posts.as_slice();
-    assert_eq!(rt; posts.len(), row.posts.len(), "{}", row.shows);
+    same_in(rt, row.shows, posts.len(), row.posts.len());
     for (post, wanted) in posts.iter().zip(row.posts) {
-        assert_eq!(rt; post.port, wanted.0, "{}", row.shows);
-        assert_eq!(rt; post.value, wanted.1, "{}", row.shows);
-        assert_eq!(rt; post.causes.as_slice(), wanted.2, "{}", row.shows);
+        same_in(rt, row.shows, post.port, wanted.0);
+        same_in(rt, row.shows, post.value, wanted.1);
+        same_in(rt, row.shows, post.causes.as_slice(), wanted.2);
     }
-    assert_eq!(rt; play.end, row.end, "{}", row.shows);
-    assert_eq!(rt; play.causes.as_slice(), row.causes_then, "{}", row.shows);
+    same_in(rt, row.shows, play.end, row.end);
+    same_in(rt, row.shows, play.causes.as_slice(), row.causes_then);
 }
 
 #[test]

@@ -1,5 +1,6 @@
 //! What a port holds, by predicate and in order.
 
+use ccr_asserts::same;
 use ccr_base::{List, Msg, MsgId, Pred, Value};
 use ccr_held::HeldMessages;
 use std::alloc::Global;
@@ -94,7 +95,7 @@ fn the_oldest_that_satisfy_are_named(rt: HostRuntime) {
         (Pred::Eq(4), 4, [Some(2), None, None, None]),
     ];
     for (pred, most, wanted) in rows {
-        assert_eq!(rt; chosen(&rt, rt.alloc(), pred, most), wanted);
+        same(&rt, chosen(&rt, rt.alloc(), pred, most), wanted);
     }
 }
 
@@ -106,19 +107,19 @@ fn enough_are_there(rt: HostRuntime) {
 
 #[test]
 fn names_are_shared_up_to_the_first_other(rt: HostRuntime) {
-    assert_eq!(rt; shared(&rt, rt.alloc(), &[name(0), name(1), name(3)]), 2);
-    assert_eq!(rt; shared(&rt, rt.alloc(), &[name(1)]), 0);
+    same(&rt, shared(&rt, rt.alloc(), &[name(0), name(1), name(3)]), 2);
+    same(&rt, shared(&rt, rt.alloc(), &[name(1)]), 0);
 }
 
 #[test]
 fn what_is_taken_is_gone(rt: HostRuntime) {
-    assert_eq!(rt; first_taken(&rt, rt.alloc(), Pred::Ge(10)), Some(1));
-    assert_eq!(rt; first_taken(&rt, rt.alloc(), Pred::Eq(9)), None);
+    same(&rt, first_taken(&rt, rt.alloc(), Pred::Ge(10)), Some(1));
+    same(&rt, first_taken(&rt, rt.alloc(), Pred::Eq(9)), None);
     let rows = [
         (Pred::Ge(10), 1, [Some(2), Some(3), None, None]),
         (Pred::Any, 4, [None, None, None, None]),
     ];
     for (pred, most, wanted) in rows {
-        assert_eq!(rt; left(&rt, rt.alloc(), pred, most), wanted);
+        same(&rt, left(&rt, rt.alloc(), pred, most), wanted);
     }
 }

@@ -1,5 +1,6 @@
 //! An Interleave from its first firing to behind its teardown.
 
+use ccr_asserts::same;
 use ccr_base::{By, Commit, Group, How, List, Spot, Task, TaskId};
 use ccr_interleave::InterleaveObject;
 use std::alloc::Global;
@@ -75,24 +76,24 @@ fn groups_and_teardown(rt: HostRuntime) {
     let mut place = place(&rt, alloc);
     // a concurrent task, an exclusive one, two concurrent ones and an exclusive one
     for (attempt, branch) in [(0, 5), (1, 4), (2, 5), (3, 5), (4, 4)] {
-        assert_eq!(rt; commit(&rt, alloc, &mut place, attempt, branch), Some(0));
+        same(&rt, commit(&rt, alloc, &mut place, attempt, branch), Some(0));
     }
     assert!(rt; !place.may_commit(&task(alloc, 4, 5)));
     assert!(rt; !place.may_commit(&task(alloc, 5, 6)));
-    assert_eq!(rt; admit(&mut place), Some(0));
-    assert_eq!(rt; admit(&mut place), None);
+    same(&rt, admit(&mut place), Some(0));
+    same(&rt, admit(&mut place), None);
     end(&rt, &mut place, 0);
-    assert_eq!(rt; admit(&mut place), Some(1));
-    assert_eq!(rt; admit(&mut place), None);
+    same(&rt, admit(&mut place), Some(1));
+    same(&rt, admit(&mut place), None);
     end(&rt, &mut place, 1);
-    assert_eq!(rt; admit(&mut place), Some(2));
-    assert_eq!(rt; admit(&mut place), Some(3));
-    assert_eq!(rt; admit(&mut place), None);
-    assert_eq!(rt; commit(&rt, alloc, &mut place, 5, 8), Some(1));
-    assert_eq!(rt; commit(&rt, alloc, &mut place, 6, 5), None);
+    same(&rt, admit(&mut place), Some(2));
+    same(&rt, admit(&mut place), Some(3));
+    same(&rt, admit(&mut place), None);
+    same(&rt, commit(&rt, alloc, &mut place, 5, 8), Some(1));
+    same(&rt, commit(&rt, alloc, &mut place, 6, 5), None);
     end(&rt, &mut place, 2);
-    assert_eq!(rt; admit(&mut place), None);
+    same(&rt, admit(&mut place), None);
     end(&rt, &mut place, 3);
-    assert_eq!(rt; admit(&mut place), Some(5));
-    assert_eq!(rt; admit(&mut place), None);
+    same(&rt, admit(&mut place), Some(5));
+    same(&rt, admit(&mut place), None);
 }

@@ -2,6 +2,7 @@
 
 ghost use Rattle.std.specs.Prelude.{◌≡◌, IfOk};
 
+use ccr_asserts::same;
 use ccr_base::List;
 use ccr_io::{
     Failed, MemorySink, MemorySource, ReadEnd, Sink, Source, StdSink, StdSource, SureSink,
@@ -77,8 +78,8 @@ fn sure_streams_never_fail(rt: HostRuntime) {
     let bytes = b"tea 95\n".to_vec(rt.alloc()).expect(&rt, "memory");
     let mut source = SureSource::new(List::from_vec(bytes));
     let read = read_all(rt.alloc(), &mut source, 9);
-    assert_eq!(rt; read.map(|bytes| bytes.as_slice().len()), Ok(7));
-    assert_eq!(rt; source.rest().len(), 0);
+    same(&rt, read.map(|bytes| bytes.as_slice().len()), Ok(7));
+    same(&rt, source.rest().len(), 0);
     for (room, is_whole, kept) in [
         (7, true, b"tea 95\n".as_slice()),
         (3, false, b"tea".as_slice()),
@@ -95,16 +96,16 @@ fn sure_streams_never_fail(rt: HostRuntime) {
 fn standard_input_is_read(rt: HostRuntime) {
     let mut source = StdSource::new(rt.stdin());
     let read = read_all(rt.alloc(), &mut source, 100);
-    assert_eq!(rt; read.map(|bytes| bytes.as_slice().len()), Ok(0));
+    same(&rt, read.map(|bytes| bytes.as_slice().len()), Ok(0));
     let mut source = StdSource::new(b"tea 95\n".as_slice());
     let read = read_all(rt.alloc(), &mut source, 100);
-    assert_eq!(rt; read.map(|bytes| bytes.as_slice().len()), Ok(7));
+    same(&rt, read.map(|bytes| bytes.as_slice().len()), Ok(7));
 }
 
 #[test]
 fn standard_output_is_written(rt: HostRuntime) {
     let mut sink = StdSink::new(rt.stdout());
-    assert_eq!(rt; write_all(&mut sink, b"written\n"), Ok(()));
+    same(&rt, write_all(&mut sink, b"written\n"), Ok(()));
 }
 
 /// Fails at every other call, and else gives or takes nothing.
@@ -146,9 +147,9 @@ impl Write for Broken {
 fn errors_and_empty_writes_are_faults(rt: HostRuntime) {
     let mut source = StdSource::new(Broken { fails: true });
     let mut buf = [0; 4];
-    assert_eq!(rt; source.read(&mut buf), Err(Failed));
-    assert_eq!(rt; source.read(&mut buf), Ok(0));
+    same(&rt, source.read(&mut buf), Err(Failed));
+    same(&rt, source.read(&mut buf), Ok(0));
     let mut sink = StdSink::new(Broken { fails: true });
-    assert_eq!(rt; sink.write(b"tea"), Err(Failed));
-    assert_eq!(rt; sink.write(b"tea"), Err(Failed));
+    same(&rt, sink.write(b"tea"), Err(Failed));
+    same(&rt, sink.write(b"tea"), Err(Failed));
 }

@@ -1,5 +1,6 @@
 //! Claims on a port, and what they leave in it.
 
+use ccr_asserts::same;
 use ccr_base::{List, Msg, MsgId, Pred, Slot, TaskId, Value};
 use ccr_port::{Claimed, PortObject};
 use std::alloc::Global;
@@ -101,7 +102,7 @@ fn rival_claims(rt: HostRuntime) {
     assert!(rt; port.may_free(RIVAL));
     port.free(RIVAL);
     assert!(rt; holds_values(&port, &[3, 4, 20]));
-    assert_eq!(rt; port.claimed_by(), None);
+    same(&rt, port.claimed_by(), None);
 }
 
 fn post_all(rt: &impl Abort, alloc: Global, port: &mut PortObject, count: u64) {
@@ -119,6 +120,6 @@ fn takes_a_thousand_of_ten_thousand(rt: HostRuntime) {
     assert!(rt; matches!(reply, Claimed::Got(_)));
     assert!(rt; port.may_consume(FIRST));
     port.consume(FIRST);
-    assert_eq!(rt; port.len(), 9_000);
+    same(&rt, port.len(), 9_000);
     assert!(rt; has_value(&port, 8_999, 8_999));
 }

@@ -1,5 +1,6 @@
 //! A throttle, a discard queue and a meter, each of one.
 
+use ccr_asserts::same;
 use ccr_base::{List, Policy, Spot, Task, TaskId};
 use ccr_queue::{Booked, Meter, QueueObject};
 use std::alloc::Global;
@@ -47,13 +48,13 @@ fn take(queue: &mut QueueObject) -> Option<TaskId> {
 #[test]
 fn throttle_of_one(rt: HostRuntime) {
     let mut queue = QueueObject::new(rt.alloc(), 0, Policy::Throttle(1));
-    assert_eq!(rt; book(&rt, &mut queue, T, false), Booked::Yes);
-    assert_eq!(rt; book(&rt, &mut queue, U, false), Booked::Full(1));
-    assert_eq!(rt; put(&rt, &mut queue, task(rt.alloc(), T)), None);
-    assert_eq!(rt; book(&rt, &mut queue, U, false), Booked::Full(1));
-    assert_eq!(rt; take(&mut queue), Some(T));
-    assert_eq!(rt; book(&rt, &mut queue, U, false), Booked::Yes);
-    assert_eq!(rt; book(&rt, &mut queue, T, true), Booked::Yes);
+    same(&rt, book(&rt, &mut queue, T, false), Booked::Yes);
+    same(&rt, book(&rt, &mut queue, U, false), Booked::Full(1));
+    same(&rt, put(&rt, &mut queue, task(rt.alloc(), T)), None);
+    same(&rt, book(&rt, &mut queue, U, false), Booked::Full(1));
+    same(&rt, take(&mut queue), Some(T));
+    same(&rt, book(&rt, &mut queue, U, false), Booked::Yes);
+    same(&rt, book(&rt, &mut queue, T, true), Booked::Yes);
     assert!(rt; !queue.may_book(T, true));
     assert!(rt; queue.may_unbook(U));
     queue.unbook(U);
@@ -63,20 +64,20 @@ fn throttle_of_one(rt: HostRuntime) {
 #[test]
 fn discard_of_one(rt: HostRuntime) {
     let mut queue = QueueObject::new(rt.alloc(), 0, Policy::Discard(1));
-    assert_eq!(rt; book(&rt, &mut queue, T, false), Booked::Yes);
-    assert_eq!(rt; book(&rt, &mut queue, U, false), Booked::Yes);
-    assert_eq!(rt; put(&rt, &mut queue, task(rt.alloc(), T)), None);
-    assert_eq!(rt; put(&rt, &mut queue, task(rt.alloc(), U)), Some(T));
-    assert_eq!(rt; take(&mut queue), Some(U));
-    assert_eq!(rt; take(&mut queue), None);
+    same(&rt, book(&rt, &mut queue, T, false), Booked::Yes);
+    same(&rt, book(&rt, &mut queue, U, false), Booked::Yes);
+    same(&rt, put(&rt, &mut queue, task(rt.alloc(), T)), None);
+    same(&rt, put(&rt, &mut queue, task(rt.alloc(), U)), Some(T));
+    same(&rt, take(&mut queue), Some(U));
+    same(&rt, take(&mut queue), None);
 }
 
 #[test]
 fn meter_of_one(rt: HostRuntime) {
     let mut meter = Meter::new(1);
-    assert_eq!(rt; meter.draw(), Some(0));
-    assert_eq!(rt; meter.draw(), None);
+    same(&rt, meter.draw(), Some(0));
+    same(&rt, meter.draw(), None);
     assert!(rt; meter.may_leave());
     meter.leave();
-    assert_eq!(rt; meter.left(), 1);
+    same(&rt, meter.left(), 1);
 }

@@ -1,5 +1,6 @@
 //! Rows of numbers.
 
+use ccr_asserts::same;
 use ccr_rows::Rows;
 use std::alloc::Global;
 use std::process::Abort;
@@ -47,18 +48,18 @@ fn cleared(mut rows: Rows<u32>, number: usize) -> [usize; 3] {
 #[test]
 fn items_stand_in_their_rows(rt: HostRuntime) {
     let rows = filled(&rt, rt.alloc());
-    assert_eq!(rt; counts(&rows), [0, 2, 0]);
-    assert_eq!(rt; seen(&rows), [Some(7), Some(8), None, None]);
+    same(&rt, counts(&rows), [0, 2, 0]);
+    same(&rt, seen(&rows), [Some(7), Some(8), None, None]);
 }
 
 #[test]
 fn the_first_in_is_the_first_out(rt: HostRuntime) {
-    assert_eq!(rt; left(filled(&rt, rt.alloc()), 1), [Some(7), Some(8), None]);
-    assert_eq!(rt; left(filled(&rt, rt.alloc()), 2), [None, None, None]);
+    same(&rt, left(filled(&rt, rt.alloc()), 1), [Some(7), Some(8), None]);
+    same(&rt, left(filled(&rt, rt.alloc()), 2), [None, None, None]);
 }
 
 #[test]
 fn a_cleared_row_is_empty(rt: HostRuntime) {
-    assert_eq!(rt; cleared(filled(&rt, rt.alloc()), 1), [0, 0, 0]);
-    assert_eq!(rt; cleared(filled(&rt, rt.alloc()), 2), [0, 2, 0]);
+    same(&rt, cleared(filled(&rt, rt.alloc()), 1), [0, 0, 0]);
+    same(&rt, cleared(filled(&rt, rt.alloc()), 2), [0, 2, 0]);
 }

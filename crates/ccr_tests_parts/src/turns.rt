@@ -3,6 +3,7 @@
 ghost use Rattle.std.specs.Prelude.{◌≡◌, ◌<◌, IfOk};
 ghost use Rattle.ccr_turns.specs.Locks.{place_count, IsSeatOf};
 
+use ccr_asserts::same;
 use ccr_base::List;
 use ccr_turns::{Held, Seat, Turns};
 use std::alloc::Global;
@@ -56,12 +57,12 @@ fn two_threads_raise_one_counter(rt: HostRuntime) -> Result<(), Fail> {
         .ok_or("memory")?;
     let (counter, history) = kept.as_slice().first().ok_or("no place")?;
     let history = history.as_slice();
-    assert_eq!(rt; counter.raised(), 2000);
-    assert_eq!(rt; history.len(), 2000);
+    same(&rt, counter.raised(), 2000);
+    same(&rt, history.len(), 2000);
     for (entry, number) in history.iter().zip(1..2001u64) {
-        assert_eq!(rt; entry.note, number);
+        same(&rt, entry.note, number);
     }
-    assert_eq!(rt; entries_of(history, 0), 1000);
-    assert_eq!(rt; entries_of(history, 1), 1000);
+    same(&rt, entries_of(history, 0), 1000);
+    same(&rt, entries_of(history, 1), 1000);
     Ok(())
 }

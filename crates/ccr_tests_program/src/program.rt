@@ -1,6 +1,7 @@
 //! What no clause says: that the program answers where there is memory, that it answers long inputs, and that each read and each
 //! write may fail. The worked cases, byte for byte, are those of the crate ccr_cases.
 
+use ccr_asserts::same;
 use ccr_base::{List, Name, OpenGate};
 use ccr_cli::{run_ccr, run_surely};
 use ccr_io::{MemorySink, MemorySource, SureSink, SureSource};
@@ -92,8 +93,8 @@ fn streams_that_never_fail(rt: HostRuntime) {
     let mut source = SureSource::new(listed(&rt, rt.alloc(), ONE_POST));
     let mut sink = SureSink::new(rt.alloc(), 20).expect(&rt, "memory");
     let status = run_surely(&rt, words.as_slice(), &mut source, &mut sink, &OpenGate);
-    assert_eq!(rt; status, 0);
-    assert_eq!(rt; sink.kept(), b"history 1\npost s0.0 ".as_slice());
+    same(&rt, status, 0);
+    same(&rt, sink.kept(), b"history 1\npost s0.0 ".as_slice());
 }
 
 #[test]

@@ -1,5 +1,6 @@
 //! A run on threads: a port that one actor has marked stops nobody at another port.
 
+use ccr_asserts::same;
 use ccr_base::{Gate, List, Name, Point};
 use ccr_cli::run_ccr;
 use ccr_io::{MemorySink, MemorySource};
@@ -74,6 +75,6 @@ fn marked_port_stops_nobody(rt: HostRuntime) {
         met: AtomicU64::new(0),
     };
     let status = run_ccr(&rt, words.as_slice(), &mut source, &mut sink, &gate);
-    assert_eq!(rt; status, 0);
-    assert_eq!(rt; gate.met.load(Ordering::SeqCst), 2);
+    same(&rt, status, 0);
+    same(&rt, gate.met.load(Ordering::SeqCst), 2);
 }

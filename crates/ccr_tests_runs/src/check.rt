@@ -1,5 +1,6 @@
 //! What the judge says of whole histories, and event by event.
 
+use ccr_asserts::same;
 use ccr_base::{List, Msg, MsgId, Sent, Spot, TaskId, Value};
 use ccr_check::{Judge, Verdict, verdict};
 use ccr_model::{EndHow, Event, History};
@@ -139,7 +140,7 @@ fn legal_complete_and_quiet(rt: HostRuntime) {
         complete: true,
         quiet: true,
     };
-    assert_eq!(rt; whole(&rt, rt.alloc()), wanted);
+    same(&rt, whole(&rt, rt.alloc()), wanted);
 }
 
 #[test]
@@ -148,13 +149,13 @@ fn legal_and_not_quiet(rt: HostRuntime) {
         complete: true,
         quiet: false,
     };
-    assert_eq!(rt; fired_alone(&rt, rt.alloc()), wanted);
+    same(&rt, fired_alone(&rt, rt.alloc()), wanted);
 }
 
 #[test]
 fn put_of_a_task_that_never_fired(rt: HostRuntime) {
     let wanted = Verdict::Illegal { at: 1, rule: 11 };
-    assert_eq!(rt; never_fired(&rt, rt.alloc()), wanted);
+    same(&rt, never_fired(&rt, rt.alloc()), wanted);
 }
 
 /// The rule by which the judge refuses the event, if any.
@@ -184,11 +185,11 @@ fn repeats(rt: &impl Abort, alloc: Global, count: u32) -> (u32, u32) {
 
 #[test]
 fn equal_posts_are_refused_from_the_second_on(rt: HostRuntime) {
-    assert_eq!(rt; repeats(&rt, rt.alloc(), 40_000), (39_999, 1));
+    same(&rt, repeats(&rt, rt.alloc(), 40_000), (39_999, 1));
 }
 
 fn accept(rt: &impl Abort, judge: &mut Judge<'_>, event: Event) {
-    assert_eq!(rt; feed(rt, judge, &event), None);
+    same(rt, feed(rt, judge, &event), None);
 }
 
 /// The judge accepts the post at this place, and all that becomes of it.
@@ -228,5 +229,5 @@ fn run(rt: &impl Abort, alloc: Global, count: u32) -> (u32, bool, bool) {
 
 #[test]
 fn a_long_run_is_accepted(rt: HostRuntime) {
-    assert_eq!(rt; run(&rt, rt.alloc(), 5_000), (25_000, true, true));
+    same(&rt, run(&rt, rt.alloc(), 5_000), (25_000, true, true));
 }

@@ -1,5 +1,6 @@
 //! Each kind of ask at each kind of place, and the places of a wiring.
 
+use ccr_asserts::same;
 use ccr_arbiter::ArbiterObject;
 use ccr_await::SiteObject;
 use ccr_base::{
@@ -187,7 +188,7 @@ fn place(rt: &impl Abort, alloc: Global, kind: Kind) -> PlaceObject {
 fn is_met(rt: &impl Abort, place: &mut PlaceObject, ask: Ask) -> bool {
     let (answer, deed) = place.answer(ask).expect(rt, "memory");
     let replied = matches!(answer, Answer::Replied(_));
-    assert_eq!(rt; replied, deed.note.is_some());
+    same(rt, replied, deed.note.is_some());
     replied
 }
 
@@ -228,7 +229,7 @@ fn new_objects_meet_these_asks(rt: HostRuntime) {
     for (kind, words) in FIRST.iter() {
         for word in WORDS.iter() {
             let count = met(&rt, rt.alloc(), *kind, &[*word]);
-            assert_eq!(rt; count == 1, words.contains(word));
+            same(&rt, count == 1, words.contains(word));
         }
     }
 }
@@ -257,7 +258,7 @@ const ROWS: [(Kind, &[Word], u32); 9] = [
 #[test]
 fn what_was_met_changes_what_is(rt: HostRuntime) {
     for (kind, words, due) in ROWS.iter() {
-        assert_eq!(rt; met(&rt, rt.alloc(), *kind, words), *due);
+        same(&rt, met(&rt, rt.alloc(), *kind, words), *due);
     }
 }
 

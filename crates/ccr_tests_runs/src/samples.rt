@@ -1,5 +1,6 @@
 //! What no clause says: that the parts come where there is memory, and that they are those of a wiring.
 
+use ccr_asserts::same;
 use ccr_base::{Action, Expr, List, Policy, Spot};
 use ccr_samples::{one_cause, one_handler, one_post, one_queue, one_receiver};
 use ccr_wiring::{Parts, Unfit, Wiring};
@@ -27,7 +28,7 @@ fn one_post_reaches_the_receiver(rt: HostRuntime) {
     let mut parts = one_receiver(rt.alloc()).expect(&rt, "memory");
     parts.posters = one_post(rt.alloc()).expect(&rt, "memory");
     let wiring = checked(&rt, rt.alloc(), parts);
-    assert_eq!(rt; wiring.parts().posters.as_slice().len(), 1);
+    same(&rt, wiring.parts().posters.as_slice().len(), 1);
 }
 
 /// A post of this at port 0, and an await there.
@@ -60,5 +61,5 @@ fn parts_can_be_wrong(rt: HostRuntime) {
     let mut parts = one_receiver(rt.alloc()).expect(&rt, "memory");
     parts.causes = one_cause(rt.alloc(), 1).expect(&rt, "memory");
     let refused = Wiring::check(rt.alloc(), parts).err();
-    assert_eq!(rt; refused, Some(Unfit::Code(7)));
+    same(&rt, refused, Some(Unfit::Code(7)));
 }

@@ -1,5 +1,6 @@
 //! What no clause says: that the engine's calls answer where there is memory. Want of memory ends a test at once.
 
+use ccr_asserts::same;
 use ccr_model::History;
 use ccr_samples::{one_post, one_receiver};
 use ccr_serial::{Serial, Stepped};
@@ -27,8 +28,8 @@ fn has_stepped(engine: &mut Serial<'_>) -> Option<bool> {
 /// The engine makes a step or none, and has so many events then.
 fn step(rt: &impl Abort, engine: &mut Serial<'_>, events: usize, more: bool) {
     let stepped = has_stepped(engine).expect(rt, "memory");
-    assert_eq!(rt; stepped, more);
-    assert_eq!(rt; engine.history().events().len(), events);
+    same(rt, stepped, more);
+    same(rt, engine.history().events().len(), events);
 }
 
 fn steps(rt: &impl Abort, engine: &mut Serial<'_>) {
@@ -60,5 +61,5 @@ fn goes_on_from_a_history(rt: HostRuntime) {
         .ok()
         .expect(&rt, "memory");
     let history = engine.finish().expect(&rt, "memory");
-    assert_eq!(rt; history.events().len(), 5);
+    same(&rt, history.events().len(), 5);
 }

@@ -1,5 +1,6 @@
 //! Turns that are read, and the line and code with which others are refused.
 
+use ccr_asserts::same;
 use ccr_base::{ActorNo, List};
 use ccr_schedule::read_turns;
 use ccr_wiretext::ReadRefused;
@@ -71,6 +72,6 @@ fn turns_that_are_refused(rt: HostRuntime) {
     ];
     for (text, lines_before, actors, line, code) in table {
         let read = turns(&rt, rt.alloc(), text, lines_before, actors);
-        assert_eq!(rt; read.err(), Some(ReadRefused::At { line, code }));
+        same(&rt, read.err(), Some(ReadRefused::At { line, code }));
     }
 }

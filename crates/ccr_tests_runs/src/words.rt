@@ -1,5 +1,6 @@
 //! Words that ask for something, and words that are refused.
 
+use ccr_asserts::same;
 use ccr_base::{List, Name};
 use ccr_words::{Command, Request, read_words};
 use std::alloc::Global;
@@ -71,7 +72,7 @@ fn words_in_any_order(rt: HostRuntime) {
     ];
     for (line, want) in table {
         let request = asked(&rt, rt.alloc(), line);
-        assert_eq!(rt; request, want);
+        same(&rt, request, want);
     }
 }
 

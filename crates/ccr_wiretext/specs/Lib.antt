@@ -1,5 +1,6 @@
 pub mod Keywords
 pub mod Names
+pub mod Counts
 pub mod Drafts
 pub mod Places
 pub mod Patterns

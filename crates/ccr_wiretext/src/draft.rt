@@ -6,7 +6,8 @@ ghost use Rattle.ccr_wiretext.specs.Names.{meaning_of};
 ghost use Rattle.ccr_wiretext.specs.Drafts.{nothing, with_budget, with_queue, with_port, with_set, with_cause, with_receive, with_handler, with_arbiter, with_poster, with_domain, with_action, with_branch, with_post, end_handler, end_arbiter, end_poster};
 
 use crate::named::{Named, Names};
-use ccr_base::{Action, Handler, List, Name, OutOfMemory, PortNo, Sent};
+use crate::spotted::Spotted;
+use ccr_base::{Action, Handler, List, Name, OutOfMemory, Sent};
 use ccr_wiring::{
     ArbiterPart, BranchPart, CausePart, DomainPart, HandlerPart, Kind, MAX_BUDGET, Parts,
     PosterPart, QueuePart, SetPart,
@@ -31,7 +32,7 @@ pub struct Draft {
     pub parts: Parts,
     pub budgeted: bool,
     pub names: Names,
-    pub spotted: List<PortNo>,
+    pub spotted: Spotted,
     pub block: Block,
 }
 
@@ -66,15 +67,6 @@ fn push_action(list: &mut List<Action>, action: &Action) -> Result<(), OutOfMemo
     }
 }
 
-fn push_all(list: &mut List<PortNo>, items: &[PortNo]) -> Result<(), OutOfMemory>
-    ensures { OnOk result (list.new ≡ list.old ++ items.now) }
-{
-    for item in items {
-        push(list, *item)?;
-    }
-    Ok(())
-}
-
 impl Draft {
     /// Nothing, in a text of this version.
     pub fn new(alloc: Global, version: u32) -> Self
@@ -96,7 +88,7 @@ impl Draft {
             },
             budgeted: false,
             names: Names::new(alloc),
-            spotted: List::new(alloc),
+            spotted: Spotted::new(alloc),
             block: Block::Outside,
         }
     }
@@ -155,7 +147,7 @@ impl Draft {
         ensures { OnOk result (self.new ≡ with_receive self.old branch) }
     {
         let spotted = self.spotted_by(&branch)?;
-        push_all(&mut self.spotted, &spotted)?;
+        self.spotted.add_all(&spotted)?;
         self.names.add(branch.name.as_slice(), Named::Branch)?;
         let name = copy_of(self.alloc, branch.name.as_slice())?;
         let mut branches = List::new(self.alloc);
@@ -237,7 +229,7 @@ impl Draft {
         ensures { OnOk result (self.new ≡ with_branch self.old part branch) }
     {
         let spotted = self.spotted_by(&branch)?;
-        push_all(&mut self.spotted, &spotted)?;
+        self.spotted.add_all(&spotted)?;
         self.names.add(branch.name.as_slice(), Named::Branch)?;
         push(&mut part.branches, branch)?;
         self.block = Block::Arbiter(part);

@@ -9,6 +9,7 @@ ghost use Rattle.ccr_wiretext.specs.Forms.{budget_form, queue_form, name_form, s
 
 use crate::cursor::Cursor;
 use crate::draft::{Draft, copy_of};
+use crate::spotted::Spotted;
 use crate::stop::{Code, Stop};
 use ccr_base::{Action, CauseNo, Expr, Group, OutOfMemory, PortNo, Sent};
 use ccr_wiring::{
@@ -61,16 +62,16 @@ fn times(port: PortNo, ports: &[PortNo]) -> usize
 }
 
 /// Whether a port stands more than 16 times in the two lists together.
-fn is_crowded(port: PortNo, before: &[PortNo], new: &[PortNo]) -> bool
+fn is_crowded(port: PortNo, before: &Spotted, new: &[PortNo]) -> bool
     ensures { result ≡ nat_lt 16 (times port (before.now ++ new.now)) }
 {
-    let count = times(port, before);
+    let count = before.times(port);
     let most = MAX_SPOTS as usize;
     count > most || times(port, new) > most - count
 }
 
 /// Whether one of the new ports stands more than 16 times in the two lists together.
-fn is_one_crowded(before: &[PortNo], new: &[PortNo]) -> bool
+fn is_one_crowded(before: &Spotted, new: &[PortNo]) -> bool
     ensures { result ≡ list_any (λ port. nat_lt 16 (times port (before.now ++ new.now))) new.now }
 {
     new.iter().any(|port| is_crowded(*port, before, new))
@@ -166,7 +167,7 @@ impl Draft {
         ensures { IfOk result (λ one. one ≡ crowds self.now branch.now) }
     {
         let spotted = self.spotted_by(branch)?;
-        Ok(is_one_crowded(self.spotted.as_slice(), &spotted))
+        Ok(is_one_crowded(&self.spotted, &spotted))
     }
 
     /// QUEUE HANDLER PATTERN, behind the name and group of a branch.

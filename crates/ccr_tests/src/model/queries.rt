@@ -1,5 +1,6 @@
 //! What the queries answer after the first events of some worked runs.
 
+use ccr_asserts::same;
 use super::cases::{A, AWAIT, B, Case, DISCARD, GATHER, TEARDOWN_CUTS, THROTTLE, X, Y};
 use crate::steps::{LINE_0, LINE_1, LINE_2, TASK_0, TASK_1, TASK_2, TASK_3, history};
 use crate::wirings::wiring;
@@ -107,7 +108,7 @@ fn tasks_of_a_teardown(rt: HostRuntime) {
     ];
     for (count, asked, wanted) in rows {
         let found = tasks(&rt, rt.alloc(), &TEARDOWN_CUTS, count, asked);
-        assert_eq!(rt; found.as_slice(), wanted);
+        same(&rt, found.as_slice(), wanted);
     }
 }
 
@@ -120,7 +121,7 @@ fn tasks_of_a_discard_queue(rt: HostRuntime) {
     ];
     for (count, asked, wanted) in rows {
         let found = tasks(&rt, rt.alloc(), &DISCARD, count, asked);
-        assert_eq!(rt; found.as_slice(), wanted);
+        same(&rt, found.as_slice(), wanted);
     }
 }
 
@@ -173,7 +174,7 @@ fn names_held(rt: &impl Abort, alloc: Global, events: &[Event], port: PortNo) ->
 fn messages_that_are_taken(rt: HostRuntime) {
     let history = begun(&rt, rt.alloc(), &TEARDOWN_CUTS, 5);
     let found = taken(rt.alloc(), history.events()).expect(&rt, "memory");
-    assert_eq!(rt; found.as_slice(), [LINE_0, LINE_1].as_slice());
+    same(&rt, found.as_slice(), [LINE_0, LINE_1].as_slice());
 }
 
 #[test]
@@ -182,7 +183,7 @@ fn messages_that_are_held(rt: HostRuntime) {
     let rows: [(PortNo, &[MsgId]); 2] = [(A, &[LINE_1]), (B, &[LINE_2])];
     for (port, wanted) in rows {
         let found = names_held(&rt, rt.alloc(), history.events(), port);
-        assert_eq!(rt; found.as_slice(), wanted);
+        same(&rt, found.as_slice(), wanted);
     }
 }
 
@@ -201,9 +202,9 @@ fn drop_of(
 #[test]
 fn task_that_a_put_drops(rt: HostRuntime) {
     let found = drop_of(&rt, rt.alloc(), &DISCARD, 9, TASK_1);
-    assert_eq!(rt; found, None);
+    same(&rt, found, None);
     let found = drop_of(&rt, rt.alloc(), &DISCARD, 11, TASK_3);
-    assert_eq!(rt; found, Some(TASK_1));
+    same(&rt, found, Some(TASK_1));
 }
 
 /// The ports and values of the posts of the task's segment.
@@ -227,5 +228,5 @@ fn posts_in(
 #[test]
 fn posts_of_a_running_task(rt: HostRuntime) {
     let found = posts_in(&rt, rt.alloc(), &TEARDOWN_CUTS, 9, TASK_2);
-    assert_eq!(rt; found.as_slice(), [(A, Value::one(9))].as_slice());
+    same(&rt, found.as_slice(), [(A, Value::one(9))].as_slice());
 }

@@ -1,5 +1,6 @@
 //! Texts that are read, and texts that are refused.
 
+use ccr_asserts::same;
 use crate::wirings::{AWAITING, AWAITING_2, wiring};
 use ccr_trace::{HistoryRefused, read_history, write_history};
 use ccr_wiring::Wiring;
@@ -172,7 +173,7 @@ fn texts_of_version_1(rt: HostRuntime) {
         ("history 1\n", FIRES.as_slice()),
         ("history 1\n", TASKS.as_slice()),
     ] {
-        assert_eq!(rt; wrong_row(rt.alloc(), &wiring, first, rows), None);
+        same(&rt, wrong_row(rt.alloc(), &wiring, first, rows), None);
     }
 }
 
@@ -180,7 +181,7 @@ fn texts_of_version_1(rt: HostRuntime) {
 fn texts_of_version_2(rt: HostRuntime) {
     let wiring = wiring(&rt, rt.alloc(), AWAITING_2);
     for (first, rows) in [("", NEWER.as_slice()), ("history 2\n", VALUES.as_slice())] {
-        assert_eq!(rt; wrong_row(rt.alloc(), &wiring, first, rows), None);
+        same(&rt, wrong_row(rt.alloc(), &wiring, first, rows), None);
     }
 }
 

@@ -1,5 +1,6 @@
 //! One more than each limit.
 
+use ccr_asserts::same;
 use super::{BASE, first_wrong, refusal};
 use std::test::*;
 
@@ -28,7 +29,7 @@ const ONE_MORE_OF_A_KIND: &str = "0 0 |15|queue r# unbounded;|
 
 #[test]
 fn one_more_of_a_kind(rt: HostRuntime) -> Result<(), Fail> {
-    assert_eq!(rt; first_wrong(&rt, BASE, ONE_MORE_OF_A_KIND), 0);
+    same(&rt, first_wrong(&rt, BASE, ONE_MORE_OF_A_KIND), 0);
     Ok(())
 }
 
@@ -47,13 +48,13 @@ const ONE_MORE_IN_A_LINE_OR_BLOCK: &str =
 
 #[test]
 fn one_more_in_a_line_or_block(rt: HostRuntime) -> Result<(), Fail> {
-    assert_eq!(rt; first_wrong(&rt, BASE, ONE_MORE_IN_A_LINE_OR_BLOCK), 0);
+    same(&rt, first_wrong(&rt, BASE, ONE_MORE_IN_A_LINE_OR_BLOCK), 0);
     Ok(())
 }
 
 #[test]
 fn only_line_feeds(rt: HostRuntime) -> Result<(), Fail> {
     let text = Vec::from_elem(rt.alloc(), 10u8, 1_048_576)?;
-    assert_eq!(rt; refusal(&rt, &text), (1_048_576, 2));
+    same(&rt, refusal(&rt, &text), (1_048_576, 2));
     Ok(())
 }

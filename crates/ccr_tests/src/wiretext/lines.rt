@@ -1,5 +1,6 @@
 //! Heads, blanks, bytes that no line has, blocks and the end of the text.
 
+use ccr_asserts::same;
 use super::{BASE, first_wrong};
 use std::test::*;
 
@@ -37,7 +38,7 @@ const HEADS_AND_BYTES: &str = "1 2
 
 #[test]
 fn heads_and_bytes(rt: HostRuntime) -> Result<(), Fail> {
-    assert_eq!(rt; first_wrong(&rt, "", HEADS_AND_BYTES), 0);
+    same(&rt, first_wrong(&rt, "", HEADS_AND_BYTES), 0);
     Ok(())
 }
 
@@ -59,10 +60,7 @@ const WORDS_THAT_THEIR_BLOCK_DOES_NOT_HAVE: &str = "8 3 end
 
 #[test]
 fn words_that_their_block_does_not_have(rt: HostRuntime) -> Result<(), Fail> {
-    assert_eq!(rt;
-        first_wrong(&rt, BASE, WORDS_THAT_THEIR_BLOCK_DOES_NOT_HAVE),
-        0
-    );
+    same(&rt, first_wrong(&rt, BASE, WORDS_THAT_THEIR_BLOCK_DOES_NOT_HAVE), 0);
     Ok(())
 }
 
@@ -74,7 +72,7 @@ const ENDS_THAT_DO_NOT_FIT: &str = "9 11 choice c;end
 
 #[test]
 fn ends_that_do_not_fit(rt: HostRuntime) -> Result<(), Fail> {
-    assert_eq!(rt; first_wrong(&rt, BASE, ENDS_THAT_DO_NOT_FIT), 0);
+    same(&rt, first_wrong(&rt, BASE, ENDS_THAT_DO_NOT_FIT), 0);
     Ok(())
 }
 
@@ -87,7 +85,7 @@ const BLOCKS_LEFT_OPEN: &str = "8 9 handler k
 
 #[test]
 fn blocks_left_open(rt: HostRuntime) -> Result<(), Fail> {
-    assert_eq!(rt; first_wrong(&rt, BASE, BLOCKS_LEFT_OPEN), 0);
+    same(&rt, first_wrong(&rt, BASE, BLOCKS_LEFT_OPEN), 0);
     Ok(())
 }
 
@@ -99,6 +97,6 @@ const WHOLE_BLOCKS_ARE_READ: &str = "0 0
 
 #[test]
 fn whole_blocks_are_read(rt: HostRuntime) -> Result<(), Fail> {
-    assert_eq!(rt; first_wrong(&rt, BASE, WHOLE_BLOCKS_ARE_READ), 0);
+    same(&rt, first_wrong(&rt, BASE, WHOLE_BLOCKS_ARE_READ), 0);
     Ok(())
 }

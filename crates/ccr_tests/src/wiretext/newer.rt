@@ -1,5 +1,6 @@
 //! Combined Interleaves, and values of several numbers.
 
+use ccr_asserts::same;
 use super::{BASE, first_wrong};
 use std::test::*;
 
@@ -36,7 +37,7 @@ const COMBINED_INTERLEAVES: &str = "0 0 combine i j
 
 #[test]
 fn combined_interleaves(rt: HostRuntime) -> Result<(), Fail> {
-    assert_eq!(rt; first_wrong(&rt, INTERLEAVES, COMBINED_INTERLEAVES), 0);
+    same(&rt, first_wrong(&rt, INTERLEAVES, COMBINED_INTERLEAVES), 0);
     Ok(())
 }
 
@@ -48,7 +49,7 @@ const WORDS_OF_VERSION_2_IN_VERSION_1: &str = "9 5 handler k;post a part 0 1
 
 #[test]
 fn words_of_version_2_in_version_1(rt: HostRuntime) -> Result<(), Fail> {
-    assert_eq!(rt; first_wrong(&rt, BASE, WORDS_OF_VERSION_2_IN_VERSION_1), 0);
+    same(&rt, first_wrong(&rt, BASE, WORDS_OF_VERSION_2_IN_VERSION_1), 0);
     Ok(())
 }
 
@@ -85,6 +86,6 @@ const VALUES_OF_SEVERAL_NUMBERS: &str = "0 0 poster p;post a 1,2,3,4,5,6,7,8;end
 
 #[test]
 fn values_of_several_numbers(rt: HostRuntime) -> Result<(), Fail> {
-    assert_eq!(rt; first_wrong(&rt, BASE_2, VALUES_OF_SEVERAL_NUMBERS), 0);
+    same(&rt, first_wrong(&rt, BASE_2, VALUES_OF_SEVERAL_NUMBERS), 0);
     Ok(())
 }

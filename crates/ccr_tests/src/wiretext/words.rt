@@ -1,5 +1,6 @@
 //! The words of a line, from left to right.
 
+use ccr_asserts::same;
 use super::{BASE, first_wrong};
 use std::test::*;
 
@@ -35,7 +36,7 @@ const MISSPELLED_WORDS: &str = "8 3 budgets 1
 
 #[test]
 fn misspelled_words(rt: HostRuntime) -> Result<(), Fail> {
-    assert_eq!(rt; first_wrong(&rt, BASE, MISSPELLED_WORDS), 0);
+    same(&rt, first_wrong(&rt, BASE, MISSPELLED_WORDS), 0);
     Ok(())
 }
 
@@ -65,7 +66,7 @@ const MISSING_WORDS: &str = "8 4 budget
 
 #[test]
 fn missing_words(rt: HostRuntime) -> Result<(), Fail> {
-    assert_eq!(rt; first_wrong(&rt, BASE, MISSING_WORDS), 0);
+    same(&rt, first_wrong(&rt, BASE, MISSING_WORDS), 0);
     Ok(())
 }
 
@@ -85,7 +86,7 @@ const WORDS_TOO_MANY: &str = "8 4 budget 1 2
 
 #[test]
 fn words_too_many(rt: HostRuntime) -> Result<(), Fail> {
-    assert_eq!(rt; first_wrong(&rt, BASE, WORDS_TOO_MANY), 0);
+    same(&rt, first_wrong(&rt, BASE, WORDS_TOO_MANY), 0);
     Ok(())
 }
 
@@ -118,7 +119,7 @@ const NUMBERS: &str = "8 5 budget x
 
 #[test]
 fn numbers(rt: HostRuntime) -> Result<(), Fail> {
-    assert_eq!(rt; first_wrong(&rt, BASE, NUMBERS), 0);
+    same(&rt, first_wrong(&rt, BASE, NUMBERS), 0);
     Ok(())
 }
 
@@ -137,7 +138,7 @@ const NAMES_THAT_ARE_DECLARED: &str = "8 6 port q
 
 #[test]
 fn names_that_are_declared(rt: HostRuntime) -> Result<(), Fail> {
-    assert_eq!(rt; first_wrong(&rt, BASE, NAMES_THAT_ARE_DECLARED), 0);
+    same(&rt, first_wrong(&rt, BASE, NAMES_THAT_ARE_DECLARED), 0);
     Ok(())
 }
 
@@ -161,7 +162,7 @@ const NAMES_THAT_ARE_REFERRED_TO: &str = "8 7 receive r once a h take a 1 any
 
 #[test]
 fn names_that_are_referred_to(rt: HostRuntime) -> Result<(), Fail> {
-    assert_eq!(rt; first_wrong(&rt, BASE, NAMES_THAT_ARE_REFERRED_TO), 0);
+    same(&rt, first_wrong(&rt, BASE, NAMES_THAT_ARE_REFERRED_TO), 0);
     Ok(())
 }
 
@@ -189,6 +190,6 @@ const PORTS_OF_SETS: &str = "8 7 portset s c
 
 #[test]
 fn ports_of_sets(rt: HostRuntime) -> Result<(), Fail> {
-    assert_eq!(rt; first_wrong(&rt, BASE, PORTS_OF_SETS), 0);
+    same(&rt, first_wrong(&rt, BASE, PORTS_OF_SETS), 0);
     Ok(())
 }

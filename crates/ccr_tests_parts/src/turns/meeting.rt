@@ -3,6 +3,7 @@
 ghost use Rattle.std.specs.Prelude.{◌≡◌};
 ghost use Rattle.ccr_turns.specs.Locks.{place_count, IsSeatOf};
 
+use ccr_asserts::same;
 use ccr_base::{List, OutOfMemory};
 use ccr_turns::{Kept, Seat, Turns};
 use std::alloc::Global;
@@ -78,6 +79,6 @@ fn two_places_at_once(rt: HostRuntime) -> Result<(), Fail> {
             requires { IsSeatOf turns seat × (place_count turns ≡ 2) }
         { meet(&rt, &turns, seat) },
     )?;
-    assert_eq!(rt; met.as_slice(), [true, true].as_slice());
+    same(&rt, met.as_slice(), [true, true].as_slice());
     Ok(())
 }

@@ -3,6 +3,7 @@
 ghost use Rattle.std.specs.Prelude.{◌≡◌, ◌<◌};
 ghost use Rattle.ccr_turns.specs.Locks.{place_count, IsSeatOf};
 
+use ccr_asserts::same;
 use super::counter::{Ask, Counter, counters};
 use super::entries_of;
 use ccr_base::List;
@@ -80,13 +81,13 @@ fn sixteen_seats_over_many_places(rt: HostRuntime) -> Result<(), Fail> {
         .close(rt.alloc(), List::from_vec(seats))
         .ok()
         .ok_or("memory")?;
-    assert_eq!(rt; kept.as_slice().len(), 64);
+    same(&rt, kept.as_slice().len(), 64);
     for ((counter, history), place) in kept.as_slice().iter().zip(0..PLACES) {
         let history = history.as_slice();
-        assert_eq!(rt; counter.raised(), history.len() as u64);
+        same(&rt, counter.raised(), history.len() as u64);
         assert!(rt; is_in_order(history));
         for number in 0..SEATS {
-            assert_eq!(rt; entries_of(history, number), due(number, place));
+            same(&rt, entries_of(history, number), due(number, place));
         }
     }
     Ok(())

@@ -1,5 +1,6 @@
 //! The codes that one more arbiter brings.
 
+use ccr_asserts::{same, same_in};
 use super::sizes::{SMALL, Sizes, parts};
 use super::{add, code, code_at, name};
 use ccr_base::{Group, List, Pattern};
@@ -74,7 +75,7 @@ fn groups_of_a_kind(rt: HostRuntime) {
     ];
     for (what, kind, group, branch, pattern, expected) in table {
         let found = with_arbiter(&rt, rt.alloc(), kind, group, branch, pattern);
-        assert_eq!(rt; found, expected, "{what}");
+        same_in(&rt, what, found, expected);
     }
 }
 
@@ -108,7 +109,7 @@ fn names_of_a_branch(rt: HostRuntime) {
     ];
     for (what, kind, group, branch, pattern, expected) in table {
         let found = with_arbiter(&rt, rt.alloc(), kind, group, branch, pattern);
-        assert_eq!(rt; found, expected, "{what}");
+        same_in(&rt, what, found, expected);
     }
 }
 
@@ -142,7 +143,7 @@ fn ports_and_totals_of_a_pattern(rt: HostRuntime) {
     ];
     for (what, kind, group, branch, pattern, expected) in table {
         let found = with_arbiter(&rt, rt.alloc(), kind, group, branch, pattern);
-        assert_eq!(rt; found, expected, "{what}");
+        same_in(&rt, what, found, expected);
     }
 }
 
@@ -161,15 +162,12 @@ fn least_of_two_codes(rt: HostRuntime) {
 
 #[test]
 fn choice_without_a_branch(rt: HostRuntime) {
-    assert_eq!(rt;
-        code_at(
+    same(&rt, code_at(
             &rt,
             rt.alloc(),
             &Sizes {
                 branches: 0,
                 ..SMALL
             }
-        ),
-        11
-    );
+        ), 11);
 }

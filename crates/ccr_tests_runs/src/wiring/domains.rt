@@ -1,5 +1,6 @@
 //! Domains, and what only version 2 has.
 
+use ccr_asserts::{same, same_in};
 use super::sizes::{SMALL, parts, pattern};
 use super::{add, code, name};
 use ccr_base::{Action, ArbiterNo, BranchNo, Expr, Group, Handler, List, Sent, Value};
@@ -65,7 +66,7 @@ fn domains_are_of_interleaves(rt: HostRuntime) {
     ];
     for (what, domains, wanted) in table {
         let found = code_of_domains(&rt, rt.alloc(), domains);
-        assert_eq!(rt; found, wanted, "{what}");
+        same_in(&rt, what, found, wanted);
     }
 }
 
@@ -84,7 +85,7 @@ fn domain(rt: &impl Abort, alloc: Global, arbiter: ArbiterNo) -> ArbiterNo {
 #[test]
 fn domain_is_the_least_member(rt: HostRuntime) {
     for (arbiter, wanted) in [(0, 0), (1, 1), (2, 2), (3, 2), (4, 2), (5, 5)] {
-        assert_eq!(rt; domain(&rt, rt.alloc(), arbiter), wanted);
+        same(&rt, domain(&rt, rt.alloc(), arbiter), wanted);
     }
 }
 
@@ -100,7 +101,7 @@ fn domain_of_branch(rt: &impl Abort, alloc: Global, branch: BranchNo) -> Option<
 #[test]
 fn branch_is_of_its_domain(rt: HostRuntime) {
     for (branch, wanted) in [(0, Some(0)), (4, Some(2)), (10, Some(10)), (11, None)] {
-        assert_eq!(rt; domain_of_branch(&rt, rt.alloc(), branch), wanted);
+        same(&rt, domain_of_branch(&rt, rt.alloc(), branch), wanted);
     }
 }
 
@@ -147,7 +148,7 @@ fn lists_are_of_version_two(rt: HostRuntime) {
     let pair = Value::of(&[1, 2]).expect(&rt, "a value");
     for (version, wanted) in [(0, 2), (1, 5), (2, 0), (3, 2)] {
         let found = with_post(&rt, rt.alloc(), version, pair);
-        assert_eq!(rt; found, wanted);
+        same(&rt, found, wanted);
     }
     let table = [
         (1, Expr::Number(pair), 5),
@@ -159,6 +160,6 @@ fn lists_are_of_version_two(rt: HostRuntime) {
     ];
     for (version, expr, wanted) in table {
         let found = with_failure(&rt, rt.alloc(), version, expr);
-        assert_eq!(rt; found, wanted);
+        same(&rt, found, wanted);
     }
 }

@@ -1,12 +1,13 @@
 //! Parts in which each limit is reached, and parts in which one is passed.
 
+use ccr_asserts::{same, same_in};
 use super::code_at;
 use super::sizes::{FULL, Sizes};
 use std::test::*;
 
 #[test]
 fn every_limit_is_reached(rt: HostRuntime) {
-    assert_eq!(rt; code_at(&rt, rt.alloc(), &FULL), 0);
+    same(&rt, code_at(&rt, rt.alloc(), &FULL), 0);
 }
 
 #[test]
@@ -30,7 +31,7 @@ fn budget_and_queues_outside_their_limits(rt: HostRuntime) {
         ("no policy number", Sizes { policy: 0, ..FULL }),
     ];
     for (what, sizes) in table {
-        assert_eq!(rt; code_at(&rt, rt.alloc(), &sizes), 10, "{what}");
+        same_in(&rt, what, code_at(&rt, rt.alloc(), &sizes), 10);
     }
 }
 
@@ -55,7 +56,7 @@ fn ports_and_sets_outside_their_limits(rt: HostRuntime) {
         ),
     ];
     for (what, sizes) in table {
-        assert_eq!(rt; code_at(&rt, rt.alloc(), &sizes), 10, "{what}");
+        same_in(&rt, what, code_at(&rt, rt.alloc(), &sizes), 10);
     }
 }
 
@@ -86,7 +87,7 @@ fn causes_and_handlers_outside_their_limits(rt: HostRuntime) {
         ),
     ];
     for (what, sizes) in table {
-        assert_eq!(rt; code_at(&rt, rt.alloc(), &sizes), 10, "{what}");
+        same_in(&rt, what, code_at(&rt, rt.alloc(), &sizes), 10);
     }
 }
 
@@ -110,7 +111,7 @@ fn arbiters_and_branches_outside_their_limits(rt: HostRuntime) {
         ),
     ];
     for (what, sizes) in table {
-        assert_eq!(rt; code_at(&rt, rt.alloc(), &sizes), 10, "{what}");
+        same_in(&rt, what, code_at(&rt, rt.alloc(), &sizes), 10);
     }
 }
 
@@ -129,7 +130,7 @@ fn patterns_outside_their_limits(rt: HostRuntime) {
         ("no count", Sizes { count: 0, ..FULL }),
     ];
     for (what, sizes) in table {
-        assert_eq!(rt; code_at(&rt, rt.alloc(), &sizes), 10, "{what}");
+        same_in(&rt, what, code_at(&rt, rt.alloc(), &sizes), 10);
     }
 }
 
@@ -147,6 +148,6 @@ fn posters_outside_their_limits(rt: HostRuntime) {
         ("script posts", Sizes { posts: 626, ..FULL }),
     ];
     for (what, sizes) in table {
-        assert_eq!(rt; code_at(&rt, rt.alloc(), &sizes), 10, "{what}");
+        same_in(&rt, what, code_at(&rt, rt.alloc(), &sizes), 10);
     }
 }

@@ -1,5 +1,6 @@
 //! How many spots a port may have.
 
+use ccr_asserts::same;
 use super::sizes::{SMALL, Sizes, branch, parts, pattern};
 use super::{add, code, name};
 use ccr_base::{Group, List};
@@ -40,6 +41,6 @@ fn sixteen_spots_at_a_port_and_no_more(rt: HostRuntime) {
     let alloc = rt.alloc();
     for (spots, expected) in [(16, 0), (17, 12)] {
         let parts = branches_at_one_port(&rt, alloc, spots);
-        assert_eq!(rt; code(&rt, alloc, parts), expected);
+        same(&rt, code(&rt, alloc, parts), expected);
     }
 }

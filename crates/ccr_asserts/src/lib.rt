@@ -1,0 +1,15 @@
+//! Comparisons of the tests. Each is one call: the code of `assert_eq!` would stand in the test and be proved with it.
+#![tactic(auto)]
+
+use std::fmt::Debug;
+use std::process::Abort;
+
+/// Stops the test where the two differ, and tells both.
+pub fn same<T: Copy + PartialEq + Debug>(rt: &impl Abort, found: T, wanted: T) {
+    assert_eq!(rt; found, wanted);
+}
+
+/// The same, and tells in which row.
+pub fn same_in<T: Copy + PartialEq + Debug>(rt: &impl Abort, row: &str, found: T, wanted: T) {
+    assert_eq!(rt; found, wanted, "{row}");
+}
