@@ -25,5 +25,6 @@ pub mod PartSteps
 pub mod Along
 pub mod Reading
 pub mod FirstPlaces
+pub mod NotedPlaces
 pub mod SpotPlaces
 pub mod TouchedSpots

@@ -1,5 +1,5 @@
 -- Where a wiring's spots stand: numbers past its own have none, and a branch's sites stand behind it.
-use Rattle.std.proofs.Common.{◌≡◌, ◌∙◌, ℕ, zero, suc, ◌+◌, ◌<◌, ◌≤◌, ◌⊎◌, inl, inr, Bool, true, false, ◌&&◌, List, [], ◌∷◌, ◌++◌, length, Option, None, Some, Vec, Global, refl, ap, sym, subst, arith, length-append}
+use Rattle.std.proofs.Common.{◌≡◌, ◌∙◌, ℕ, zero, suc, ◌+◌, ◌<◌, ◌≤◌, Bool, true, false, ◌&&◌, List, [], ◌∷◌, ◌++◌, length, Option, None, Some, Vec, Global, refl, ap, sym, subst, arith}
 use Rattle.std.specs.Prelude.{◌==◌, ◌^◌, option_map, option_and_then}
 use Rattle.std.specs.List.{slice_get, list_any}
 use Rattle.std.specs.Option.{option_map_or}
@@ -21,13 +21,11 @@ use Rattle.ccr_wiring.specs.Spots.{pattern_ports}
 use Rattle.ccr_wiring.specs.Valid.{IsValid}
 use Rattle.ccr_wiring.proofs.Soundness.{sound}
 use Rattle.ccr_model.proofs.Booleans.{and_false, eq-self}
-use Rattle.ccr_model.proofs.Options.{none-above, some-below}
-use Rattle.ccr_serial.specs.declared.places.Key.{Key}
-use Rattle.ccr_serial.specs.declared.places.Key.TheVariants as keys
 use Rattle.ccr_serial.specs.Touched.{names_any, is_throttle}
 use Rattle.ccr_serial.specs.Numbered.{ArePlaces}
-use Rattle.ccr_serial.specs.Places.{first_place, first_keyed, is_keyed, count_of, AreFirst, AreListed}
-use Rattle.ccr_serial.proofs.FirstPlaces.{IsOnce, first_never, first_behind, first_within, never_at, once_never, once_later, once_here, once_behind}
+use Rattle.ccr_serial.specs.Places.{first_place, takes_from, is_held_by, list_at, branch_places, AreKeyed}
+use Rattle.ccr_serial.proofs.FirstPlaces.{IsOnce, first_never, first_behind, first_within, once_never, once_later, once_here, once_behind}
+use Rattle.ccr_serial.proofs.NotedPlaces.{listed_all, places_append}
 
 nowhere : {T : Type 0} (test : T → Bool) (xs : List T) → ((x : T) → test x ≡ false) → list_any test xs ≡ false
 nowhere test [] never = refl
@@ -50,7 +48,7 @@ pattern_low n (Gather total a b) low =
     let two = other n b (low 1 b refl) in
     rw (one, two) refl
 
-no_port : (w : Parts) → IsValid w → (n : ℕ) → length w.ports ≤ n → (s : Spot) → is_keyed w keys.Port n s ≡ false
+no_port : (w : Parts) → IsValid w → (n : ℕ) → length w.ports ≤ n → (s : Spot) → takes_from w n s ≡ false
 no_port w valid n past (Branch b) = of_placement (placement w b) refl
   where
     of_placement : (o : Option Placement) → placement w b ≡ o → option_map_or (λ (s : Placement). names_any (λ port. n == port) s.branch.pattern) o false ≡ false
@@ -62,7 +60,7 @@ no_port w valid n past (Site b k) = of_port (site_port w b k) refl
     of_port None at = refl
     of_port (Some port) at = other n port (omega (arith, past, (sound w valid).site_ports b k port at))
 
-no_queue : (w : Parts) → IsValid w → (n : ℕ) → length w.queues ≤ n → (s : Spot) → is_keyed w keys.Queue n s ≡ false
+no_queue : (w : Parts) → IsValid w → (n : ℕ) → length w.queues ≤ n → (s : Spot) → is_held_by w n s ≡ false
 no_queue w valid n past (Site b k) = refl
 no_queue w valid n past (Branch b) = of_placement (placement w b) refl
   where
@@ -75,35 +73,17 @@ sites_never : (test : Spot → Bool) (b j : ℕ) (ports : List ℕ) → ((k : �
 sites_never test b j [] never = refl
 sites_never test b j (port ∷ ports) never = rw (never j) (sites_never test b (j + 1) ports never)
 
--- among the spots of other branches none passes that passes at the spots of one alone
-others_never : (w : Parts) (n : ℕ) (test : Spot → Bool) → ((s : Spot) → (n == branch_of s) ≡ false → test s ≡ false) → (m : ℕ) (ss : List Placement) → (n < m) ⊎ (m + length ss ≤ n) → list_any test (spots_from w m ss) ≡ false
-others_never w n test alone m [] past = refl
-others_never w n test alone m (s ∷ ss) past =
-    let differs = not_here past in
+-- among the spots of later branches none passes that passes at the spots of one alone
+others_never : (w : Parts) (n : ℕ) (test : Spot → Bool) → ((s : Spot) → (n == branch_of s) ≡ false → test s ≡ false) → (m : ℕ) (ss : List Placement) → n < m → list_any test (spots_from w m ss) ≡ false
+others_never w n test alone m [] low = refl
+others_never w n test alone m (s ∷ ss) low =
+    let differs : (n == m) ≡ false = grind (arith, nat_tests, low) in
     let ports = awaited (actions_of w s.branch.handler) in
-    rw (alone (Branch m) differs, list_any-append test (sites_from m 0 ports) (spots_from w (m + 1) ss), sites_never test m 0 ports (λ k. alone (Site m k) differs)) (others_never w n test alone (m + 1) ss (further past))
-  where
-    not_here : (n < m) ⊎ (m + suc (length ss) ≤ n) → (n == m) ≡ false
-    not_here (inl low) = grind (arith, nat_tests, low)
-    not_here (inr high) = grind (arith, nat_tests, high)
-
-    further : (n < m) ⊎ (m + suc (length ss) ≤ n) → (n < m + 1) ⊎ ((m + 1) + length ss ≤ n)
-    further (inl low) = inl (omega (arith, low))
-    further (inr high) = inr (omega (arith, high))
-
-branch_alone : (w : Parts) (n : ℕ) (s : Spot) → (n == branch_of s) ≡ false → is_keyed w keys.Branch n s ≡ false
-branch_alone w n (Branch b) differs = differs
-branch_alone w n (Site b k) differs = refl
+    rw (alone (Branch m) differs, list_any-append test (sites_from m 0 ports) (spots_from w (m + 1) ss), sites_never test m 0 ports (λ k. alone (Site m k) differs)) (others_never w n test alone (m + 1) ss (omega (arith, low)))
 
 site_alone : (n k : ℕ) (s : Spot) → (n == branch_of s) ≡ false → same_spot (Site n k) s ≡ false
 site_alone n k (Branch b) differs = refl
 site_alone n k (Site b j) differs = rw differs refl
-
--- a number past the wiring's has no place
-pub none_keyed : (w : Parts) → IsValid w → (key : Key) (n : ℕ) → count_of w key ≤ n → list_any (is_keyed w key n) (spots w) ≡ false
-none_keyed w valid keys.Port n past = nowhere (is_keyed w keys.Port n) (spots w) (no_port w valid n past)
-none_keyed w valid keys.Queue n past = nowhere (is_keyed w keys.Queue n) (spots w) (no_queue w valid n past)
-none_keyed w valid keys.Branch n past = (others_never w n (is_keyed w keys.Branch n) (branch_alone w n) 0 (placements w) (inr (omega (arith, past))))
 
 -- among a branch's own sites
 own_site : (n k j i : ℕ) (ports : List ℕ) (rest : List Spot) → k ≡ j + i → first_place (same_spot (Site n k)) rest ≡ None → first_place (same_spot (Site n k)) (sites_from n j ports ++ rest) ≡ option_map (λ port. i) (slice_get ports i)
@@ -127,11 +107,11 @@ port_at w k s = slice_get (awaited (actions_of w s.branch.handler)) k
 abbrev behind : ℕ → Option ℕ → Option ℕ → Option ℕ
 behind k place port = option_and_then (λ p. option_map (λ i. i + 1 + k) place) port
 
-site_from : (w : Parts) (n k m : ℕ) (ss : List Placement) (d : ℕ) → n ≡ m + d → first_place (same_spot (Site n k)) (spots_from w m ss) ≡ option_and_then (λ (s : Placement). behind k (first_place (is_keyed w keys.Branch n) (spots_from w m ss)) (port_at w k s)) (slice_get ss d)
+site_from : (w : Parts) (n k m : ℕ) (ss : List Placement) (d : ℕ) → n ≡ m + d → first_place (same_spot (Site n k)) (spots_from w m ss) ≡ option_and_then (λ (s : Placement). behind k (first_place (same_spot (Branch n)) (spots_from w m ss)) (port_at w k s)) (slice_get ss d)
 site_from w n k m [] d is = refl
 site_from w n k m (s ∷ ss) zero is =
     let same : m ≡ n = omega (arith, is) in
-    let rest = first_never (same_spot (Site n k)) (spots_from w (m + 1) ss) (others_never w n (same_spot (Site n k)) (site_alone n k) (m + 1) ss (inl (omega (arith, is)))) in
+    let rest = first_never (same_spot (Site n k)) (spots_from w (m + 1) ss) (others_never w n (same_spot (Site n k)) (site_alone n k) (m + 1) ss (omega (arith, is))) in
     let here : (n == m) ≡ true = grind (arith, nat_tests, same) in
     rw (here, ap (λ b. first_place (same_spot (Site n k)) (sites_from b 0 (awaited (actions_of w s.branch.handler)) ++ spots_from w (m + 1) ss)) same, own_site n k 0 k (awaited (actions_of w s.branch.handler)) (spots_from w (m + 1) ss) (omega arith) rest) (of_option (port_at w k s))
   where
@@ -142,8 +122,8 @@ site_from w n k m (s ∷ ss) (suc d) is =
     let differs : (n == m) ≡ false = grind (arith, nat_tests, is) in
     let ports = awaited (actions_of w s.branch.handler) in
     let site = first_behind (same_spot (Site n k)) (sites_from m 0 ports) (spots_from w (m + 1) ss) (sites_never (same_spot (Site n k)) m 0 ports (λ j. site_alone n k (Site m j) differs)) in
-    let branch = first_behind (is_keyed w keys.Branch n) (sites_from m 0 ports) (spots_from w (m + 1) ss) (sites_never (is_keyed w keys.Branch n) m 0 ports (λ j. refl)) in
-    rw (differs, site, branch, site_from w n k (m + 1) ss d (omega (arith, is))) (of_placement (slice_get ss d) (first_place (is_keyed w keys.Branch n) (spots_from w (m + 1) ss)) (length (sites_from m 0 ports)))
+    let branch = first_behind (same_spot (Branch n)) (sites_from m 0 ports) (spots_from w (m + 1) ss) (sites_never (same_spot (Branch n)) m 0 ports (λ j. refl)) in
+    rw (differs, site, branch, site_from w n k (m + 1) ss d (omega (arith, is))) (of_placement (slice_get ss d) (first_place (same_spot (Branch n)) (spots_from w (m + 1) ss)) (length (sites_from m 0 ports)))
   where
     of_place : (o p : Option ℕ) (l : ℕ) → option_map suc (option_map (λ i. l + i) (behind k p o)) ≡ behind k (option_map suc (option_map (λ i. l + i) p)) o
     of_place None p l = refl
@@ -155,10 +135,10 @@ site_from w n k m (s ∷ ss) (suc d) is =
     of_placement (Some s) p l = of_place (port_at w k s) p l
 
 -- a site stands behind its branch, by its number
-pub site_place : (w : Parts) (n k : ℕ) → first_place (same_spot (Site n k)) (spots w) ≡ option_and_then (λ port. option_map (λ i. i + 1 + k) (first_keyed w keys.Branch n)) (site_port w n k)
+pub site_place : (w : Parts) (n k : ℕ) → first_place (same_spot (Site n k)) (spots w) ≡ option_and_then (λ port. option_map (λ i. i + 1 + k) (first_place (same_spot (Branch n)) (spots w))) (site_port w n k)
 site_place w n k = site_from w n k 0 (placements w) n (omega arith) ∙ of_placement (placement w n)
   where
-    of_placement : (o : Option Placement) → option_and_then (λ (s : Placement). behind k (first_keyed w keys.Branch n) (port_at w k s)) o ≡ option_and_then (λ port. option_map (λ i. i + 1 + k) (first_keyed w keys.Branch n)) (option_map_or (λ (s : Placement). slice_get (awaited (actions_of w s.branch.handler)) k) o None)
+    of_placement : (o : Option Placement) → option_and_then (λ (s : Placement). behind k (first_place (same_spot (Branch n)) (spots w)) (port_at w k s)) o ≡ option_and_then (λ port. option_map (λ i. i + 1 + k) (first_place (same_spot (Branch n)) (spots w))) (option_map_or (λ (s : Placement). slice_get (awaited (actions_of w s.branch.handler)) k) o None)
     of_placement None = refl
     of_placement (Some s) = refl
 
@@ -179,62 +159,53 @@ no_site w valid n k far = site_place w n k ∙ rw (of_placement (placement w n))
     of_placement None = refl
     of_placement (Some s) = slice_get_past (awaited (actions_of w s.branch.handler)) k (omega (arith, far, few_awaited (actions_of w s.branch.handler), (sound w valid).few_actions s.branch.handler))
 
--- what the list of first places says of a number
-pub listed : (w : Parts) → IsValid w → (key : Key) (n : ℕ) (firsts : List (Option ℕ)) → AreFirst w key (count_of w key) firsts → option_and_then (λ first. first) (slice_get firsts n) ≡ first_keyed w key n
-listed w valid key n firsts first = of_option (slice_get firsts n) refl
+-- what the lists say of a port and of a queue
+pub at_port : (w : Parts) (ports queues : List (Vec ℕ Global)) (branches : List ℕ) (port : ℕ) → AreKeyed w (spots w) ports queues branches → ArePlaces (takes_from w port) (spots w) (list_at ports port)
+at_port w ports queues branches port keyed = listed_all (takes_from w) (length w.ports) (spots w) ports port keyed.by_port (λ past. nowhere (takes_from w port) (spots w) (no_port w keyed.valid port past))
+
+pub on_queue : (w : Parts) (ports queues : List (Vec ℕ Global)) (branches : List ℕ) (queue : ℕ) → AreKeyed w (spots w) ports queues branches → ArePlaces (is_held_by w queue) (spots w) (list_at queues queue)
+on_queue w ports queues branches queue keyed = listed_all (is_held_by w) (length w.queues) (spots w) queues queue keyed.by_queue (λ past. nowhere (is_held_by w queue) (spots w) (no_queue w keyed.valid queue past))
+
+-- a branch's place, by its number
+sites_placed : (b j p : ℕ) (ports : List ℕ) → branch_places p (sites_from b j ports) ≡ []
+sites_placed b j p [] = refl
+sites_placed b j p (port ∷ ports) = sites_placed b (j + 1) (p + 1) ports
+
+branch_from : (w : Parts) (n m p : ℕ) (ss : List Placement) (d : ℕ) → n ≡ m + d → slice_get (branch_places p (spots_from w m ss)) d ≡ option_map (λ i. p + i) (first_place (same_spot (Branch n)) (spots_from w m ss))
+branch_from w n m p [] d is = refl
+branch_from w n m p (s ∷ ss) zero is =
+    let same : (n == m) ≡ true = grind (arith, nat_tests, is) in
+    let e : p ≡ p + 0 = omega arith in
+    rw same (ap Some e)
+branch_from w n m p (s ∷ ss) (suc d) is =
+    let differs : (n == m) ≡ false = grind (arith, nat_tests, is) in
+    let ports = awaited (actions_of w s.branch.handler) in
+    let count = length (sites_from m 0 ports) in
+    let branch = first_behind (same_spot (Branch n)) (sites_from m 0 ports) (spots_from w (m + 1) ss) (sites_never (same_spot (Branch n)) m 0 ports (λ j. refl)) in
+    rw (differs, branch, places_append (sites_from m 0 ports) (spots_from w (m + 1) ss) (p + 1), sites_placed m 0 (p + 1) ports) (branch_from w n (m + 1) (p + 1 + count) ss d (omega (arith, is)) ∙ of_option (first_place (same_spot (Branch n)) (spots_from w (m + 1) ss)) count)
   where
-    some_is : (p q : Option ℕ) → Some p ≡ Some q → p ≡ q
-    some_is p q same = cc
+    of_option : (o : Option ℕ) (l : ℕ) → option_map (λ i. p + 1 + l + i) o ≡ option_map (λ i. p + i) (option_map suc (option_map (λ i. l + i) o))
+    of_option None l = refl
+    of_option (Some i) l = let e : p + 1 + l + i ≡ p + suc (l + i) = omega arith in ap Some e
 
-    of_option : (o : Option (Option ℕ)) → slice_get firsts n ≡ o → option_and_then (λ first. first) o ≡ first_keyed w key n
-    of_option None at = sym (first_never (is_keyed w key n) (spots w) (none_keyed w valid key n (omega (arith, first.size, none-above firsts n at))))
-    of_option (Some place) at = some_is place (first_keyed w key n) (sym at ∙ first.each n (omega (arith, first.size, some-below firsts n place at)))
-
--- what the list of all places says of a number
-pub all_listed : (w : Parts) → IsValid w → (key : Key) (n : ℕ) (lists : List (Vec ℕ Global)) → AreListed w key (count_of w key) lists → ArePlaces (is_keyed w key n) (spots w) (option_map_or (λ (list : Vec ℕ Global). list.items) (slice_get lists n) [])
-all_listed w valid key n lists all = of_option (slice_get lists n) refl
+pub branch_at : (w : Parts) (n : ℕ) → slice_get (branch_places 0 (spots w)) n ≡ first_place (same_spot (Branch n)) (spots w)
+branch_at w n = branch_from w n 0 0 (placements w) n (omega arith) ∙ of_option (first_place (same_spot (Branch n)) (spots w))
   where
-    of_option : (o : Option (Vec ℕ Global)) → slice_get lists n ≡ o → ArePlaces (is_keyed w key n) (spots w) (option_map_or (λ (list : Vec ℕ Global). list.items) o [])
-    of_option None at = λ place. sym (never_at (is_keyed w key n) (spots w) (none_keyed w valid key n (omega (arith, all.size, none-above lists n at))) place)
-    of_option (Some list) at = all.each n list at
-
--- one more list
-last_or_before : {X : Type 0} (xs : List X) (x y : X) (i : ℕ) → slice_get (xs ++ x ∷ []) i ≡ Some y → (slice_get xs i ≡ Some y) ⊎ ((i ≡ length xs) × (x ≡ y))
-last_or_before [] x y zero at = let one : x ≡ y = cc in inr (refl, one)
-last_or_before [] x y (suc i) at = absurd (cc)
-last_or_before (z ∷ xs) x y zero at = inl at
-last_or_before (z ∷ xs) x y (suc i) at = of_either (last_or_before xs x y i at)
-  where
-    of_either : (slice_get xs i ≡ Some y) ⊎ ((i ≡ length xs) × (x ≡ y)) → (slice_get xs i ≡ Some y) ⊎ ((suc i ≡ suc (length xs)) × (x ≡ y))
-    of_either (inl before) = inl before
-    of_either (inr last) = inr (ap suc last.0, last.1)
-
-pub lists_start : (w : Parts) (key : Key) → AreListed w key 0 []
-lists_start w key = record { size = refl; each = λ number list at. absurd (cc) }
-
-pub lists_next : (w : Parts) (key : Key) (count : ℕ) (lists : List (Vec ℕ Global)) (list : Vec ℕ Global) → AreListed w key count lists → ArePlaces (is_keyed w key count) (spots w) list.items → AreListed w key (count + 1) (lists ++ list ∷ [])
-lists_next w key count lists list known places = record {
-  size = length-append lists (list ∷ []) ∙ ap (λ n. n + 1) known.size;
-  each = λ number other at. of_either number other (last_or_before lists list other number at);
-}
-  where
-    of_either : (number : ℕ) (other : Vec ℕ Global) → (slice_get lists number ≡ Some other) ⊎ ((number ≡ length lists) × (list ≡ other)) → ArePlaces (is_keyed w key number) (spots w) other.items
-    of_either number other (inl before) = known.each number other before
-    of_either number other (inr last) =
-        let here : count ≡ number = sym (last.0 ∙ known.size) in
-        subst (λ (v : Vec ℕ Global). ArePlaces (is_keyed w key number) (spots w) v.items) last.1 (subst (λ n. ArePlaces (is_keyed w key n) (spots w) list.items) here places)
+    of_option : (o : Option ℕ) → option_map (λ i. 0 + i) o ≡ o
+    of_option None = refl
+    of_option (Some i) = let e : 0 + i ≡ i = omega arith in ap Some e
 
 -- the place of a site, by that of its branch
-pub site_stands : (w : Parts) (n k port i : ℕ) → site_port w n k ≡ Some port → first_keyed w keys.Branch n ≡ Some i → Some (i + 1 + k) ≡ first_place (same_spot (Site n k)) (spots w)
+pub site_stands : (w : Parts) (n k port i : ℕ) → site_port w n k ≡ Some port → first_place (same_spot (Branch n)) (spots w) ≡ Some i → Some (i + 1 + k) ≡ first_place (same_spot (Site n k)) (spots w)
 site_stands w n k port i at place = sym (site_place w n k ∙ rw (at, place) refl)
 
-pub site_fits : (w : Parts) (n k port i : ℕ) → site_port w n k ≡ Some port → first_keyed w keys.Branch n ≡ Some i → i + 1 + k < length (spots w)
+pub site_fits : (w : Parts) (n k port i : ℕ) → site_port w n k ≡ Some port → first_place (same_spot (Branch n)) (spots w) ≡ Some i → i + 1 + k < length (spots w)
 site_fits w n k port i at place = first_within (same_spot (Site n k)) (spots w) (i + 1 + k) (sym (site_stands w n k port i at place))
 
 pub no_such_site : (w : Parts) (n k : ℕ) → site_port w n k ≡ None → None ≡ first_place (same_spot (Site n k)) (spots w)
 no_such_site w n k at = sym (site_place w n k ∙ rw at refl)
 
-pub no_such_branch : (w : Parts) (n k : ℕ) → first_keyed w keys.Branch n ≡ None → None ≡ first_place (same_spot (Site n k)) (spots w)
+pub no_such_branch : (w : Parts) (n k : ℕ) → first_place (same_spot (Branch n)) (spots w) ≡ None → None ≡ first_place (same_spot (Site n k)) (spots w)
 no_such_branch w n k none = sym (site_place w n k ∙ rw none (of_option (site_port w n k)))
   where
     of_option : (o : Option ℕ) → option_and_then (λ port. option_map (λ i. i + 1 + k) None) o ≡ None
@@ -270,7 +241,7 @@ once_from w n k m (s ∷ ss) = once_later (same_spot (Site n k)) (Branch m) (sit
     of_test : (b : Bool) → (n == m) ≡ b → IsOnce (same_spot (Site n k)) (spots_from w (m + 1) ss) → IsOnce (same_spot (Site n k)) (sites_from m 0 (awaited (actions_of w s.branch.handler)) ++ spots_from w (m + 1) ss)
     of_test true same rest =
         let one : n ≡ m = grind (arith, nat_tests, same) in
-        subst (λ i. IsOnce (same_spot (Site n k)) (sites_from i 0 (awaited (actions_of w s.branch.handler)) ++ spots_from w (m + 1) ss)) one (own_once n k 0 (awaited (actions_of w s.branch.handler)) (spots_from w (m + 1) ss) (others_never w n (same_spot (Site n k)) (site_alone n k) (m + 1) ss (inl (omega (arith, one)))))
+        subst (λ i. IsOnce (same_spot (Site n k)) (sites_from i 0 (awaited (actions_of w s.branch.handler)) ++ spots_from w (m + 1) ss)) one (own_once n k 0 (awaited (actions_of w s.branch.handler)) (spots_from w (m + 1) ss) (others_never w n (same_spot (Site n k)) (site_alone n k) (m + 1) ss (omega (arith, one))))
     of_test false differs rest = once_behind (same_spot (Site n k)) (sites_from m 0 (awaited (actions_of w s.branch.handler))) (spots_from w (m + 1) ss) (sites_never (same_spot (Site n k)) m 0 (awaited (actions_of w s.branch.handler)) (λ j. site_alone n k (Site m j) differs)) rest
 
 pub site_once : (w : Parts) (n k : ℕ) → IsOnce (same_spot (Site n k)) (spots w)

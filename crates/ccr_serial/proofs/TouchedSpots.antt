@@ -25,11 +25,10 @@ use Rattle.ccr_model.specs.Firings.{yielded_by}
 use Rattle.ccr_model.proofs.Booleans.{and_false}
 use Rattle.ccr_ledger.specs.declared.cards.Card.{Card}
 use Rattle.ccr_ledger.specs.Books.{Books, card_at}
-use Rattle.ccr_serial.specs.declared.places.Key.TheVariants as keys
 use Rattle.ccr_serial.specs.Touched.{posts_to, freed_by, names_any, is_throttle}
 use Rattle.ccr_serial.specs.Numbered.{Gains, ArePlaces, passes_at}
 use Rattle.ccr_serial.specs.Ready.{has_number}
-use Rattle.ccr_serial.specs.Places.{first_place, is_keyed}
+use Rattle.ccr_serial.specs.Places.{first_place, takes_from, is_held_by}
 use Rattle.ccr_serial.specs.Parts.{comes_to, frees_in, yields_in, touches_branch_in, touches_in}
 use Rattle.ccr_serial.proofs.Gaining.{gains-same, gains-none, gains-or, passes-same, passes-never, passes-or}
 use Rattle.ccr_serial.proofs.SpotPlaces.{site_once}
@@ -58,7 +57,7 @@ any_none (u ∷ ts) = any_none ts
 
 module _ (w : Parts) (b : Books) where
   -- a post touches the spots that take from its port
-  posted : (m : Msg) (s : Spot) → touches_in w b (Post m) s ≡ is_keyed w keys.Port m.port s
+  posted : (m : Msg) (s : Spot) → touches_in w b (Post m) s ≡ takes_from w m.port s
   posted m (Branch n) = of_placement (placement w n)
     where
       of_placement : (o : Option Placement) → option_map_or (touches_branch_in w b (Post m)) o false ≡ option_map_or (λ (s : Placement). names_any (λ port. m.port == port) s.branch.pattern) o false
@@ -97,7 +96,7 @@ module _ (w : Parts) (b : Books) where
       of_card (Some c) = refl
 
   -- what a task frees, by its card
-  frees_by_card : (t : TaskId) (c : Card) → card_at b.tasks t ≡ Some c → is_branch c.spot ≡ true → (s : Spot) → frees_in w b t s ≡ is_keyed w keys.Queue c.queue s
+  frees_by_card : (t : TaskId) (c : Card) → card_at b.tasks t ≡ Some c → is_branch c.spot ≡ true → (s : Spot) → frees_in w b t s ≡ is_held_by w c.queue s
   frees_by_card t c at branch (Site n k) = refl
   frees_by_card t c at branch (Branch n) = of_placement (placement w n)
     where
@@ -124,8 +123,8 @@ module _ (w : Parts) (b : Books) where
   spots_listed p q numbers old new places same gains = spots_same p q old new same (gains-same (has_number numbers) (passes_at p (spots w)) old new places gains)
 
   -- after one task that a branch fired
-  pub freed_branch : (t : TaskId) (c : Card) (numbers old new : List ℕ) → card_at b.tasks t ≡ Some c → is_branch c.spot ≡ true → ArePlaces (is_keyed w keys.Queue c.queue) (spots w) numbers → Gains (has_number numbers) old new → Gains (passes_at (frees_in w b t) (spots w)) old new
-  freed_branch t c numbers old new at branch places = spots_listed (is_keyed w keys.Queue c.queue) (frees_in w b t) numbers old new places (λ s. sym (frees_by_card t c at branch s))
+  pub freed_branch : (t : TaskId) (c : Card) (numbers old new : List ℕ) → card_at b.tasks t ≡ Some c → is_branch c.spot ≡ true → ArePlaces (is_held_by w c.queue) (spots w) numbers → Gains (has_number numbers) old new → Gains (passes_at (frees_in w b t) (spots w)) old new
+  freed_branch t c numbers old new at branch places = spots_listed (is_held_by w c.queue) (frees_in w b t) numbers old new places (λ s. sym (frees_by_card t c at branch s))
 
   -- after one that a site fired, or that never fired
   pub freed_site : (t : TaskId) (c : Card) (old : List ℕ) → card_at b.tasks t ≡ Some c → is_branch c.spot ≡ false → Gains (passes_at (frees_in w b t) (spots w)) old old
@@ -168,8 +167,8 @@ module _ (w : Parts) (b : Books) where
   yield_unknown t old at = spots_none (λ s. yields_in b s t) old (λ s. rw at refl)
 
   -- after each event
-  pub post_touched : (m : Msg) (numbers old new : List ℕ) → ArePlaces (is_keyed w keys.Port m.port) (spots w) numbers → Gains (has_number numbers) old new → Gains (passes_at (touches_in w b (Post m)) (spots w)) old new
-  post_touched m numbers old new places = spots_listed (is_keyed w keys.Port m.port) (touches_in w b (Post m)) numbers old new places (λ s. sym (posted m s))
+  pub post_touched : (m : Msg) (numbers old new : List ℕ) → ArePlaces (takes_from w m.port) (spots w) numbers → Gains (has_number numbers) old new → Gains (passes_at (touches_in w b (Post m)) (spots w)) old new
+  post_touched m numbers old new places = spots_listed (takes_from w m.port) (touches_in w b (Post m)) numbers old new places (λ s. sym (posted m s))
 
   pub freed_touched : (e : Event) (old new : List ℕ) → ((port : ℕ) → posts_to e port ≡ false) → yielded_by e ≡ [] → Gains (freed_spots (freed_by e)) old new → Gains (passes_at (touches_in w b e) (spots w)) old new
   freed_touched e old new silent stays = spots_same (λ s. list_any (λ t. frees_in w b t s) (freed_by e)) (touches_in w b e) old new (λ s. sym (freed e silent stays s))

@@ -1,69 +1,89 @@
 //! A wiring with the places of its spots, so that an event looks at none that it does not touch.
 
-ghost use Rattle.std.specs.Prelude.{◌≡◌, ◌==◌, [], IfOk, length, option_and_then};
+ghost use Rattle.std.specs.Prelude.{◌≡◌, ◌++◌, ◌∷◌, ◌==◌, ℕ, [], IfOk, OnOk, length};
 ghost use Rattle.std.specs.List.{list_any, slice_get};
-ghost use Rattle.std.specs.Option.{option_map_or};
-ghost use Rattle.ccr_base.specs.declared.names.Spot.TheVariants.{Site};
+ghost use Rattle.ccr_base.specs.declared.names.Spot.TheVariants.{Branch, Site};
 ghost use Rattle.ccr_base.specs.declared.patterns.Slot.{Slot};
 ghost use Rattle.ccr_base.specs.Names.{same_spot};
-ghost use Rattle.ccr_wiring.specs.Wirings.{next_site, placements, spots};
+ghost use Rattle.ccr_wiring.specs.Wirings.{next_site, spots};
 ghost use Rattle.ccr_wiring.specs.Valid.{IsValid};
-ghost use Rattle.ccr_serial.specs.declared.places.Key.TheVariants as keys;
 ghost use Rattle.ccr_serial.specs.Touched.{is_throttle, names_any};
 ghost use Rattle.ccr_serial.specs.Numbered.{ArePlaces};
-ghost use Rattle.ccr_serial.specs.Places.{AreFirst, AreListed, first_keyed, first_place, is_keyed};
+ghost use Rattle.ccr_serial.specs.Places.{AreKeyed, IsNoted, branch_places, first_place, is_held_by, list_at, takes_from};
 
 use ccr_base::{OutOfMemory, Pattern, Policy, PortNo, QueueNo, Slot, Spot};
 use ccr_model::placements::{placement, policy_of, site_port};
-use ccr_wiring::{MAX_BRANCHES, Parts, Wiring};
+use ccr_wiring::{Parts, Wiring};
 use std::alloc::Global;
 use std::marker::Model;
 
-/// What spots are found by.
-#[derive(Clone, Copy)]
-pub(crate) enum Key {
-    /// The port that they take from.
-    Port,
-    /// The throttle queue that they are on.
-    Queue,
-    /// The branch that they are.
-    Branch,
+/// So many empty lists.
+fn empty_lists(alloc: Global, count: usize) -> Result<Vec<Vec<usize>>, OutOfMemory>
+    ensures size { IfOk result (λ lists. length lists.items ≡ count) }
+    ensures empty { IfOk result (λ lists. (number : ℕ) → list_at lists.items number ≡ []) }
+{
+    let mut lists = Vec::new(alloc);
+    for _ in 0..count {
+        lists.push(Vec::new(alloc))?;
+    }
+    Ok(lists)
 }
 
-/// Whether some slot takes from the port.
-fn slots_name(slots: &[Slot], port: PortNo) -> bool
-    ensures { result ≡ list_any (λ (slot : Slot). port == slot.port) slots.now }
+/// The place comes into the list of this number. There is none past the last.
+fn note(number: u32, place: usize, lists: &mut [Vec<usize>]) -> Result<(), OutOfMemory>
+    ensures { OnOk result (IsNoted (λ other. other == number) place lists.old lists.new) }
+{
+    if (number as usize) < lists.len() {
+        let list = &mut lists[number as usize];
+        list.push(place)?;
+    }
+    Ok(())
+}
+
+/// The place comes into the lists of the ports that the slots take from.
+fn note_slots(slots: &[Slot], place: usize, ports: &mut [Vec<usize>]) -> Result<(), OutOfMemory>
+    ensures { OnOk result (IsNoted (λ port. list_any (λ (slot : Slot). port == slot.port) slots.now) place ports.old ports.new) }
 {
     for slot in slots {
-        if port == slot.port {
-            return true;
-        }
+        note(slot.port, place, ports)?;
     }
-    false
+    Ok(())
 }
 
-/// Whether the pattern takes from the port.
-fn pattern_names(pattern: &Pattern, port: PortNo) -> bool
-    ensures { result ≡ names_any (λ other. port == other) pattern.now }
+/// The place comes into the lists of the ports that the pattern takes from.
+fn note_pattern(
+    pattern: &Pattern,
+    place: usize,
+    ports: &mut [Vec<usize>],
+) -> Result<(), OutOfMemory>
+    ensures { OnOk result (IsNoted (λ port. names_any (λ other. port == other) pattern.now) place ports.old ports.new) }
 {
     match pattern {
-        Pattern::Slots(slots) => slots_name(slots.as_slice(), port),
-        Pattern::Gather { first, second, .. } => port == *first || port == *second,
+        Pattern::Slots(slots) => note_slots(slots.as_slice(), place, ports),
+        Pattern::Gather { first, second, .. } => {
+            note(*first, place, ports)?;
+            note(*second, place, ports)
+        }
     }
 }
 
-/// Whether the spot takes from the port.
-fn takes_from(wiring: &Wiring, port: PortNo, spot: Spot) -> bool
-    ensures { result ≡ is_keyed wiring.now keys.Port port spot }
+/// The place comes into the lists of the ports that the spot takes from.
+fn note_ports(
+    wiring: &Wiring,
+    spot: Spot,
+    place: usize,
+    ports: &mut [Vec<usize>],
+) -> Result<(), OutOfMemory>
+    ensures { OnOk result (IsNoted (λ port. takes_from wiring.now port spot) place ports.old ports.new) }
 {
     match spot {
         Spot::Branch(branch) => match placement(wiring, branch) {
-            Some(placement) => pattern_names(&placement.branch.pattern, port),
-            None => false,
+            Some(placement) => note_pattern(&placement.branch.pattern, place, ports),
+            None => Ok(()),
         },
         Spot::Site(branch, site) => match site_port(wiring, branch, site) {
-            Some(other) => port == other,
-            None => false,
+            Some(port) => note(port, place, ports),
+            None => Ok(()),
         },
     }
 }
@@ -78,114 +98,61 @@ fn is_throttle(policy: Policy) -> bool
     }
 }
 
-/// Whether the spot is a branch on the queue, which holds firings back.
-fn is_held_by(wiring: &Wiring, queue: QueueNo, spot: Spot) -> bool
-    ensures { result ≡ is_keyed wiring.now keys.Queue queue spot }
+/// The place comes into the list of the queue that holds the spot back, where one does.
+fn note_queue(
+    wiring: &Wiring,
+    spot: Spot,
+    place: usize,
+    queues: &mut [Vec<usize>],
+) -> Result<(), OutOfMemory>
+    ensures { OnOk result (IsNoted (λ queue. is_held_by wiring.now queue spot) place queues.old queues.new) }
 {
-    match spot {
-        Spot::Branch(branch) => match placement(wiring, branch) {
-            Some(placement) => is_throttle(policy_of(wiring, placement.branch.queue))
-                && queue == placement.branch.queue,
-            None => false,
-        },
-        Spot::Site(_, _) => false,
+    let Spot::Branch(branch) = spot else {
+        return Ok(());
+    };
+    let Some(placement) = placement(wiring, branch) else {
+        return Ok(());
+    };
+    let queue = placement.branch.queue;
+    if is_throttle(policy_of(wiring, queue)) {
+        note(queue, place, queues)?;
     }
+    Ok(())
 }
 
-/// Whether the spot has this number.
-fn is_keyed(wiring: &Wiring, key: Key, number: u32, spot: Spot) -> bool
-    ensures { result ≡ is_keyed wiring.now key number spot }
+/// The place comes in, where the spot is a branch.
+fn note_branch(spot: Spot, place: usize, branches: &mut Vec<usize>) -> Result<(), OutOfMemory>
+    ensures { OnOk result (branches.new.items ≡ branches.old.items ++ branch_places place (spot ∷ [])) }
 {
-    match key {
-        Key::Port => takes_from(wiring, number, spot),
-        Key::Queue => is_held_by(wiring, number, spot),
-        Key::Branch => match spot {
-            Spot::Branch(branch) => number == branch,
-            Spot::Site(_, _) => false,
-        },
+    if let Spot::Branch(_) = spot {
+        branches.push(place)?;
     }
+    Ok(())
 }
 
-/// The place of the first spot of this number.
-fn first_keyed(wiring: &Wiring, key: Key, number: u32) -> Option<usize>
-    ensures { result ≡ first_keyed wiring.now key number }
+/// The places of all the spots come in, in one pass over them.
+fn note_spots(
+    wiring: &Wiring,
+    ports: &mut [Vec<usize>],
+    queues: &mut [Vec<usize>],
+    branches: &mut Vec<usize>,
+) -> Result<(), OutOfMemory>
+    requires { AreKeyed wiring.now [] ports.old queues.old branches.old.items }
+    ensures { OnOk result (AreKeyed wiring.now (spots wiring.now) ports.new queues.new branches.new.items) }
 {
     let spots = wiring.spots();
     for place in 0..spots.len() {
-        if is_keyed(wiring, key, number, spots[place]) {
-            return Some(place);
-        }
+        let spot = spots[place];
+        note_ports(wiring, spot, place, ports)?;
+        note_queue(wiring, spot, place, queues)?;
+        note_branch(spot, place, branches)?;
     }
-    None
-}
-
-/// The first places of so many of the first numbers.
-fn all_first(
-    alloc: Global,
-    wiring: &Wiring,
-    key: Key,
-    count: u32,
-) -> Result<Vec<Option<usize>>, OutOfMemory>
-    ensures { IfOk result (λ firsts. AreFirst wiring.now key count firsts.items) }
-{
-    let mut firsts = Vec::new(alloc);
-    for number in 0..count {
-        firsts.push(first_keyed(wiring, key, number))?;
-    }
-    Ok(firsts)
-}
-
-/// All the places of the spots of this number.
-fn all_keyed(
-    alloc: Global,
-    wiring: &Wiring,
-    key: Key,
-    number: u32,
-) -> Result<Vec<usize>, OutOfMemory>
-    ensures { IfOk result (λ places. ArePlaces (is_keyed wiring.now key number) (spots wiring.now) places.items) }
-{
-    let mut places = Vec::new(alloc);
-    let spots = wiring.spots();
-    for place in 0..spots.len() {
-        if is_keyed(wiring, key, number, spots[place]) {
-            places.push(place)?;
-        }
-    }
-    Ok(places)
-}
-
-/// All the places of so many of the first numbers.
-fn all_listed(
-    alloc: Global,
-    wiring: &Wiring,
-    key: Key,
-    count: u32,
-) -> Result<Vec<Vec<usize>>, OutOfMemory>
-    ensures { IfOk result (λ lists. AreListed wiring.now key count lists.items) }
-{
-    let mut lists = Vec::new(alloc);
-    for number in 0..count {
-        lists.push(all_keyed(alloc, wiring, key, number)?)?;
-    }
-    Ok(lists)
-}
-
-/// How many branches the wiring has.
-fn count_branches(wiring: &Wiring) -> u32
-    ensures { result ≡ length (placements wiring.now) }
-{
-    let _valid = wiring.parts();
-    for branch in 0..MAX_BRANCHES as u32 {
-        if placement(wiring, branch).is_none() {
-            return branch;
-        }
-    }
-    MAX_BRANCHES as u32
+    Ok(())
 }
 
 /// The list of this number, empty where there is none.
 fn list_of(lists: &[Vec<usize>], number: u32) -> &[usize]
-    ensures { result.now ≡ option_map_or (λ list. list.items) (slice_get lists.now number) [] }
+    ensures { result.now ≡ list_at lists.now number }
 {
     match lists.get(number as usize) {
         Some(list) => list.as_slice(),
@@ -193,14 +160,11 @@ fn list_of(lists: &[Vec<usize>], number: u32) -> &[usize]
     }
 }
 
-/// The first place of the number, where the list has one.
-fn listed(firsts: &[Option<usize>], number: u32) -> Option<usize>
-    ensures { result ≡ option_and_then (λ first. first) (slice_get firsts.now number) }
+/// The place of this number, if there is one.
+fn place_of(places: &[usize], number: u32) -> Option<usize>
+    ensures { result ≡ slice_get places.now number }
 {
-    match firsts.get(number as usize) {
-        Some(first) => *first,
-        None => None,
-    }
+    places.get(number as usize).copied()
 }
 
 /// A wiring, of each port and queue all the places of its spots, and of each branch its place.
@@ -209,18 +173,19 @@ pub(crate) struct Places<'w> {
     wiring: &'w Wiring,
     ports: Vec<Vec<usize>>,
     queues: Vec<Vec<usize>>,
-    branches: Vec<Option<usize>>,
+    branches: Vec<usize>,
 }
 
 impl<'w> Model for Places<'w> {
     ghost use Rattle.ccr_wiring.specs.declared.parts.Parts.{Parts};
+    ghost use Rattle.ccr_wiring.specs.Wirings.{spots};
     ghost use Rattle.ccr_serial.specs.Places.{AreKeyed};
 
     ghost Value = { Parts };
 
     ghost view = { λ p. p.wiring.now };
 
-    ghost invariant = { λ p. AreKeyed p.wiring.now p.ports.items p.queues.items p.branches.items };
+    ghost invariant = { λ p. AreKeyed p.wiring.now (spots p.wiring.now) p.ports.items p.queues.items p.branches.items };
 }
 
 impl<'w> Places<'w> {
@@ -229,19 +194,10 @@ impl<'w> Places<'w> {
         ensures { IfOk result (λ places. places ≡ wiring.now) }
     {
         let parts = wiring.parts();
-        let ports = all_listed(
-            alloc,
-            wiring,
-            Key::Port,
-            parts.ports.as_slice().len() as u32,
-        )?;
-        let queues = all_listed(
-            alloc,
-            wiring,
-            Key::Queue,
-            parts.queues.as_slice().len() as u32,
-        )?;
-        let branches = all_first(alloc, wiring, Key::Branch, count_branches(wiring))?;
+        let mut ports = empty_lists(alloc, parts.ports.as_slice().len())?;
+        let mut queues = empty_lists(alloc, parts.queues.as_slice().len())?;
+        let mut branches = Vec::new(alloc);
+        note_spots(wiring, &mut ports, &mut queues, &mut branches)?;
         Ok(Places {
             wiring,
             ports,
@@ -267,23 +223,23 @@ impl<'w> Places<'w> {
 
     /// The places of the spots that take from the port.
     pub(crate) fn at_port(&self, port: PortNo) -> &[usize]
-        ensures { ArePlaces (is_keyed self.now keys.Port port) (spots self.now) result.now }
+        ensures { ArePlaces (takes_from self.now port) (spots self.now) result.now }
     {
         list_of(&self.ports, port)
     }
 
     /// The places of the branches that the queue holds back.
     pub(crate) fn on_queue(&self, queue: QueueNo) -> &[usize]
-        ensures { ArePlaces (is_keyed self.now keys.Queue queue) (spots self.now) result.now }
+        ensures { ArePlaces (is_held_by self.now queue) (spots self.now) result.now }
     {
         list_of(&self.queues, queue)
     }
 
     /// The place of the branch.
     fn of_branch(&self, branch: u32) -> Option<usize>
-        ensures { result ≡ first_keyed self.now keys.Branch branch }
+        ensures { result ≡ first_place (same_spot (Branch branch)) (spots self.now) }
     {
-        listed(&self.branches, branch)
+        place_of(&self.branches, branch)
     }
 
     /// The place of the site: its branch's sites stand behind it.

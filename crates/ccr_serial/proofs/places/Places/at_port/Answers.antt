@@ -1,6 +1,5 @@
-use Rattle.ccr_serial.specs.declared.places.Key.TheVariants as keys
-use Rattle.ccr_serial.proofs.SpotPlaces.{all_listed}
+use Rattle.ccr_serial.proofs.SpotPlaces.{at_port}
 use Rattle.ccr_serial.proofs.places.Places.at_port.Goals as goal
 
 pub returns : goal.returns
-returns c = rw (← c.self.view_is, c.list_of.ensures, c.deref.ensures.value) (all_listed c.self.inside.wiring.now c.self.invariant.valid keys.Port c.args.port c.self.inside.ports.items c.self.invariant.by_port)
+returns c = rw (← c.self.view_is, c.list_of.ensures, c.deref.ensures.value) (at_port c.self.inside.wiring.now c.self.inside.ports.items c.self.inside.queues.items c.self.inside.branches.items c.args.port c.self.invariant)

@@ -1,6 +1,5 @@
-use Rattle.ccr_serial.specs.declared.places.Key.TheVariants as keys
-use Rattle.ccr_serial.proofs.SpotPlaces.{all_listed}
+use Rattle.ccr_serial.proofs.SpotPlaces.{on_queue}
 use Rattle.ccr_serial.proofs.places.Places.on_queue.Goals as goal
 
 pub returns : goal.returns
-returns c = rw (← c.self.view_is, c.list_of.ensures, c.deref.ensures.value) (all_listed c.self.inside.wiring.now c.self.invariant.valid keys.Queue c.args.queue c.self.inside.queues.items c.self.invariant.by_queue)
+returns c = rw (← c.self.view_is, c.list_of.ensures, c.deref.ensures.value) (on_queue c.self.inside.wiring.now c.self.inside.ports.items c.self.inside.queues.items c.self.inside.branches.items c.args.queue c.self.invariant)
