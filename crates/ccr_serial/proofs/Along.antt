@@ -16,9 +16,8 @@ use Rattle.ccr_model.specs.Order.{next_attempt}
 use Rattle.ccr_model.proofs.LegalParts.{Parted-legal}
 use Rattle.ccr_model.proofs.ListParts.{take_more}
 use Rattle.ccr_model.proofs.Stable.{firings-append}
-use Rattle.ccr_ledger.specs.Events.{empty_books}
 use Rattle.ccr_ledger.proofs.Keeping.{keeps-none, keeps-event}
-use Rattle.ccr_serial.specs.Desk.{Desk, Stands, TablesTell, Follows, IsAhead, IsIdle, after_attempt, first_in}
+use Rattle.ccr_serial.specs.Desk.{Desk, Stands, TablesTell, Follows, IsAhead, IsIdle, after_attempt, empty_desk, first_in}
 use Rattle.ccr_serial.specs.Engine.{next_event}
 use Rattle.ccr_serial.proofs.DeskSteps.{attempt_kept, stands-event}
 use Rattle.ccr_serial.proofs.Firsts.{first_told, idle_stands, stands_ahead}
@@ -32,8 +31,8 @@ told_by w valid c h d legal stands = TablesTell-keeps w valid h legal d.books st
 pub stands_next : (w : Parts) → IsValid w → (c : ℕ) (h : List Event) (e : Event) (old new : Desk) → IsLegal w h → IsAllowed w h e → Stands w c h old → Follows w c e old new → Stands w c (h ++ e ∷ []) new
 stands_next w valid c h e old new legal allowed stands follows = stands-event w c h e old new legal allowed (told_by w valid c h old legal stands) (keeps-event w valid h e old.books legal allowed stands.books) stands follows
 
-pub stands_none : (w : Parts) → IsValid w → (c : ℕ) → Stands w c [] (record { books = empty_books w; attempt = 0; poster = 0; touched = []; ready = [] })
-stands_none w valid c = record { books = keeps-none w; attempt = refl; poster = done w.posters; touched = λ n out. passes-never (can_fire w []) (spots w) (nothing_fires w valid) n; lowest = λ n at. absurd (cc); ready = λ n. refl; least = λ n at. absurd (cc) }
+pub stands_none : (w : Parts) → IsValid w → (c : ℕ) → Stands w c [] (empty_desk w)
+stands_none w valid c = record { books = keeps-none w; attempt = refl; poster = done w.posters; touched = λ n out. passes-never (can_fire w []) (spots w) (nothing_fires w valid) n; lowest = λ n at. absurd (cc); domains = λ n out low. refl; lowest_domain = λ n at. absurd (cc); ready = λ n. refl; least = λ n at. absurd (cc); queues = λ n out low. refl; lowest_queue = λ n at. absurd (cc) }
   where
     done : {X : Type 0} (ps : List X) → true ≡ true
     done ps = refl

@@ -28,7 +28,7 @@ use Rattle.ccr_serial.specs.Ready.{has_number, AreReady}
 use Rattle.ccr_serial.specs.Desk.{Desk, Stands, TablesTell, Follows, after_attempt, after_ready, is_number_of}
 use Rattle.ccr_serial.proofs.Posters.{done-event}
 use Rattle.ccr_serial.proofs.ReadyNumbers.{ready-fire, ready-admit, ready-put, ready-other}
-use Rattle.ccr_serial.proofs.Told.{touched_kept}
+use Rattle.ccr_serial.proofs.Told.{touched_kept, domains_kept, queues_kept}
 
 -- a task stands at the place of its firing among those that fired
 pub fired_at_number : (h : List Event) (t : TaskId) (f : Firing) → firing_named h t ≡ Some f → slice_get (fired h) (length (firings (before t h))) ≡ Some t
@@ -89,6 +89,10 @@ stands-event w c h e old new legal allowed told keeps stands follows = record {
   poster = rw follows.poster (done-event h e 0 (take old.poster w.posters) stands.poster);
   touched = touched_kept w c h old.books told e old.touched new.touched legal stands.touched follows.touched;
   lowest = follows.touched.least stands.lowest;
+  domains = domains_kept w c h old.books told e old.domains new.domains legal allowed stands.domains follows.domains;
+  lowest_domain = follows.domains.least stands.lowest_domain;
   ready = ready_kept w h old.books stands.books e old.ready new.ready legal allowed stands.ready follows.ready;
   least = follows.least stands.least;
+  queues = queues_kept w c h old.books told e old.queues new.queues legal allowed stands.queues follows.queues;
+  lowest_queue = follows.queues.least stands.lowest_queue;
 }

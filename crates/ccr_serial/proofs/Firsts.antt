@@ -1,5 +1,5 @@
 -- The event that comes first, by the desk.
-use Rattle.std.proofs.Common.{◌≡◌, ◌∙◌, ℕ, zero, suc, ◌+◌, ◌≤◌, List, [], ◌∷◌, length, take, refl, ap, sym, arith}
+use Rattle.std.proofs.Common.{◌≡◌, ◌∙◌, ℕ, zero, suc, ◌+◌, ◌≤◌, List, [], ◌∷◌, length, take, refl, ap, sym, arith, subst, true}
 use Rattle.std.specs.Prelude.{is_some, option_and_then}
 use Rattle.std.specs.List.{slice_get}
 use Rattle.ccr_wiring.specs.declared.parts.Parts.{Parts}
@@ -10,13 +10,15 @@ use Rattle.ccr_model.specs.Firings.{fired}
 use Rattle.ccr_model.specs.Enough.{can_fire}
 use Rattle.ccr_model.specs.Order.{first, fire_from, next_attempt, put_first}
 use Rattle.ccr_model.proofs.CanFire.{some_fire_at}
-use Rattle.ccr_serial.specs.Cursor.{are_done}
+use Rattle.ccr_ledger.specs.Books.{Books}
+use Rattle.ccr_serial.specs.Cursor.{admission, start_at, are_done}
 use Rattle.ccr_serial.specs.Ready.{AreReady, IsLeastFirst}
-use Rattle.ccr_serial.specs.Parts.{first_fire_in, put_in, are_done_in, fires_in}
-use Rattle.ccr_serial.specs.Numbered.{passes_at}
+use Rattle.ccr_serial.specs.Parts.{admission_in, start_at_in, first_fire_in, put_in, are_done_in, fires_in, IsStillIn}
+use Rattle.ccr_serial.specs.Numbered.{IsNoneBut, passes_at}
 use Rattle.ccr_serial.specs.Desk.{Desk, Stands, TablesTell, IsIdle, IsAhead, first_in}
 use Rattle.ccr_serial.proofs.Gaining.{passes-same}
-use Rattle.ccr_serial.proofs.Told.{post_told, fire_told, first_fire_told, first_admit_told, put_told, none_put_told, first_run_told, start_told}
+use Rattle.ccr_serial.proofs.Asking.{none_but-same}
+use Rattle.ccr_serial.proofs.Told.{post_told, fire_told, first_fire_told, admission_told, first_admit_told, put_told, none_put_told, first_run_told, start_at_told, start_told}
 
 length-take : {X : Type 0} (n : ℕ) (xs : List X) → length (take n xs) ≤ length xs
 length-take zero [] = omega arith
@@ -40,6 +42,10 @@ module _ (w : Parts) (c : ℕ) (h : List Event) (d : Desk) (told : TablesTell w 
     posters = done_so d.poster ∙ stands.poster;
     spots = λ n out. fires_so stands.attempt n ∙ stands.touched n out;
     lowest = stands.lowest;
+    domains = none_but-same (admission_in d.books) (admission w h) (length w.arbiters) d.domains (admission_told w c h d.books told) stands.domains;
+    lowest_domain = stands.lowest_domain;
+    queues = none_but-same (start_at_in c d.books) (start_at w c h) (length w.queues) d.queues (start_at_told w c h d.books told) stands.queues;
+    lowest_queue = stands.lowest_queue;
   }
 
   put_so : (ns : List ℕ) → AreReady w h ns → IsLeastFirst ns → option_and_then (put_in w d.books) (slice_get ns 0) ≡ put_first w h
@@ -61,6 +67,31 @@ stands_ahead w c h old new told stands ahead =
       poster = sym (done_so w c h new told_now new.poster) ∙ ahead.idle.posters;
       touched = λ n out. sym (fires_so w c h new told_now attempt n) ∙ ahead.idle.spots n out;
       lowest = ahead.idle.lowest;
+      domains = none_but-same (admission w h) (admission_in new.books) (length w.arbiters) new.domains (λ domain low. sym (admission_told w c h new.books told_now domain low)) ahead.idle.domains;
+      lowest_domain = ahead.idle.lowest_domain;
+      queues = none_but-same (start_at w c h) (start_at_in c new.books) (length w.queues) new.queues (λ queue low. sym (start_at_told w c h new.books told_now queue low)) ahead.idle.queues;
+      lowest_queue = ahead.idle.lowest_queue;
       ready = rw ahead.ready stands.ready;
       least = rw ahead.ready stands.least;
     }
+
+-- the desk once posters, spots and domains were asked
+pub ahead_so : (w : Parts) (c : ℕ) (inside old : Desk) → inside ≡ old → IsIdle w c old → (books : Books) (poster : ℕ) (touched domains : List ℕ) → books ≡ inside.books → are_done_in inside.books 0 (take poster w.posters) ≡ true → IsStillIn w (record { actor = c; attempt = inside.attempt }) inside.books touched → IsLeastFirst touched
+    → IsNoneBut (admission_in books) (length w.arbiters) domains → IsLeastFirst domains → IsAhead w c old (record { books = books; attempt = inside.attempt; poster = poster; touched = touched; domains = domains; ready = inside.ready; queues = inside.queues })
+ahead_so w c inside old view idle books poster touched domains same done still lowest others least =
+    let seen : IsIdle w c inside = subst (IsIdle w c) (sym view) idle in
+    let next : Desk = record { books = books; attempt = inside.attempt; poster = poster; touched = touched; domains = domains; ready = inside.ready; queues = inside.queues } in
+    subst (λ (d : Desk). IsAhead w c d next) view (record {
+      books = same;
+      attempt = refl;
+      ready = refl;
+      idle = record {
+        posters = subst (λ (b : Books). are_done_in b 0 (take poster w.posters) ≡ true) (sym same) done;
+        spots = subst (λ (b : Books). IsStillIn w (record { actor = c; attempt = inside.attempt }) b touched) (sym same) still;
+        lowest = lowest;
+        domains = others;
+        lowest_domain = least;
+        queues = subst (λ (b : Books). IsNoneBut (start_at_in c b) (length w.queues) inside.queues) (sym same) seen.queues;
+        lowest_queue = seen.lowest_queue;
+      };
+    })

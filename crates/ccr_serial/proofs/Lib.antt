@@ -12,6 +12,8 @@ pub mod Takes
 pub mod Touching
 pub mod Gaining
 pub mod Stillness
+pub mod ClosedDomains
+pub mod EmptyQueues
 pub mod Beginning
 pub mod Posters
 pub mod MayPut
@@ -21,6 +23,7 @@ pub mod Told
 pub mod DeskSteps
 pub mod Telling
 pub mod Firsts
+pub mod Asking
 pub mod PartSteps
 pub mod Along
 pub mod Reading

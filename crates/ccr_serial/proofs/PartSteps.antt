@@ -1,12 +1,12 @@
--- How the parts go on over the domains and the queues.
-use Rattle.std.proofs.Common.{◌≡◌, ◌∙◌, ℕ, zero, suc, ◌+◌, ◌<◌, ◌≤◌, true, false, List, [], ◌∷◌, length, take, drop, Option, None, Some, refl, sym, subst, arith}
-use Rattle.std.specs.Prelude.{nat_le, is_some}
+-- How the parts go on over the posters, the spots, the domains and the queues.
+use Rattle.std.proofs.Common.{◌≡◌, ◌∙◌, ℕ, zero, suc, ◌+◌, ◌<◌, ◌≤◌, true, false, List, [], ◌∷◌, length, take, Option, None, Some, refl, sym, subst, arith}
+use Rattle.std.specs.Prelude.{nat_le, nat_lt, is_some, if◌then◌else◌}
 use Rattle.std.proofs.Math.ListN.{get_or}
 use Rattle.std.proofs.lemmas.Option.{slice_get_past}
 use Rattle.std.proofs.lemmas.Bool.Decides.{nat_tests}
-use Rattle.std.specs.Prelude.{option_map, option_and_then, IfSome}
+use Rattle.std.specs.Prelude.{option_and_then, IfSome}
 use Rattle.std.specs.List.{slice_get, list_any}
-use Rattle.std.specs.Option.{option_or, option_map_or}
+use Rattle.std.specs.Option.{option_map_or}
 use Rattle.ccr_base.specs.declared.names.TaskId.{TaskId}
 use Rattle.ccr_base.specs.declared.names.Spot.{Spot}
 use Rattle.ccr_wiring.specs.declared.parts.Parts.{Parts}
@@ -15,16 +15,15 @@ use Rattle.ccr_wiring.specs.declared.parts.PosterPart.{PosterPart}
 use Rattle.ccr_wiring.specs.declared.parts.ArbiterPart.{ArbiterPart}
 use Rattle.ccr_wiring.specs.declared.parts.QueuePart.{QueuePart}
 use Rattle.ccr_model.specs.declared.history.Event.{Event}
-use Rattle.ccr_model.specs.declared.history.Event.TheVariants.{Start}
 use Rattle.ccr_model.specs.Order.{script_post}
 use Rattle.ccr_model.proofs.Booleans.{both, neither}
 use Rattle.ccr_model.proofs.Options.{none-above, no_head, none_map, some_then}
-use Rattle.ccr_rows.specs.Rows.{row}
 use Rattle.ccr_ledger.specs.Books.{Books, number}
-use Rattle.ccr_serial.specs.Parts.{admit_in, are_done_in, fire_in, first_admit_in, first_fire_in, line_in, post_in, fires_in, IsStillIn, start_in}
+use Rattle.ccr_serial.specs.Parts.{admission_in, are_done_in, fire_in, first_admit_in, first_fire_in, line_in, post_in, fires_in, IsStillIn, start_at_in, start_in}
 use Rattle.ccr_serial.specs.Ready.{IsLeast}
-use Rattle.ccr_serial.specs.Numbered.{passes_at}
+use Rattle.ccr_serial.specs.Numbered.{IsNoneBut, passes_at}
 use Rattle.ccr_serial.proofs.Gaining.{read, none_before, out_of_rest, head_is}
+use Rattle.ccr_serial.proofs.Asking.{first_of, asked_stops, asked_ends}
 
 -- a poster is done where it has no next line
 no_line : (b : Books) (n : ℕ) (p : PosterPart) → nat_le (length p.posts) (number b.script_posts n) ≡ true → line_in b n p ≡ None
@@ -38,18 +37,6 @@ line_none b n p none =
 not_some : {X : Type 0} (o : Option X) → is_some o ≡ false → o ≡ None
 not_some None is = refl
 not_some (Some x) is = absurd (cc)
-
--- the domain at a place first, and then those after it
-pub first_admit_in-drop : (b : Books) (xs : List ArbiterPart) (i n : ℕ) → i < length xs → first_admit_in b n (drop i xs) ≡ option_or (admit_in b (slice_get (row b.waiting n) 0)) (first_admit_in b (n + 1) (drop (i + 1) xs))
-first_admit_in-drop b [] i n lt = absurd (omega arith)
-first_admit_in-drop b (x ∷ xs) zero n lt = refl
-first_admit_in-drop b (x ∷ xs) (suc i) n lt = let e : suc i + 1 ≡ suc (i + 1) = omega arith in rw e (first_admit_in-drop b xs i n (omega arith))
-
--- the queue at a place first, and then those after it
-pub start_in-drop : (c : ℕ) (b : Books) (qs : List QueuePart) (i n : ℕ) → i < length qs → start_in c b n (drop i qs) ≡ option_or (option_map (λ (t : TaskId). Start t c) (slice_get (row b.queued n) 0)) (start_in c b (n + 1) (drop (i + 1) qs))
-start_in-drop c b [] i n lt = absurd (omega arith)
-start_in-drop c b (q ∷ qs) zero n lt = refl
-start_in-drop c b (q ∷ qs) (suc i) n lt = let e : suc i + 1 ≡ suc (i + 1) = omega arith in rw e (start_in-drop c b qs i n (omega arith))
 
 -- the poster there has the first line
 post_at : (b : Books) (n k : ℕ) (ps : List PosterPart) (p : PosterPart) (e : Event) → are_done_in b n (take k ps) ≡ true → slice_get ps k ≡ Some p → line_in b (n + k) p ≡ Some e → post_in b n ps ≡ Some e
@@ -136,4 +123,24 @@ fire_ends w t b now touched kept known none =
     let empty = no_head touched none in
     rw (← kept) (sym (fire_none w t now (length (spots w)) (spots w) (none_before (fires_in w t now) (spots w) (length (spots w)) (λ place low. known place (rw empty refl))) (omega arith)))
 
-pub ruleset part_steps = (first_admit_in-drop, start_in-drop)
+-- the domains as numbers that are asked
+first_admission : (b : Books) (n : ℕ) (xs : List ArbiterPart) → first_of (admission_in b) n xs ≡ first_admit_in b n xs
+first_admission b n [] = refl
+first_admission b n (x ∷ xs) = rw (first_admission b (n + 1) xs) refl
+
+pub admit_stops : (w : Parts) (b : Books) (domains : List ℕ) (i : ℕ) (r : Option Event) (e : Event) → IsNoneBut (admission_in b) (length w.arbiters) domains → IsLeast domains i → r ≡ (if nat_lt i (length w.arbiters) then admission_in b i else None) → r ≡ Some e → Some e ≡ first_admit_in b 0 w.arbiters
+admit_stops w b domains i r e known least asked is = asked_stops (admission_in b) w.arbiters domains i r e known least asked is ∙ first_admission b 0 w.arbiters
+
+pub admit_ends : (w : Parts) (b : Books) (domains : List ℕ) → IsNoneBut (admission_in b) (length w.arbiters) domains → slice_get domains 0 ≡ None → None ≡ first_admit_in b 0 w.arbiters
+admit_ends w b domains known none = asked_ends (admission_in b) w.arbiters domains known none ∙ first_admission b 0 w.arbiters
+
+-- the queues as numbers that are asked
+first_start : (c : ℕ) (b : Books) (n : ℕ) (qs : List QueuePart) → first_of (start_at_in c b) n qs ≡ start_in c b n qs
+first_start c b n [] = refl
+first_start c b n (q ∷ qs) = rw (first_start c b (n + 1) qs) refl
+
+pub start_stops : (w : Parts) (c : ℕ) (b : Books) (queues : List ℕ) (i : ℕ) (r : Option Event) (e : Event) → IsNoneBut (start_at_in c b) (length w.queues) queues → IsLeast queues i → r ≡ (if nat_lt i (length w.queues) then start_at_in c b i else None) → r ≡ Some e → Some e ≡ start_in c b 0 w.queues
+start_stops w c b queues i r e known least asked is = asked_stops (start_at_in c b) w.queues queues i r e known least asked is ∙ first_start c b 0 w.queues
+
+pub start_ends : (w : Parts) (c : ℕ) (b : Books) (queues : List ℕ) → IsNoneBut (start_at_in c b) (length w.queues) queues → slice_get queues 0 ≡ None → None ≡ start_in c b 0 w.queues
+start_ends w c b queues known none = asked_ends (start_at_in c b) w.queues queues known none ∙ first_start c b 0 w.queues

@@ -1,5 +1,5 @@
 -- The parts of the order by the tables are those by the model.
-use Rattle.std.proofs.Common.{◌≡◌, ◌∙◌, ℕ, ◌+◌, ◌≤◌, Bool, true, false, ◌&&◌, List, [], ◌∷◌, ◌++◌, length, Option, None, Some, refl, ap, sym, subst, arith}
+use Rattle.std.proofs.Common.{◌≡◌, ◌∙◌, ℕ, ◌+◌, ◌<◌, ◌≤◌, Bool, true, false, ◌&&◌, List, [], ◌∷◌, ◌++◌, length, Option, None, Some, refl, ap, sym, subst, arith}
 use Rattle.std.specs.Prelude.{◌==◌, option_map}
 use Rattle.std.specs.List.{slice_get, list_any}
 use Rattle.std.specs.Option.{option_map_or}
@@ -16,27 +16,30 @@ use Rattle.ccr_wiring.specs.declared.parts.QueuePart.{QueuePart}
 use Rattle.ccr_wiring.specs.Wirings.{Placement, placement, spots, policy_of, site_port}
 use Rattle.ccr_model.specs.declared.history.Event.{Event}
 use Rattle.ccr_model.specs.declared.history.Event.TheVariants.{Put}
-use Rattle.ccr_model.specs.Firings.{fired, yielded_by}
+use Rattle.ccr_model.specs.Firings.{fired, yielded_by, last_by, put_by}
 use Rattle.ccr_model.specs.Sites.{yields_at}
 use Rattle.ccr_model.specs.TaskData.{play_of}
 use Rattle.ccr_model.specs.Posts.{posts_of_task}
 use Rattle.ccr_model.specs.Enough.{can_fire}
-use Rattle.ccr_model.specs.Legal.{IsLegal}
+use Rattle.ccr_model.specs.Legal.{IsAllowed, IsLegal}
 use Rattle.ccr_model.specs.Rules.{drop_at}
-use Rattle.ccr_model.specs.Tasks.{running, fired_by}
+use Rattle.ccr_model.specs.Tasks.{waiting, running, fired_by, is_in_arbiter, is_for_queue}
 use Rattle.ccr_model.specs.Order.{post_from, next_attempt, fire_at, fire_from, admit_first, admit_from, put_first, run_task, run_with, start_from}
 use Rattle.ccr_model.proofs.Booleans.{neither, refuted, no_both, or_left}
 use Rattle.ccr_model.proofs.SameNames.{same_task-self}
 use Rattle.ccr_ledger.specs.Books.{Books}
 use Rattle.ccr_ledger.specs.Asked.{drops, made_in}
-use Rattle.ccr_serial.specs.Touched.{posts_to, freed_by, names_any, frees, is_throttle, touches_branch, touches}
-use Rattle.ccr_serial.specs.Cursor.{IsStill}
+use Rattle.ccr_serial.specs.Touched.{posts_to, freed_by, names_any, frees, is_throttle, touches_branch, touches, fires_for, touches_domain}
+use Rattle.ccr_serial.specs.Cursor.{IsStill, admission, start_at}
 use Rattle.ccr_serial.specs.Ready.{AreReady, IsLeast}
-use Rattle.ccr_serial.specs.Parts.{post_in, fire_in, first_fire_in, admit_in, first_admit_in, put_in, run_in, run_with_in, start_in, comes_to, yields_in, touches_branch_in, touches_in}
-use Rattle.ccr_serial.specs.Numbered.{Gains, passes_at}
+use Rattle.ccr_serial.specs.Parts.{post_in, fire_in, first_fire_in, admit_in, admission_in, first_admit_in, put_in, run_in, run_with_in, start_at_in, start_in, comes_to, yields_in, is_in_domain, is_for_queue_in, touches_branch_in, touches_in, touches_domain_in, touches_queue_in}
+use Rattle.ccr_serial.specs.Numbered.{Gains, IsNoneBut, passes_at}
 use Rattle.ccr_serial.specs.Desk.{TablesTell}
 use Rattle.ccr_serial.proofs.Touching.{still}
 use Rattle.ccr_serial.proofs.Stillness.{still-gains}
+use Rattle.ccr_serial.proofs.ClosedDomains.{admission_stays}
+use Rattle.ccr_serial.proofs.EmptyQueues.{start_stays}
+use Rattle.ccr_serial.proofs.Asking.{none_but-gains}
 use Rattle.ccr_serial.proofs.ReadyNumbers.{first_ready, none_ready}
 
 -- over plain lists: who passes nowhere by the wider test passes nowhere by the narrower
@@ -62,6 +65,9 @@ module _ (w : Parts) (c : ℕ) (h : List Event) (b : Books) (told : TablesTell w
   pub admit_told : (ts : List TaskId) → admit_in b (slice_get ts 0) ≡ admit_first w h ts
   admit_told [] = refl
   admit_told (t ∷ ts) = rw (told.may_admit_task_so t) refl
+
+  pub admission_told : (domain : ℕ) → domain < length w.arbiters → admission_in b domain ≡ admission w h domain
+  admission_told domain low = rw (told.waits_so domain low) (admit_told (waiting w h domain))
 
   pub first_admit_told : (n : ℕ) (xs : List ArbiterPart) → n + length xs ≤ length w.arbiters → first_admit_in b n xs ≡ admit_from w h n xs
   first_admit_told n [] low = refl
@@ -91,6 +97,9 @@ module _ (w : Parts) (c : ℕ) (h : List Event) (b : Books) (told : TablesTell w
       of_list [] at = refl
       of_list (t ∷ us) at = ap Some (run_told t (rw at (or_left _ _ (same_task-self t))))
 
+  pub start_at_told : (queue : ℕ) → queue < length w.queues → start_at_in c b queue ≡ start_at w c h queue
+  start_at_told queue low = rw (told.queued_so queue low) refl
+
   pub start_told : (n : ℕ) (qs : List QueuePart) → n + length qs ≤ length w.queues → start_in c b n qs ≡ start_from w c h n qs
   start_told n [] low = refl
   start_told n (q ∷ qs) low = rw (told.queued_so n (omega (arith, low)), start_told (n + 1) qs (omega (arith, low))) refl
@@ -117,3 +126,15 @@ module _ (w : Parts) (c : ℕ) (h : List Event) (b : Books) (told : TablesTell w
 
   pub touched_kept : (e : Event) (old new : List ℕ) → IsLegal w h → IsStill w h old → Gains (passes_at (touches_in w b e) (spots w)) old new → IsStill w (h ++ e ∷ []) new
   touched_kept e old new legal known gains = still-gains (can_fire w h) (can_fire w (h ++ e ∷ [])) (touches_in w b e) (spots w) old new (λ s none was. still w h e s legal (untouched e s none) was) known gains
+
+  -- the domains and the queues that the event does not touch by the tables it doesn't by the model
+  pub untouched_domain : (e : Event) (domain : ℕ) → touches_domain_in w b e domain ≡ false → touches_domain w h e domain ≡ false
+  untouched_domain e domain none =
+      let outs = neither (fires_for w e domain) (list_any (is_in_domain b domain) (last_by e)) none in
+      rw outs.0 (none_narrower (is_in_arbiter w h domain) (is_in_domain b domain) (last_by e) (told.domain_so domain) outs.1)
+
+  pub domains_kept : (e : Event) (old new : List ℕ) → IsLegal w h → IsAllowed w h e → IsNoneBut (admission w h) (length w.arbiters) old → Gains (touches_domain_in w b e) old new → IsNoneBut (admission w (h ++ e ∷ [])) (length w.arbiters) new
+  domains_kept e old new legal allowed known gains = none_but-gains (admission w h) (admission w (h ++ e ∷ [])) (touches_domain_in w b e) (length w.arbiters) old new (λ domain none was. admission_stays w h legal e domain allowed (untouched_domain e domain none) was) known gains
+
+  pub queues_kept : (e : Event) (old new : List ℕ) → IsLegal w h → IsAllowed w h e → IsNoneBut (start_at w c h) (length w.queues) old → Gains (touches_queue_in b e) old new → IsNoneBut (start_at w c (h ++ e ∷ [])) (length w.queues) new
+  queues_kept e old new legal allowed known gains = none_but-gains (start_at w c h) (start_at w c (h ++ e ∷ [])) (touches_queue_in b e) (length w.queues) old new (λ queue none was. start_stays w h legal c e queue allowed (none_narrower (is_for_queue w h queue) (is_for_queue_in b queue) (put_by e) (told.for_queue_so queue) none) was) known gains

@@ -1,5 +1,5 @@
 -- All that the order is read from: the tables and what is kept beside them.
-use Rattle.std.specs.Prelude.{◌≡◌, ℕ, ◌+◌, max, ◌==◌, ◌<◌, ◌&&◌, ◌||◌, Bool, true, false, not, List, length, take, Option, option_map, option_and_then, if◌then◌else◌}
+use Rattle.std.specs.Prelude.{◌≡◌, ℕ, ◌+◌, max, ◌==◌, ◌<◌, ◌&&◌, ◌||◌, Bool, true, false, not, List, [], length, take, Option, option_map, option_and_then, if◌then◌else◌}
 use Rattle.std.specs.List.{slice_get}
 use Rattle.std.specs.Option.{option_map_or, option_or}
 use Rattle.ccr_base.specs.declared.names.TaskId.{TaskId}
@@ -13,7 +13,7 @@ use Rattle.ccr_model.specs.Firings.{fired}
 use Rattle.ccr_model.specs.Posts.{posts_of_poster, posts_of_task}
 use Rattle.ccr_model.specs.Sites.{yields_at}
 use Rattle.ccr_model.specs.TaskData.{play_of}
-use Rattle.ccr_model.specs.Tasks.{fired_by, waiting, queued, running}
+use Rattle.ccr_model.specs.Tasks.{fired_by, waiting, queued, running, is_in_arbiter, is_for_queue}
 use Rattle.ccr_model.specs.Live.{is_live, has_room}
 use Rattle.ccr_model.specs.Choice.{engine_choice}
 use Rattle.ccr_model.specs.Rules.{cuts_at, may_admit, drop_at, has_budget, needs_no_admission}
@@ -22,21 +22,27 @@ use Rattle.ccr_rows.specs.Rows.{row}
 use Rattle.ccr_ledger.specs.Books.{Books, number, card_at, runners}
 use Rattle.ccr_ledger.specs.Asked.{lives, room, choice_at, cuts, may_admit_task, drops, play_in, made_in, budget_lasts}
 use Rattle.ccr_ledger.specs.declared.cards.Card.{Card}
-use Rattle.ccr_ledger.specs.Events.{after_event}
+use Rattle.ccr_ledger.specs.Events.{after_event, empty_books}
 use Rattle.ccr_ledger.specs.Kept.{Keeps}
 use Rattle.ccr_serial.specs.Ready.{has_number, AreReady, IsLeastFirst}
-use Rattle.ccr_serial.specs.Numbered.{Gains, passes_at}
-use Rattle.ccr_serial.specs.Cursor.{IsStill, are_done}
+use Rattle.ccr_serial.specs.Numbered.{Gains, IsNoneBut, passes_at}
+use Rattle.ccr_serial.specs.Cursor.{IsStill, admission, start_at, are_done}
 use Rattle.ccr_serial.specs.Engine.{Engine, IsSound}
-use Rattle.ccr_serial.specs.Parts.{post_in, first_fire_in, first_admit_in, put_in, run_in, start_in, are_done_in, IsStillIn, touches_in, comes_to, yields_in}
+use Rattle.ccr_serial.specs.Parts.{post_in, first_fire_in, first_admit_in, put_in, run_in, start_in, are_done_in, IsStillIn, admission_in, start_at_in, touches_in, touches_domain_in, touches_queue_in, comes_to, is_in_domain, is_for_queue_in, yields_in}
 
--- the tables; the closer's next attempt; no poster before this one has a line left; no spots can fire but those of the numbers touched; the numbers of the tasks that may be put
+-- the tables; the closer's next attempt; no poster before this one has a line left; no spots can fire but those of the numbers touched; no domains can admit a task but these; the numbers of the tasks that may be put; no queues have a task but these
 pub record Desk : Type 0 where
   pub books : Books
   pub attempt : ℕ
   pub poster : ℕ
   pub touched : List ℕ
+  pub domains : List ℕ
   pub ready : List ℕ
+  pub queues : List ℕ
+
+-- the desk of the empty history
+abbrev pub empty_desk : Parts → Desk
+empty_desk wiring = record { books = empty_books wiring; attempt = 0; poster = 0; touched = []; domains = []; ready = []; queues = [] }
 
 -- each says what the model says
 pub record Stands (wiring : Parts) (closer : ℕ) (history : List Event) (desk : Desk) : Type 0 where
@@ -45,21 +51,29 @@ pub record Stands (wiring : Parts) (closer : ℕ) (history : List Event) (desk :
   pub poster : are_done history 0 (take desk.poster wiring.posters) ≡ true
   pub touched : IsStill wiring history desk.touched
   pub lowest : IsLeastFirst desk.touched
+  pub domains : IsNoneBut (admission wiring history) (length wiring.arbiters) desk.domains
+  pub lowest_domain : IsLeastFirst desk.domains
   pub ready : AreReady wiring history desk.ready
   pub least : IsLeastFirst desk.ready
+  pub queues : IsNoneBut (start_at wiring closer history) (length wiring.queues) desk.queues
+  pub lowest_queue : IsLeastFirst desk.queues
 
 -- the engine is sound, and the desk says what the model says of its history, where it is current
 pub record IsRead (engine : Engine) (desk : Desk) (current : Bool) : Type 0 where
   pub sound : IsSound engine
   pub stands : current ≡ true → Stands engine.wiring engine.closer engine.history desk
 
--- no poster before the desk's has a line left, and no spot can fire but those that it holds as touched, by the tables
+-- no poster before the desk's has a line left, no spot can fire but those that it holds as touched, no domain but its own can admit a task, and no queue but its own has one, by the tables
 pub record IsIdle (wiring : Parts) (closer : ℕ) (desk : Desk) : Type 0 where
   pub posters : are_done_in desk.books 0 (take desk.poster wiring.posters) ≡ true
   pub spots : IsStillIn wiring (record { actor = closer; attempt = desk.attempt }) desk.books desk.touched
   pub lowest : IsLeastFirst desk.touched
+  pub domains : IsNoneBut (admission_in desk.books) (length wiring.arbiters) desk.domains
+  pub lowest_domain : IsLeastFirst desk.domains
+  pub queues : IsNoneBut (start_at_in closer desk.books) (length wiring.queues) desk.queues
+  pub lowest_queue : IsLeastFirst desk.queues
 
--- the desk past posters and without spots that were asked in vain
+-- the desk past posters, and without spots, domains and queues, that were asked in vain
 pub record IsAhead (wiring : Parts) (closer : ℕ) (old new : Desk) : Type 0 where
   pub books : new.books ≡ old.books
   pub attempt : new.attempt ≡ old.attempt
@@ -94,6 +108,8 @@ pub record TablesTell (wiring : Parts) (history : List Event) (books : Books) : 
   pub queued_so : (queue : ℕ) → queue < length wiring.queues → row books.queued queue ≡ queued wiring history queue
   pub comes_so : (queue : ℕ) (task : TaskId) → has_task (fired_by wiring (λ s. s.branch.queue == queue) history) task ≡ true → comes_to books queue task ≡ true
   pub yields_so : (site : Spot) (task : TaskId) → yields_in books site task ≡ yields_at history site task
+  pub domain_so : (domain : ℕ) (task : TaskId) → is_in_arbiter wiring history domain task ≡ true → is_in_domain books domain task ≡ true
+  pub for_queue_so : (queue : ℕ) (task : TaskId) → is_for_queue wiring history queue task ≡ true → is_for_queue_in books queue task ≡ true
 
 -- the closer's next attempt after the event
 abbrev pub after_attempt : ℕ → Event → ℕ → ℕ
@@ -117,5 +133,7 @@ pub record Follows (wiring : Parts) (closer : ℕ) (event : Event) (old new : De
   pub attempt : new.attempt ≡ after_attempt closer event old.attempt
   pub poster : new.poster ≡ old.poster
   pub touched : Gains (passes_at (touches_in wiring old.books event) (spots_of wiring)) old.touched new.touched
+  pub domains : Gains (touches_domain_in wiring old.books event) old.domains new.domains
   pub ready : (number : ℕ) → has_number new.ready number ≡ after_ready wiring old.books event old.ready number
   pub least : IsLeastFirst old.ready → IsLeastFirst new.ready
+  pub queues : Gains (touches_queue_in old.books event) old.queues new.queues

@@ -1,7 +1,8 @@
 -- Items by their places in a list, and what sets of such numbers gain.
-use Rattle.std.specs.Prelude.{◌≡◌, ℕ, ◌||◌, Bool, false, List}
+use Rattle.std.specs.Prelude.{◌≡◌, ◌<◌, ℕ, ◌||◌, Bool, false, List, Option, None}
 use Rattle.std.specs.List.{slice_get}
 use Rattle.std.specs.Option.{option_map_or}
+use Rattle.ccr_model.specs.declared.history.Event.{Event}
 use Rattle.ccr_serial.specs.Ready.{has_number, IsLeastFirst}
 
 -- whether the item at the place passes the test
@@ -16,3 +17,7 @@ ArePlaces test items numbers = (place : ℕ) → has_number numbers place ≡ pa
 pub record Gains (test : ℕ → Bool) (old new : List ℕ) : Type 0 where
   pub members : (number : ℕ) → has_number new number ≡ test number || has_number old number
   pub least : IsLeastFirst old → IsLeastFirst new
+
+-- of so many of the first numbers none has an event but these
+abbrev pub IsNoneBut : (ℕ → Option Event) → ℕ → List ℕ → Type 0
+IsNoneBut event_at count numbers = (number : ℕ) → has_number numbers number ≡ false → number < count → event_at number ≡ None

@@ -18,13 +18,13 @@ use Rattle.ccr_model.specs.declared.history.Event.{Event}
 use Rattle.ccr_model.specs.declared.history.Event.TheVariants.{Fire, Admit, Put, Start, End}
 use Rattle.ccr_model.specs.declared.history.EndHow.TheVariants as ends
 use Rattle.ccr_model.specs.Choice.{names_of}
-use Rattle.ccr_model.specs.Firings.{yielded_by}
+use Rattle.ccr_model.specs.Firings.{yielded_by, last_by, put_by}
 use Rattle.ccr_model.specs.Order.{script_post, task_post, how_of}
 use Rattle.ccr_rows.specs.Rows.{row}
 use Rattle.ccr_ledger.specs.declared.cards.Card.{Card}
 use Rattle.ccr_ledger.specs.Books.{Books, number, card_at}
 use Rattle.ccr_ledger.specs.Asked.{lives, room, choice_at, cuts, may_admit_task, drops, play_in, made_in, budget_lasts}
-use Rattle.ccr_serial.specs.Touched.{posts_to, freed_by, names_any, is_throttle}
+use Rattle.ccr_serial.specs.Touched.{posts_to, freed_by, names_any, is_throttle, fires_for}
 use Rattle.ccr_serial.specs.Ready.{has_number}
 use Rattle.ccr_serial.specs.Numbered.{passes_at}
 
@@ -54,6 +54,10 @@ abbrev pub admit_in : Books → Option TaskId → Option Event
 admit_in books None = None
 admit_in books (Some task) = if may_admit_task books task then Some (Admit task) else None
 
+-- the admission of the domain's oldest waiting task, where it may enter
+abbrev pub admission_in : Books → ℕ → Option Event
+admission_in books domain = admit_in books (slice_get (row books.waiting domain) 0)
+
 -- of the domains, of which the first has this number, the first that has a task to admit
 abbrev pub first_admit_in : Books → ℕ → List ArbiterPart → Option Event
 first_admit_in books domain [] = None
@@ -71,6 +75,10 @@ run_with_in wiring books task play (Some sent) = if budget_lasts wiring books th
 -- the next event of a running task
 abbrev pub run_in : Parts → Books → TaskId → Event
 run_in wiring books task = run_with_in wiring books task (play_in books task) (slice_get (play_in books task).posts (made_in books task))
+
+-- the start of the queue's oldest task, by the closer
+abbrev pub start_at_in : ℕ → Books → ℕ → Option Event
+start_at_in closer books queue = option_map (λ task. Start task closer) (slice_get (row books.queued queue) 0)
 
 -- of the queues, of which the first has this number, the oldest task of the first that has one
 abbrev pub start_in : ℕ → Books → ℕ → List QueuePart → Option Event
@@ -98,6 +106,22 @@ touches_branch_in wiring books event s = names_any (posts_to event) s.branch.pat
 abbrev pub touches_in : Parts → Books → Event → Spot → Bool
 touches_in wiring books event (Branch branch) = option_map_or (touches_branch_in wiring books event) (placement wiring branch) false
 touches_in wiring books event (Site branch site) = option_map_or (posts_to event) (site_port wiring branch site) false || list_any (yields_in books (Site branch site)) (yielded_by event)
+
+-- whether the task is of the domain
+abbrev pub is_in_domain : Books → ℕ → TaskId → Bool
+is_in_domain books domain task = option_map_or (λ (card : Card). domain == card.domain) (card_at books.tasks task) false
+
+-- whether the event may let the domain admit a task
+abbrev pub touches_domain_in : Parts → Books → Event → ℕ → Bool
+touches_domain_in wiring books event domain = fires_for wiring event domain || list_any (is_in_domain books domain) (last_by event)
+
+-- whether the task is for the queue
+abbrev pub is_for_queue_in : Books → ℕ → TaskId → Bool
+is_for_queue_in books queue task = option_map_or (λ (card : Card). queue == card.queue) (card_at books.tasks task) false
+
+-- whether the event puts a task into the queue
+abbrev pub touches_queue_in : Books → Event → ℕ → Bool
+touches_queue_in books event queue = list_any (is_for_queue_in books queue) (put_by event)
 
 -- of the posters, of which the first has this number, none has a line left
 abbrev pub are_done_in : Books → ℕ → List PosterPart → Bool

@@ -1,6 +1,6 @@
-//! Laws of the spots and posters that are to be asked. Each is the contract of a function that does nothing.
+//! Laws of the spots, posters, domains and queues that are to be asked. Each is the contract of a function that does nothing.
 
-ghost use Rattle.std.specs.Prelude.{◌≡◌, ◌++◌, ◌∷◌, [], ℕ, List, false, true, take, drop, ◌+◌};
+ghost use Rattle.std.specs.Prelude.{◌≡◌, ◌++◌, ◌∷◌, [], ℕ, List, None, false, true, take, drop, ◌+◌};
 ghost use Rattle.ccr_base.specs.declared.names.Spot.{Spot};
 ghost use Rattle.ccr_wiring.specs.declared.parts.Parts.{Parts};
 ghost use Rattle.ccr_wiring.specs.declared.parts.PosterPart.{PosterPart};
@@ -9,10 +9,10 @@ ghost use Rattle.ccr_model.specs.declared.history.Event.{Event};
 ghost use Rattle.ccr_model.specs.Enough.{can_fire};
 ghost use Rattle.ccr_model.specs.Legal.{IsAllowed, IsLegal};
 ghost use Rattle.ccr_model.specs.Order.{fire_from, post_from};
-ghost use Rattle.ccr_serial.specs.Touched.{touches};
+ghost use Rattle.ccr_serial.specs.Touched.{touches, touches_domain, touches_queue};
 ghost use Rattle.ccr_serial.specs.Ready.{IsLeast};
 ghost use Rattle.ccr_serial.specs.Numbered.{Gains, passes_at};
-ghost use Rattle.ccr_serial.specs.Cursor.{IsStill, are_done};
+ghost use Rattle.ccr_serial.specs.Cursor.{IsStill, admission, are_done, start_at};
 
 /// A spot that cannot fire cannot after an event that does not touch it.
 pub fn spots_stay_still()
@@ -37,4 +37,14 @@ pub fn done_posters_stay_done()
 /// The next line is of a poster behind those that are done.
 pub fn posts_go_on()
     ensures { (history : List Event) (number place : ℕ) (posters : List PosterPart) → are_done history number (take place posters) ≡ true → post_from history number posters ≡ post_from history (number + place) (drop place posters) }
+{}
+
+/// A domain that can admit no task cannot after an event that does not touch it.
+pub fn domains_stay_closed()
+    ensures { (wiring : Parts) (history : List Event) (event : Event) (domain : ℕ) → IsLegal wiring history → IsAllowed wiring history event → touches_domain wiring history event domain ≡ false → admission wiring history domain ≡ None → admission wiring (history ++ event ∷ []) domain ≡ None }
+{}
+
+/// A queue that has no task has none after an event that puts none into it.
+pub fn queues_stay_empty()
+    ensures { (wiring : Parts) (closer : ℕ) (history : List Event) (event : Event) (queue : ℕ) → IsLegal wiring history → IsAllowed wiring history event → touches_queue wiring history event queue ≡ false → start_at wiring closer history queue ≡ None → start_at wiring closer (history ++ event ∷ []) queue ≡ None }
 {}

@@ -1,14 +1,15 @@
 //! All that the order is read from.
 
-ghost use Rattle.std.specs.Prelude.{◌≡◌, ◌<◌, ◌^◌, [], ℕ, IfOk, OnOk, length};
+ghost use Rattle.std.specs.Prelude.{◌≡◌, ◌<◌, ◌^◌, ℕ, IfOk, OnOk, length};
 ghost use Rattle.ccr_model.specs.Rules.{needs_no_admission};
-ghost use Rattle.ccr_ledger.specs.Events.{empty_books};
 ghost use Rattle.ccr_serial.specs.Ready.{has_number, IsLeastFirst};
-ghost use Rattle.ccr_serial.specs.Desk.{Follows, IsAhead, IsIdle, after_attempt, after_ready, first_in};
+ghost use Rattle.ccr_serial.specs.Desk.{Follows, IsAhead, IsIdle, after_attempt, after_ready, empty_desk, first_in};
 
+use crate::domains::note_domains;
 use crate::numbers::Numbers;
 use crate::parts::{first_admit, first_fire, first_post, first_put, first_run, first_start};
 use crate::places::Places;
+use crate::queues::note_queue;
 use crate::touched::note_touched;
 use ccr_base::{ActorNo, OutOfMemory, Spot, TaskId};
 use ccr_ledger::Ledger;
@@ -28,8 +29,12 @@ pub(crate) struct Desk {
     poster: usize,
     /// The places of the spots that may fire: no other can.
     touched: Numbers,
+    /// The domains that may have a task to admit: no other has one.
+    domains: Numbers,
     /// The numbers of the firings whose tasks may be put.
     ready: Numbers,
+    /// The queues that may have a task: no other has one.
+    queues: Numbers,
 }
 
 /// The closer's next attempt after the event.
@@ -96,20 +101,22 @@ impl Model for Desk {
 
     ghost Value = { Seen };
 
-    ghost view = { λ d. record { books = d.ledger; attempt = d.attempt; poster = d.poster; touched = d.touched; ready = d.ready } };
+    ghost view = { λ d. record { books = d.ledger; attempt = d.attempt; poster = d.poster; touched = d.touched; domains = d.domains; ready = d.ready; queues = d.queues } };
 }
 
 impl Desk {
     /// The desk of the empty history.
     pub(crate) fn new(alloc: Global, wiring: &Wiring) -> Result<Self, OutOfMemory>
-        ensures { IfOk result (λ desk. desk ≡ record { books = empty_books wiring.now; attempt = 0; poster = 0; touched = []; ready = [] }) }
+        ensures { IfOk result (λ desk. desk ≡ empty_desk wiring.now) }
     {
         Ok(Desk {
             ledger: Ledger::new(alloc, wiring)?,
             attempt: 0,
             poster: 0,
             touched: Numbers::new(alloc),
+            domains: Numbers::new(alloc),
             ready: Numbers::new(alloc),
+            queues: Numbers::new(alloc),
         })
     }
 
@@ -137,7 +144,7 @@ impl Desk {
         if let Some(event) = first_fire(wiring, &mut self.ledger, task, &mut self.touched)? {
             return Ok(Some(event));
         }
-        if let Some(event) = first_admit(wiring, &self.ledger) {
+        if let Some(event) = first_admit(wiring, &self.ledger, &mut self.domains) {
             return Ok(Some(event));
         }
         if let Some(event) = first_put(wiring, &self.ledger, &self.ready) {
@@ -146,7 +153,7 @@ impl Desk {
         if let Some(event) = first_run(alloc, wiring, &self.ledger)? {
             return Ok(Some(event));
         }
-        Ok(first_start(wiring, &self.ledger, closer))
+        Ok(first_start(wiring, &self.ledger, closer, &mut self.queues))
     }
 
     /// Enters the event, which is allowed after those before it.
@@ -162,7 +169,9 @@ impl Desk {
         let wiring = places.wiring();
         let attempt = attempt_after(closer, event, self.attempt);
         note_touched(&self.ledger, places, event, &mut self.touched)?;
+        note_domains(&self.ledger, wiring, event, &mut self.domains)?;
         note_ready(&self.ledger, wiring, event, &mut self.ready)?;
+        note_queue(&self.ledger, event, &mut self.queues)?;
         self.ledger.push(wiring, event)?;
         self.attempt = attempt;
         Ok(())

@@ -4,18 +4,20 @@
 mod cursor_laws;
 mod desk;
 mod desk_laws;
+mod domains;
 mod laws;
 mod numbers;
 mod parts;
 mod places;
+mod queues;
 mod ready_laws;
 mod serial;
 mod standing;
 mod touched;
 
 pub use cursor_laws::{
-    done_posters_stay_done, posts_go_on, spots_stay_still, the_search_goes_on,
-    touched_spots_are_kept,
+    domains_stay_closed, done_posters_stay_done, posts_go_on, queues_stay_empty, spots_stay_still,
+    the_search_goes_on, touched_spots_are_kept,
 };
 pub use desk_laws::{
     admissions_are_told, firings_are_told, posts_are_told, puts_are_told, runs_are_told,

@@ -1,17 +1,17 @@
 //! The parts of the order, asked of the tables.
 
-ghost use Rattle.std.specs.Prelude.{◌≡◌, ◌<◌, ◌≤◌, ◌^◌, IfOk, OnOk, true, length, take};
+ghost use Rattle.std.specs.Prelude.{◌≡◌, ◌<◌, ◌≤◌, ◌^◌, IfOk, OnOk, None, true, nat_lt, length, take, if◌then◌else◌};
 ghost use Rattle.std.specs.List.{slice_get};
 ghost use Rattle.std.specs.Option.{option_map, option_and_then};
 ghost use Rattle.ccr_wiring.specs.Wirings.{spots};
 ghost use Rattle.ccr_model.specs.Order.{how_of};
-ghost use Rattle.ccr_rows.specs.Rows.{row};
 ghost use Rattle.ccr_ledger.specs.Books.{runners};
 ghost use Rattle.ccr_serial.specs.Ready.{IsLeastFirst};
-ghost use Rattle.ccr_serial.specs.Parts.{IsStillIn, admit_in, are_done_in, fire_in, first_admit_in, first_fire_in, line_in, post_in, put_in, run_in, start_in};
+ghost use Rattle.ccr_serial.specs.Numbered.{IsNoneBut};
+ghost use Rattle.ccr_serial.specs.Parts.{IsStillIn, admission_in, are_done_in, fire_in, first_admit_in, first_fire_in, line_in, post_in, put_in, run_in, start_at_in, start_in};
 
 use crate::numbers::Numbers;
-use ccr_base::{ActorNo, List, Msg, MsgId, OutOfMemory, Sent, Spot, TaskId};
+use ccr_base::{ActorNo, List, Msg, MsgId, OutOfMemory, QueueNo, Sent, Spot, TaskId};
 use ccr_handler::PlayEnd;
 use ccr_ledger::Ledger;
 use ccr_model::{EndHow, Event};
@@ -138,7 +138,7 @@ pub(crate) fn first_fire(
 
 /// The admission of the domain's oldest waiting task, where it may enter.
 fn admit_at(ledger: &Ledger, domain: usize) -> Option<Event>
-    ensures { result ≡ admit_in ledger.now (slice_get (row ledger.now.waiting domain) 0) }
+    ensures { result ≡ admission_in ledger.now domain }
 {
     let task = ledger.oldest_waiting(domain)?;
     if ledger.may_admit_task(task) {
@@ -148,15 +148,30 @@ fn admit_at(ledger: &Ledger, domain: usize) -> Option<Event>
     }
 }
 
-/// The admission at the first domain that has one.
-#[tactic(auto, using(crate::proofs::PartSteps::part_steps))]
-pub(crate) fn first_admit(wiring: &Wiring, ledger: &Ledger) -> Option<Event>
-    ensures { result ≡ first_admit_in ledger.now 0 wiring.now.arbiters }
+/// The admission at the domain of this number, where there is one.
+fn admit_number(wiring: &Wiring, ledger: &Ledger, number: usize) -> Option<Event>
+    ensures { result ≡ (if nat_lt number (length wiring.now.arbiters) then admission_in ledger.now number else None) }
 {
-    for number in 0..wiring.parts().arbiters.as_slice().len() {
-        if let Some(event) = admit_at(ledger, number) {
+    if number < wiring.parts().arbiters.as_slice().len() {
+        admit_at(ledger, number)
+    } else {
+        None
+    }
+}
+
+/// The admission at the first domain that has one, which is one of these. Those that are asked in vain leave.
+pub(crate) fn first_admit(wiring: &Wiring, ledger: &Ledger, domains: &mut Numbers) -> Option<Event>
+    requires others { IsNoneBut (admission_in ledger.now) (length wiring.now.arbiters) domains.old }
+    requires least { IsLeastFirst domains.old }
+    ensures event { result ≡ first_admit_in ledger.now 0 wiring.now.arbiters }
+    ensures others { IsNoneBut (admission_in ledger.now) (length wiring.now.arbiters) domains.new }
+    ensures least { IsLeastFirst domains.new }
+{
+    'asking: while let Some(number) = domains.first() {
+        if let Some(event) = admit_number(wiring, ledger, number) {
             return Some(event);
         }
+        domains.leave_first();
     }
     None
 }
@@ -231,19 +246,48 @@ pub(crate) fn first_run(
     }
 }
 
-/// The start of the oldest task of the first queue that has one.
-#[tactic(auto, using(crate::proofs::PartSteps::part_steps))]
-pub(crate) fn first_start(wiring: &Wiring, ledger: &Ledger, closer: ActorNo) -> Option<Event>
-    requires { length wiring.now.queues < 2 ^ 32 }
-    ensures { result ≡ start_in closer ledger.now 0 wiring.now.queues }
+/// The start of the queue's oldest task.
+fn start_at(ledger: &Ledger, closer: ActorNo, queue: QueueNo) -> Option<Event>
+    ensures { result ≡ start_at_in closer ledger.now queue }
 {
-    for number in 0..wiring.parts().queues.as_slice().len() as u32 {
-        if let Some(task) = ledger.oldest_queued(number) {
-            return Some(Event::Start {
-                task,
-                actor: closer,
-            });
+    let task = ledger.oldest_queued(queue)?;
+    Some(Event::Start {
+        task,
+        actor: closer,
+    })
+}
+
+/// The start at the queue of this number, where there is one.
+fn start_number(wiring: &Wiring, ledger: &Ledger, closer: ActorNo, number: usize) -> Option<Event>
+    requires { length wiring.now.queues < 2 ^ 32 }
+    ensures { result ≡ (if nat_lt number (length wiring.now.queues) then start_at_in closer ledger.now number else None) }
+{
+    if number < wiring.parts().queues.as_slice().len() {
+        start_at(ledger, closer, number as u32)
+    } else {
+        None
+    }
+}
+
+/// The start at the first queue that has a task, which is one of these. Those that are asked in vain leave.
+pub(crate) fn first_start(
+    wiring: &Wiring,
+    ledger: &Ledger,
+    closer: ActorNo,
+    queues: &mut Numbers,
+) -> Option<Event>
+    requires few { length wiring.now.queues < 2 ^ 32 }
+    requires others { IsNoneBut (start_at_in closer ledger.now) (length wiring.now.queues) queues.old }
+    requires least { IsLeastFirst queues.old }
+    ensures event { result ≡ start_in closer ledger.now 0 wiring.now.queues }
+    ensures others { IsNoneBut (start_at_in closer ledger.now) (length wiring.now.queues) queues.new }
+    ensures least { IsLeastFirst queues.new }
+{
+    'asking: while let Some(number) = queues.first() {
+        if let Some(event) = start_number(wiring, ledger, closer, number) {
+            return Some(event);
         }
+        queues.leave_first();
     }
     None
 }

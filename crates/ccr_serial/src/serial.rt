@@ -4,7 +4,7 @@ ghost use Rattle.std.specs.Prelude.{◌≡◌, ◌<◌, ◌≤◌, ◌^◌, ◌+
 ghost use Rattle.ccr_model.specs.Firings.{fired};
 ghost use Rattle.ccr_model.specs.Legal.{IsAllowed, IsLegal, IsQuiet, is_complete};
 ghost use Rattle.ccr_model.specs.Order.{next_attempt, IsFinished};
-ghost use Rattle.ccr_ledger.specs.Events.{empty_books};
+ghost use Rattle.ccr_serial.specs.Desk.{empty_desk};
 ghost use Rattle.ccr_serial.specs.Engine.{next_event, next_engine};
 ghost use Rattle.ccr_serial.specs.Steps.{event_of};
 
@@ -51,7 +51,7 @@ impl<'w> Model for Serial<'w> {
 /// The wiring's first places, and an empty desk.
 fn begin<'w>(alloc: Global, wiring: &'w Wiring) -> Result<(Places<'w>, Desk), OutOfMemory>
     ensures places { IfOk result (λ both. both.0 ≡ wiring.now) }
-    ensures desk { IfOk result (λ both. both.1 ≡ record { books = empty_books wiring.now; attempt = 0; poster = 0; touched = []; ready = [] }) }
+    ensures desk { IfOk result (λ both. both.1 ≡ empty_desk wiring.now) }
 {
     Ok((Places::new(alloc, wiring)?, Desk::new(alloc, wiring)?))
 }

@@ -1,6 +1,11 @@
-use Rattle.std.proofs.Common.{◌≡◌, drop}
-use Rattle.ccr_serial.specs.Parts.{first_admit_in}
+use Rattle.std.proofs.Common.{length}
+use Rattle.ccr_serial.specs.Ready.{IsLeastFirst}
+use Rattle.ccr_serial.specs.Numbered.{IsNoneBut}
+use Rattle.ccr_serial.specs.Parts.{admission_in}
 use Rattle.ccr_serial.proofs.parts.first_admit.Given as goal
 
-abbrev pub invariant-loop-number : goal.invariant-loop-number
-invariant-loop-number l = first_admit_in l.ledger l.number (drop l.number l.wiring.arbiters) ≡ first_admit_in l.ledger 0 l.wiring.arbiters
+abbrev pub invariant-asking : goal.invariant-asking
+invariant-asking l = IsNoneBut (admission_in l.ledger) (length l.wiring.arbiters) l.domains × IsLeastFirst l.domains
+
+abbrev pub decreases-asking : goal.decreases-asking
+decreases-asking l = length l.domains

@@ -1,6 +1,11 @@
-use Rattle.std.proofs.Common.{◌≡◌, drop}
-use Rattle.ccr_serial.specs.Parts.{start_in}
+use Rattle.std.proofs.Common.{length}
+use Rattle.ccr_serial.specs.Ready.{IsLeastFirst}
+use Rattle.ccr_serial.specs.Numbered.{IsNoneBut}
+use Rattle.ccr_serial.specs.Parts.{start_at_in}
 use Rattle.ccr_serial.proofs.parts.first_start.Given as goal
 
-abbrev pub invariant-loop-number : goal.invariant-loop-number
-invariant-loop-number l = start_in l.closer l.ledger l.number (drop l.number l.wiring.queues) ≡ start_in l.closer l.ledger 0 l.wiring.queues
+abbrev pub invariant-asking : goal.invariant-asking
+invariant-asking l = IsNoneBut (start_at_in l.closer l.ledger) (length l.wiring.queues) l.queues × IsLeastFirst l.queues
+
+abbrev pub decreases-asking : goal.decreases-asking
+decreases-asking l = length l.queues
