@@ -108,17 +108,3 @@ none_before test (x ∷ xs) zero out = refl
 none_before test (x ∷ xs) (suc n) out =
     let here : test x ≡ false = out 0 (omega arith) in
     rw here (none_before test xs n (λ place low. out (suc place) (omega (arith, low))))
-
--- who is not among the rest once the least is asked in vain
-pub out_of_rest : (old new : List ℕ) (k : ℕ) (P : ℕ → Type 0) → old ≡ k ∷ new → ((n : ℕ) → has_number old n ≡ false → P n) → P k → (n : ℕ) → has_number new n ≡ false → P n
-out_of_rest old new k P is known here n out = of_test (k == n) refl
-  where
-    of_test : (b : Bool) → (k == n) ≡ b → P n
-    of_test true same = let one : k ≡ n = grind (arith, nat_tests, same) in subst P one here
-    of_test false differs = known n (rw (is, differs) out)
-
-pub fewer : (old new : List ℕ) (k : ℕ) → old ≡ k ∷ new → length new < length old
-fewer old new k is = rw is (omega arith)
-
-pub head_is : (old new : List ℕ) (k : ℕ) → slice_get old 0 ≡ Some k → IfSome (slice_get old 0) (λ number. old ≡ number ∷ new) → old ≡ k ∷ new
-head_is old new k at rest = rw at at rest

@@ -4,9 +4,8 @@ use Rattle.std.specs.Prelude.{nat_le, nat_lt, is_some, if◌then◌else◌}
 use Rattle.std.proofs.Math.ListN.{get_or}
 use Rattle.std.proofs.lemmas.Option.{slice_get_past}
 use Rattle.std.proofs.lemmas.Bool.Decides.{nat_tests}
-use Rattle.std.specs.Prelude.{option_and_then, IfSome}
+use Rattle.std.specs.Prelude.{option_and_then}
 use Rattle.std.specs.List.{slice_get, list_any}
-use Rattle.std.specs.Option.{option_map_or}
 use Rattle.ccr_base.specs.declared.names.TaskId.{TaskId}
 use Rattle.ccr_base.specs.declared.names.Spot.{Spot}
 use Rattle.ccr_wiring.specs.declared.parts.Parts.{Parts}
@@ -21,8 +20,8 @@ use Rattle.ccr_model.proofs.Options.{none-above, no_head, none_map, some_then}
 use Rattle.ccr_ledger.specs.Books.{Books, number}
 use Rattle.ccr_serial.specs.Parts.{admission_in, are_done_in, fire_in, first_admit_in, first_fire_in, line_in, post_in, fires_in, IsStillIn, start_at_in, start_in}
 use Rattle.ccr_serial.specs.Ready.{IsLeast}
-use Rattle.ccr_serial.specs.Numbered.{IsNoneBut, passes_at}
-use Rattle.ccr_serial.proofs.Gaining.{read, none_before, out_of_rest, head_is}
+use Rattle.ccr_serial.specs.Numbered.{IsNoneBut}
+use Rattle.ccr_serial.proofs.Gaining.{read, none_before}
 use Rattle.ccr_serial.proofs.Asking.{first_of, asked_stops, asked_ends}
 
 -- a poster is done where it has no next line
@@ -108,14 +107,6 @@ pub fire_stops : (w : Parts) (t : TaskId) (b now : Books) (touched : List ℕ) (
 fire_stops w t b now touched i r e kept known least asked is =
     let there = some_then (fire_in w t now) (slice_get (spots w) i) e (sym asked ∙ is) in
     rw (← kept) (sym (fire_at_place w t now i (spots w) there.0 e (none_before (fires_in w t now) (spots w) i (λ place low. known place (least.low place low))) there.1 there.2))
-
--- none of it can fire: it is touched no longer
-pub fire_passes : (w : Parts) (t : TaskId) (now : Books) (old new : List ℕ) (i : ℕ) (r : Option Event) → IsStillIn w t now old → slice_get old 0 ≡ Some i → IfSome (slice_get old 0) (λ number. old ≡ number ∷ new) → r ≡ option_and_then (fire_in w t now) (slice_get (spots w) i) → r ≡ None → IsStillIn w t now new
-fire_passes w t now old new i r known at rest asked is = out_of_rest old new i (λ n. passes_at (fires_in w t now) (spots w) n ≡ false) (head_is old new i at rest) known (of_option (slice_get (spots w) i) (sym asked ∙ is))
-  where
-    of_option : (o : Option Spot) → option_and_then (fire_in w t now) o ≡ None → option_map_or (fires_in w t now) o false ≡ false
-    of_option None none = refl
-    of_option (Some s) none = rw none refl
 
 -- nothing is touched
 pub fire_ends : (w : Parts) (t : TaskId) (b now : Books) (touched : List ℕ) → now ≡ b → IsStillIn w t now touched → slice_get touched 0 ≡ None → None ≡ first_fire_in w t b (spots w)
