@@ -23,6 +23,7 @@ use Rattle.ccr_runs.specs.Runs.{IsProper, state_after}
 use Rattle.ccr_actor.specs.Acting.{Acting, IsAfter, is_at_rest}
 use Rattle.ccr_actor.specs.Following.{Follows}
 use Rattle.ccr_actor.specs.Nets.{Step, replies_of}
+use Rattle.ccr_dispatch.specs.Driving.{counted}
 use Rattle.ccr_net.specs.Played.{Heard, rules}
 use Rattle.ccr_net.specs.Runs.{never}
 use Rattle.ccr_space.specs.declared.space.SpaceOf.{SpaceOf}
@@ -96,6 +97,10 @@ IsAtRest pass = (pass.stopped ≡ true) ⊎ (is_at_rest pass.actor ≡ true)
 -- one entry more, with a note or without one
 abbrev pub IsMore : Bool → Pass → Pass → Type 0
 IsMore noted old new = (mark : Mark Deed Placed) × ((log new ≡ log old ++ mark ∷ []) × (is_some mark.note.note ≡ noted))
+
+-- so many entries more, or the last number of 64 bits where there are more
+abbrev pub IsLonger : Pass → Pass → ℕ → Type 0
+IsLonger old new count = (made : List (Mark Deed Placed)) × ((log new ≡ log old ++ made) × (count ≡ counted (length made)))
 
 -- ---- the close
 

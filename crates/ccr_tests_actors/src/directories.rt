@@ -53,7 +53,11 @@ fn first_place(alloc: Global, note: Option<Note>) -> Option<Place> {
 fn places_by_number(rt: HostRuntime) {
     let alloc = rt.alloc();
     same(&rt, found(alloc, Place::Port(0)), Some((0, Place::Port(0))));
-    same(&rt, found(alloc, Place::Queue(0)), Some((2, Place::Queue(0))));
+    same(
+        &rt,
+        found(alloc, Place::Queue(0)),
+        Some((2, Place::Queue(0))),
+    );
     same(&rt, found(alloc, Place::Meter), Some((3, Place::Meter)));
 }
 

@@ -7,7 +7,6 @@ ghost use Rattle.ccr_model.specs.Legal.{IsLegal};
 ghost use Rattle.ccr_model.specs.Order.{next_attempt};
 ghost use Rattle.ccr_net.specs.Runs.{IsRun};
 
-use ccr_asserts::same;
 use crate::schedules::{Told, are_below, are_notes, rivals, task};
 use ccr_base::{ActorNo, Msg, MsgId, PortNo, Spot, TaskId};
 use ccr_model::{EndHow, Event, History};
@@ -71,7 +70,7 @@ fn finished(rt: &impl Abort, alloc: Global, wiring: &Wiring, first: History) -> 
     requires attempts { next_attempt (length wiring.now.posters + 0) (fired first) ≤ 2 ^ 31 }
 {
     let posters = wiring.parts().posters.as_slice().len();
-    same(rt, posters, CLOSER as usize);
+    assert!(rt; posters == CLOSER as usize);
     let engine = Serial::resume(alloc, wiring, posters as ActorNo, first)
         .ok()
         .expect(rt, "memory");

@@ -67,7 +67,7 @@ fn make_nine<R: Wait + Abort>(rt: &R, space: &Space<'_>, passes: &mut [Pass<'_>]
     requires space { IsSpace space.now }
     requires passes { All (λ pass. IsPassOf space.now pass) passes.old }
 {
-    same(rt, passes.len(), 2);
+    assert!(rt; passes.len() == 2);
     make(rt, space, &mut passes[0], 6);
     make(rt, space, &mut passes[1], 3);
 }
@@ -111,7 +111,7 @@ fn rest_first<R: Wait + Abort>(rt: &R, space: &Space<'_>, passes: &mut Vec<Pass<
     requires passes { All (λ pass. IsPassOf space.now pass) passes.old.items }
     ensures { All (λ pass. IsPassOf space.now pass) passes.new.items }
 {
-    same(rt, passes.len(), 3);
+    assert!(rt; passes.len() == 3);
     space.run(rt, &OpenGate, &mut passes[0]);
 }
 

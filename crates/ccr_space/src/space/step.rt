@@ -1,7 +1,7 @@
 //! Steps of a pass.
 
 ghost use Rattle.std.specs.Prelude.{◌≡◌, ◌≢◌, true, false};
-ghost use Rattle.ccr_space.specs.Spaces.{IsPassOf, IsSpace, IsAtRest, IsHeard, IsMore, IsTaught, log, number};
+ghost use Rattle.ccr_space.specs.Spaces.{IsPassOf, IsSpace, IsAtRest, IsHeard, IsLonger, IsMore, IsTaught, log, number};
 
 use super::{Pass, Space};
 use ccr_actor::Actor;
@@ -75,21 +75,22 @@ impl Space<'_> {
         }
     }
 
-    /// Steps until the pass is at rest, and asks the gate. It answers how many steps there were, or the last number of 64
-    /// bits where there were more.
+    /// Steps until the pass is at rest, and asks the gate. It answers how many entries its log has more, or 2^64 - 1 where there
+    /// are more. A step that found no memory is none.
     pub fn run<R: Wait, G: Gate>(&self, rt: &R, gate: &G, pass: &mut Pass<'_>) -> u64
         requires space { IsSpace self.now }
         requires pass { IsPassOf self.now pass.old }
         ensures pass { IsPassOf self.now pass.new }
         ensures number { number pass.new ≡ number pass.old }
         ensures rest { IsAtRest pass.new }
+        ensures count { IsLonger pass.old pass.new result }
     {
         let mut steps = 0u64;
         for _ in rt.forever() {
-            if self.advance(rt, gate, pass) == Step::Rest {
-                return steps;
+            match self.advance(rt, gate, pass) {
+                Step::Made | Step::Unmet => steps = steps.saturating_add(1),
+                Step::NoMemory | Step::Rest => return steps,
             }
-            steps = steps.saturating_add(1);
         }
         unreachable!()
     }
