@@ -1,6 +1,5 @@
 //! The fates of a history in which a put drops a task, as they were worked out by hand.
 
-use ccr_asserts::same_in;
 use ccr_base::{List, Msg, MsgId, Policy, Spot, TaskId, Value};
 use ccr_laws::fate;
 use ccr_model::{EndHow, Event, Fate, History, TaskState};
@@ -97,6 +96,6 @@ fn fates_with_a_drop(rt: HostRuntime) {
     ];
     for (place, wanted) in (0..4).zip(expected) {
         let found = fate(alloc, &wiring, &history, &message(place)).expect(&rt, "memory");
-        same_in(&rt, place, found, wanted);
+        assert_eq!(rt; found, wanted, "{place}");
     }
 }
