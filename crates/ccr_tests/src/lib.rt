@@ -4,6 +4,8 @@
 #[cfg(test)]
 mod claim;
 #[cfg(test)]
+mod compare;
+#[cfg(test)]
 mod json;
 #[cfg(test)]
 mod model;

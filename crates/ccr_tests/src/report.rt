@@ -1,6 +1,6 @@
 //! The report and the totals of one history, counted by hand.
 
-use ccr_asserts::same;
+use crate::compare::same;
 use crate::steps::{LINE_0, LINE_1, LINE_2, LINE_3, Step, TASK_0, TASK_1, history};
 use crate::wirings::{AWAITING, wiring};
 use ccr_base::{List, Spot, TaskId};

@@ -1,6 +1,6 @@
 //! The name of a site.
 
-use ccr_asserts::same;
+use crate::compare::same;
 use ccr_base::{List, Spot};
 use ccr_spots::spot_text;
 use std::test::*;

@@ -1,6 +1,6 @@
 //! Lines that are written, each of one event, and texts that are read.
 
-use ccr_asserts::same;
+use crate::compare::same;
 use crate::steps::{Step, TASK_0, history};
 use crate::wirings::{AWAITING, AWAITING_2, wiring};
 use ccr_base::{List, MsgId, Spot, TaskId};
@@ -104,11 +104,19 @@ fn wrong_line(
 #[test]
 fn a_line_for_each_event(rt: HostRuntime) {
     let wiring = wiring(&rt, rt.alloc(), AWAITING);
-    same(&rt, wrong_line(&rt, rt.alloc(), &wiring, "history 1\n", &LINES), None);
+    same(
+        &rt,
+        wrong_line(&rt, rt.alloc(), &wiring, "history 1\n", &LINES),
+        None,
+    );
 }
 
 #[test]
 fn lines_of_version_2(rt: HostRuntime) {
     let wiring = wiring(&rt, rt.alloc(), AWAITING_2);
-    same(&rt, wrong_line(&rt, rt.alloc(), &wiring, "history 2\n", &NEWER_LINES), None);
+    same(
+        &rt,
+        wrong_line(&rt, rt.alloc(), &wiring, "history 2\n", &NEWER_LINES),
+        None,
+    );
 }

@@ -1,6 +1,6 @@
 //! The places of a wiring by number, and the entries of acts, where there is memory.
 
-use ccr_asserts::same;
+use crate::compare::same;
 use ccr_base::{List, Place};
 use ccr_claim::Ask;
 use ccr_net::{Directory, Full, full_of};

@@ -4,6 +4,8 @@
 #[cfg(test)]
 mod actors;
 #[cfg(test)]
+mod compare;
+#[cfg(test)]
 mod directories;
 #[cfg(test)]
 mod nets;

@@ -4,8 +4,8 @@ ghost use Rattle.std.specs.Prelude.{◌≡◌, ◌≢◌, [], ℕ};
 ghost use Rattle.ccr_actor.specs.Acting.{started};
 ghost use Rattle.ccr_net.specs.Played.{steps_in};
 
+use crate::compare::same;
 use ccr_actor::Actor;
-use ccr_asserts::same;
 use ccr_base::{ActorNo, OpenGate, Spot};
 use ccr_dispatch::drive;
 use ccr_net::{Full, PlainNet};

@@ -1,6 +1,6 @@
 //! What no clause says: that `visible` answers where there is memory.
 
-use ccr_asserts::same;
+use crate::compare::same;
 use ccr_base::{ActorNo, How, List, Place, TaskId};
 use ccr_model::Event;
 use ccr_net::{Entry, Full, visible};

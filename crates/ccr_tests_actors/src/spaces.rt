@@ -3,7 +3,7 @@
 ghost use Rattle.std.specs.Prelude.{All};
 ghost use Rattle.ccr_space.specs.Spaces.{IsPassOf, IsSpace};
 
-use ccr_asserts::same;
+use crate::compare::same;
 use ccr_base::{Gate, OpenGate, Point};
 use ccr_space::{Pass, Space, Step};
 use ccr_wiretext::read_wiring;

@@ -2,7 +2,7 @@
 
 ghost use Rattle.std.specs.Prelude.{◌≡◌};
 
-use ccr_asserts::same;
+use crate::compare::same;
 use ccr_base::{List, Msg, MsgId, Pred, Slot, Spot, Task, TaskId, Value, can_choose, choose};
 use std::alloc::Global;
 use std::process::Abort;
@@ -140,7 +140,11 @@ fn a_copied_task_is_equal(rt: HostRuntime) {
         .copy(rt.alloc())
         .expect(&rt, "memory");
     same(&rt, copied.id, id);
-    same(&rt, copied.values.as_slice(), [Value::one(5), Value::one(6)].as_slice());
+    same(
+        &rt,
+        copied.values.as_slice(),
+        [Value::one(5), Value::one(6)].as_slice(),
+    );
 }
 
 #[test]

@@ -1,6 +1,6 @@
 //! Lists of causes.
 
-use ccr_asserts::same;
+use crate::compare::same;
 use ccr_base::{CauseNo, List};
 use ccr_cause::{add, remove, union};
 use std::test::*;

@@ -1,6 +1,6 @@
 //! Segments that are played.
 
-use ccr_asserts::same_in;
+use crate::compare::same_in;
 use ccr_base::{Action, CauseNo, Expr, Handler, List, PortNo, Value};
 use ccr_handler::{PlayEnd, plays};
 use std::alloc::Global;

@@ -1,6 +1,6 @@
 //! What a port holds, by predicate and in order.
 
-use ccr_asserts::same;
+use crate::compare::same;
 use ccr_base::{List, Msg, MsgId, Pred, Value};
 use ccr_held::HeldMessages;
 use std::alloc::Global;
@@ -107,7 +107,11 @@ fn enough_are_there(rt: HostRuntime) {
 
 #[test]
 fn names_are_shared_up_to_the_first_other(rt: HostRuntime) {
-    same(&rt, shared(&rt, rt.alloc(), &[name(0), name(1), name(3)]), 2);
+    same(
+        &rt,
+        shared(&rt, rt.alloc(), &[name(0), name(1), name(3)]),
+        2,
+    );
     same(&rt, shared(&rt, rt.alloc(), &[name(1)]), 0);
 }
 

@@ -1,6 +1,6 @@
 //! An Interleave from its first firing to behind its teardown.
 
-use ccr_asserts::same;
+use crate::compare::same;
 use ccr_base::{By, Commit, Group, How, List, Spot, Task, TaskId};
 use ccr_interleave::InterleaveObject;
 use std::alloc::Global;
@@ -76,7 +76,11 @@ fn groups_and_teardown(rt: HostRuntime) {
     let mut place = place(&rt, alloc);
     // a concurrent task, an exclusive one, two concurrent ones and an exclusive one
     for (attempt, branch) in [(0, 5), (1, 4), (2, 5), (3, 5), (4, 4)] {
-        same(&rt, commit(&rt, alloc, &mut place, attempt, branch), Some(0));
+        same(
+            &rt,
+            commit(&rt, alloc, &mut place, attempt, branch),
+            Some(0),
+        );
     }
     assert!(rt; !place.may_commit(&task(alloc, 4, 5)));
     assert!(rt; !place.may_commit(&task(alloc, 5, 6)));

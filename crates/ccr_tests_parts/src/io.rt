@@ -2,7 +2,7 @@
 
 ghost use Rattle.std.specs.Prelude.{◌≡◌, IfOk};
 
-use ccr_asserts::same;
+use crate::compare::same;
 use ccr_base::List;
 use ccr_io::{
     Failed, MemorySink, MemorySource, ReadEnd, Sink, Source, StdSink, StdSource, SureSink,

@@ -8,6 +8,8 @@ mod base;
 #[cfg(test)]
 mod cause;
 #[cfg(test)]
+mod compare;
+#[cfg(test)]
 mod handler;
 #[cfg(test)]
 mod held;

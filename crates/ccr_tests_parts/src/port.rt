@@ -1,6 +1,6 @@
 //! Claims on a port, and what they leave in it.
 
-use ccr_asserts::same;
+use crate::compare::same;
 use ccr_base::{List, Msg, MsgId, Pred, Slot, TaskId, Value};
 use ccr_port::{Claimed, PortObject};
 use std::alloc::Global;

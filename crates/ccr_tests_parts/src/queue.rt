@@ -1,6 +1,6 @@
 //! A throttle, a discard queue and a meter, each of one.
 
-use ccr_asserts::same;
+use crate::compare::same;
 use ccr_base::{List, Policy, Spot, Task, TaskId};
 use ccr_queue::{Booked, Meter, QueueObject};
 use std::alloc::Global;

@@ -1,6 +1,6 @@
 //! Rows of numbers.
 
-use ccr_asserts::same;
+use crate::compare::same;
 use ccr_rows::Rows;
 use std::alloc::Global;
 use std::process::Abort;
@@ -54,7 +54,11 @@ fn items_stand_in_their_rows(rt: HostRuntime) {
 
 #[test]
 fn the_first_in_is_the_first_out(rt: HostRuntime) {
-    same(&rt, left(filled(&rt, rt.alloc()), 1), [Some(7), Some(8), None]);
+    same(
+        &rt,
+        left(filled(&rt, rt.alloc()), 1),
+        [Some(7), Some(8), None],
+    );
     same(&rt, left(filled(&rt, rt.alloc()), 2), [None, None, None]);
 }
 

@@ -3,7 +3,7 @@
 ghost use Rattle.std.specs.Prelude.{◌≡◌, ◌<◌, IfOk};
 ghost use Rattle.ccr_turns.specs.Locks.{place_count, IsSeatOf};
 
-use ccr_asserts::same;
+use crate::compare::same;
 use ccr_base::List;
 use ccr_turns::{Held, Seat, Turns};
 use std::alloc::Global;

@@ -1,7 +1,7 @@
 //! What no clause says: that the program answers where there is memory, that it answers long inputs, and that each read and each
 //! write may fail. The worked cases, byte for byte, are those of the crate ccr_cases.
 
-use ccr_asserts::same;
+use crate::compare::same;
 use ccr_base::{List, Name, OpenGate};
 use ccr_cli::{run_ccr, run_surely};
 use ccr_io::{MemorySink, MemorySource, SureSink, SureSource};

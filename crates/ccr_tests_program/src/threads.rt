@@ -1,6 +1,6 @@
 //! A run on threads: a port that one actor has marked stops nobody at another port.
 
-use ccr_asserts::same;
+use crate::compare::same;
 use ccr_base::{Gate, List, Name, Point};
 use ccr_cli::run_ccr;
 use ccr_io::{MemorySink, MemorySource};

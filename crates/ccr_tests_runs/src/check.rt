@@ -1,6 +1,6 @@
 //! What the judge says of whole histories, and event by event.
 
-use ccr_asserts::same;
+use crate::compare::same;
 use ccr_base::{List, Msg, MsgId, Sent, Spot, TaskId, Value};
 use ccr_check::{Judge, Verdict, verdict};
 use ccr_model::{EndHow, Event, History};

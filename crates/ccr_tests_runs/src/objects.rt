@@ -1,6 +1,6 @@
 //! Each kind of ask at each kind of place, and the places of a wiring.
 
-use ccr_asserts::same;
+use crate::compare::same;
 use ccr_arbiter::ArbiterObject;
 use ccr_await::SiteObject;
 use ccr_base::{

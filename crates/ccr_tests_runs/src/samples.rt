@@ -1,6 +1,6 @@
 //! What no clause says: that the parts come where there is memory, and that they are those of a wiring.
 
-use ccr_asserts::same;
+use crate::compare::same;
 use ccr_base::{Action, Expr, List, Policy, Spot};
 use ccr_samples::{one_cause, one_handler, one_post, one_queue, one_receiver};
 use ccr_wiring::{Parts, Unfit, Wiring};

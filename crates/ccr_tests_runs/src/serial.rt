@@ -1,6 +1,6 @@
 //! What no clause says: that the engine's calls answer where there is memory. Want of memory ends a test at once.
 
-use ccr_asserts::same;
+use crate::compare::same;
 use ccr_model::History;
 use ccr_samples::{one_post, one_receiver};
 use ccr_serial::{Serial, Stepped};

@@ -1,6 +1,6 @@
 //! Turns that are read, and the line and code with which others are refused.
 
-use ccr_asserts::same;
+use crate::compare::same;
 use ccr_base::{ActorNo, List};
 use ccr_schedule::read_turns;
 use ccr_wiretext::ReadRefused;

@@ -1,6 +1,6 @@
 //! Words that ask for something, and words that are refused.
 
-use ccr_asserts::same;
+use crate::compare::same;
 use ccr_base::{List, Name};
 use ccr_words::{Command, Request, read_words};
 use std::alloc::Global;

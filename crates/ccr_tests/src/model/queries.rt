@@ -1,7 +1,7 @@
 //! What the queries answer after the first events of some worked runs.
 
-use ccr_asserts::same;
 use super::cases::{A, AWAIT, B, Case, DISCARD, GATHER, TEARDOWN_CUTS, THROTTLE, X, Y};
+use crate::compare::same;
 use crate::steps::{LINE_0, LINE_1, LINE_2, TASK_0, TASK_1, TASK_2, TASK_3, history};
 use crate::wirings::wiring;
 use ccr_base::{MsgId, OutOfMemory, PortNo, Spot, TaskId, Value};

@@ -1,6 +1,6 @@
 //! Texts that are read, and texts that are refused.
 
-use ccr_asserts::same;
+use crate::compare::same;
 use crate::wirings::{AWAITING, AWAITING_2, wiring};
 use ccr_trace::{HistoryRefused, read_history, write_history};
 use ccr_wiring::Wiring;

@@ -1,7 +1,7 @@
 //! One more than each limit.
 
-use ccr_asserts::same;
 use super::{BASE, first_wrong, refusal};
+use crate::compare::same;
 use std::test::*;
 
 const ONE_MORE_OF_A_KIND: &str = "0 0 |15|queue r# unbounded;|

@@ -1,7 +1,7 @@
 //! Heads, blanks, bytes that no line has, blocks and the end of the text.
 
-use ccr_asserts::same;
 use super::{BASE, first_wrong};
+use crate::compare::same;
 use std::test::*;
 
 const HEADS_AND_BYTES: &str = "1 2
@@ -60,7 +60,11 @@ const WORDS_THAT_THEIR_BLOCK_DOES_NOT_HAVE: &str = "8 3 end
 
 #[test]
 fn words_that_their_block_does_not_have(rt: HostRuntime) -> Result<(), Fail> {
-    same(&rt, first_wrong(&rt, BASE, WORDS_THAT_THEIR_BLOCK_DOES_NOT_HAVE), 0);
+    same(
+        &rt,
+        first_wrong(&rt, BASE, WORDS_THAT_THEIR_BLOCK_DOES_NOT_HAVE),
+        0,
+    );
     Ok(())
 }
 

@@ -1,7 +1,7 @@
 //! Combined Interleaves, and values of several numbers.
 
-use ccr_asserts::same;
 use super::{BASE, first_wrong};
+use crate::compare::same;
 use std::test::*;
 
 /// Thirteen lines with two Interleaves.
@@ -49,7 +49,11 @@ const WORDS_OF_VERSION_2_IN_VERSION_1: &str = "9 5 handler k;post a part 0 1
 
 #[test]
 fn words_of_version_2_in_version_1(rt: HostRuntime) -> Result<(), Fail> {
-    same(&rt, first_wrong(&rt, BASE, WORDS_OF_VERSION_2_IN_VERSION_1), 0);
+    same(
+        &rt,
+        first_wrong(&rt, BASE, WORDS_OF_VERSION_2_IN_VERSION_1),
+        0,
+    );
     Ok(())
 }
 

@@ -1,7 +1,7 @@
 //! The words of a line, from left to right.
 
-use ccr_asserts::same;
 use super::{BASE, first_wrong};
+use crate::compare::same;
 use std::test::*;
 
 const MISSPELLED_WORDS: &str = "8 3 budgets 1

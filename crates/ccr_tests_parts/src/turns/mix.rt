@@ -3,9 +3,9 @@
 ghost use Rattle.std.specs.Prelude.{◌≡◌, ◌<◌};
 ghost use Rattle.ccr_turns.specs.Locks.{place_count, IsSeatOf};
 
-use ccr_asserts::same;
 use super::counter::{Ask, Counter, counters};
 use super::entries_of;
+use crate::compare::same;
 use ccr_base::List;
 use ccr_turns::{Held, Seat, Turns};
 use std::sync::Wait;

@@ -1,8 +1,8 @@
 //! The codes that one more arbiter brings.
 
-use ccr_asserts::{same, same_in};
 use super::sizes::{SMALL, Sizes, parts};
 use super::{add, code, code_at, name};
+use crate::compare::{same, same_in};
 use ccr_base::{Group, List, Pattern};
 use ccr_wiring::{ArbiterPart, BranchPart, Kind};
 use std::alloc::Global;
@@ -162,12 +162,16 @@ fn least_of_two_codes(rt: HostRuntime) {
 
 #[test]
 fn choice_without_a_branch(rt: HostRuntime) {
-    same(&rt, code_at(
+    same(
+        &rt,
+        code_at(
             &rt,
             rt.alloc(),
             &Sizes {
                 branches: 0,
                 ..SMALL
-            }
-        ), 11);
+            },
+        ),
+        11,
+    );
 }

@@ -1,8 +1,8 @@
 //! Domains, and what only version 2 has.
 
-use ccr_asserts::{same, same_in};
 use super::sizes::{SMALL, parts, pattern};
 use super::{add, code, name};
+use crate::compare::{same, same_in};
 use ccr_base::{Action, ArbiterNo, BranchNo, Expr, Group, Handler, List, Sent, Value};
 use ccr_wiring::{
     ArbiterPart, BranchPart, DomainPart, HandlerPart, Kind, Parts, PosterPart, Wiring,

@@ -1,8 +1,8 @@
 //! Parts in which each limit is reached, and parts in which one is passed.
 
-use ccr_asserts::{same, same_in};
 use super::code_at;
 use super::sizes::{FULL, Sizes};
+use crate::compare::{same, same_in};
 use std::test::*;
 
 #[test]

@@ -1,8 +1,8 @@
 //! How many spots a port may have.
 
-use ccr_asserts::same;
 use super::sizes::{SMALL, Sizes, branch, parts, pattern};
 use super::{add, code, name};
+use crate::compare::same;
 use ccr_base::{Group, List};
 use ccr_wiring::{ArbiterPart, Kind, Parts};
 use std::alloc::Global;

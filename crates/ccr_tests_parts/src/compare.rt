@@ -1,5 +1,4 @@
-//! Comparisons of the tests. Each is one call: the code of `assert_eq!` would stand in the test and be proved with it.
-#![tactic(auto)]
+//! Comparisons, each one call: the code of `assert_eq!` would stand in each test and be proved there.
 
 use std::fmt::Debug;
 use std::process::Abort;
