@@ -3,3 +3,4 @@ mod Closing
 mod Dealing
 mod Resting
 mod Through
+mod Longer
