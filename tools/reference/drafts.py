@@ -251,13 +251,14 @@ def new_name(rng, machine):
 
 
 def walk(rng, wiring, steps):
-    """A machine after so many allowed events, by any actors and in any order."""
-    machine = Machine(wiring)
+    """A machine after so many allowed events, by any actors and in any order, one kind of event seldom among them: so tasks wait, queue up or run on."""
+    machine, seldom = Machine(wiring), rng.choice(("admit", "put", "start", "end", "end", None))
     for _ in range(steps):
         choices = list(allowed(rng, machine))
         if not choices:
             break
-        kind, name, *rest = rng.choice(choices)
+        often = [event for event in choices if event[0] != seldom]
+        kind, name, *rest = rng.choice(often if often and rng.random() < 0.9 else choices)
         machine.add((kind, name or new_name(rng, machine), *rest))
     return machine
 
@@ -270,7 +271,32 @@ class Doubtful:
         self.tasks, self.messages = list(machine.tasks) or [(1, 0)], list(machine.messages) or [("s", 0, 0)]
 
     def event(self):
+        near = {self.machine.refused_by(event): event for event in self.shuffled(self.near())}
+        if near and self.rng.random() < 0.4:
+            return near[self.rng.choice(list(near))]
         return getattr(self, self.rng.choice(("post", "post", "fire", "fire", "fire", "admit", "put", "put", "start", "end", "end")))()
+
+    def shuffled(self, events):
+        found = list(events)
+        self.rng.shuffle(found)
+        return found
+
+    def near(self):
+        """Events that miss by little: all is right but what one rule asks last."""
+        machine, name = self.machine, new_name(self.rng, self.machine)
+        for running in machine.running:
+            yield from ([own_post(machine, running)] if machine.tasks[running].has_post_left() else [])
+            yield from (("end", running, (how,)) for how in ("done", "yield", "shed"))
+        for spot in machine.wiring.spots():
+            messages, cuts = machine.choice(spot), machine.cuts(spot)
+            if messages and machine.is_live(spot):
+                yield "fire", name, spot, messages, cuts if machine.is_full(spot) else cuts[:-1] or [self.rng.choice(self.tasks)]
+        yield from (("admit", waiting[0]) for waiting in machine.waiting.values() if waiting and not machine.lets_in(waiting[0]))
+        for ready in machine.tasks:
+            if machine.may_be_put(ready):
+                yield "put", ready, None if machine.drop(ready) else self.rng.choice(self.tasks)
+        busy = [machine.tasks[running].actor for running in machine.running]
+        yield from (("start", queued[0], self.rng.choice((0, 33, *busy))) for queued in machine.queued if queued)
 
     def likely(self, found):
         if found and self.rng.random() < 0.8:
