@@ -8,7 +8,7 @@ ghost use Rattle.ccr_check.specs.Verdicts.{MeansQuiet};
 use crate::complete::{is_complete, is_complete_in};
 use crate::laws::still_is_quiet;
 use crate::left::is_still;
-use crate::standing::{ask, enter, ledger_of};
+use crate::standing::{ask, enter, ledger_of, make_current};
 use ccr_base::OutOfMemory;
 use ccr_ledger::Ledger;
 use ccr_model::{EndHow, Event, History};
@@ -124,5 +124,21 @@ impl<'w> Judge<'w> {
         still_is_quiet();
         let mut ledger = ledger_of(self.alloc, self.wiring, self.history.events())?;
         is_still(self.wiring, &mut ledger)
+    }
+
+    /// The same of the judge's own tables. A question may change what they keep, so the next event finds them made anew.
+    pub(crate) fn is_quiet(&mut self) -> Result<bool, OutOfMemory>
+        ensures { IfOk result (MeansQuiet self.old.wiring self.old.history) }
+    {
+        still_is_quiet();
+        make_current(
+            self.alloc,
+            self.wiring,
+            &self.history,
+            &mut self.ledger,
+            self.current,
+        )?;
+        self.current = false;
+        is_still(self.wiring, &mut self.ledger)
     }
 }

@@ -39,6 +39,6 @@ pub fn verdict(alloc: Global, wiring: &Wiring, history: &History) -> Result<Verd
     }
     Ok(Verdict::Legal {
         complete: judge.complete(),
-        quiet: judge.quiet()?,
+        quiet: judge.is_quiet()?,
     })
 }

@@ -42,7 +42,7 @@ pub(crate) fn ledger_of(
 }
 
 /// Makes the tables anew where they aren't those of the history.
-fn make_current(
+pub(crate) fn make_current(
     alloc: Global,
     wiring: &Wiring,
     history: &History,

@@ -1,0 +1,14 @@
+use Rattle.std.proofs.Common.{subst}
+use Rattle.std.specs.Prelude.{IfOk}
+use Rattle.ccr_check.specs.Verdicts.{MeansQuiet}
+use Rattle.ccr_check.specs.Judges.{Judged}
+use Rattle.ccr_check.proofs.Accepting.{quiet_told}
+use Rattle.ccr_check.proofs.judge.Judge.is_quiet.Goals as goal
+
+pub returns : goal.returns
+returns c =
+    let w = c.self.inside.wiring.now in
+    let h = c.self.inside.history in
+    let known = c.self.invariant in
+    subst (λ (j : Judged). IfOk c.is_still.result (MeansQuiet j.wiring j.history)) c.self.view_is
+    (quiet_told w known.valid h known.legal c.make_current.new.ledger c.in_ok-make_current.ensures.tables c.is_still.result c.is_still.ensures (c.still_is_quiet.ensures.still w h known.valid) (c.still_is_quiet.ensures.left w h known.valid known.legal))
