@@ -1,15 +1,17 @@
 """The places, each with what it keeps, and the actors, step by step: one command to one place a step."""
+from . import spelling
 from .handlers import Play, causes_of, holds, union
+from .histories import message_text, task_text
 from .machine import Message, Task
 
 ANY = ("any",)
 
 
 class Places:
-    """Ports, arbiters, sites, queues and the meter. What can be seen of the steps is kept as events."""
+    """Ports, arbiters, sites, queues and the meter. Each step is kept as an entry (stamp, actor, place, note), what can be seen of them as events."""
 
     def __init__(self, wiring):
-        self.wiring, self.events = wiring, []
+        self.wiring, self.events, self.entries, self.stamps = wiring, [], [], {}
         self.messages = [[] for _ in wiring.ports]
         self.claims, self.fired, self.waiting, self.admitted, self.suspended = {}, {}, {}, {}, {}
         self.booked = [{} for _ in wiring.queues]
@@ -19,43 +21,71 @@ class Places:
     def act(self, actor, ask):
         return getattr(self, "do_" + ask[0])(actor, *ask[1:])
 
-    def do_post(self, _, name, port, value, causes):
+    def note(self, actor, place, *words):
+        """The stamp is one more than the greater of the place's last and the actor's last."""
+        stamp = 1 + max(self.stamps.get(place, 0), self.stamps.get(actor, 0))
+        self.stamps[place] = self.stamps[actor] = stamp
+        self.entries.append((stamp, actor, place, " ".join(map(str, words))))
+
+    def port(self, number):
+        return f"port {self.wiring.ports[number]}"
+
+    def queue(self, number):
+        return f"queue {self.wiring.queues[number].name}"
+
+    def arbiter(self, number):
+        return f"arbiter {self.wiring.arbiters[number].name}"
+
+    def site(self, spot):
+        return f"site {self.wiring.spot_name(spot)}"
+
+    def do_post(self, actor, name, port, value, causes):
         self.messages[port].append(Message(name, port, value, causes))
         self.events.append(("post", name, port, value, tuple(causes)))
+        self.note(actor, self.port(port), "post", message_text(name))
 
-    def do_claim(self, _, name, port, least, most, predicate):
+    def do_claim(self, actor, name, port, least, most, predicate):
         """The messages that are marked, or None where another claim stands or there are too few."""
+        place, words = self.port(port), ("claim", task_text(name))
         if port in self.claims:
+            self.note(actor, place, *words, "busy", task_text(self.claims[port][0]))
             return None
         found = [it for it in self.messages[port] if holds(predicate, it.value)][:most]
+        self.note(actor, place, *words, "short" if len(found) < least else "got", len(found))
         if len(found) < least:
             return None
         self.claims[port] = name, found
         return found
 
-    def do_consume(self, _, name, port):
+    def do_consume(self, actor, name, port):
         owner, found = self.claims.pop(port)
         assert owner == name
         self.messages[port] = [it for it in self.messages[port] if it not in found]
+        self.note(actor, self.port(port), "consume", task_text(name))
 
-    def do_free(self, _, name, port):
+    def do_free(self, actor, name, port):
         assert self.claims.pop(port)[0] == name
+        self.note(actor, self.port(port), "free", task_text(name))
 
-    def do_commit(self, _, task, messages):
+    def do_commit(self, actor, task, messages):
         """The task, unless it waits now, and the cut tasks; or None where the spot fires no more."""
-        place = task.spot if task.spot[1] is not None else task.domain
-        if task.spot[1] is not None:
-            if not self.suspended.get(place):
+        is_site, name = task.spot[1] is not None, task_text(task.name)
+        place = self.site(task.spot) if is_site else self.arbiter(task.domain)
+        if is_site:
+            if not self.suspended.get(task.spot):
+                self.note(actor, place, "dead", name, "none")
                 return None
-            self.resume(task, self.suspended[place].pop(0))
-        elif place in self.fired:
+            self.resume(task, self.suspended[task.spot].pop(0))
+        elif task.domain in self.fired:
+            self.note(actor, place, "dead", name, "by", task_text(self.fired[task.domain]))
             return None
         elif task.group in ("once", "choice", "teardown"):
-            self.fired[place] = task.name
-        cuts = self.waiting.pop(place, []) if task.group == "teardown" and task.spot[1] is None else []
+            self.fired[task.domain] = task.name
+        cuts = self.waiting.pop(task.domain, []) if task.group == "teardown" and not is_site else []
         self.events.append(("fire", task.name, task.spot, messages, [it.name for it in cuts]))
-        if task.spot[1] is None and task.group in ("teardown", "exclusive", "concurrent"):
-            self.waiting.setdefault(place, []).append(task)
+        self.note(actor, place, "fired", name)
+        if not is_site and task.group in ("teardown", "exclusive", "concurrent"):
+            self.waiting.setdefault(task.domain, []).append(task)
             return None, cuts
         return task, cuts
 
@@ -63,63 +93,80 @@ class Places:
         task.segment, task.root = left.segment + 1, left.root
         task.values, task.causes = left.values + task.values, union(left.causes, task.causes)
 
-    def do_admit(self, _, domain):
+    def do_admit(self, actor, domain):
+        task = self.admissible(domain)
+        self.note(actor, self.arbiter(domain), "admit", task_text(task.name) if task else "none")
+        if task:
+            self.waiting[domain].pop(0)
+            self.admitted[domain][task.name] = task.group
+            self.events.append(("admit", task.name))
+        return task
+
+    def admissible(self, domain):
+        """The task that waits longest, where those that are admitted let it in."""
         waiting, admitted = self.waiting.get(domain, []), self.admitted.setdefault(domain, {})
         if not waiting:
             return None
         task = waiting[0]
         if any(group != "concurrent" for group in admitted.values()) if task.group == "concurrent" else admitted:
             return None
-        waiting.pop(0)
-        admitted[task.name] = task.group
-        self.events.append(("admit", task.name))
         return task
 
-    def do_over(self, _, task, how):
+    def do_over(self, actor, task, how):
         if self.wiring.is_interleave(task.domain):
             del self.admitted[task.domain][task.root]
         if how != ("dropped",):
             self.events.append(("end", task.name, how))
+        self.note(actor, self.arbiter(task.domain), "over", task_text(task.name), how[0], *map(spelling.value, how[1:]))
 
-    def do_suspend(self, _, task):
-        self.suspended.setdefault((task.spot[0], task.segment), []).append(task)
+    def do_suspend(self, actor, task):
+        spot = task.spot[0], task.segment
+        self.suspended.setdefault(spot, []).append(task)
         self.events.append(("end", task.name, ("yield",)))
+        self.note(actor, self.site(spot), "suspend", task_text(task.name))
 
-    def do_book(self, _, queue, name, resumes):
+    def do_book(self, actor, queue, name, resumes):
         part = self.wiring.queues[queue]
         there = sum(not it for it in self.booked[queue].values()) + sum(it.spot[1] is None for it in self.queued[queue])
-        if part.policy == "throttle" and not resumes and there >= part.limit:
-            return False
-        self.booked[queue][name] = resumes
-        return True
+        is_full = part.policy == "throttle" and not resumes and there >= part.limit
+        self.note(actor, self.queue(queue), "book", task_text(name), *(("full", there) if is_full else ()))
+        if not is_full:
+            self.booked[queue][name] = resumes
+        return not is_full
 
-    def do_unbook(self, _, queue, name):
+    def do_unbook(self, actor, queue, name):
         del self.booked[queue][name]
+        self.note(actor, self.queue(queue), "unbook", task_text(name))
 
-    def do_put(self, _, task):
+    def do_put(self, actor, task):
         """The task that is dropped for it, or None."""
         part, queued = self.wiring.queues[task.queue], self.queued[task.queue]
         del self.booked[task.queue][task.name]
         dropped = queued.pop(0) if part.policy == "discard" and len(queued) >= part.limit else None
         queued.append(task)
         self.events.append(("put", task.name, dropped and dropped.name))
+        self.note(actor, self.queue(task.queue), "put", task_text(task.name), *(("drop", task_text(dropped.name)) if dropped else ()))
         return dropped
 
     def do_take(self, actor, queue):
-        if not self.queued[queue]:
-            return None
-        task = self.queued[queue].pop(0)
-        self.events.append(("start", task.name, actor))
+        task = self.queued[queue].pop(0) if self.queued[queue] else None
+        self.note(actor, self.queue(queue), "take", task_text(task.name) if task else "none")
+        if task:
+            self.events.append(("start", task.name, actor))
         return task
 
-    def do_draw(self, _):
-        self.drawn += 1
-        return self.drawn <= self.wiring.budget
+    def do_draw(self, actor):
+        is_drawn = self.drawn < self.wiring.budget
+        self.note(actor, "meter", "draw", self.drawn if is_drawn else "none")
+        self.drawn += is_drawn
+        return is_drawn
 
-    def do_leave(self, _):
+    def do_leave(self, actor):
         self.gone += 1
+        self.note(actor, "meter", "leave")
 
-    def do_left(self, _):
+    def do_left(self, actor):
+        self.note(actor, "meter", "left", self.gone)
         return self.gone
 
 
@@ -276,10 +323,19 @@ class Actor:
             yield from self.over(task, play.end)
 
 
+class Run:
+    """The actors of a wiring at its places, moved turn by turn; a turn of an actor at rest does nothing."""
+
+    def __init__(self, wiring, workers, turns):
+        self.places = Places(wiring)
+        self.actors = [Actor(wiring, number) for number in range(len(wiring.posters) + workers)]
+        for turn in turns:
+            self.actors[turn].step(self.places)
+
+    def is_at_rest(self):
+        return all(actor.ask is None for actor in self.actors)
+
+
 def visible(wiring, workers, turns):
-    """The events that can be seen of these turns; a turn of an actor at rest does nothing."""
-    places = Places(wiring)
-    actors = [Actor(wiring, number) for number in range(len(wiring.posters) + workers)]
-    for turn in turns:
-        actors[turn].step(places)
-    return places.events
+    """The events that can be seen of these turns."""
+    return Run(wiring, workers, turns).places.events

@@ -1,7 +1,8 @@
-"""Random wirings, turns, histories and words: most are well formed, many are spoilt in one place or two."""
+"""Random wirings, turns, histories, records, services and words: most are well formed, many are spoilt in one place or two."""
 import itertools
 
 from . import histories
+from .actors import Run
 from .machine import Machine
 
 NAMES = "a b c d x1 y-2 Z_ take end arg sum any port q h gather cut A23456789012345b once part turn report done ccr".split()
@@ -15,20 +16,27 @@ HISTORY_WORDS = """s0.0 s0.1 s1.0 t1.0 t1.1 t0.0 t1.0.0 t1.0.1 t33.0 t32.0 t2.0 
 18446744073709551616 s0.4294967296 t4294967296.0 t0.4294967295 s01.0 x@0 a b a@0 a@1 a@01 a@ @0 post fire admit put start end report history 1,2 1,02
 1,2,3,4,5,6,7,8,9 s0 t0 s0.0.0 t0.0.0.0 S0.0 a-b 9a abcdefghijklmnopq""".split()
 HISTORY_WORDS += ["", "\t", "\r", "\xe9"]
-CALL_WORDS = """run check verify load --workers --size --json --schedule -- - 0 1 2 16 17 00 010 -1 +1 10000 10001 99999999999999999999999999 --workers=0 --workers=3
---workers= --size=5 --size=0 --json=1 --json= --schedule= --help -h --version -V help Run --work --workers=1=2 --jso -j --- = --= 1_0 0x1 record
---worKers""".split()
+RECORD_WORDS = """record turn done 0 1 2 3 15 16 17 00 01 016 x -1 99 4294967296 18446744073709551616 # #x end ccr history port 1,2""".split()
+RECORD_WORDS += ["", "\x7f", "\xe9", "\x00", "a\x0b"]
+SERVICE_NAMES = "a b get upd drop X1 9 A2345678901b svc rq x h arg end below op ask client exclusive 0a a_b a-b abcdefghijklm service".split()
+SERVICE_WORDS = SERVICE_NAMES + """policy unbounded discard throttle teardown concurrent sum count part 0 1 00 1000 1001 65535 65536 18446744073709551615
+18446744073709551616 -1 1,2 # #x ccr handler 1_0 0x1 any lt a-rq""".split() + ["", "\x7f", "\xe9", "\x00", "a\x0b"]
+CALL_WORDS = """run check verify load record replay steps steady service expand --workers --size --json --schedule -- - 0 1 2 16 17 00 010 -1 +1 10000 10001
+99999999999999999999999999 --workers=0 --workers=3 --workers= --size=5 --size=0 --json=1 --json= --schedule= --help -h --version -V help Run --work
+--workers=1=2 --jso -j --- = --= 1_0 0x1 records Steps serve --worKers""".split()
 CALL_WORDS = [word.encode() for word in CALL_WORDS] + [b"", b" 1", b"--size=1 ", b"\xff", b"--workers\xff", "é".encode()]
 
 
 class Draft:
     """A wiring as lines of words. It is valid unless too many spots name a port."""
 
+    MOST_PORTS = 5
+
     def __init__(self, rng):
         self.rng, self.version = rng, 2 if rng.random() < 0.35 else 1
         self.names = NAMES + [f"n{number}" for number in range(60)]
         self.queues = [self.name() for _ in range(rng.randint(1, 3))]
-        self.ports = [self.name() for _ in range(rng.randint(1, 5))]
+        self.ports = [self.name() for _ in range(rng.randint(1, self.MOST_PORTS))]
         self.sets = {self.name(): rng.sample(self.ports, rng.randint(1, min(3, len(self.ports)))) for _ in range(rng.randint(0, 2))}
         self.causes = [self.name() for _ in range(rng.randint(0, 3))]
         self.handlers = [self.name() for _ in range(rng.randint(1, 4))]
@@ -122,17 +130,79 @@ class Draft:
             yield ["end"]
 
     def text(self):
-        """The lines, some with blanks, comments and CR in places where these may stand."""
-        choice, out = self.rng.choice, []
-        for words in self.lines:
-            if self.rng.random() < 0.06:
-                out.append(choice(("", "# x", "  \t", "#", " #a b", "\r")))
-            blanks = ["" if not place else choice((" ",) * 12 + ("\t", "  ", " \r", "\t ")) for place in range(len(words))]
-            out.append(choice(("",) * 10 + (" ", "\t")) + "".join(map("".join, zip(blanks, words))) + choice(("",) * 10 + (" ", "\r", "\t")))
-        return ("\n".join(out) + "\n").encode("utf-8")
+        return spelt(self.rng, self.lines)
 
 
-def spoilt_words(rng, lines):
+def spelt(rng, lines):
+    """The lines, some with blanks, comments and CR in places where these may stand."""
+    choice, out = rng.choice, []
+    for words in lines:
+        if rng.random() < 0.06:
+            out.append(choice(("", "# x", "  \t", "#", " #a b", "\r")))
+        blanks = ["" if not place else choice((" ",) * 12 + ("\t", "  ", " \r", "\t ")) for place in range(len(words))]
+        out.append(choice(("",) * 10 + (" ", "\t")) + "".join(map("".join, zip(blanks, words))) + choice(("",) * 10 + (" ", "\r", "\t")))
+    return ("\n".join(out) + "\n").encode("utf-8")
+
+
+class Even(Draft):
+    """A draft whose counts depend on nobody, unless one of the five rules or more are broken."""
+
+    MOST_PORTS = 8
+
+    def __init__(self, rng):
+        self.broken = set(rng.sample(range(1, 6), rng.choice((0, 0, 0, 0, 0, 1, 1, 1, 2, 3))))
+        self.left = None
+        super().__init__(rng)
+
+    def breaks(self, rule):
+        return rule in self.broken and self.rng.random() < 0.5
+
+    def policy(self):
+        if self.breaks(4):
+            return ["discard", self.number(1, 2, 3)]
+        return ["throttle", self.number(1, 2, 3)] if self.rng.random() < 0.4 else ["unbounded"]
+
+    def bodies(self):
+        """The last handler is no branch's, so that it may fail and await."""
+        yield from super().bodies()
+        yield from (["handler", self.name()], ["await", self.port()], ["fail", *self.expression()], ["end"])
+
+    def action(self):
+        while True:
+            found = super().action()
+            if found[0] not in ("await", "fail") or self.breaks(5):
+                return found
+
+    def pattern(self):
+        """Slots on ports that no other branch names."""
+        if self.breaks(2) and len(self.ports) >= 2:
+            return ["gather", self.number(1, 2, 3), *map(self.port, self.rng.sample(self.ports, 2))]
+        if not self.left or self.breaks(1):
+            ports = self.rng.sample(self.ports, 1)
+        else:
+            ports = [self.left.pop() for _ in range(self.rng.randint(1, min(3, len(self.left))))]
+        return ["take", *itertools.chain(*map(self.slot, ports))]
+
+    def slot(self, port):
+        predicate = [self.rng.choice(("eq", "lt", "ge")), self.number(0, 1, 7)] if self.breaks(2) else ["any"]
+        return [self.port(port), self.number(1, 1, 1, 2, 3), *predicate]
+
+    def arbiter(self):
+        if self.left is None:
+            self.left = self.rng.sample(self.ports, len(self.ports))
+        if not self.left:
+            return []
+        kind, name = self.rng.choice(("receive", "receive", "interleave") + ("choice",) * self.breaks(3)), self.name()
+        if kind == "receive":
+            return [self.branch(kind, name, "once" if self.breaks(3) else "always")]
+        if kind == "interleave":
+            self.interleaves.append(name)
+        groups = {"choice": ("branch",), "interleave": ("concurrent", "exclusive") + ("teardown",) * self.breaks(3)}[kind]
+        branches = [self.branch(self.rng.choice(groups), self.name()) for _ in range(self.rng.randint(1, 3)) if self.left]
+        return [[kind, name], *branches, ["end"]]
+
+
+def spoilt_words(rng, lines, others=tuple(WORDS)):
     """Lines of words with a word or a line lost, doubled, swapped or another."""
     lines = [list(words) for words in lines]
     own = [word for words in lines for word in words[1:]] or ["a"]
@@ -141,7 +211,7 @@ def spoilt_words(rng, lines):
             break
         line, other = rng.randrange(len(lines)), rng.randrange(len(lines))
         words = lines[line]
-        place, word = rng.randrange(len(words) + 1), rng.choice(WORDS if rng.random() < 0.6 else own)
+        place, word = rng.randrange(len(words) + 1), rng.choice(others if rng.random() < 0.6 else own)
         kind = rng.choice(("put", "put", "put", "lose", "add", "last", "lose line", "double line", "swap lines", "stretch", "stop"))
         if kind == "put":
             words[place:place + 1] = [word]
@@ -210,6 +280,37 @@ def turns(rng, actors):
     while actors and len(found) < rng.choice((0, 20, 400)):
         found += [rng.randrange(actors)] * rng.randint(1, longest)
     return [["turn", str(actor)] for actor in found]
+
+
+def turns_to_rest(rng, wiring, workers):
+    """Turns of actors that have a next step, until none has one; there is none at all without workers and posters."""
+    run, longest, found = Run(wiring, workers, []), rng.choice((1, 3, 40)), []
+    while not run.is_at_rest():
+        left = [it for it in run.actors if it.ask is not None]
+        actor = left[0] if rng.random() < 0.3 else rng.choice(left)
+        for _ in range(rng.randint(1, longest)):
+            if actor.ask is not None:
+                actor.step(run.places)
+                found.append(["turn", str(actor.number)])
+    return found
+
+
+# records
+
+def record(rng, turns, workers):
+    """The lines behind a wiring; many are spoilt."""
+    zeros = "0" * rng.choice((1, 2, 25)) if rng.random() < 0.05 else ""
+    lines, kind = [["record", "1", zeros + str(workers)], *turns, ["done", "0"]], rng.random()
+    if kind < 0.1:
+        lines += rng.choice(([["done", "0"]], [["turn", "0"]], [["record", "1", "0"]], [["#x"], ["x"]], [["\xe9"]], [["#", "\x01"]], [["#", "x"]]))
+    elif kind < 0.13:
+        return rng.choice(([], [["#", "record"]], lines[1:], lines[:-1], lines[:1]))
+    elif kind < 0.18:
+        lines[0][2] = rng.choice(("16", "17", "18446744073709551616", str(workers + 1), str(max(0, workers - 1))))
+    elif kind < 0.45:
+        few = rng.randrange(len(lines)) if rng.random() < 0.5 else 0
+        lines[few:few + 4] = spoilt_words(rng, lines[few:few + 4], RECORD_WORDS)
+    return lines
 
 
 # histories
@@ -399,13 +500,59 @@ def event_lines(machine):
     return [histories.event_text(machine.wiring, event) for event in machine.events]
 
 
+# services
+
+def asks(rng, operations, most):
+    for _ in range(rng.randint(0, most)):
+        yield ["ask", rng.choice(operations), str(rng.choice(NUMBERS))]
+
+
+def service(rng):
+    """The lines of a service; the policy may stand anywhere outside the clients, and an operation behind clients that don't ask for it."""
+    names = [name for name in SERVICE_NAMES if name.isalnum() and name[0].isalpha() and len(name) <= 12] + [f"n{number}" for number in range(20)]
+    rng.shuffle(names)
+    operations, blocks = [], []
+    for _ in range(rng.randint(1, 5)):
+        group = rng.choice(("concurrent", "concurrent", "exclusive", "exclusive", "teardown"))
+        expression = rng.choice((["arg", rng.choice(("0", "0", "00", "1", "65535"))], ["sum"], ["count"], [str(rng.choice(NUMBERS))]))
+        below = ["below", str(rng.choice((0, 1, 3, 4, 5, 18446744073709551615)))] if rng.random() < 0.5 else []
+        operations.append(names.pop())
+        blocks.append([["op", operations[-1], group, *expression, *below]])
+        if rng.random() < 0.4:
+            blocks.append([["client", names.pop()], *asks(rng, operations, 8), ["end"]])
+    blocks.append([["client", names.pop()], *asks(rng, operations, 20), ["end"]])
+    if rng.random() < 0.6:
+        policy = rng.choice((["unbounded"], ["discard", rng.choice("1123")], ["throttle", rng.choice("1123")]))
+        blocks.insert(rng.randint(0, len(blocks)), [["policy", *policy]])
+    return [["service", "1"], *itertools.chain(*blocks)]
+
+
+def service_at_a_limit(rng):
+    """A service with as many lines, or as great numbers, as there may be, or one or two more or fewer."""
+    more = rng.choice((-1, 0, 0, 1, 1, 1, 2))
+    lines = rng.choice((
+        lambda: many("op k{} exclusive sum", 31 + more), lambda: many("op k{} exclusive sum below 3", 31 + more),
+        lambda: many("client k{}\nend", 16 + more), lambda: ["client k", *["ask a 1"] * 6000, "end", "client l", *["ask a 2"] * (4000 + more), "end"],
+        lambda: [f"policy {rng.choice(('discard', 'throttle'))} {rng.choice((0, 1, 1000, 1001))}", *["policy unbounded"] * (more == 2)],
+        lambda: [f"op k concurrent arg {65535 + more}"], lambda: ["op " + "k" * (12 + more) + " concurrent sum", "client k", "end"], lambda: [],
+        lambda: ["policy discard 2", rng.choice(("", "client k", "#")), "policy throttle x"], lambda: [f"op k {rng.choice(('exclusive', 'shared'))} sum 3"],
+        lambda: ["op k teardown sum", rng.choice(("op", "client")) + " k", "exclusive sum"], lambda: ["client k", f"ask {rng.choice('ak')} 1", "end"],
+        lambda: ["op k exclusive " + rng.choice(("1,2", "part 0 0", "arg", "sum below", "sum above 3", "1 below 3", "1 below x 4", "below 3", "1 below 0"))],
+    ))()
+    tail = rng.choice(([], ["x y"], ["end"], ["op"], ["client"], ["ask"], ["client zz", "end"], ["client zz"]))
+    head = ["service 1"] + ["op a concurrent arg 0"] * (rng.random() < 0.95)
+    if rng.random() < 0.1:
+        head, lines, tail = head[:1], [], rng.choice(([], ["#"], ["policy unbounded"], ["client k", "end"], ["client k"]))
+    return "".join(line + "\n" for line in [*head, *lines, *tail]).encode()
+
+
 # words
 
 def call_words(rng):
     if rng.random() < 0.5:
         return [rng.choice(CALL_WORDS) for _ in range(rng.randint(0, 5))]
     options = [b"--workers", rng.choice((b"0", b"3", b"016"))], [b"--workers=2"], [b"--size", b"3"], [b"--size=0007"], [b"--json"], [b"--schedule"], [b"--"]
-    words = [rng.choice((b"run", b"check", b"verify", b"load"))]
+    words = [rng.choice(CALL_WORDS[:10])]
     for option in rng.sample(options, rng.randint(0, 3)):
         words = rng.choice((option + words, words + option))
     if rng.random() < 0.3:

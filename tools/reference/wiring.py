@@ -338,22 +338,26 @@ class Reader:
 VERSIONS = {(b"ccr", b"1"): 1, (b"ccr", b"2"): 2}
 
 
-def read(text):
-    """The wiring that the text says. Raises Refused at the first line that offends."""
-    reader, has_begun = Reader(), False
-    all_lines = lines.cut(text)
+def checked(line):
+    """The line's words; none where it is skipped."""
+    if not lines.is_clean(line):
+        raise Off(1)
+    found = lines.words(line)
+    return [] if lines.is_skipped(found) else found
+
+
+def read_lines(text, reader, heads):
+    """Hands the reader the lines behind the first that isn't skipped, which has to be one of the heads, and answers the last line's number. Raises
+    Refused at the first line that offends."""
+    has_begun, all_lines = False, lines.cut(text)
     for place, line in enumerate(all_lines):
         try:
-            if not lines.is_clean(line):
-                raise Off(1)
-            found = lines.words(line)
-            if lines.is_skipped(found):
-                continue
-            if has_begun:
+            found = checked(line)
+            if found and has_begun:
                 reader.line(found)
-            elif tuple(found) in VERSIONS:
-                reader.wiring.version, has_begun = VERSIONS[tuple(found)], True
-            else:
+            elif found and tuple(found) in heads:
+                reader.wiring.version, has_begun = heads[tuple(found)], True
+            elif found:
                 raise Off(2)
         except Off as off:
             raise Refused(place + 1, off.code) from None
@@ -362,6 +366,13 @@ def read(text):
         raise Refused(last, 2)
     if reader.block:
         raise Refused(last, 9)
+    return last
+
+
+def read(text):
+    """The wiring that the text says."""
+    reader = Reader()
+    read_lines(text, reader, VERSIONS)
     if reader.wiring.budget is None:
         reader.wiring.budget = 10000
     return reader.wiring
@@ -373,14 +384,11 @@ def read_turns(text, lines_before, actors):
     for place, line in enumerate(lines.cut(text)):
         reader = Reader()
         try:
-            if not lines.is_clean(line):
-                raise Off(1)
-            reader.words = lines.words(line)
-            if lines.is_skipped(reader.words):
-                continue
-            reader.keyword("turn")
-            turns.append(reader.number(0, actors - 1))
-            reader.end_line()
+            reader.words = checked(line)
+            if reader.words:
+                reader.keyword("turn")
+                turns.append(reader.number(0, actors - 1))
+                reader.end_line()
         except Off as off:
             raise Refused(lines_before + place + 1, off.code) from None
     return turns

@@ -1,6 +1,9 @@
 """The words of the command line."""
 
-OPTIONS = {b"check": {b"--json"}, b"run": {b"--workers", b"--schedule", b"--json"}, b"verify": set(), b"load": {b"--workers", b"--size", b"--json"}}
+OPTIONS = {
+    b"check": {b"--json"}, b"run": {b"--workers", b"--schedule", b"--json"}, b"verify": set(), b"load": {b"--workers", b"--size", b"--json"},
+    b"record": {b"--workers"}, b"replay": set(), b"steps": set(), b"steady": set(), b"service": {b"--workers"}, b"expand": set(),
+}
 FLAGS, NUMBERS = (b"--json", b"--schedule"), {b"--workers": (0, 16), b"--size": (1, 10000)}
 
 

@@ -1,6 +1,6 @@
 -- An actor follows the list of its steps.
 use Rattle.std.proofs.Common.{◌≡◌, ◌⊎◌, ◌≤◌, ◌<◌, ℕ, suc, ◌+◌, Bool, true, false, List, [], ◌∷◌, ◌++◌, length, take, drop, Option, Some, None, Ok, Err, refl, sym, ap, subst, cond, arith, inl, inr, ◌∙◌}
-use Rattle.std.specs.Prelude.{nat_le}
+use Rattle.std.specs.Prelude.{nat_le, ◌↔◌}
 use Rattle.std.proofs.lemmas.Bool.{le-leb}
 use Rattle.std.proofs.lemmas.Bool.Decides.{nat_tests}
 use Rattle.std.proofs.lemmas.List.{map-append, length-append, take-append-le, drop-append-le, append-nil}
@@ -18,7 +18,7 @@ use Rattle.ccr_claim.specs.declared.asks.Ask.TheVariants as asks
 use Rattle.ccr_claim.specs.declared.asks.Reply.{Reply}
 use Rattle.ccr_claim.specs.declared.asks.Reply.TheVariants as replies
 use Rattle.ccr_claim.specs.Asks.{is_settling, is_refusable, due_of, may_come}
-use Rattle.ccr_actor.specs.Acting.{Acting, Asking, quiet, going, asking_of, due_in, kept, at_state, started, sent, sent_work, sent_play, sent_state, next as next_of, answered, shortened, state_after_reply, IsAfter}
+use Rattle.ccr_actor.specs.Acting.{Acting, Asking, quiet, settling, going, asking_of, due_in, is_at_rest, kept, kept_if, rests_by, at_state, started, sent, sent_work, sent_play, sent_state, next as next_of, answered, shortened, state_after_reply, IsAfter}
 use Rattle.ccr_actor.specs.Actors.{State, Work, lines, round, taking, playing, posting, shedding, resting, Turn, settle, admit, drive, go_on, stop, turn, turn_of, spots_left, asked, ask_in, work_ask, settled, after_in, after, after_all, after_work, after_play, shorten, start, state_after, next}
 use Rattle.ccr_actor.specs.Hands.{AreSettling}
 use Rattle.ccr_actor.specs.Nets.{Step, AreNext, IsProper, replies_of}
@@ -332,3 +332,33 @@ pub follows_settling : (wiring : Parts) (actor : ℕ) (steps : List Step) (a : A
 follows_settling wiring actor steps a one (None, (all, (is, from))) short asks = cc (sym short ∙ from)
 follows_settling wiring actor steps a one (Some n, (all, (is, from))) short asks =
     short_settles wiring actor n (replies_of steps) one (subst (λ m. n ≤ m) (sym (replies-length steps)) from.0) (follows_next wiring actor (Some n) steps a one is asks)
+
+-- ---- rest
+
+no-ask : (asking : Asking) (o : Option Asked) → rests_by asking o ≡ true → o ≡ None
+no-ask quiet None is = refl
+no-ask quiet (Some one) is = absurd cc
+no-ask (settling due) None is = refl
+no-ask (settling due) (Some one) is = absurd cc
+no-ask (going due) None is = refl
+no-ask (going due) (Some one) is = absurd cc
+
+-- an actor that isn't short asks what comes next
+asks-next : (w : Parts) (k : ℕ) (given : List Reply) (a : Acting) → a ≡ at_state w k (state_after w k None given) → a.state.is_short ≡ false → next_of a ≡ next w k None given
+asks-next w k given a is long = by (state_after w k None given).is_short refl
+  where
+    s : State
+    s = state_after w k None given
+
+    by : (b : Bool) → s.is_short ≡ b → next_of a ≡ next w k None given
+    by true short = absurd (let lacks : a.state.is_short ≡ true = ap (λ (x : Acting). x.state.is_short) is ∙ ap (λ b. (kept_if b s).is_short) short in cc)
+    by false here = let same : kept s ≡ s = ap (λ b. kept_if b s) here in ap next_of is ∙ ap (asked w k) same
+
+-- as long as it isn't short, it is at rest exactly where it has no next step
+pub follows_rest : (wiring : Parts) (actor : ℕ) (steps : List Step) (a : Acting) → Follows wiring actor steps a → a.state.is_short ≡ false → (is_at_rest a ≡ true) ↔ (next wiring actor None (replies_of steps) ≡ None)
+follows_rest wiring actor steps a follows long =
+    let is = (follows_long wiring actor steps a follows long).1 in
+    let same = asks-next wiring actor (replies_of steps) a is long in (
+      λ rest. sym same ∙ no-ask a.asking (next_of a) rest,
+      λ none. ap (λ (x : Acting). rests_by x.asking (next_of a)) is ∙ ap (rests_by quiet) (same ∙ none),
+    )

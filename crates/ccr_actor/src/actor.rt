@@ -64,6 +64,7 @@ impl<'w> Actor<'w> {
     }
 
     /// Moves out the next ask and its place; none where the actor is at rest. Takes no memory.
+    #[inline(always)]
     pub fn next(&mut self) -> Option<(Place, Ask)>
         requires { self.old.asking ≡ quiet }
         ensures asked { result ≡ option_map pair_of (next self.old) }
@@ -80,6 +81,7 @@ impl<'w> Actor<'w> {
 
     /// Takes in the answer to the ask that was made last, and makes the next one ready. Where there is no memory for that,
     /// the actor is short.
+    #[inline(always)]
     pub fn got(&mut self, reply: Result<Reply, OutOfMemory>)
         requires { IsTrue (may_come (due_in self.old.asking) reply) }
         ensures after { IsAfter self.old reply self.new }

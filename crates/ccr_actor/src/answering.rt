@@ -12,6 +12,7 @@ use ccr_claim::Reply;
 
 impl Course<'_> {
     /// Takes in the answer to the ask of this part.
+    #[inline(always)]
     pub fn answer(
         &mut self,
         part: Part,
@@ -44,6 +45,7 @@ impl Course<'_> {
     }
 
     /// What is asked next is made ready; where no memory is found the actor is short.
+    #[inline(always)]
     pub fn finish(&mut self, made: Result<(), OutOfMemory>)
         requires attempt { OnOk made (IsPast self.old.attempt ⊎ IsUnderWay self.old) }
         requires past { OnErr made (IsPast self.old.attempt) }

@@ -27,6 +27,7 @@ pub fn take_hand(attempt: &mut Attempt) -> Option<Asked>
 }
 
 /// Moves out what an attempt that runs asks next.
+#[inline(always)]
 pub fn take_ask(attempt: &mut Attempt) -> Asked
     requires quiet { attempt.old.due ≡ dues.Nothing }
     requires settled { attempt.old.hand ≡ [] }
@@ -41,6 +42,7 @@ pub fn take_ask(attempt: &mut Attempt) -> Asked
 }
 
 /// Where the attempt stands after this answer.
+#[inline(always)]
 pub fn answer(attempt: &mut Attempt, reply: Result<Reply, OutOfMemory>) -> Progress
     requires { IsTrue (may_come attempt.old.due reply) }
     ensures after { IsAfter attempt.old reply attempt.new }

@@ -63,6 +63,7 @@ impl Course<'_> {
     }
 
     /// Takes in the answer to the attempt's ask.
+    #[inline(always)]
     pub fn hear(&mut self, reply: Result<Reply, OutOfMemory>) -> Result<(), OutOfMemory>
         requires way { IsUnderWay self.old }
         requires asked { due_at self.old.attempt ≡ due_next self.old.attempt }

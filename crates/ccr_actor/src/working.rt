@@ -273,6 +273,7 @@ impl<'w> Course<'w> {
     }
 
     /// Takes in the reply to the ask of the work.
+    #[inline(always)]
     pub fn worked(&mut self, reply: Reply) -> Result<(), OutOfMemory>
         requires counted { IsCounted self.old.work self.old.taken self.old.empty }
         requires idle { (state_of self.old).hand ≡ [] }

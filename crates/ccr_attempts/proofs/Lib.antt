@@ -3,7 +3,7 @@ mod Hands
 mod Going
 mod Between
 pub mod Tried
-mod OwnItems
-mod RunReplies
+pub mod OwnItems
+pub mod RunReplies
 pub mod RunsTried
 mod Worked

@@ -3,7 +3,7 @@
 use crate::ActorNo;
 
 /// The points at which the gate is asked: after a claim was got, after a firing, after a start, before an end.
-#[derive(Clone, Copy, Debug, PartialEq, Eq)]
+#[derive(Clone, Copy, PartialEq, Eq)]
 pub enum Point {
     Claimed,
     Committed,
@@ -17,7 +17,7 @@ pub trait Gate {
 }
 
 /// The gate that holds nobody back.
-#[derive(Clone, Copy, Debug)]
+#[derive(Clone, Copy)]
 pub struct OpenGate;
 
 impl Gate for OpenGate {

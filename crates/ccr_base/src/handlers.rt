@@ -4,7 +4,7 @@ use crate::{CauseNo, List, PortNo, Value};
 
 /// A value; the value of the task's message `Arg(k)`, from 0, and 0 where there is none; of the value of message `k` the one
 /// number `Part(k, i)`, from 0, and 0 where there is no such message or number; the sum of all values, place by place; how many.
-#[derive(Clone, Copy, Debug, PartialEq, Eq)]
+#[derive(Clone, Copy, PartialEq, Eq)]
 pub enum Expr {
     Number(Value),
     Arg(u32),
@@ -13,7 +13,7 @@ pub enum Expr {
     Count,
 }
 
-#[derive(Clone, Copy, Debug, PartialEq, Eq)]
+#[derive(Clone, Copy, PartialEq, Eq)]
 pub enum Action {
     Post(PortNo, Expr),
     Fail(Expr),
@@ -22,7 +22,7 @@ pub enum Action {
     Await(PortNo),
 }
 
-#[derive(Debug, Drop)]
+#[derive(Drop)]
 pub struct Handler {
     pub actions: List<Action>,
 }

@@ -6,7 +6,7 @@ use crate::{CauseNo, List, MsgId, OutOfMemory, PortNo, Value};
 use std::alloc::Global;
 
 /// A message at its port. Its causes have no member twice.
-#[derive(Debug, Drop)]
+#[derive(Drop)]
 pub struct Msg {
     pub id: MsgId,
     pub port: PortNo,
@@ -15,7 +15,7 @@ pub struct Msg {
 }
 
 /// A post of a script or of a handler.
-#[derive(Debug, Drop)]
+#[derive(Drop)]
 pub struct Sent {
     pub port: PortNo,
     pub value: Value,

@@ -16,28 +16,28 @@ pub type BranchNo = u32;
 pub type ActorNo = u32;
 
 /// The task that an attempt (from 0) of an actor fired.
-#[derive(Clone, Copy, Debug, PartialEq, Eq, PartialOrd, Ord, Hash)]
+#[derive(Clone, Copy, PartialEq, Eq, PartialOrd, Ord, Hash)]
 pub struct TaskId {
     pub actor: ActorNo,
     pub attempt: u32,
 }
 
 /// A message: a post (from 0) of a poster's script, or a post (from 0) of a task.
-#[derive(Clone, Copy, Debug, PartialEq, Eq, PartialOrd, Ord, Hash)]
+#[derive(Clone, Copy, PartialEq, Eq, PartialOrd, Ord, Hash)]
 pub enum MsgId {
     Script { actor: ActorNo, place: u32 },
     Task { task: TaskId, place: u32 },
 }
 
 /// Where a firing happens: a branch, or an await site (from 0) of a branch.
-#[derive(Clone, Copy, Debug, PartialEq, Eq, Hash)]
+#[derive(Clone, Copy, PartialEq, Eq, Hash)]
 pub enum Spot {
     Branch(BranchNo),
     Site(BranchNo, u32),
 }
 
 /// What has a lock of its own.
-#[derive(Clone, Copy, Debug, PartialEq, Eq)]
+#[derive(Clone, Copy, PartialEq, Eq)]
 pub enum Place {
     Port(PortNo),
     Arbiter(ArbiterNo),

@@ -6,7 +6,7 @@ ghost use Rattle.ccr_base.specs.Choice.{holds};
 use crate::{List, PortNo, Value};
 
 /// What a slot asks of the first number of a message's value.
-#[derive(Clone, Copy, Debug, PartialEq, Eq)]
+#[derive(Clone, Copy, PartialEq, Eq)]
 pub enum Pred {
     Any,
     Eq(u64),
@@ -28,7 +28,7 @@ impl Pred {
 }
 
 /// At least `least` and at most `most` of the port's oldest messages that satisfy the predicate.
-#[derive(Clone, Copy, Debug, PartialEq, Eq)]
+#[derive(Clone, Copy, PartialEq, Eq)]
 pub struct Slot {
     pub port: PortNo,
     pub least: u32,
@@ -37,7 +37,7 @@ pub struct Slot {
 }
 
 /// What one firing takes. A gather takes `total` messages of two ports; which split is free.
-#[derive(Debug, Drop)]
+#[derive(Drop)]
 pub enum Pattern {
     Slots(List<Slot>),
     Gather {

@@ -1,6 +1,6 @@
 //! What a queue does when it is full, and the group of a branch in its arbiter.
 
-#[derive(Clone, Copy, Debug, PartialEq, Eq)]
+#[derive(Clone, Copy, PartialEq, Eq)]
 pub enum Policy {
     Unbounded,
     /// A put on a queue that holds this many tasks drops the oldest.
@@ -9,7 +9,7 @@ pub enum Policy {
     Throttle(u32),
 }
 
-#[derive(Clone, Copy, Debug, PartialEq, Eq)]
+#[derive(Clone, Copy, PartialEq, Eq)]
 pub enum Group {
     Once,
     Always,

@@ -6,7 +6,7 @@ use crate::{ArbiterNo, CauseNo, List, OutOfMemory, QueueNo, Spot, TaskId, Value}
 use std::alloc::Global;
 
 /// A task. Its root is the task that its branch fired: itself, unless it resumes a suspended one.
-#[derive(Debug, Drop)]
+#[derive(Drop)]
 pub struct Task {
     pub id: TaskId,
     pub root: TaskId,
@@ -35,7 +35,7 @@ impl Task {
 }
 
 /// How a root is over.
-#[derive(Clone, Copy, Debug, PartialEq, Eq)]
+#[derive(Clone, Copy, PartialEq, Eq)]
 pub enum How {
     Done,
     Failed(Value),
@@ -44,21 +44,21 @@ pub enum How {
 }
 
 /// A task that a teardown cut, and the queue that it was booked at.
-#[derive(Clone, Copy, Debug, PartialEq, Eq)]
+#[derive(Clone, Copy, PartialEq, Eq)]
 pub struct Cut {
     pub task: TaskId,
     pub queue: QueueNo,
 }
 
 /// Why a spot can't fire: the firing that retired it, or nobody is suspended there.
-#[derive(Clone, Copy, Debug, PartialEq, Eq)]
+#[derive(Clone, Copy, PartialEq, Eq)]
 pub enum By {
     Fired(TaskId),
     NoneWaiting,
 }
 
 /// What an arbiter or a site answers to a firing. It keeps the task where it hands none back.
-#[derive(Debug, Drop)]
+#[derive(Drop)]
 pub enum Commit {
     Fired { task: Option<Task>, cuts: List<Cut> },
     Dead(By),

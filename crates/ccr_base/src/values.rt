@@ -11,7 +11,7 @@ use std::marker::Model;
 pub const MAX_VALUE_NUMBERS: usize = 8;
 
 /// A list of 1 to 8 numbers, which takes no memory of its own.
-#[derive(Clone, Copy, Debug)]
+#[derive(Clone, Copy)]
 pub struct Value {
     /// Zero from `count` on.
     numbers: [u64; MAX_VALUE_NUMBERS],

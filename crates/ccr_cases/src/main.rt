@@ -20,6 +20,10 @@ fn take_in<'a>(
         "input" => put_text(&mut case.input, value)?,
         "times" => put_times(&mut case.input, value)?,
         "generated" => put_generated(alloc, case, value)?,
+        "sure" => {
+            case.is_sure = true;
+            case.room = value.parse::<usize>().unwrap_or(0);
+        }
         "room" => case.room = value.parse::<usize>().unwrap_or(0),
         "reads" => case.reads = value.parse::<u64>().ok(),
         "writes" => case.writes = value.parse::<u64>().ok(),

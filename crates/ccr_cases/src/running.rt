@@ -1,9 +1,9 @@
 //! A case: what the program is given, and what it answers.
 
 use ccr_base::{List, Name, OpenGate, OutOfMemory};
-use ccr_cli::run_ccr;
+use ccr_cli::{run_ccr, run_surely};
 use ccr_gen::generate;
-use ccr_io::{MemorySink, MemorySource};
+use ccr_io::{MemorySink, MemorySource, SureSink, SureSource};
 use ccr_wiretext::write_wiring;
 use std::alloc::Global;
 use std::sync::Wait;
@@ -30,6 +30,8 @@ pub struct Case<'a> {
     pub status: u8,
     /// The most bytes that the program may write.
     pub room: usize,
+    /// Whether it runs on streams that never fail.
+    pub is_sure: bool,
     /// How many calls of the source it makes, and of the sink, where each of them is to be made to fail.
     pub reads: Option<u64>,
     pub writes: Option<u64>,
@@ -67,6 +69,7 @@ impl<'a> Case<'a> {
             input: Vec::new(alloc),
             status: 0,
             room: 1_000_000,
+            is_sure: false,
             reads: None,
             writes: None,
         }
@@ -87,10 +90,19 @@ impl<'a> Case<'a> {
     }
 }
 
+/// What the byte of a text stands for: `;` for the end of a line, and `` ` `` for a byte that no line has.
+fn meant(byte: u8) -> u8 {
+    match byte {
+        b';' => b'\n',
+        b'`' => 0,
+        other => other,
+    }
+}
+
 /// Adds the text with the ends of its lines.
 pub fn put_text(out: &mut Vec<u8>, text: &str) -> Result<(), OutOfMemory> {
     for byte in text.bytes() {
-        out.push(if byte == b';' { b'\n' } else { byte })?;
+        out.push(meant(byte))?;
     }
     Ok(())
 }
@@ -145,6 +157,20 @@ fn run_program<R: AllocGlobal + Threads + Wait + Sync>(
     let mut sink = MemorySink::new(alloc, streams.room, listed(alloc, &[streams.write])?)?;
     let status = run_ccr(rt, words.as_slice(), &mut source, &mut sink, &OpenGate);
     let written = listed(alloc, sink.written())?;
+    Ok(Answer { status, written })
+}
+
+/// Runs the program on streams that never fail, and tells what it answered.
+fn run_sure<R: AllocGlobal + Threads + Wait + Sync>(
+    rt: &R,
+    case: &Case<'_>,
+) -> Result<Answer, OutOfMemory> {
+    let alloc = rt.alloc();
+    let words = words_of(alloc, case.words)?;
+    let mut source = SureSource::new(listed(alloc, case.input.as_slice())?);
+    let mut sink = SureSink::new(alloc, case.room)?;
+    let status = run_surely(rt, words.as_slice(), &mut source, &mut sink, &OpenGate);
+    let written = listed(alloc, sink.kept())?;
     Ok(Answer { status, written })
 }
 
@@ -225,6 +251,7 @@ fn each_read_ends_it<R: AllocGlobal + Threads + Wait + Sync>(
     rt: &R,
     case: &Case<'_>,
     reads: u64,
+    whole: &[u8],
 ) -> Result<bool, OutOfMemory> {
     for read in 0..reads {
         let given = run_failing(rt, case, read, NEVER)?;
@@ -233,7 +260,7 @@ fn each_read_ends_it<R: AllocGlobal + Threads + Wait + Sync>(
         }
     }
     let given = run_failing(rt, case, reads, NEVER)?;
-    Ok(given.status == case.status)
+    Ok(given.status == case.status && given.written.as_slice() == whole)
 }
 
 /// Whether each of so many writes, made to fail, ends the case with a front of what it writes, and one behind them isn't made.
@@ -260,7 +287,7 @@ fn faults_end_it<R: AllocGlobal + Threads + Wait + Sync>(
     whole: &[u8],
 ) -> Result<bool, OutOfMemory> {
     let reads = match case.reads {
-        Some(reads) => each_read_ends_it(rt, case, reads)?,
+        Some(reads) => each_read_ends_it(rt, case, reads, whole)?,
         None => true,
     };
     let writes = match case.writes {
@@ -276,7 +303,11 @@ pub fn holds<R: AllocGlobal + Threads + Wait + Sync>(
     case: &Case<'_>,
     due: Expected<'_>,
 ) -> Result<bool, OutOfMemory> {
-    let given = run_failing(rt, case, NEVER, NEVER)?;
+    let given = if case.is_sure {
+        run_sure(rt, case)?
+    } else {
+        run_failing(rt, case, NEVER, NEVER)?
+    };
     let written = given.written.as_slice();
     if given.status != case.status || !is_due(rt.alloc(), written, due)? {
         return Ok(false);
@@ -285,7 +316,7 @@ pub fn holds<R: AllocGlobal + Threads + Wait + Sync>(
         return Ok(false);
     }
     let is_answer = given.status == 0 || given.status == 6;
-    if case.is_run() && is_answer {
+    if case.is_run() && is_answer && !case.is_sure {
         is_legal(rt, case, written)
     } else {
         Ok(true)

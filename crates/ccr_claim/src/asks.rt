@@ -9,7 +9,7 @@ ghost use Rattle.ccr_claim.specs.Asks.{is_settling, due_of, are_of, fits, may_co
 use ccr_base::{By, Cut, How, List, Msg, MsgId, OutOfMemory, Place, PortNo, Slot, Task, TaskId};
 
 /// What is asked of a place.
-#[derive(Debug, Drop)]
+#[derive(Drop)]
 pub enum Ask {
     Post(Msg),
     Claim(TaskId, Slot),
@@ -33,14 +33,14 @@ pub enum Ask {
 }
 
 /// An ask at a place.
-#[derive(Debug, Drop)]
+#[derive(Drop)]
 pub struct Asked {
     pub place: Place,
     pub ask: Ask,
 }
 
 /// What a place answers.
-#[derive(Debug, Drop)]
+#[derive(Drop)]
 pub enum Reply {
     Done,
     Got(List<Msg>),
@@ -60,7 +60,7 @@ pub enum Reply {
 
 /// Which replies an ask may have: none, where no ask is unanswered; that it is done, where it settles something or not;
 /// and those of the call of its name.
-#[derive(Clone, Copy, Debug, PartialEq, Eq)]
+#[derive(Clone, Copy, PartialEq, Eq)]
 pub enum Due {
     Nothing,
     Settled,

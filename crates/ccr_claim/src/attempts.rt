@@ -79,6 +79,7 @@ impl Attempt {
     }
 
     /// Moves out the next ask, or tells how the attempt ended; a dropped task is handed out once. Takes no memory.
+    #[inline(always)]
     pub fn next(&mut self) -> Next
         requires { self.old.due ≡ dues.Nothing }
         ensures next { result ≡ next self.old }
@@ -162,6 +163,7 @@ impl Attempt {
 
     /// Takes in the answer to the ask that was made last. Where the attempt finds no memory for what is next, it is
     /// given up.
+    #[inline(always)]
     pub fn got(&mut self, reply: Result<Reply, OutOfMemory>)
         requires { IsTrue (may_come self.old.due reply) }
         ensures after { IsAfter self.old reply self.new }
@@ -176,6 +178,7 @@ impl Attempt {
         }
     }
 
+    #[inline(always)]
     fn take_in(&mut self, reply: Reply)
         requires { IsTrue (fits self.old.due reply) }
         ensures after { IsAfterReply self.old reply self.new }

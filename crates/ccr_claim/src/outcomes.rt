@@ -4,7 +4,7 @@ use crate::Ask;
 use ccr_base::{By, Place, PortNo, Task, TaskId};
 
 /// Why an attempt was given up: the reply that ended it, or want of memory.
-#[derive(Clone, Copy, Debug, PartialEq, Eq)]
+#[derive(Clone, Copy, PartialEq, Eq)]
 pub enum Why {
     Full(u32),
     Busy(PortNo, TaskId),
@@ -14,14 +14,14 @@ pub enum Why {
 }
 
 /// How an attempt ended. A task that waits was kept by its Interleave; else it was put, and may have dropped another.
-#[derive(Debug, Drop)]
+#[derive(Drop)]
 pub enum Outcome {
     Fired { waits: bool, dropped: Option<Task> },
     GaveUp(Why),
 }
 
 /// Where an attempt stands: it goes on, or it has ended.
-#[derive(Clone, Copy, Debug, PartialEq, Eq)]
+#[derive(Clone, Copy, PartialEq, Eq)]
 pub enum Progress {
     Running,
     Fired { waits: bool },
@@ -29,7 +29,7 @@ pub enum Progress {
 }
 
 /// What an attempt does next.
-#[derive(Debug, Drop)]
+#[derive(Drop)]
 pub enum Next {
     Ask(Place, Ask),
     Ended(Outcome),

@@ -3,7 +3,7 @@
 use ccr_base::{ArbiterNo, List, Msg, Pattern, QueueNo, Slot, Spot};
 
 /// The spot at which an attempt fires, what it takes, and the queue and the domain of its branch.
-#[derive(Debug, Drop)]
+#[derive(Drop)]
 pub struct ClaimPlan {
     pub spot: Spot,
     pub pattern: Pattern,
@@ -12,7 +12,7 @@ pub struct ClaimPlan {
 }
 
 /// What the claim of a slot got.
-#[derive(Debug, Drop)]
+#[derive(Drop)]
 pub struct Had {
     pub slot: Slot,
     pub messages: List<Msg>,

@@ -4,18 +4,30 @@ use Rattle.std.specs.Prelude.{Contains}
 use Rattle.ccr_io.specs.Faults.{Rose}
 use Rattle.ccr_cli.specs.declared.status.Status.TheVariants.{Shed, Illegal}
 use Rattle.ccr_words.specs.declared.requests.Command.{Command}
-use Rattle.ccr_words.specs.declared.requests.Command.TheVariants.{Check, Run, Verify}
+use Rattle.ccr_words.specs.declared.requests.Command.TheVariants.{Check, Run, Verify, Record, Replay, Steps, Steady, Service, Expand}
 use Rattle.ccr_cli.specs.Answers.{may_end, statuses_of}
 
 pub shed_may_come : (command : Command) → may_end command Shed ≡ true → Contains (statuses_of command) 6
-shed_may_come (Run workers schedule) may = (2, omega arith, refl)
 shed_may_come Check may = absurd cc
+shed_may_come (Run workers schedule) may = (2, omega arith, refl)
 shed_may_come Verify may = absurd cc
+shed_may_come (Record workers) may = absurd cc
+shed_may_come Replay may = absurd cc
+shed_may_come Steps may = absurd cc
+shed_may_come Steady may = absurd cc
+shed_may_come (Service workers) may = absurd cc
+shed_may_come Expand may = absurd cc
 
 pub fault_may_come : (command : Command) → may_end command Illegal ≡ true → Contains (statuses_of command) 7
-fault_may_come Verify may = (2, omega arith, refl)
 fault_may_come Check may = absurd cc
 fault_may_come (Run workers schedule) may = absurd cc
+fault_may_come Verify may = (2, omega arith, refl)
+fault_may_come (Record workers) may = absurd cc
+fault_may_come Replay may = absurd cc
+fault_may_come Steps may = absurd cc
+fault_may_come Steady may = absurd cc
+fault_may_come (Service workers) may = absurd cc
+fault_may_come Expand may = absurd cc
 
 -- a count that is always 0 hasn't risen
 pub never_rises : Rose 0 0 → ⊥

@@ -4,7 +4,7 @@ use Rattle.ccr_wiring.specs.declared.parts.Parts.{Parts}
 use Rattle.ccr_cli.specs.declared.status.Status.{Status}
 use Rattle.ccr_cli.specs.declared.status.Status.TheVariants.{Done, Usage, Refused, Shed, Illegal, TooLong}
 use Rattle.ccr_words.specs.declared.requests.Command.{Command}
-use Rattle.ccr_words.specs.declared.requests.Command.TheVariants.{Check, Run, Verify}
+use Rattle.ccr_words.specs.declared.requests.Command.TheVariants.{Check, Run, Verify, Record, Replay, Steps, Steady, Service, Expand}
 use Rattle.ccr_cli.specs.declared.findings.Finding.{Finding}
 use Rattle.ccr_cli.specs.declared.findings.Finding.TheVariants as findings
 use Rattle.ccr_words.specs.declared.requests.Request.{Request}
@@ -52,32 +52,47 @@ for_excess command json (Some bytes) Done text due long = absurd (omega (arith, 
 for_excess command json (Some bytes) Shed text due long = absurd (omega (arith, due.0, long))
 for_excess command json (Some bytes) Illegal text due long = absurd (omega (arith, due.0, long))
 
--- the status of a text that is due for a wiring
-may_come : (command : Command) (json : Bool) (wiring : Parts) (bytes : List ℕ) (status : Status) (text : List ℕ) → Answers command json wiring bytes status text → may_end command status ≡ true
-may_come Check json wiring bytes Done text answers = refl
-may_come Check json wiring bytes Usage text answers = absurd answers
-may_come Check json wiring bytes Refused text answers = absurd answers
-may_come Check json wiring bytes Shed text answers = absurd answers
-may_come Check json wiring bytes Illegal text answers = absurd answers
-may_come Check json wiring bytes TooLong text answers = absurd answers
-may_come (Run workers schedule) json wiring bytes Done text answers = refl
-may_come (Run workers schedule) json wiring bytes Shed text answers = refl
-may_come (Run workers schedule) json wiring bytes Usage text answers = absurd answers
-may_come (Run workers schedule) json wiring bytes Refused text answers = absurd answers
-may_come (Run workers schedule) json wiring bytes Illegal text answers = absurd answers
-may_come (Run workers schedule) json wiring bytes TooLong text answers = absurd answers
-may_come Verify json wiring bytes Done text answers = refl
-may_come Verify json wiring bytes Illegal text answers = refl
-may_come Verify json wiring bytes Usage text answers = absurd answers
-may_come Verify json wiring bytes Refused text answers = absurd answers
-may_come Verify json wiring bytes Shed text answers = absurd answers
-may_come Verify json wiring bytes TooLong text answers = absurd answers
+-- whatever was asked for, it may end as done
+done_may : (command : Command) → may_end command Done ≡ true
+done_may Check = refl
+done_may (Run workers schedule) = refl
+done_may Verify = refl
+done_may (Record workers) = refl
+done_may Replay = refl
+done_may Steps = refl
+done_may Steady = refl
+done_may (Service workers) = refl
+done_may Expand = refl
+
+-- only a run may end with a task shed
+shed_may : (command : Command) (json : Bool) (wiring : Parts) (bytes text : List ℕ) → Answers command json wiring bytes Shed text → may_end command Shed ≡ true
+shed_may Check json wiring bytes text answers = absurd answers
+shed_may (Run workers schedule) json wiring bytes text answers = refl
+shed_may Verify json wiring bytes text answers = absurd answers
+shed_may (Record workers) json wiring bytes text answers = absurd answers
+shed_may Replay json wiring bytes text answers = absurd answers.2
+shed_may Steps json wiring bytes text answers = absurd answers.2
+shed_may Steady json wiring bytes text answers = absurd answers
+shed_may (Service workers) json wiring bytes text answers = absurd answers.2
+shed_may Expand json wiring bytes text answers = absurd answers.2
+
+-- only a judgement may end with a fault found
+fault_may : (command : Command) (json : Bool) (wiring : Parts) (bytes text : List ℕ) → Answers command json wiring bytes Illegal text → may_end command Illegal ≡ true
+fault_may Check json wiring bytes text answers = absurd answers
+fault_may (Run workers schedule) json wiring bytes text answers = absurd answers
+fault_may Verify json wiring bytes text answers = refl
+fault_may (Record workers) json wiring bytes text answers = absurd answers
+fault_may Replay json wiring bytes text answers = absurd answers.2
+fault_may Steps json wiring bytes text answers = absurd answers.2
+fault_may Steady json wiring bytes text answers = absurd answers
+fault_may (Service workers) json wiring bytes text answers = absurd answers.2
+fault_may Expand json wiring bytes text answers = absurd answers.2
 
 for_wiring : (command : Command) (json : Bool) (rest : Option (List ℕ)) (status : Status) (text : List ℕ) → AnswersInput command json rest status text → IsAccepted command rest → may_end command status ≡ true
 for_wiring command json None status text due accepted = absurd accepted
-for_wiring command json (Some bytes) Done text due accepted = may_come command json due.1.0 bytes Done text due.1.2
-for_wiring command json (Some bytes) Shed text due accepted = may_come command json due.1.0 bytes Shed text due.1.2
-for_wiring command json (Some bytes) Illegal text due accepted = may_come command json due.1.0 bytes Illegal text due.1.2
+for_wiring command json (Some bytes) Done text due accepted = done_may command
+for_wiring command json (Some bytes) Shed text due accepted = shed_may command json due.1.0 bytes text due.1.2
+for_wiring command json (Some bytes) Illegal text due accepted = fault_may command json due.1.0 bytes text due.1.2
 for_wiring command json (Some bytes) Usage text due accepted = absurd due
 for_wiring command json (Some bytes) TooLong text due accepted = absurd (omega (arith, due.0, accepted.0))
 for_wiring command json (Some bytes) Refused text due accepted = absurd (apart _ accepted.1.0 (due.1.0, due.1.1) accepted.1.1 due.1.2)

@@ -9,7 +9,7 @@ use Rattle.ccr_wiretext.specs.declared.refused.ReadRefused.TheVariants.{At}
 use Rattle.ccr_cli.specs.declared.status.Status.{Status}
 use Rattle.ccr_cli.specs.declared.status.Status.TheVariants.{Done, Usage, Refused, Shed, Illegal, TooLong}
 use Rattle.ccr_words.specs.declared.requests.Command.{Command}
-use Rattle.ccr_words.specs.declared.requests.Command.TheVariants.{Check, Run, Verify}
+use Rattle.ccr_words.specs.declared.requests.Command.TheVariants.{Check, Run, Verify, Record, Replay, Steps, Steady, Service, Expand}
 use Rattle.ccr_words.specs.declared.requests.Request.{Request}
 use Rattle.ccr_words.specs.declared.requests.Request.TheVariants.{Read, Load}
 use Rattle.ccr_words.specs.Said.{asked_for}
@@ -17,16 +17,24 @@ use Rattle.ccr_cli.specs.declared.findings.Finding.{Finding}
 use Rattle.ccr_cli.specs.Inputs.{limit_of, history_place, output_part, reading_input, turns_of}
 use Rattle.ccr_cli.specs.Runs.{RunGives}
 use Rattle.ccr_cli.specs.Loads.{LoadGives}
+use Rattle.ccr_cli.specs.Records.{RecordGives, ReplayGives, StepsGives}
+use Rattle.ccr_cli.specs.Steady.{SteadyGives}
+use Rattle.ccr_cli.specs.Services.{ServiceGives, ExpandGives}
 use Rattle.ccr_cli.specs.Findings.{IsFound, VerifyGives, is_fault}
+use Rattle.ccr_replay.specs.declared.records.Record.{Record as Recorded}
+use Rattle.ccr_replay.specs.Reading.{reading_record}
+use Rattle.ccr_service.specs.declared.parts.ServiceParts.{ServiceParts}
+use Rattle.ccr_service.specs.Reading.{reading_text as reading_service}
 
 -- two lines
 abbrev pub usage_text : List ℕ
-usage_text = codes "usage: ccr check|run|verify|load [--workers N] [--schedule] [--json] [--size N]" ++ 10 ∷ codes "done 1" ++ 10 ∷ []
+usage_text = codes "usage: ccr check|run|verify|load|record|replay|steps|steady|service|expand [--workers N] [--schedule] [--json] [--size N]" ++ 10 ∷ codes "done 1" ++ 10 ∷ []
 
 -- the first offending line and its code
 abbrev pub refused_text : ℕ → ℕ → List ℕ
 refused_text line code = codes "refused " ++ decimal line ++ 32 ∷ decimal code ++ 10 ∷ codes "done 2" ++ 10 ∷ []
 
+-- what is written where there are too many bytes
 abbrev pub too_long_text : List ℕ
 too_long_text = codes "too long" ++ 10 ∷ codes "done 8" ++ 10 ∷ []
 
@@ -49,6 +57,12 @@ abbrev pub Answers : Command → Bool → Parts → List ℕ → Status → List
 Answers Check json wiring bytes status text = CheckGives json wiring status text
 Answers (Run workers schedule) json wiring bytes status text = RunGives json wiring workers (turns_of schedule wiring workers bytes) status text
 Answers Verify json wiring bytes status text = VerifyGives wiring (history_place bytes).1 (output_part bytes) status text
+Answers (Record workers) json wiring bytes status text = RecordGives wiring workers bytes status text
+Answers Replay json wiring bytes status text = (said : Recorded) × (reading_record bytes ≡ Ok said) × ReplayGives said status text
+Answers Steps json wiring bytes status text = (said : Recorded) × (reading_record bytes ≡ Ok said) × StepsGives said status text
+Answers Steady json wiring bytes status text = SteadyGives wiring status text
+Answers (Service workers) json wiring bytes status text = (service : ServiceParts) × (reading_service bytes ≡ Ok service) × ServiceGives service workers status text
+Answers Expand json wiring bytes status text = (service : ServiceParts) × (reading_service bytes ≡ Ok service) × ExpandGives service status text
 
 -- the text that is due for the bytes of an input that isn't too long
 abbrev pub AnswersText : Command → Bool → List ℕ → Status → List ℕ → Type 0
@@ -114,6 +128,7 @@ abbrev pub IsReadOut : Option Request → Option (List ℕ) → Option (List ℕ
 IsReadOut (Some (Load size workers json)) before after = Unit {0}
 IsReadOut _ before after = IsExhausted Done before after
 
+-- the same for what was asked for and answered with this status
 abbrev pub IsExhaustedFor : Option Request → Status → Option (List ℕ) → Option (List ℕ) → Type 0
 IsExhaustedFor request Done before after = IsReadOut request before after
 IsExhaustedFor request status before after = IsExhausted status before after
@@ -125,9 +140,9 @@ RefusedGives _ _ text = ⊥
 
 -- what may come beside 0
 abbrev pub further_statuses : Command → List ℕ
-further_statuses Check = []
 further_statuses (Run workers schedule) = 6 ∷ []
 further_statuses Verify = 7 ∷ []
+further_statuses _ = []
 
 -- the exit statuses where a wiring is read and no fault comes; 5 is want of memory
 abbrev pub statuses_of : Command → List ℕ
@@ -135,10 +150,8 @@ statuses_of command = 0 ∷ 5 ∷ further_statuses command
 
 -- whether the status may come of a wiring that was read
 abbrev pub may_end : Command → Status → Bool
-may_end Check Done = true
-may_end (Run workers schedule) Done = true
+may_end command Done = true
 may_end (Run workers schedule) Shed = true
-may_end Verify Done = true
 may_end Verify Illegal = true
 may_end _ _ = false
 

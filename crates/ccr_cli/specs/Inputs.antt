@@ -1,21 +1,23 @@
 -- What stands where in an input.
-use Rattle.std.specs.Prelude.{ℕ, ◌+◌, ◌==◌, Bool, true, false, nat_lt, List, [], ◌∷◌, length, take, drop, filter, codes, Option, Some, None, Result, Ok, Err, if◌then◌else◌}
+use Rattle.std.specs.Prelude.{ℕ, ◌+◌, ◌==◌, Bool, true, false, List, [], ◌∷◌, length, take, drop, codes, Option, Some, None, Result, Ok, Err, if◌then◌else◌}
 use Rattle.ccr_text.specs.Lines.{line_of}
 use Rattle.ccr_wiring.specs.declared.parts.Parts.{Parts}
 use Rattle.ccr_wiretext.specs.Reading.{reading_text}
 use Rattle.ccr_schedule.specs.Turns.{reading_turns}
+use Rattle.ccr_replay.specs.declared.records.Record.{Record as Recorded}
+use Rattle.ccr_replay.specs.Reading.{reading_part, reading_record}
+use Rattle.ccr_service.specs.declared.parts.ServiceParts.{ServiceParts}
+use Rattle.ccr_service.specs.Expansion.{expansion}
+use Rattle.ccr_service.specs.Reading.{reading_text as reading_service}
 use Rattle.ccr_words.specs.declared.requests.Command.{Command}
-use Rattle.ccr_words.specs.declared.requests.Command.TheVariants.{Check, Run, Verify}
+use Rattle.ccr_words.specs.declared.requests.Command.TheVariants.{Check, Run, Verify, Record, Replay, Steps, Steady, Service, Expand}
 
 -- the most bytes that an input may have
 abbrev pub limit_of : Command → ℕ
-limit_of Check = 1048576
-limit_of (Run workers schedule) = 1048576
 limit_of Verify = 33554432
-
--- the number of the line at which the byte of this place stands
-abbrev pub line_at : ℕ → List ℕ → ℕ
-line_at place text = length (filter (λ b. b == 10) (take place text)) + 1
+limit_of Replay = 33554432
+limit_of Steps = 33554432
+limit_of _ = 1048576
 
 -- where the first line begins whose first word is `history`, and how many lines stand before it
 abbrev pub history_place : List ℕ → ℕ × ℕ
@@ -28,10 +30,6 @@ wiring_part bytes = take (history_place bytes).0 bytes
 -- that line and all behind it
 abbrev pub output_part : List ℕ → List ℕ
 output_part bytes = drop (history_place bytes).0 bytes
-
--- the wiring that the part says, or the first offending line and its code: of a longer part than a wiring text may be, that of the first byte too many
-abbrev pub reading_part : List ℕ → Result Parts (ℕ × ℕ)
-reading_part part = if nat_lt 1048576 (length part) then Err (line_at 1048576 part, 10) else reading_text part
 
 -- where the first line begins whose first word is `turn`, and how many lines stand before it
 abbrev pub turn_place : List ℕ → ℕ × ℕ
@@ -64,11 +62,25 @@ abbrev pub reading_run : Bool → ℕ → List ℕ → Result Parts (ℕ × ℕ)
 reading_run false workers bytes = reading_text bytes
 reading_run true workers bytes = with_turns workers bytes (reading_text (part_before_turns bytes))
 
+-- the wiring of the record that was read
+abbrev pub wiring_of_record : Result Recorded (ℕ × ℕ) → Result Parts (ℕ × ℕ)
+wiring_of_record (Ok said) = Ok said.wiring
+wiring_of_record (Err refusal) = Err refusal
+
+-- the wiring that the service that was read stands for
+abbrev pub wiring_of_service : Result ServiceParts (ℕ × ℕ) → Result Parts (ℕ × ℕ)
+wiring_of_service (Ok service) = Ok (expansion service)
+wiring_of_service (Err refusal) = Err refusal
+
 -- the wiring of an input, or the first offending line and its code
 abbrev pub reading_input : Command → List ℕ → Result Parts (ℕ × ℕ)
-reading_input Check bytes = reading_text bytes
 reading_input (Run workers schedule) bytes = reading_run schedule workers bytes
 reading_input Verify bytes = reading_part (wiring_part bytes)
+reading_input Replay bytes = wiring_of_record (reading_record bytes)
+reading_input Steps bytes = wiring_of_record (reading_record bytes)
+reading_input (Service workers) bytes = wiring_of_service (reading_service bytes)
+reading_input Expand bytes = wiring_of_service (reading_service bytes)
+reading_input _ bytes = reading_text bytes
 
 -- the line at which a text first differs from the one that is due, of lines of which the first has this number; none where they are the same
 abbrev pub first_difference : ℕ → List ℕ → List ℕ → Option ℕ

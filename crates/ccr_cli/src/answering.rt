@@ -13,10 +13,14 @@ ghost use Rattle.ccr_cli.specs.Answers.{AnswersText, AnswersInput, AnswersReques
 
 use crate::answers::{Answer, check, refused, too_long, usage};
 use crate::load::load;
+use crate::recording::answer_record;
+use crate::replaying::{answer_replay, answer_steps};
 use crate::run::run;
 use crate::schedule::answer_schedule;
+use crate::serving::{answer_expand, answer_service};
 use crate::status::{Failure, Status};
-use crate::verify::{MAX_WIRING_TEXT, verify};
+use crate::steady::answer_steady;
+use crate::verify::verify;
 use ccr_base::{Gate, Name, OutOfMemory};
 use ccr_io::{ReadEnd, Source, read_all};
 use ccr_wiretext::read_wiring;
@@ -25,7 +29,9 @@ use std::alloc::Global;
 use std::sync::Wait;
 use std::thread::Threads;
 
-/// How many bytes a wiring and an output behind it have at most.
+/// The most bytes that a wiring or a service may have.
+const MAX_WIRING_TEXT: usize = 1_048_576;
+/// The most bytes that a wiring may have with an output or a record behind it.
 const MAX_OUTPUT_TEXT: usize = 33_554_432;
 
 /// The most bytes that an input may have.
@@ -34,8 +40,13 @@ fn limit_of(command: Command) -> usize
     ensures most { result ≤ 33554432 }
 {
     match command {
-        Command::Check | Command::Run { .. } => MAX_WIRING_TEXT,
-        Command::Verify => MAX_OUTPUT_TEXT,
+        Command::Verify | Command::Replay | Command::Steps => MAX_OUTPUT_TEXT,
+        Command::Check
+        | Command::Run { .. }
+        | Command::Record { .. }
+        | Command::Steady
+        | Command::Service { .. }
+        | Command::Expand => MAX_WIRING_TEXT,
     }
 }
 
@@ -88,6 +99,12 @@ fn answer_text<R: AllocGlobal + Threads + Wait + Sync, G: Gate + Sync>(
             schedule: true,
         } => answer_schedule(rt, gate, text, workers, json),
         Command::Verify => verify(rt.alloc(), text),
+        Command::Record { workers } => answer_record(rt, gate, text, workers),
+        Command::Replay => answer_replay(rt, gate, text),
+        Command::Steps => answer_steps(rt.alloc(), text),
+        Command::Steady => answer_steady(rt.alloc(), text),
+        Command::Service { workers } => answer_service(rt, gate, text, workers),
+        Command::Expand => answer_expand(rt.alloc(), text),
     }
 }
 

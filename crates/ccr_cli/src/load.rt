@@ -1,6 +1,9 @@
 //! A run of a generated wiring, of which the totals are written.
 
-ghost use Rattle.std.specs.Prelude.{◌≡◌, ◌<◌, ◌≤◌, ◌++◌, ◌∷◌, [], IfOk, codes, decimal};
+ghost use Rattle.std.specs.Prelude.{◌≡◌, ◌<◌, ◌≤◌, ◌++◌, ◌∷◌, [], true, IfOk, codes, decimal};
+ghost use Rattle.ccr_model.specs.Counts.{totals};
+ghost use Rattle.ccr_gen.specs.Generated.{generated};
+ghost use Rattle.ccr_steady.specs.Agreement.{is_counts, Agrees};
 ghost use Rattle.ccr_cli.specs.Loads.{totals_of, IsLoad, LoadGives};
 
 use crate::answers::Answer;
@@ -11,6 +14,7 @@ use ccr_gen::{generate, generated_wirings_never_shed};
 use ccr_json::totals_json;
 use ccr_model::History;
 use ccr_report::{put_total, totals};
+use ccr_steady::{Agreed, agreed, answers_hold_of_quiet_histories, generated_wirings_agree};
 use ccr_text::{put_bytes, put_number};
 use ccr_wiring::Wiring;
 use std::alloc::Global;
@@ -24,7 +28,7 @@ fn totals_of(
     history: &History,
     json: bool,
 ) -> Result<List<u8>, OutOfMemory>
-    ensures { IfOk result (λ text. text ≡ totals_of json history.now) }
+    ensures { IfOk result (λ text. text ≡ totals_of json (totals history.now)) }
 {
     let totals = totals(alloc, wiring, history)?;
     if json {
@@ -47,6 +51,17 @@ fn sized_text(alloc: Global, size: u32, totals: &[u8]) -> Result<List<u8>, OutOf
     Ok(text)
 }
 
+/// What all runs of the generated wiring agree on: it is steady, and no run of it spends the budget, so that counts are told.
+fn agreed_counts(alloc: Global, wiring: &Wiring, size: u32) -> Result<Agreed, OutOfMemory>
+    requires generated { wiring.now ≡ generated size }
+    requires many { size ≤ 10000 }
+    ensures agrees { IfOk result (λ told. Agrees wiring.now told) }
+    ensures counts { IfOk result (λ told. is_counts told ≡ true) }
+{
+    generated_wirings_agree();
+    agreed(alloc, wiring)
+}
+
 /// The totals of the run of the generated wiring. No task is shed in it.
 fn load_text<R: AllocGlobal + Threads + Wait + Sync, G: Gate + Sync>(
     rt: &R,
@@ -61,8 +76,10 @@ fn load_text<R: AllocGlobal + Threads + Wait + Sync, G: Gate + Sync>(
     ensures { IfOk result (IsLoad size workers json) }
 {
     generated_wirings_never_shed();
+    answers_hold_of_quiet_histories();
     let alloc = rt.alloc();
     let wiring = generate(alloc, size)?;
+    let _told = agreed_counts(alloc, &wiring, size)?;
     let (_first, history) = run_history(rt, gate, &wiring, workers, None)?;
     let totals = totals_of(alloc, &wiring, &history, json)?;
     sized_text(alloc, size, totals.as_slice())

@@ -9,7 +9,7 @@ ghost use Rattle.ccr_cli.specs.Runs.{Begins};
 use ccr_base::{ActorNo, Gate, OutOfMemory};
 use ccr_model::History;
 use ccr_net::{closers_are_new_to_runs, run_schedule, visible};
-use ccr_space::{Closed, run_threads};
+use ccr_space::{Seen, run_threads};
 use ccr_wiring::Wiring;
 use std::alloc::Global;
 use std::sync::Wait;
@@ -57,7 +57,7 @@ fn threaded_history<R: AllocGlobal + Threads + Wait + Sync, G: Gate + Sync>(
 }
 
 /// The history of the closed run. Where it names an actor that was told of want of memory, that is the answer.
-fn unless_short(closed: Closed) -> Result<History, OutOfMemory>
+fn unless_short(closed: Seen) -> Result<History, OutOfMemory>
     ensures short { is_ok result ≡ (length closed.short == 0) }
     ensures history { IfOk result (λ first. first ≡ closed.history) }
 {

@@ -37,6 +37,7 @@ pub fn run_ccr<R: AllocGlobal + Threads + Wait + Sync, S: Source, K: Sink, G: Ga
     ensures load_source { (size workers : ℕ) → (json : Bool) → asked_for words.now ≡ Some (Load size workers json) → source.new ≡ source.old }
 
     ensures refused { result ≡ 2 → IsAnswered Refused words.now (S.rest source.old) (K.written sink.old) (K.written sink.new) }
+    ensures refused_input { result ≡ 2 → IsExhausted Refused (S.rest source.old) (S.rest source.new) }
     ensures refused_due { (command : Command) → (json : Bool) → asked_for words.now ≡ Some (Read command json) → IsDeclined command (S.rest source.old) → Contains (2 ∷ 3 ∷ 4 ∷ 5 ∷ []) result }
 
     ensures illegal { result ≡ 7 → IsAnswered Illegal words.now (S.rest source.old) (K.written sink.old) (K.written sink.new) }

@@ -1,41 +1,19 @@
 //! An input that is a wiring with an output behind it.
 
 ghost use Rattle.std.specs.Prelude.{◌≡◌, ◌≤◌, ◌<◌, Bool, IfOk, length};
-ghost use Rattle.ccr_wiretext.specs.Answers.{IsReading};
-ghost use Rattle.ccr_cli.specs.Inputs.{line_at, reading_part};
 ghost use Rattle.ccr_cli.specs.Findings.{IsFound, VerifyGives, status_of};
 ghost use Rattle.ccr_cli.specs.Answers.{AnswersText, RefusedGives};
 ghost use Rattle.ccr_words.specs.declared.requests.Command.TheVariants.{Verify};
 
 use crate::answers::{Answer, refused};
-use crate::comparing::line_at;
 use crate::findings::{Finding, finding_text};
 use crate::judging::finding_of;
 use crate::status::Status;
 use ccr_base::OutOfMemory;
+use ccr_replay::read_part;
 use ccr_text::line_of;
-use ccr_wiretext::{ReadRefused, read_wiring};
 use ccr_wiring::Wiring;
 use std::alloc::Global;
-
-/// The most bytes that a wiring text may have.
-pub(crate) const MAX_WIRING_TEXT: usize = 1_048_576;
-
-/// The code of refusal for what is outside a limit (docs/FORMATS.md).
-const OVER_LIMIT: u8 = 10;
-
-/// The wiring that the text says. A text that is too long is refused at the line of the first byte too many.
-fn read_part(alloc: Global, part: &[u8]) -> Result<Wiring, ReadRefused>
-    ensures { IsReading result (reading_part part.now) }
-{
-    if part.len() > MAX_WIRING_TEXT {
-        return Err(ReadRefused::At {
-            line: line_at(MAX_WIRING_TEXT, part),
-            code: OVER_LIMIT,
-        });
-    }
-    read_wiring(alloc, part)
-}
 
 /// With what the program ends where this is found.
 fn status_of(finding: Finding) -> Status

@@ -12,7 +12,7 @@ use std::thread::{self, Threads};
 pub struct Tally(u64);
 
 /// What a tally is asked: to add this number. It answers the new sum, and notes it.
-#[derive(Clone, Copy, Debug, PartialEq, Eq)]
+#[derive(Clone, Copy, PartialEq, Eq)]
 pub struct Add(pub u64);
 
 impl Kept for Tally {

@@ -11,7 +11,7 @@ use ccr_cause::{add, remove};
 use std::alloc::Global;
 
 /// How a segment ends: by its last action, by a `fail` with this value, or at the await site of this number.
-#[derive(Clone, Copy, Debug, PartialEq, Eq)]
+#[derive(Clone, Copy, PartialEq, Eq)]
 pub enum PlayEnd {
     Done,
     Failed(Value),
@@ -19,7 +19,7 @@ pub enum PlayEnd {
 }
 
 /// What a segment posts, in order, how it ends, and its causes then.
-#[derive(Debug, Drop)]
+#[derive(Drop)]
 pub struct Play {
     pub posts: List<Sent>,
     pub end: PlayEnd,

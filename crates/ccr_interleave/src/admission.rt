@@ -5,7 +5,7 @@ ghost use Rattle.std.specs.Option.{option_map_or};
 ghost use Rattle.ccr_interleave.specs.Admissions.{is_shared, is_alone, admitted_as as admission_of};
 
 /// It waits, was cut or is over; or it is an admitted root, of a concurrent branch or of another.
-#[derive(Clone, Copy, Debug, PartialEq, Eq)]
+#[derive(Clone, Copy, PartialEq, Eq)]
 pub(crate) enum Admission {
     Outside,
     Shared,

@@ -10,7 +10,7 @@ use std::alloc::Global;
 use std::marker::Model;
 
 /// A source over bytes in memory. Its calls are counted from 0, and those of the listed numbers fail.
-#[derive(Debug, Drop)]
+#[derive(Drop)]
 pub struct MemorySource {
     bytes: List<u8>,
     at: usize,
@@ -94,7 +94,7 @@ impl Source for MemorySource {
 
 /// A sink in memory with room for so many bytes. Its calls are counted from 0, and those of the listed numbers fail, as
 /// does each that finds no room left.
-#[derive(Debug, Drop)]
+#[derive(Drop)]
 pub struct MemorySink {
     bytes: Vec<u8>,
     room: usize,

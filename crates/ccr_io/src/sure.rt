@@ -10,7 +10,7 @@ use std::alloc::Global;
 use std::marker::Model;
 
 /// A source over bytes in memory that never fails.
-#[derive(Debug, Drop)]
+#[derive(Drop)]
 pub struct SureSource {
     bytes: List<u8>,
     at: usize,
@@ -58,7 +58,7 @@ impl Source for SureSource {
 }
 
 /// A sink in memory that never fails. It takes each piece whole and keeps the first bytes, as many as it has room for.
-#[derive(Debug, Drop)]
+#[derive(Drop)]
 pub struct SureSink {
     bytes: Vec<u8>,
     room: usize,

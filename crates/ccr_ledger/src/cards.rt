@@ -4,7 +4,7 @@ use ccr_base::{ActorNo, List, QueueNo, Spot, TaskId, Value};
 use ccr_handler::Play;
 
 /// How far a task has come.
-#[derive(Clone, Copy, Debug, PartialEq, Eq)]
+#[derive(Clone, Copy, PartialEq, Eq)]
 pub enum Stage {
     /// It waits for its admission.
     Waiting,
@@ -21,7 +21,7 @@ pub enum Stage {
 }
 
 /// What is kept of a task.
-#[derive(Debug, Drop)]
+#[derive(Drop)]
 pub struct Card {
     /// Where it fired.
     pub spot: Spot,
@@ -46,7 +46,7 @@ pub struct Card {
 }
 
 /// A running task, and the actor that started it.
-#[derive(Clone, Copy, Debug, PartialEq, Eq)]
+#[derive(Clone, Copy, PartialEq, Eq)]
 pub struct Runner {
     pub task: TaskId,
     pub actor: ActorNo,

@@ -59,7 +59,7 @@ no_script w h a k m none is =
     grind (arith, nothing, found)
 
 -- Fire
-fire_none : (w : Parts) (c : ℕ) (h : List Event) (ss : List Spot) (s : Spot) → fire_from w c h ss ≡ None → Among s ss → fire_at w c h s ≡ None
+pub fire_none : (w : Parts) (c : ℕ) (h : List Event) (ss : List Spot) (s : Spot) → fire_from w c h ss ≡ None → Among s ss → fire_at w c h s ≡ None
 fire_none w c h [] s is among = absurd among
 fire_none w c h (r ∷ ss) s is (inl e) = rw e (none_or (fire_at w c h r) (fire_from w c h ss) is).0
 fire_none w c h (r ∷ ss) s is (inr among) = fire_none w c h ss s (none_or (fire_at w c h r) (fire_from w c h ss) is).1 among
@@ -69,7 +69,7 @@ sites_among b n k i [] port e is = absurd (cc)
 sites_among b n zero i (p ∷ ports) port e is = let same : i ≡ n = omega arith in inl (ap (λ j. Site b j) same)
 sites_among b n (suc k) i (p ∷ ports) port e is = inr (sites_among b (n + 1) k i ports port (omega arith) is)
 
-branch_among : (w : Parts) (n k i : ℕ) (ss : List Placement) (s : Placement) → n + k ≡ i → slice_get ss k ≡ Some s → Among (Branch i) (spots_from w n ss)
+pub branch_among : (w : Parts) (n k i : ℕ) (ss : List Placement) (s : Placement) → n + k ≡ i → slice_get ss k ≡ Some s → Among (Branch i) (spots_from w n ss)
 branch_among w n k i [] s e is = absurd (cc)
 branch_among w n zero i (r ∷ ss) s e is = let same : i ≡ n = omega arith in inl (ap (λ j. Branch j) same)
 branch_among w n (suc k) i (r ∷ ss) s e is = inr (Among-right (Branch i) (sites_from n 0 (awaited (actions_of w r.branch.handler))) (spots_from w (n + 1) ss) (branch_among w (n + 1) k i ss s (omega arith) is))
@@ -146,7 +146,7 @@ no_fire w c h t s names cs none allowed =
     grind (arith, nothing, b.0, e.0, found.1.1)
 
 -- Admit
-admit_none : (w : Parts) (h : List Event) (n k : ℕ) (as' : List ArbiterPart) → admit_from w h n as' ≡ None → k < length as' → admit_first w h (waiting w h (n + k)) ≡ None
+pub admit_none : (w : Parts) (h : List Event) (n k : ℕ) (as' : List ArbiterPart) → admit_from w h n as' ≡ None → k < length as' → admit_first w h (waiting w h (n + k)) ≡ None
 admit_none w h n k [] none lt = absurd (omega arith)
 admit_none w h n zero (a ∷ as') none lt =
     let parts = none_or (admit_first w h (waiting w h n)) (admit_from w h (n + 1) as') none in
@@ -181,7 +181,7 @@ no_admit w h t none allowed =
     absurd (cc (no, b.0))
 
 -- Put
-found_fired : (fs : List Firing) (t : TaskId) (f : Firing) → find (λ (g : Firing). same_task g.task t) fs ≡ Some f → Among t (map (λ (g : Firing). g.task) fs)
+pub found_fired : (fs : List Firing) (t : TaskId) (f : Firing) → find (λ (g : Firing). same_task g.task t) fs ≡ Some f → Among t (map (λ (g : Firing). g.task) fs)
 found_fired [] t f is = absurd (cc)
 found_fired (g ∷ fs) t f is = of_test (same_task g.task t) refl is (found_fired fs t f)
   where
@@ -189,7 +189,7 @@ found_fired (g ∷ fs) t f is = of_test (same_task g.task t) refl is (found_fire
     of_test true e at rest = inl (sym (same_task-is g.task t e))
     of_test false e at rest = inr (rest at)
 
-find_among : {X : Type 0} (p : X → Bool) (xs : List X) (x : X) → Among x xs → p x ≡ true → find p xs ≡ None → ⊥
+pub find_among : {X : Type 0} (p : X → Bool) (xs : List X) (x : X) → Among x xs → p x ≡ true → find p xs ≡ None → ⊥
 find_among p [] x among is none = absurd among
 find_among p (y ∷ xs) x (inl e) is none = grind (arith, ap p e, is)
 find_among p (y ∷ xs) x (inr among) is none = of_test (p y) none (find_among p xs x among is)
@@ -207,7 +207,7 @@ no_put w h t d none allowed =
     find_among (may_put w h) (fired h) t (found_fired (firings h) t fired_so.0 fired_so.1) a.0 (none_map (λ u. Put u (drop_at w h u)) (find (may_put w h) (fired h)) none)
 
 -- Start
-start_none : (w : Parts) (c : ℕ) (h : List Event) (n k : ℕ) (qs : List QueuePart) → start_from w c h n qs ≡ None → k < length qs → slice_get (queued w h (n + k)) 0 ≡ None
+pub start_none : (w : Parts) (c : ℕ) (h : List Event) (n k : ℕ) (qs : List QueuePart) → start_from w c h n qs ≡ None → k < length qs → slice_get (queued w h (n + k)) 0 ≡ None
 start_none w c h n k [] none lt = absurd (omega arith)
 start_none w c h n zero (q ∷ qs) none lt =
     let parts = none_or (option_map (λ t. Start t c) (slice_get (queued w h n) 0)) (start_from w c h (n + 1) qs) none in
@@ -229,15 +229,15 @@ no_start w c h t a queues none allowed =
     absurd (cc (nothing_there, first_is (queued w h found.0.branch.queue) t found.2))
 
 -- where none comes first, no part has one
-record NoneFirst (w : Parts) (c : ℕ) (h : List Event) : Type 0 where
-  post : post_from h 0 w.posters ≡ None
-  fire : fire_from w c h (spots w) ≡ None
-  admit : admit_from w h 0 w.arbiters ≡ None
-  put_next : put_first w h ≡ None
-  run : running h ≡ []
-  start : start_from w c h 0 w.queues ≡ None
+pub record NoneFirst (w : Parts) (c : ℕ) (h : List Event) : Type 0 where
+  pub post : post_from h 0 w.posters ≡ None
+  pub fire : fire_from w c h (spots w) ≡ None
+  pub admit : admit_from w h 0 w.arbiters ≡ None
+  pub put_next : put_first w h ≡ None
+  pub run : running h ≡ []
+  pub start : start_from w c h 0 w.queues ≡ None
 
-NoneFirst-first : (w : Parts) (c : ℕ) (h : List Event) → first w c h ≡ None → NoneFirst w c h
+pub NoneFirst-first : (w : Parts) (c : ℕ) (h : List Event) → first w c h ≡ None → NoneFirst w c h
 NoneFirst-first w c h is =
     let a = none_or (post_from h 0 w.posters) _ is in
     let b = none_or (fire_from w c h (spots w)) _ a.1 in

@@ -7,7 +7,7 @@ use std::alloc::Global;
 use std::marker::Model;
 
 /// How a segment ends: done, failed with a value, suspended at its await site, or for want of budget.
-#[derive(Clone, Copy, Debug, PartialEq, Eq)]
+#[derive(Clone, Copy, PartialEq, Eq)]
 pub enum EndHow {
     Done,
     Failed(Value),
@@ -16,7 +16,7 @@ pub enum EndHow {
 }
 
 /// One step of the run, under one lock.
-#[derive(Debug, Drop)]
+#[derive(Drop)]
 pub enum Event {
     Post(Msg),
     Fire {
@@ -76,7 +76,7 @@ impl Event {
 }
 
 /// Where a task that took a message is. Ready: it may be put.
-#[derive(Clone, Copy, Debug, PartialEq, Eq)]
+#[derive(Clone, Copy, PartialEq, Eq)]
 pub enum TaskState {
     Waiting,
     Cut,
@@ -88,14 +88,14 @@ pub enum TaskState {
 }
 
 /// What became of a posted message.
-#[derive(Clone, Copy, Debug, PartialEq, Eq)]
+#[derive(Clone, Copy, PartialEq, Eq)]
 pub enum Fate {
     Held,
     Taken { task: TaskId, state: TaskState },
 }
 
 /// How often each thing happened in a history. `unended` tasks fired and neither ended nor were cut or dropped.
-#[derive(Clone, Copy, Debug, PartialEq, Eq)]
+#[derive(Clone, Copy, PartialEq, Eq)]
 pub struct Totals {
     pub posted: u64,
     pub taken: u64,
@@ -111,7 +111,7 @@ pub struct Totals {
 }
 
 /// What happened, oldest first.
-#[derive(Debug, Drop)]
+#[derive(Drop)]
 pub struct History {
     past: List<Event>,
 }

@@ -276,7 +276,7 @@ module _ (w : Parts) (valid : IsValid w) (plain : PlainFacts w) (n : ℕ) (lacks
       by (asks.Unbook t) owed seen gives = (back (asks.Unbook t) refl gives, tt)
       by (asks.Over t r how) owed seen gives = (back (asks.Over t r how) refl gives, tt)
       by (asks.Put task) owed seen gives =
-          let known : IsTaskOf w task = subst (IsTaskOf w) (sym seen) (view_known w all h holds.legal task.id owed.0.fires) in
+          let known : IsTaskOf w task = subst (IsTaskOf w) (sym seen) (view_known w all h holds.legal task.id owed.0.fires valid) in
           (subst (IsPlaceOf w) (sym owed.1) (view_queue w all h holds.legal task.id owed.0.fires), known)
       by (asks.Post m) owed seen gives = absurd owed
       by (asks.Claim t s) owed seen gives = absurd owed
@@ -304,7 +304,7 @@ module _ (w : Parts) (valid : IsValid w) (plain : PlainFacts w) (n : ℕ) (lacks
       posted m is = got_posted w h (port_at es) a st (named_legal w h holds.legal) holds.ports (holds.actors a).claims (unfired w h (port_at es) a st (holds.actors a).claims) (pattern_at w spot) m (subst (λ hs. Among m (in_pattern (pattern_at w spot) hs)) (sym (ap had_in phase)) is)
 
       built : IsTaskOf w (firing_task (plan_of w spot) (name_at a st) messages)
-      built = built_known w all spot here (name_at a st) messages (λ m is. (posted_fine w all h holds.legal m (posted m is)).1)
+      built = built_known w valid all spot here (name_at a st) messages (λ m is. (posted_fine w all h holds.legal m (posted m is)).1)
 
       at_spot : (spot : Spot) → SpotFits w spot → IsPlaceOf w (attempt_ask (plan_of w spot) (name_at a st) (claiming [] had)).place
       at_spot (Branch b) fits = domain_place w valid _ (spot_domain w (Branch b) fits)
@@ -329,7 +329,7 @@ module _ (w : Parts) (valid : IsValid w) (plain : PlainFacts w) (n : ℕ) (lacks
   end_named : (task : Task) (place : ℕ) (play : Play) → RunsTask w h a task place play.posts → play.end ≡ (play_in w task).end → play.causes ≡ (play_in w task).causes → (end : PlayEnd) → play.end ≡ end → IsNamed w (end_ask task play end)
   end_named task place play run ends causes plays.Done is = over_named task _ (task_domain task place play.posts run)
   end_named task place play run ends causes (plays.Failed v) is = over_named task _ (task_domain task place play.posts run)
-  end_named task place play run ends causes (plays.Yield site) is = record { place = plain.sites_so task site (sym ends ∙ is); ask = subst (IsTaskOf w) (sym same) (suspended_known w all h holds.legal task.id run.fires) }
+  end_named task place play run ends causes (plays.Yield site) is = record { place = plain.sites_so task site (sym ends ∙ is); ask = subst (IsTaskOf w) (sym same) (suspended_known w all h holds.legal task.id run.fires valid) }
     where
       whole : play.causes ≡ (play_of w h task.id).causes
       whole = causes ∙ ap (λ (p : Play). p.causes) (play_so task place play.posts run)

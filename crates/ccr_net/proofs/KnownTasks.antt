@@ -33,7 +33,7 @@ use Rattle.ccr_model.proofs.PlacementDomains.{placement-within}
 use Rattle.ccr_model.proofs.PostNames.{along}
 use Rattle.ccr_model.proofs.Pushes.{firings-push}
 use Rattle.ccr_model.proofs.TakenOnce.{FireFacts-allowed}
-use Rattle.ccr_object.specs.Numbers.{IsSpotOf, IsTaskOf}
+use Rattle.ccr_object.specs.Numbers.{IsDomainOf, IsSpotOf, IsTaskOf}
 use Rattle.ccr_claim.specs.Plans.{firing_task}
 use Rattle.ccr_actor.specs.Plans.{arbiter_at, plan_of, queue_at}
 use Rattle.ccr_net.specs.Views.{view}
@@ -201,17 +201,17 @@ spot_queue w all spot fits = let seat = seat_of w spot fits in subst (λ k. k < 
 -- ---- tasks
 
 -- a task of the spot with such causes
-pub task_known : (w : Parts) → IsSound w → (spot : Spot) → SpotFits w spot → (task : Task) → task.spot ≡ spot → task.arbiter ≡ arbiter_at w spot → task.queue ≡ queue_at w spot → AreFine (length w.causes) task.causes → IsTaskOf w task
-task_known w all spot fits task at arbiter queue fine = (
+pub task_known : (w : Parts) → IsValid w → IsSound w → (spot : Spot) → SpotFits w spot → (task : Task) → task.spot ≡ spot → task.arbiter ≡ arbiter_at w spot → task.queue ≡ queue_at w spot → AreFine (length w.causes) task.causes → IsTaskOf w task
+task_known w valid all spot fits task at arbiter queue fine = (
   subst (IsSpotOf w) (sym at) (spot_known w spot fits),
-  subst (λ k. k < length w.arbiters) (sym arbiter) (domain_low w (arbiter_at w spot) (spot_domain w spot fits)),
+  subst (IsDomainOf w) (sym arbiter) (domain_low w (arbiter_at w spot) (spot_domain w spot fits), same_number _ (arbiter_at w spot) (domain_own w valid (arbiter_at w spot) (spot_domain w spot fits))),
   subst (λ k. k < length w.queues) (sym queue) (spot_queue w all spot fits),
   fine_causes w task.causes fine,
 )
 
 -- a task that an attempt builds
-pub built_known : (w : Parts) → IsSound w → (spot : Spot) → SpotFits w spot → (name : TaskId) (messages : List Msg) → ((m : Msg) → Among m messages → AreFine (length w.causes) m.causes) → IsTaskOf w (firing_task (plan_of w spot) name messages)
-built_known w all spot fits name messages fine = task_known w all spot fits (firing_task (plan_of w spot) name messages) refl refl refl (union_fine (length w.causes) [] (flat_map (λ (m : Msg). m.causes) messages) (record { below = λ c is. absurd is; apart = refl }) (causes_below w all messages fine))
+pub built_known : (w : Parts) → IsValid w → IsSound w → (spot : Spot) → SpotFits w spot → (name : TaskId) (messages : List Msg) → ((m : Msg) → Among m messages → AreFine (length w.causes) m.causes) → IsTaskOf w (firing_task (plan_of w spot) name messages)
+built_known w valid all spot fits name messages fine = task_known w valid all spot fits (firing_task (plan_of w spot) name messages) refl refl refl (union_fine (length w.causes) [] (flat_map (λ (m : Msg). m.causes) messages) (record { below = λ c is. absurd is; apart = refl }) (causes_below w all messages fine))
 
 -- each firing is at a spot of the wiring
 fires_fit : (w : Parts) (h : List Event) → IsLegal w h → (f : Firing) → Among f (firings h) → SpotFits w f.spot
@@ -261,11 +261,11 @@ module _ (w : Parts) (all : IsSound w) (h : List Event) (legal : IsLegal w h) (t
   queue_so : (view w h t).queue ≡ queue_at w fires.0.spot
   queue_so = ap (λ o. option_map_or (λ (s : Placement). s.branch.queue) o 0) placed_so
 
-  pub view_known : IsTaskOf w (view w h t)
-  view_known = task_known w all fires.0.spot fired_fits (view w h t) spot_so arbiter_so queue_so (load_of-fine w all h (posted_fine w all h legal) t)
+  pub view_known : IsValid w → IsTaskOf w (view w h t)
+  view_known valid = task_known w valid all fires.0.spot fired_fits (view w h t) spot_so arbiter_so queue_so (load_of-fine w all h (posted_fine w all h legal) t)
 
-  pub suspended_known : IsTaskOf w (suspended_view w h t)
-  suspended_known = task_known w all fires.0.spot fired_fits (suspended_view w h t) spot_so arbiter_so queue_so (play_of-fine w all h (posted_fine w all h legal) t).causes
+  pub suspended_known : IsValid w → IsTaskOf w (suspended_view w h t)
+  suspended_known valid = task_known w valid all fires.0.spot fired_fits (suspended_view w h t) spot_so arbiter_so queue_so (play_of-fine w all h (posted_fine w all h legal) t).causes
 
   pub view_domain : IsDomain w (view w h t).arbiter
   view_domain = subst (IsDomain w) (sym arbiter_so) (spot_domain w fires.0.spot fired_fits)

@@ -39,8 +39,8 @@ pub fn asks_meet_their_conditions()
     ensures met { (wiring : Parts) (workers : ℕ) (lacks : Lacks) (entries : List Entry) (actor : ℕ) (one : Asked) → IsValid wiring → workers ≤ 16 → IsRunAfter wiring workers lacks [] entries → actor < length wiring.posters + workers → next wiring actor (lacks actor) (replies_of wiring entries actor) ≡ Some one → is_some (note_of wiring one.place (notes_at entries one.place) one.ask) ≡ true }
 {}
 
-/// The next ask of each actor of a run names no port, queue, cause, arbiter or spot that the wiring doesn't have, and is meant
-/// for one of the wiring's places, which stands under its number.
+/// The next ask of each actor of a run names no port, queue, cause or spot that the wiring doesn't have, the arbiter of its task
+/// is the number of a domain, and it is meant for one of the wiring's places, which stands under its number.
 pub fn asks_name_what_the_wiring_has()
     ensures known { (wiring : Parts) (workers : ℕ) (lacks : Lacks) (entries : List Entry) (actor : ℕ) (one : Asked) → IsValid wiring → workers ≤ 16 → IsRunAfter wiring workers lacks [] entries → actor < length wiring.posters + workers → next wiring actor (lacks actor) (replies_of wiring entries actor) ≡ Some one → IsKnown wiring one.ask }
     ensures place { (wiring : Parts) (workers : ℕ) (lacks : Lacks) (entries : List Entry) (actor : ℕ) (one : Asked) → IsValid wiring → workers ≤ 16 → IsRunAfter wiring workers lacks [] entries → actor < length wiring.posters + workers → next wiring actor (lacks actor) (replies_of wiring entries actor) ≡ Some one → slice_get (places_of wiring) (number_at wiring one.place) ≡ Some one.place }

@@ -21,4 +21,4 @@ pub use laws::{
 pub use net::PlainNet;
 pub use schedules::run_schedule;
 pub use shortages::run_short;
-pub use showing::visible;
+pub use showing::{event_of, visible};

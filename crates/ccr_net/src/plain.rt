@@ -3,7 +3,7 @@
 ghost use Rattle.std.specs.Prelude.{◌≡◌, ◌≢◌, ◌<◌, ◌≤◌, ◌+◌, ◌^◌, ℕ, suc, max, true, [], ◌∷◌, ◌++◌, length, slice_index, IfOk, OnOk, OnErr, IsOk, Some, is_some};
 ghost use Rattle.ccr_claim.specs.Asks.{due_of, fits, is_settling};
 ghost use Rattle.ccr_object.specs.declared.deed.Answer.TheVariants.{Replied};
-ghost use Rattle.ccr_object.specs.Objects.{after_at, note_of, reply_of};
+ghost use Rattle.ccr_object.specs.Objects.{after_at, is_due, note_of, reply_of};
 ghost use Rattle.ccr_net.specs.Acted.{act_after, deed_at, placed_in, scene_after, IsFitting};
 ghost use Rattle.ccr_net.specs.Played.{entry_of, number_at};
 
@@ -197,6 +197,7 @@ fn answer_at(
 ) -> Result<(Answer, Deed), OutOfMemory>
     requires { number < length objects.old }
     ensures reply { IfOk result (λ given. given.0 ≡ reply_of (placed_in objects.old number) ask) }
+    ensures fits { IfOk result (λ given. is_due ask given.0 ≡ true) }
     ensures deed { IfOk result (λ given. given.1 ≡ deed_at (placed_in objects.old number) ask) }
     ensures after { OnOk result (placed_in objects.new number ≡ after_at (placed_in objects.old number) ask) }
     ensures refused { OnErr result (placed_in objects.new number ≡ placed_in objects.old number) }

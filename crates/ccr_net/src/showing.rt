@@ -59,6 +59,32 @@ fn shown(alloc: Global, actor: ActorNo, note: &Note) -> Result<Option<Event>, Ou
     })
 }
 
+/// The same of a note that is no longer needed, from which the event is moved out.
+pub fn event_of(actor: ActorNo, note: Note) -> Option<Event>
+    ensures { option_to_list result ≡ shown actor note }
+{
+    match note {
+        Note::Post(message) => Some(Event::Post(message)),
+        Note::Fired {
+            task,
+            spot,
+            messages,
+            cuts,
+        } => Some(Event::Fire {
+            task,
+            spot,
+            messages,
+            cuts,
+        }),
+        Note::Admit(Some(task)) => Some(Event::Admit(task)),
+        Note::Put { task, dropped } => Some(Event::Put { task, dropped }),
+        Note::Take(Some(task)) => Some(Event::Start { task, actor }),
+        Note::Over { task, how, .. } => end_by(task, how),
+        Note::Suspend(task) => Some(end(task, EndHow::Yield)),
+        _ => None,
+    }
+}
+
 /// Adds what the entry shows.
 fn show(alloc: Global, history: &mut History, entry: &Entry) -> Result<(), OutOfMemory>
     ensures ok { OnOk result (history.new ≡ history.old ++ shown entry.now.actor entry.now.note) }

@@ -2,3 +2,4 @@ pub mod Counts
 pub mod Numbering
 pub mod Few
 pub mod Cuts
+pub mod Due

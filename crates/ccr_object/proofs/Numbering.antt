@@ -1,10 +1,10 @@
 -- The test by numbers is the condition on the wiring.
-use Rattle.std.proofs.Common.{Bool, true, false, ◌≡◌, ℕ, zero, suc, ◌+◌, ◌<◌, ◌&&◌, List, [], ◌∷◌, ◌++◌, map, length, sym, refl, ap, ◌∙◌, subst, arith, None}
+use Rattle.std.proofs.Common.{Bool, true, false, ◌≡◌, ◌⊎◌, ℕ, zero, suc, ◌+◌, ◌<◌, ◌≤◌, ◌==◌, ◌&&◌, List, [], ◌∷◌, ◌++◌, map, length, sym, refl, ap, ◌∙◌, subst, arith, eq-eqb, inl, inr, None, Some}
 use Rattle.std.specs.Prelude.{nat_lt, slice_get, All, flat_map, ◌↔◌}
 use Rattle.std.specs.Option.{is_some, option_map_or}
-use Rattle.std.proofs.lemmas.Bool.{lt-ltb, le-ltb, ltb-true, ltb-false, and_parts, and_from}
+use Rattle.std.proofs.lemmas.Bool.{cases_lt, eqb-true, lt-ltb, le-ltb, ltb-true, ltb-false, and_parts, and_from}
 use Rattle.std.proofs.lemmas.Bool.Decides.{nat_tests}
-use Rattle.std.proofs.lemmas.List.{length-map}
+use Rattle.std.proofs.lemmas.List.{length-append, length-map}
 use Rattle.std.proofs.lemmas.List.Concat.{flat_map-cons}
 use Rattle.std.proofs.lemmas.List.Elements.{All-nil, All-cons, All-tail}
 use Rattle.ccr_base.specs.declared.messages.Msg.{Msg}
@@ -15,11 +15,12 @@ use Rattle.ccr_wiring.specs.declared.parts.ArbiterPart.{ArbiterPart}
 use Rattle.ccr_wiring.specs.declared.parts.BranchPart.{BranchPart}
 use Rattle.ccr_wiring.specs.declared.parts.Kind.{Kind}
 use Rattle.ccr_wiring.specs.declared.parts.Parts.{Parts}
+use Rattle.ccr_wiring.specs.Domains.{domain_of}
 use Rattle.ccr_wiring.specs.Repeats.{are_apart}
 use Rattle.ccr_wiring.specs.Wirings.{Placement, placements, placements_from, in_domain, awaited, actions_of}
 use Rattle.ccr_claim.specs.declared.asks.Ask.{Ask}
 use Rattle.ccr_claim.specs.declared.asks.Ask.TheVariants as asks
-use Rattle.ccr_object.specs.Numbers.{numbers_of, site_count, site_counts, arbiter_sites, has_spot, has_each, has_causes, has_message, has_task, is_known, IsSpotOf, AreCausesOf, IsMessageOf, IsTaskOf, IsKnown}
+use Rattle.ccr_object.specs.Numbers.{numbers_of, domain_tests, has_domain, site_count, site_counts, arbiter_sites, has_spot, has_each, has_causes, has_message, has_task, is_known, IsSpotOf, AreCausesOf, IsDomainOf, IsMessageOf, IsTaskOf, IsKnown}
 
 module _ (wiring : Parts) where
   one_arbiter : (arbiter : ℕ) (kind : Kind) (branches : List BranchPart) (rest : List Placement)
@@ -74,6 +75,51 @@ module _ (wiring : Parts) where
   spot_from (Branch branch) l = lt-ltb branch (length (site_counts wiring)) (subst (λ n. branch < n) (sym many) l)
   spot_from (Site branch site) e = ap (λ (l : List ℕ). option_map_or (λ count. nat_lt site count) (slice_get l branch) false) counts_are ∙ (site_in (placements wiring) branch site ∙ e)
 
+  -- the tests of the domains, by number
+  tests_long : (n : ℕ) → length (domain_tests wiring.domains n) ≡ n
+  tests_long zero = refl
+  tests_long (suc n) = length-append (domain_tests wiring.domains n) _ ∙ (let rest = tests_long n in omega arith)
+
+  at_end : {X : Type 0} (xs : List X) (x : X) (i : ℕ) → i ≡ length xs → slice_get (xs ++ x ∷ []) i ≡ Some x
+  at_end [] x i is = rw is refl
+  at_end (y ∷ ys) x zero is = absurd (omega arith)
+  at_end (y ∷ ys) x (suc i) is = at_end ys x i (omega arith)
+
+  before_end : {X : Type 0} (xs : List X) (x : X) (i : ℕ) → i < length xs → slice_get (xs ++ x ∷ []) i ≡ slice_get xs i
+  before_end [] x i low = absurd (omega arith)
+  before_end (y ∷ ys) x zero low = refl
+  before_end (y ∷ ys) x (suc i) low = before_end ys x i (omega arith)
+
+  past_end : {X : Type 0} (xs : List X) (i : ℕ) → length xs ≤ i → slice_get xs i ≡ None
+  past_end [] i high = refl
+  past_end (x ∷ xs) zero high = absurd (omega arith)
+  past_end (x ∷ xs) (suc i) high = past_end xs i (omega arith)
+
+  test_at : (n i : ℕ) → i < n → slice_get (domain_tests wiring.domains n) i ≡ Some (domain_of wiring.domains i == i)
+  test_at zero i low = absurd (omega arith)
+  test_at (suc n) i low = by (cases_lt i n) (test_at n i)
+    where
+      by : (i < n) ⊎ (n ≤ i) → (i < n → slice_get (domain_tests wiring.domains n) i ≡ Some (domain_of wiring.domains i == i)) → slice_get (domain_tests wiring.domains n ++ (domain_of wiring.domains n == n) ∷ []) i ≡ Some (domain_of wiring.domains i == i)
+      by (inl less) rest = before_end (domain_tests wiring.domains n) (domain_of wiring.domains n == n) i (rw (tests_long n) less) ∙ rest less
+      by (inr more) rest =
+          let last : i ≡ n = omega (arith, low, more) in
+          at_end (domain_tests wiring.domains n) (domain_of wiring.domains n == n) i (last ∙ sym (tests_long n)) ∙ ap (λ k. Some (domain_of wiring.domains k == k)) (sym last)
+
+  domain_to : (i : ℕ) → has_domain (numbers_of wiring) i ≡ true → IsDomainOf wiring i
+  domain_to i e = by (cases_lt i (length wiring.arbiters))
+    where
+      n : ℕ
+      n = length wiring.arbiters
+
+      by : (i < n) ⊎ (n ≤ i) → IsDomainOf wiring i
+      by (inl less) = (less, eqb-true (domain_of wiring.domains i) i (sym (ap (λ o. option_map_or (λ (own : Bool). own) o false) (test_at n i less)) ∙ e))
+      by (inr more) =
+          let none : has_domain (numbers_of wiring) i ≡ false = ap (λ o. option_map_or (λ (own : Bool). own) o false) (past_end (domain_tests wiring.domains n) i (rw (tests_long n) more)) in
+          absurd (let no = sym none ∙ e in cc)
+
+  domain_from : (i : ℕ) → IsDomainOf wiring i → has_domain (numbers_of wiring) i ≡ true
+  domain_from i is = ap (λ o. option_map_or (λ (own : Bool). own) o false) (test_at (length wiring.arbiters) i is.0) ∙ eq-eqb (domain_of wiring.domains i) i is.1
+
   each_to : (n : ℕ) (causes : List ℕ) → has_each n causes ≡ true → All (λ cause. cause < n) causes
   each_to n [] e = All-nil (λ cause. cause < n)
   each_to n (c ∷ cs) e = let p = and_parts (nat_lt c n) (has_each n cs) e in All-cons (λ cause. cause < n) c cs (ltb-true c n p.0) (each_to n cs p.1)
@@ -98,14 +144,14 @@ module _ (wiring : Parts) where
   task_to t e =
       let p = and_parts _ (has_causes (numbers_of wiring) t.causes) e in
       let q = and_parts _ (nat_lt t.queue (length wiring.queues)) p.0 in
-      let r = and_parts (has_spot (numbers_of wiring) t.spot) (nat_lt t.arbiter (length wiring.arbiters)) q.0 in
-      (spot_to t.spot r.0, ltb-true t.arbiter (length wiring.arbiters) r.1, ltb-true t.queue (length wiring.queues) q.1, causes_to t.causes p.1)
+      let r = and_parts (has_spot (numbers_of wiring) t.spot) (has_domain (numbers_of wiring) t.arbiter) q.0 in
+      (spot_to t.spot r.0, domain_to t.arbiter r.1, ltb-true t.queue (length wiring.queues) q.1, causes_to t.causes p.1)
 
   task_from : (t : Task) → IsTaskOf wiring t → has_task (numbers_of wiring) t ≡ true
   task_from t k =
-      and_from ((has_spot (numbers_of wiring) t.spot && nat_lt t.arbiter (length wiring.arbiters)) && nat_lt t.queue (length wiring.queues)) (has_causes (numbers_of wiring) t.causes)
-      (and_from (has_spot (numbers_of wiring) t.spot && nat_lt t.arbiter (length wiring.arbiters)) (nat_lt t.queue (length wiring.queues))
-      (and_from (has_spot (numbers_of wiring) t.spot) (nat_lt t.arbiter (length wiring.arbiters)) (spot_from t.spot k.0) (lt-ltb t.arbiter (length wiring.arbiters) k.1))
+      and_from ((has_spot (numbers_of wiring) t.spot && has_domain (numbers_of wiring) t.arbiter) && nat_lt t.queue (length wiring.queues)) (has_causes (numbers_of wiring) t.causes)
+      (and_from (has_spot (numbers_of wiring) t.spot && has_domain (numbers_of wiring) t.arbiter) (nat_lt t.queue (length wiring.queues))
+      (and_from (has_spot (numbers_of wiring) t.spot) (has_domain (numbers_of wiring) t.arbiter) (spot_from t.spot k.0) (domain_from t.arbiter k.1))
       (lt-ltb t.queue (length wiring.queues) k.2))
       (causes_from t.causes k.3)
 

@@ -1,5 +1,5 @@
 -- The numbers of a wiring, and the asks that name no others.
-use Rattle.std.specs.Prelude.{◌≡◌, ◌<◌, All, ℕ, Bool, true, false, nat_lt, ◌&&◌, List, [], map, flat_map, length, slice_get}
+use Rattle.std.specs.Prelude.{◌≡◌, ◌<◌, All, ℕ, zero, suc, Bool, true, false, nat_lt, ◌==◌, ◌&&◌, List, [], ◌∷◌, ◌++◌, map, flat_map, length, slice_get}
 use Rattle.std.specs.List.{list_all}
 use Rattle.std.specs.Option.{option_map_or, is_some}
 use Rattle.ccr_base.specs.declared.messages.Msg.{Msg}
@@ -8,18 +8,21 @@ use Rattle.ccr_base.specs.declared.names.Spot.TheVariants.{Branch, Site}
 use Rattle.ccr_base.specs.declared.tasks.Task.{Task}
 use Rattle.ccr_wiring.specs.declared.parts.ArbiterPart.{ArbiterPart}
 use Rattle.ccr_wiring.specs.declared.parts.BranchPart.{BranchPart}
+use Rattle.ccr_wiring.specs.declared.parts.DomainPart.{DomainPart}
 use Rattle.ccr_wiring.specs.declared.parts.Parts.{Parts}
+use Rattle.ccr_wiring.specs.Domains.{domain_of}
 use Rattle.ccr_wiring.specs.Repeats.{are_apart}
 use Rattle.ccr_wiring.specs.Wirings.{actions_of, awaited, placements, site_port}
 use Rattle.ccr_claim.specs.declared.asks.Ask.{Ask}
 use Rattle.ccr_claim.specs.declared.asks.Ask.TheVariants as asks
 
--- how many there are of each kind, and of each branch how many sites it has
+-- how many ports, queues and causes there are, of each arbiter whether its number is that of its domain, and of each branch
+-- how many sites it has
 pub record Known : Type 0 where
   pub ports : ℕ
   pub queues : ℕ
   pub causes : ℕ
-  pub arbiters : ℕ
+  pub domains : List Bool
   pub sites : List ℕ
 
 -- how many sites a branch has
@@ -33,22 +36,31 @@ arbiter_sites wiring arbiter = map (site_count wiring) arbiter.branches
 abbrev pub site_counts : Parts → List ℕ
 site_counts wiring = flat_map (arbiter_sites wiring) wiring.arbiters
 
+-- of so many arbiters, whether the number of each is that of its domain
+abbrev pub domain_tests : List DomainPart → ℕ → List Bool
+domain_tests domains zero = []
+domain_tests domains (suc number) = domain_tests domains number ++ (domain_of domains number == number) ∷ []
+
 abbrev pub numbers_of : Parts → Known
 numbers_of wiring = record {
   ports = length wiring.ports;
   queues = length wiring.queues;
   causes = length wiring.causes;
-  arbiters = length wiring.arbiters;
+  domains = domain_tests wiring.domains (length wiring.arbiters);
   sites = site_counts wiring;
 }
 
 abbrev pub no_numbers : Known
-no_numbers = record { ports = 0; queues = 0; causes = 0; arbiters = 0; sites = [] }
+no_numbers = record { ports = 0; queues = 0; causes = 0; domains = []; sites = [] }
 
 -- whether the spot is one of them
 abbrev pub has_spot : Known → Spot → Bool
 has_spot known (Branch branch) = nat_lt branch (length known.sites)
 has_spot known (Site branch site) = option_map_or (λ count. nat_lt site count) (slice_get known.sites branch) false
+
+-- whether the number is that of a domain
+abbrev pub has_domain : Known → ℕ → Bool
+has_domain known number = option_map_or (λ (own : Bool). own) (slice_get known.domains number) false
 
 -- whether each cause is one of them
 abbrev pub has_each : ℕ → List ℕ → Bool
@@ -62,7 +74,7 @@ abbrev pub has_message : Known → Msg → Bool
 has_message known message = nat_lt message.port known.ports && has_causes known message.causes
 
 abbrev pub has_task : Known → Task → Bool
-has_task known task = has_spot known task.spot && nat_lt task.arbiter known.arbiters && nat_lt task.queue known.queues && has_causes known task.causes
+has_task known task = has_spot known task.spot && has_domain known task.arbiter && nat_lt task.queue known.queues && has_causes known task.causes
 
 -- whether all numbers in the ask are among these, and no cause stands twice in its message or task
 abbrev pub is_known : Known → Ask → Bool
@@ -85,8 +97,12 @@ AreCausesOf wiring causes = All (λ cause. cause < length wiring.causes) causes 
 abbrev pub IsMessageOf : Parts → Msg → Type 0
 IsMessageOf wiring message = (message.port < length wiring.ports) × AreCausesOf wiring message.causes
 
+-- the number is that of a domain: of an arbiter that isn't combined with one of a lesser number
+abbrev pub IsDomainOf : Parts → ℕ → Type 0
+IsDomainOf wiring number = (number < length wiring.arbiters) × (domain_of wiring.domains number ≡ number)
+
 abbrev pub IsTaskOf : Parts → Task → Type 0
-IsTaskOf wiring task = IsSpotOf wiring task.spot × (task.arbiter < length wiring.arbiters) × (task.queue < length wiring.queues) × AreCausesOf wiring task.causes
+IsTaskOf wiring task = IsSpotOf wiring task.spot × IsDomainOf wiring task.arbiter × (task.queue < length wiring.queues) × AreCausesOf wiring task.causes
 
 -- all numbers in the ask are the wiring's, and no cause stands twice in its message or task
 abbrev pub IsKnown : Parts → Ask → Type 0

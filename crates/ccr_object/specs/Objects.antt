@@ -1,8 +1,9 @@
 -- What the object of a place answers. An ask that isn't one for its kind of place isn't met.
-use Rattle.std.specs.Prelude.{◌≡◌, Option, Some, None, if◌then◌else◌}
+use Rattle.std.specs.Prelude.{◌≡◌, Bool, true, Option, Some, None, if◌then◌else◌}
 use Rattle.std.specs.Option.{option_map}
 use Rattle.ccr_claim.specs.declared.asks.Ask.{Ask}
 use Rattle.ccr_claim.specs.declared.asks.Reply.{Reply}
+use Rattle.ccr_claim.specs.Asks.{due_of, fits}
 use Rattle.ccr_places.specs.declared.notes.Note.{Note}
 use Rattle.ccr_object.specs.declared.deed.Answer.{Answer}
 use Rattle.ccr_object.specs.declared.deed.Answer.TheVariants.{Replied, Unmet}
@@ -67,9 +68,14 @@ reply_of place ask = answered (answer_at place ask)
 abbrev pub note_of : Placed → Ask → Option Note
 note_of place ask = noted (answer_at place ask)
 
--- the answer to the ask, and the entry that bears the ask with its note
+-- whether the answer is one that the ask may have: Unmet, or a reply that fits it
+abbrev pub is_due : Ask → Answer → Bool
+is_due ask Unmet = true
+is_due ask (Replied reply) = fits (due_of ask) reply
+
+-- the answer to the ask, and the entry that bears the ask with its note; what is replied fits the ask
 abbrev pub IsGiven : Placed → Ask → Answer → Deed → Type 0
-IsGiven place ask reply deed = (reply ≡ reply_of place ask) × (deed.note ≡ note_of place ask) × (deed.ask.value ≡ ask)
+IsGiven place ask reply deed = (reply ≡ reply_of place ask) × (deed.note ≡ note_of place ask) × (deed.ask.value ≡ ask) × (is_due ask reply ≡ true)
 
 -- what an entry leaves
 abbrev pub after_deed : Placed → Deed → Placed

@@ -5,7 +5,7 @@ use ccr_places::Note;
 use std::snapshot::Snapshot;
 
 /// The answer to an ask: a reply, or that its condition isn't met at its place.
-#[derive(Debug, Drop)]
+#[derive(Drop)]
 pub enum Answer {
     Replied(Reply),
     Unmet,

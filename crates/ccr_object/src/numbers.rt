@@ -3,23 +3,23 @@
 ghost use Rattle.std.specs.Prelude.{◌≡◌, ◌↔◌, true, ◌++◌, length, map, IfOk, OnOk};
 ghost use Rattle.ccr_wiring.specs.Repeats.{has_port, are_apart};
 ghost use Rattle.ccr_wiring.specs.Wirings.{actions_of, awaited};
-ghost use Rattle.ccr_object.specs.Numbers.{numbers_of, site_count, site_counts, has_spot, has_each, has_causes, has_message, has_task, is_known, IsKnown};
+ghost use Rattle.ccr_object.specs.Numbers.{numbers_of, domain_tests, site_count, site_counts, has_domain, has_spot, has_each, has_causes, has_message, has_task, is_known, IsKnown};
 ghost use Rattle.ccr_claim.specs.declared.asks.Ask.{Ask};
 
-use ccr_base::{Action, HandlerNo, Msg, OutOfMemory, Spot, Task};
+use ccr_base::{Action, ArbiterNo, HandlerNo, Msg, OutOfMemory, Spot, Task};
 use ccr_claim::Ask;
 use ccr_wiring::{BranchPart, Parts, Wiring};
 use std::alloc::Global;
 use std::marker::Model;
 
-/// How many ports, queues, causes and arbiters there are, and of each branch how many sites it has. All places share
-/// it, so it is made once.
+/// How many ports, queues and causes there are, of each arbiter whether its number is that of its domain, and of each
+/// branch how many sites it has. All places share it, so it is made once.
 #[derive(Drop)]
 pub struct Numbers {
     ports: usize,
     queues: usize,
     causes: usize,
-    arbiters: usize,
+    domains: Vec<bool>,
     sites: Vec<usize>,
 }
 
@@ -28,7 +28,7 @@ impl Model for Numbers {
 
     ghost Value = { Known };
 
-    ghost view = { λ numbers. record { ports = numbers.ports; queues = numbers.queues; causes = numbers.causes; arbiters = numbers.arbiters; sites = numbers.sites.items } };
+    ghost view = { λ numbers. record { ports = numbers.ports; queues = numbers.queues; causes = numbers.causes; domains = numbers.domains.items; sites = numbers.sites.items } };
 }
 
 impl Numbers {
@@ -38,12 +38,13 @@ impl Numbers {
         ensures exact { (ask : Ask) → (is_known (numbers_of wiring.now) ask ≡ true) ↔ IsKnown wiring.now ask }
     {
         let parts = wiring.parts();
+        let domains = domain_tests(alloc, wiring)?;
         let sites = site_counts(alloc, parts)?;
         Ok(Numbers {
             ports: parts.ports.as_slice().len(),
             queues: parts.queues.as_slice().len(),
             causes: parts.causes.as_slice().len(),
-            arbiters: parts.arbiters.as_slice().len(),
+            domains,
             sites,
         })
     }
@@ -72,7 +73,7 @@ impl Numbers {
         ensures { result ≡ has_task self.now task.now }
     {
         self.has_spot(task.spot)
-            && (task.arbiter as usize) < self.arbiters
+            && self.has_domain(task.arbiter)
             && (task.queue as usize) < self.queues
             && self.has_causes(task.causes.as_slice())
     }
@@ -86,6 +87,15 @@ impl Numbers {
                 Some(count) => (site as usize) < *count,
                 None => false,
             },
+        }
+    }
+
+    fn has_domain(&self, number: ArbiterNo) -> bool
+        ensures { result ≡ has_domain self.now number }
+    {
+        match self.domains.get(number as usize) {
+            Some(own) => *own,
+            None => false,
         }
     }
 
@@ -156,6 +166,17 @@ fn add_counts(
         counts.push(count_awaits(actions_of(parts, branch.handler)))?;
     }
     Ok(())
+}
+
+fn domain_tests(alloc: Global, wiring: &Wiring) -> Result<Vec<bool>, OutOfMemory>
+    ensures { IfOk result (λ tests. tests.items ≡ domain_tests wiring.now.domains (length wiring.now.arbiters)) }
+{
+    let count = wiring.parts().arbiters.as_slice().len() as u32;
+    let mut tests = Vec::new(alloc);
+    for number in 0..count {
+        tests.push(wiring.domain(number) == number)?;
+    }
+    Ok(tests)
 }
 
 fn site_counts(alloc: Global, parts: &Parts) -> Result<Vec<usize>, OutOfMemory>

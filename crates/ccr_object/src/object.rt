@@ -2,7 +2,7 @@
 
 ghost use Rattle.std.specs.Prelude.{◌≡◌, IfOk, OnErr, IsOk, true};
 ghost use Rattle.ccr_claim.specs.Asks.{is_settling};
-ghost use Rattle.ccr_object.specs.Objects.{answer, after, answered, noted, after_at, after_deed, placed, reply_of, note_of, IsGiven};
+ghost use Rattle.ccr_object.specs.Objects.{answer, after, answered, noted, after_at, after_deed, is_due, placed, reply_of, note_of, IsGiven};
 
 use crate::deed::{Answer, Deed};
 use crate::numbers::Numbers;
@@ -56,9 +56,11 @@ pub struct Placed {
 
 impl PlaceObject {
     /// Tests the condition of the ask, and does what it asks. Where the condition isn't met, or the ask isn't one for this
-    /// kind of place, the object stays as it was, and so it does for want of memory.
+    /// kind of place, the object stays as it was, and so it does for want of memory. A reply is one that the ask may have.
+    #[inline(always)]
     pub fn answer(&mut self, ask: Ask) -> Result<(Answer, Deed), OutOfMemory>
         ensures reply { IfOk result (λ given. given.0 ≡ reply_of (placed self.old) ask) }
+        ensures fits { IfOk result (λ given. is_due ask given.0 ≡ true) }
         ensures note { IfOk result (λ given. given.1.note ≡ note_of (placed self.old) ask) }
         ensures ask { IfOk result (λ given. given.1.ask.value ≡ ask) }
         ensures state { IfOk result (λ given. placed self.new ≡ after_at (placed self.old) ask) }
@@ -96,8 +98,10 @@ impl Kept for PlaceObject {
 }
 
 /// What the object answers: a reply with its note, or none where the condition isn't met.
+#[inline(always)]
 fn act(alloc: Global, object: &mut Object, ask: Ask) -> Result<Option<(Reply, Note)>, OutOfMemory>
     ensures answer { IfOk result (λ given. given ≡ answer object.old ask) }
+    ensures fits { IfOk result (λ given. is_due ask (answered given) ≡ true) }
     ensures state { IfOk result (λ given. object.new ≡ after object.old ask) }
     ensures err { OnErr result (object.new ≡ object.old) }
     ensures settles { is_settling ask ≡ true → IsOk result }
@@ -113,6 +117,7 @@ fn act(alloc: Global, object: &mut Object, ask: Ask) -> Result<Option<(Reply, No
 }
 
 /// The answer, and the entry that bears the ask.
+#[inline(always)]
 fn told(given: Option<(Reply, Note)>, ask: Snapshot<Ask>) -> (Answer, Deed)
     ensures reply { result.0 ≡ answered given }
     ensures deed { result.1 ≡ record { note = noted given; ask = ask } }

@@ -3,7 +3,7 @@
 use ccr_base::{By, How, List, Msg, MsgId, Slot, Spot, TaskId};
 
 /// What a claim met: so many messages, the task whose claim stands, or too few that fit.
-#[derive(Clone, Copy, Debug, PartialEq, Eq)]
+#[derive(Clone, Copy, PartialEq, Eq)]
 pub enum ClaimNote {
     Got(u32),
     Busy(TaskId),
@@ -11,7 +11,7 @@ pub enum ClaimNote {
 }
 
 /// What one step did at its place.
-#[derive(Debug, Drop)]
+#[derive(Drop)]
 pub enum Note {
     Post(Msg),
     Claim {

@@ -1,8 +1,7 @@
 -- How a port stays one while messages come, are marked and go.
-use Rattle.std.proofs.Common.{◌≡◌, ℕ, zero, suc, ◌+◌, ◌-◌, ◌^◌, ◌<◌, ◌≤◌, min, Bool, true, false, not, ◌==◌, ◌&&◌, ◌||◌, List, [], ◌∷◌, ◌++◌, length, map, take, drop, Option, Some, None, refl, sym, ap, ◌∙◌, arith}
+use Rattle.std.proofs.Common.{◌≡◌, ℕ, zero, suc, ◌+◌, ◌^◌, ◌<◌, ◌≤◌, min, Bool, true, false, ◌==◌, List, [], ◌∷◌, ◌++◌, length, map, take, Option, Some, None, refl, sym, ap, ◌∙◌, arith}
 use Rattle.std.specs.Prelude.{if◌then◌else◌, nat_le, nat_lt}
-use Rattle.std.specs.List.{slice_get, list_all}
-use Rattle.std.specs.Option.{option_map_or}
+use Rattle.std.specs.List.{list_all}
 use Rattle.std.proofs.Math.ListN.{get_or}
 use Rattle.std.proofs.lemmas.Option.{get_or_from_slice_get}
 use Rattle.std.proofs.lemmas.Grind.{common_steps}
@@ -13,19 +12,18 @@ use Rattle.ccr_base.specs.declared.patterns.Pred.{Pred}
 use Rattle.ccr_base.specs.declared.patterns.Slot.{Slot}
 use Rattle.ccr_base.specs.Choice.{holds, fitting}
 use Rattle.ccr_places.specs.declared.claims.StandingClaim.{StandingClaim}
-use Rattle.ccr_places.specs.declared.notes.ClaimNote.{ClaimNote}
 use Rattle.ccr_places.specs.declared.notes.ClaimNote.TheVariants.{Got as GotNote, Short as ShortNote}
 use Rattle.ccr_places.specs.Ports.{PortState, may_post, claim_note, after_claim, without_first}
-use Rattle.ccr_port.specs.declared.claims.Claimed.{Claimed}
 use Rattle.ccr_port.specs.declared.claims.Claimed.TheVariants.{Got, Short}
 use Rattle.ccr_port.specs.declared.claims.MarkedClaim.{MarkedClaim}
 use Rattle.ccr_port.specs.Chains.{has_key, are_apart, without_key}
-use Rattle.ccr_port.specs.Entries.{keys_of, messages_of, message_under, messages_under, are_under, can_take, without_entry, without_entries}
+use Rattle.ccr_port.specs.Entries.{keys_of, messages_of, messages_under, are_under, can_take, without_entry, without_entries}
 use Rattle.ccr_port.specs.Lanes.{LaneState, fitting_keys, AreLanes, AreSame, HasLane, can_enter, entered, have_room}
-use Rattle.ccr_port.specs.Marks.{standing_claim, IsMarked, IsPort}
-use Rattle.ccr_port.specs.Replies.{claim_reply}
+use Rattle.ccr_port.specs.Marks.{IsMarked, IsPort}
+use Rattle.ccr_port.specs.Replies.{are_at, claim_reply}
 use Rattle.ccr_port.proofs.Chains.{both, apart-more, apart-without}
-use Rattle.ccr_port.proofs.Listing.{without-more, fitting_keys-more, length-fitting_keys, is_choice}
+use Rattle.ccr_port.proofs.Owned.{own_more, own-rest}
+use Rattle.ccr_port.proofs.Listing.{messages-more, fitting_keys-more, length-fitting_keys, is_choice}
 use Rattle.ccr_port.proofs.LaneLists.{are-same, can-enter-all, entered-all, is-at}
 
 take_front : {X : Type 0} (n : ℕ) (xs : List X) (x : X) → n ≤ length xs → take n (xs ++ x ∷ []) ≡ take n xs
@@ -72,11 +70,12 @@ length-more : (es : List (ℕ × Msg)) (e : ℕ × Msg) → length (es ++ e ∷ 
 length-more [] e = refl
 length-more (x ∷ es) e = omega (arith, length-more es e)
 
-module _ (es now : List (ℕ × Msg)) (lanes lanes2 : List LaneState) (claim : Option MarkedClaim) (key : ℕ) (message : Msg)
-    (is : IsPort es lanes claim) (same : AreSame lanes lanes2) (out : has_key key (keys_of es) ≡ false) where
-  pub posted : length es + 1 < 2 ^ 32 → now ≡ es ++ (key, message) ∷ [] → IsPort now (map (entered key message.value) lanes2) claim
-  posted few come = rw come (record {
+module _ (number : ℕ) (es now : List (ℕ × Msg)) (lanes lanes2 : List LaneState) (claim : Option MarkedClaim) (key : ℕ) (message : Msg)
+    (is : IsPort number es lanes claim) (same : AreSame lanes lanes2) (out : has_key key (keys_of es) ≡ false) where
+  pub posted : length es + 1 < 2 ^ 32 → (message.port == number) ≡ true → now ≡ es ++ (key, message) ∷ [] → IsPort number now (map (entered key message.value) lanes2) claim
+  posted few here come = rw come (record {
     few = omega (arith, length-more es (key, message));
+    own = rw (messages-more key message es) (own_more number (messages_of es) message is.own here);
     apart = ap are_apart (keys_of-more es key message) ∙ apart-more key (keys_of es) out is.apart;
     lanes = entered-all es key message lanes2 (are-same es lanes lanes2 same is.lanes);
     marked = marked-more es key message claim is.marked;
@@ -85,8 +84,8 @@ module _ (es now : List (ℕ × Msg)) (lanes lanes2 : List LaneState) (claim : O
   pub may_enter-all : length es + 1 < 2 ^ 32 → have_room key lanes2 ≡ true → list_all (can_enter key) lanes2 ≡ true
   may_enter-all few room = can-enter-all es key out few lanes2 (are-same es lanes lanes2 same is.lanes) room
 
-  pub gave_up : now ≡ es → IsPort now lanes2 claim
-  gave_up come = rw come (record { few = is.few; apart = is.apart; lanes = are-same es lanes lanes2 same is.lanes; marked = is.marked })
+  pub gave_up : now ≡ es → IsPort number now lanes2 claim
+  gave_up come = rw come (record { few = is.few; own = is.own; apart = is.apart; lanes = are-same es lanes lanes2 same is.lanes; marked = is.marked })
 
 -- ---- a claim
 
@@ -159,9 +158,9 @@ module _ (number : ℕ) (es : List (ℕ × Msg)) (task : TaskId) (slot : Slot) (
       pub got-after : state_of number es (Some (record { task = task; pred = slot.pred; count = count })) ≡ after_claim (state_of number es None) task slot (GotNote (length copies))
       got-after = ap (λ k. state_of number es (Some (record { task = task; pred = slot.pred; count = k }))) (sym (ap length copies-are ∙ long))
 
-    pub claimed : (lanes : List LaneState) (mark : MarkedClaim) → IsPort es lanes None → mark.standing.pred ≡ slot.pred → mark.standing.count ≡ count → mark.keys.items ≡ take count (fitting_keys slot.pred es) → IsPort es lanes (Some mark)
+    pub claimed : (lanes : List LaneState) (mark : MarkedClaim) → IsPort number es lanes None → mark.standing.pred ≡ slot.pred → mark.standing.count ≡ count → mark.keys.items ≡ take count (fitting_keys slot.pred es) → IsPort number es lanes (Some mark)
     claimed lanes mark is pred_is count_is keys_are =
-        record { few = is.few; apart = is.apart; lanes = is.lanes; marked = rw (pred_is, count_is) (keys_are, bound) }
+        record { few = is.few; own = is.own; apart = is.apart; lanes = is.lanes; marked = rw (pred_is, count_is) (keys_are, bound) }
       where
         bound : count ≤ length (fitting_keys slot.pred es)
         bound = omega (arith, least_of, fits)
@@ -192,16 +191,17 @@ fewer-rest : (ks : List ℕ) (es : List (ℕ × Msg)) → length (without_entrie
 fewer-rest [] es = omega arith
 fewer-rest (k ∷ ks) es = omega (arith, fewer-rest ks (without_entry k es), fewer-without k es)
 
-module _ (es : List (ℕ × Msg)) (lanes : List LaneState) (mark : MarkedClaim) (is : IsPort es lanes (Some mark)) where
+module _ (number : ℕ) (es : List (ℕ × Msg)) (lanes : List LaneState) (mark : MarkedClaim) (is : IsPort number es lanes (Some mark)) where
   pub marks-can_go : can_take mark.keys.items es ≡ true
   marks-can_go = ap (λ ks. can_take ks es) is.marked.0 ∙ (is_choice mark.standing.pred mark.standing.count es is.apart).can_go
 
   pub marks-gone : messages_of (without_entries mark.keys.items es) ≡ without_first mark.standing.count mark.standing.pred (messages_of es)
   marks-gone = ap (λ ks. messages_of (without_entries ks es)) is.marked.0 ∙ (is_choice mark.standing.pred mark.standing.count es is.apart).rest
 
-  pub consumed : (now : List (ℕ × Msg)) (lanes2 : List LaneState) → AreLanes now lanes2 → now ≡ without_entries mark.keys.items es → IsPort now lanes2 None
+  pub consumed : (now : List (ℕ × Msg)) (lanes2 : List LaneState) → AreLanes now lanes2 → now ≡ without_entries mark.keys.items es → IsPort number now lanes2 None
   consumed now lanes2 are gone = record {
     few = omega (arith, ap length gone, fewer-rest mark.keys.items es, is.few);
+    own = ap (λ l. are_at number (messages_of l)) gone ∙ own-rest number mark.keys.items es is.own;
     apart = ap (λ l. are_apart (keys_of l)) gone ∙ apart-rest mark.keys.items es is.apart;
     lanes = are;
     marked = tt;

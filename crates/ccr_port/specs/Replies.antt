@@ -1,5 +1,6 @@
 -- What a claim answers.
-use Rattle.std.specs.Prelude.{List, length, if◌then◌else◌}
+use Rattle.std.specs.Prelude.{ℕ, Bool, true, ◌==◌, ◌&&◌, nat_lt, nat_le, List, length, if◌then◌else◌}
+use Rattle.std.specs.List.{list_all}
 use Rattle.std.specs.Option.{option_map_or}
 use Rattle.ccr_base.specs.declared.messages.Msg.{Msg}
 use Rattle.ccr_base.specs.declared.patterns.Slot.{Slot}
@@ -24,3 +25,13 @@ abbrev pub reply_note : Claimed → ClaimNote
 reply_note (Got messages) = GotNote (length messages)
 reply_note (Busy task) = BusyNote task
 reply_note (Short count) = ShortNote count
+
+-- whether these are messages of the port with this number
+abbrev pub are_at : ℕ → List Msg → Bool
+are_at number messages = list_all (λ (m : Msg). m.port == number) messages
+
+-- whether the slot may get this answer: messages of its port, as many as it takes, or fewer that satisfy than it takes
+abbrev pub fits_slot : Slot → Claimed → Bool
+fits_slot slot (Got messages) = nat_le slot.least (length messages) && nat_le (length messages) slot.most && are_at slot.port messages
+fits_slot slot (Busy task) = true
+fits_slot slot (Short count) = nat_lt count slot.least

@@ -13,7 +13,7 @@ use std::alloc::Global;
 
 /// What a claim met: copies of the messages that are now marked, the task whose claim stands, or how many messages fit
 /// where they are too few.
-#[derive(Debug, Drop)]
+#[derive(Drop)]
 pub enum Claimed {
     Got(List<Msg>),
     Busy(TaskId),
@@ -21,7 +21,7 @@ pub enum Claimed {
 }
 
 /// The claim that stands, with the keys of the messages that it marks.
-#[derive(Debug, Drop)]
+#[derive(Drop)]
 pub(crate) struct MarkedClaim {
     pub standing: StandingClaim,
     pub keys: Vec<usize>,

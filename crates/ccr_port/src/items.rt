@@ -12,14 +12,14 @@ use std::alloc::{AllocFailed, Global};
 use std::marker::Model;
 
 /// A message with the keys of the messages before and behind it.
-#[derive(Debug, Drop)]
+#[derive(Drop)]
 pub(crate) struct Entry {
     pub message: Msg,
     pub link: Link,
 }
 
 /// Messages, oldest first. Each has a key, which another message gets only once this one is taken.
-#[derive(Debug, Drop)]
+#[derive(Drop)]
 pub(crate) struct Items {
     entries: Slab<Entry>,
     first: Option<usize>,

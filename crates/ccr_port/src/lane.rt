@@ -12,7 +12,7 @@ use std::alloc::Global;
 use std::marker::Model;
 
 /// Keys of messages that satisfy a predicate, in the order of their posts. The links stand under the keys.
-#[derive(Debug, Drop)]
+#[derive(Drop)]
 pub(crate) struct Lane {
     pred: Pred,
     first: Option<usize>,

@@ -1,9 +1,9 @@
 //! The object of a port.
 
-ghost use Rattle.std.specs.Prelude.{◌≡◌, IsTrue, IfOk, IfErr, OnOk, OnErr, length, slice_get, option_copied};
+ghost use Rattle.std.specs.Prelude.{◌≡◌, true, IsTrue, IfOk, IfErr, OnOk, OnErr, length, slice_get, option_copied};
 ghost use Rattle.ccr_places.specs.Ports.{start, claimant, may_post as can_post, may_claim as can_claim, may_consume as can_consume, may_free as can_free, claim_note, after_post, after_claim, after_consume, after_free, after, IsGiven};
 ghost use Rattle.ccr_places.specs.declared.notes.Note.TheVariants.{Post, Claim, Consume, Free};
-ghost use Rattle.ccr_port.specs.Replies.{claim_reply, reply_note};
+ghost use Rattle.ccr_port.specs.Replies.{claim_reply, fits_slot, reply_note};
 
 use crate::claims::{Claimed, MarkedClaim, copies_of, first_keys, item_at, take_marked};
 use crate::items::Items;
@@ -15,7 +15,7 @@ use std::alloc::Global;
 use std::marker::Model;
 
 /// The messages of a port, oldest first, a lane for each predicate that a claim has named, and the claim that stands.
-#[derive(Debug, Drop)]
+#[derive(Drop)]
 pub struct PortObject {
     alloc: Global,
     number: PortNo,
@@ -37,7 +37,7 @@ impl Model for PortObject {
       claim = standing_claim port.claim;
     } };
 
-    ghost invariant = { λ port. IsPort port.items port.lanes.items port.claim };
+    ghost invariant = { λ port. IsPort port.number port.items port.lanes.items port.claim };
 }
 
 impl PortObject {
@@ -88,10 +88,12 @@ impl PortObject {
     }
 
     /// Marks the choice of the slot for the task, where no claim stands and there is a choice. The first claim of a
-    /// predicate makes its lane. All memory is taken first.
+    /// predicate makes its lane. All memory is taken first. What it answers fits the slot: messages of its port, as many as
+    /// it takes, or fewer than it takes.
     pub fn claim(&mut self, task: TaskId, slot: &Slot) -> Result<Claimed, OutOfMemory>
         requires { IsTrue (can_claim self.old task slot.now) }
         ensures reply { IfOk result (λ reply. reply ≡ claim_reply self.old slot.now) }
+        ensures fits { IfOk result (λ reply. fits_slot slot.now reply ≡ true) }
         ensures note { IfOk result (λ reply. reply_note reply ≡ claim_note self.old slot.now) }
         ensures state { IfOk result (λ reply. self.new ≡ after_claim self.old task slot.now (claim_note self.old slot.now)) }
         ensures given { IfOk result (λ reply. IsGiven self.old (Claim task slot.now (reply_note reply))) }

@@ -10,7 +10,7 @@ use std::marker::Model;
 const MOST_POSTERS: u32 = 16;
 
 /// The budget of posts that tasks may make, of which one is drawn for each, and how many posters have left.
-#[derive(Debug, Drop)]
+#[derive(Drop)]
 pub struct Meter {
     budget: u32,
     drawn: u32,

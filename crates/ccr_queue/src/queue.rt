@@ -13,7 +13,7 @@ use std::collections::{HashMap, VecDeque};
 use std::marker::Model;
 
 /// The answer to a booking: a throttle that is full tells its number.
-#[derive(Clone, Copy, Debug, PartialEq, Eq)]
+#[derive(Clone, Copy, PartialEq, Eq)]
 pub enum Booked {
     Yes,
     Full(u32),

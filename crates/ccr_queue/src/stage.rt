@@ -7,7 +7,7 @@ ghost use Rattle.ccr_queue.specs.QueueStages.{is_fresh, is_resuming as is_resumi
 use ccr_base::Task;
 
 /// A task that a branch fired and that is booked, one that resumes a suspended task and is booked, or a queued one.
-#[derive(Clone, Copy, Debug, PartialEq, Eq)]
+#[derive(Clone, Copy, PartialEq, Eq)]
 pub(crate) enum QueueStage {
     Fresh,
     Resuming,
@@ -15,7 +15,7 @@ pub(crate) enum QueueStage {
 }
 
 /// A queued task, and whether it resumes a suspended one.
-#[derive(Debug, Drop)]
+#[derive(Drop)]
 pub(crate) struct QueuedTask {
     pub(crate) task: Task,
     pub(crate) resumes: bool,

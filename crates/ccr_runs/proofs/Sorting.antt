@@ -81,7 +81,7 @@ module _ {N : Type 0} where
       by_tests again false true x y = rw (sym x) again
       by_tests again false false x y = again
 
-  filter-same : (f g : Act N → Bool) → ((x : Act N) → f x ≡ g x) → (es : List (Act N)) → filter f es ≡ filter g es
+  pub filter-same : (f g : Act N → Bool) → ((x : Act N) → f x ≡ g x) → (es : List (Act N)) → filter f es ≡ filter g es
   filter-same f g h [] = refl
   filter-same f g h (e ∷ es) = λ i. cond (h e i) (e ∷ filter-same f g h es i) (filter-same f g h es i)
 
@@ -149,7 +149,7 @@ module _ {O N : Type 0} where
       ∙ (ap (history_at p) (sym (filter-same (ties (λ (a b : Act N). is_lt (nat_cmp a.stamp b.stamp)) x) (λ y. eqb y.stamp d.stamp) tests es) ∙ (stable x ∙ filter-same (ties (λ (a b : Act N). is_lt (nat_cmp a.stamp b.stamp)) x) (λ y. eqb y.stamp d.stamp) tests (tagged 0 kept)))
       ∙ (sym (stamped_part p d.stamp (tagged 0 kept)) ∙ ap (at_stamp d.stamp) its)))
 
-tagged_inside : {O N : Type 0} (n q : ℕ) (kept : List (O × List (Held N))) → q + length kept ≤ n → Each (λ (e : Act N). e.place < n) (tagged q kept)
+pub tagged_inside : {O N : Type 0} (n q : ℕ) (kept : List (O × List (Held N))) → q + length kept ≤ n → Each (λ (e : Act N). e.place < n) (tagged q kept)
 tagged_inside {N = N} n q [] l = tt
 tagged_inside {N = N} n q (k ∷ ks) l = each_append (map (tag q) k.1) (tagged (suc q) ks) (each_tagged k.1) (tagged_inside n (suc q) ks (omega arith))
   where

@@ -4,7 +4,9 @@
 mod acts;
 mod laws;
 mod merging;
+mod ordering;
 
 pub use acts::Act;
 pub use laws::{logs_are_stories, proper_logs_make_a_run};
 pub use merging::merge;
+pub use ordering::{Stamped, in_order};

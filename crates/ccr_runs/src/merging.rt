@@ -5,6 +5,7 @@ ghost use Rattle.ccr_turns.specs.Histories.{history_stamps};
 ghost use Rattle.ccr_turns.specs.Lists.{Rises};
 ghost use Rattle.ccr_turns.specs.declared.history.Held.{Held as Old};
 ghost use Rattle.ccr_runs.specs.Merges.{tagged, tag, history_at, Climbs, act_stamps, IsByPlace};
+ghost use Rattle.ccr_runs.specs.Orders.{merged};
 
 use crate::acts::Act;
 use ccr_base::{List, OutOfMemory};
@@ -22,10 +23,20 @@ pub fn merge<O: Drop, N: Drop>(
     ensures inside { IfOk result (λ entries. All (λ entry. entry.place < length kept) entries) }
     ensures sorted { IfOk result (λ entries. Climbs 0 (act_stamps entries)) }
     ensures by_place { IfOk result (λ entries. IsByPlace entries) }
+    ensures exact { IfOk result (λ entries. entries ≡ merged kept) }
 {
     let mut entries = all(alloc, kept.into_vec())?;
     entries.sort_by_cached_key(|entry| entry.stamp)?;
     Ok(List::from_vec(entries))
+}
+
+// How many entries there are.
+fn count_of<O: Drop, N: Drop>(kept: &[(O, List<Held<N>>)]) -> usize {
+    let mut count = 0usize;
+    for left in kept {
+        count = count.saturating_add(left.1.len());
+    }
+    count
 }
 
 // The entries place by place.
@@ -36,7 +47,7 @@ fn all<O: Drop, N: Drop>(
     requires few { length kept.items < 2 ^ 32 }
     ensures { IfOk result (λ entries. entries.items ≡ tagged 0 kept.items) }
 {
-    let mut entries = Vec::new(alloc);
+    let mut entries = Vec::with_capacity(alloc, count_of(&kept))?;
     let mut place = 0;
     for (_, history) in kept {
         add(&mut entries, place, history.into_vec())?;

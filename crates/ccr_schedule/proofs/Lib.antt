@@ -1,3 +1,3 @@
-mod LineSaid
-mod LinesSaid
+pub mod LineSaid
+pub mod LinesSaid
 mod Answered

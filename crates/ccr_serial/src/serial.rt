@@ -18,7 +18,7 @@ use std::alloc::Global;
 use std::marker::Model;
 
 /// What a step did.
-#[derive(Debug, Drop)]
+#[derive(Drop)]
 pub enum Stepped {
     Did(Event),
     Quiet,

@@ -1,7 +1,7 @@
 -- What the closed locks tell is a run.
-use Rattle.std.proofs.Common.{Bool, true, false, ◌≡◌, ◌≢◌, ℕ, zero, suc, ◌<◌, ◌≤◌, cond, eqb, eq-eqb, ne_eqb, inl, inr, ◌⊎◌, List, [], ◌∷◌, map, length, sym, refl, ap, ◌∙◌, subst, arith, Option, Some, None}
+use Rattle.std.proofs.Common.{◌≡◌, ℕ, zero, suc, ◌<◌, ◌≤◌, cond, eqb, eq-eqb, ne_eqb, inl, inr, ◌⊎◌, List, [], ◌∷◌, map, length, sym, refl, ap, ◌∙◌, subst, arith, Some}
 use mathlib.Core.Logic.{dite}
-use mathlib.Core.Option.{some, none, some-injective, some-ne-none}
+use mathlib.Core.Option.{some, some-injective, some-ne-none}
 use native.Mathlib.Decide.{ℕ_discrete}
 use Rattle.std.proofs.lemmas.Bool.{cases_lt}
 use Rattle.std.proofs.lemmas.List.Elements.{All-nil, All-cons, All-tail}
@@ -11,23 +11,32 @@ use Rattle.std.specs.List.{AllZip, count_by}
 use Rattle.std.specs.Option.{option_map_or}
 use Rattle.ccr_wiring.specs.declared.parts.Parts.{Parts}
 use Rattle.ccr_turns.specs.Histories.{Given, history_stamps}
-use Rattle.ccr_turns.specs.Logs.{at_place, told, log_stamps}
+use Rattle.ccr_turns.specs.Logs.{at_place, told}
 use Rattle.ccr_turns.specs.Lists.{Rises, Each, total}
-use Rattle.ccr_turns.specs.Locks.{IsLeft, Agrees}
+use Rattle.ccr_turns.specs.Locks.{IsLeft, Agrees, full_log, log_of, number_of, starts}
+use Rattle.ccr_turns.specs.declared.turns.Seat.{Seat}
 use Rattle.ccr_turns.specs.declared.history.Held.{Held}
 use Rattle.ccr_turns.specs.declared.history.Mark.{Mark}
 use Rattle.ccr_turns.specs.declared.history.Log.{Log}
-use Rattle.ccr_turns.proofs.Rows.{there, zip_at, only, count-map}
+use Rattle.ccr_turns.proofs.Rows.{all_at, all_from, there, there_by_slice, zip_at, zip_length, only, count-map}
 use Rattle.ccr_runs.specs.declared.acts.Act.{Act}
 use Rattle.ccr_runs.specs.Merges.{Climbs, act_stamps, history_at, held}
-use Rattle.ccr_runs.specs.Runs.{Gives, IsLog, IsMerged}
+use Rattle.ccr_runs.specs.Runs.{Gives, IsLog, IsMerged, IsProper}
+use Rattle.ccr_runs.specs.Stories.{story}
+use Rattle.ccr_runs.proofs.Telling.{run_of_logs, story_is}
+use Rattle.ccr_claim.specs.declared.asks.Ask.{Ask}
+use Rattle.ccr_object.specs.declared.deed.Answer.{Answer}
+use Rattle.ccr_object.specs.contracts.object.PlaceObjectKept.TheImpl.{ghosts}
 use Rattle.ccr_object.specs.declared.deed.Deed.{Deed}
 use Rattle.ccr_object.specs.declared.object.Placed.{Placed}
 use Rattle.ccr_object.specs.declared.object.PlaceObject.{PlaceObject}
 use Rattle.ccr_object.specs.Objects.{IsGiven, after_deed, note_of, nothing, placed}
 use Rattle.ccr_object.specs.Starts.{placed_at, places_of}
-use Rattle.ccr_net.specs.Played.{rules, scene}
+use Rattle.ccr_net.specs.declared.entries.Entry.{Entry}
+use Rattle.ccr_net.specs.Played.{entries_of, rules, scene}
 use Rattle.ccr_net.specs.Runs.{never}
+use Rattle.ccr_space.specs.Spaces.{HasSeat, IsPassOf, IsSpace, Pass, Space, actor_count, log, number, wiring_of}
+use Rattle.ccr_space.specs.Closes.{IsClosed, IsOfLocks}
 
 by_side : {C : Type 0} (p n : ℕ) → (p < n → C) → (n ≤ p → C) → C
 by_side {C = C} p n f g = side (cases_lt p n)
@@ -177,3 +186,39 @@ all_rising n [] [] all = All-nil (λ (left : PlaceObject × List (Held Deed)). R
 all_rising n [] (k ∷ ks) all = absurd all
 all_rising n (o ∷ os) [] all = absurd all
 all_rising n (o ∷ os) (k ∷ ks) all = All-cons (λ (left : PlaceObject × List (Held Deed)). Rises 0 (history_stamps left.1)) k ks all.0.rising (all_rising n os ks all.1)
+
+-- so the entries of the closed locks are those of a run
+pub closed_by : (space : Space) (passes : List Pass) (seats : List (Seat PlaceObject Ask Answer Deed Placed ghosts)) (acts : List (Act Deed)) (entries : List Entry)
+    → IsSpace space → All (λ (pass : Pass). IsPassOf space pass) passes → seats ≡ map (λ (pass : Pass). pass.seat) passes
+    → IsOfLocks space seats acts → ((actor : ℕ) → actor < actor_count space → HasSeat seats actor) → entries ≡ entries_of (wiring_of space) acts → IsClosed space passes entries
+closed_by space passes seats acts entries stands passed these locks numbers told =
+    let w = wiring_of space in
+    let objects = starts space.turns in
+    let n = actor_count space in
+    let long = zip_length (IsLeft placed after_deed IsGiven n) objects locks.kept locks.left in
+    let few = each_from_all (λ (e : Act Deed). e.place < length objects) acts (subst (λ k. All (λ (e : Act Deed). e.place < k) acts) (sym long) locks.inside) in
+    let whole_run = merged w objects locks.kept n acts stands.objects locks.left locks.parts few locks.sorted in
+    let its : (i : ℕ) (seat : Seat PlaceObject Ask Answer Deed Placed ghosts) → get_elem? seats i ≡ some seat → IsLog after_deed (scene w) (number_of seat) acts (log_of seat)
+    = λ i seat at. log_is w objects locks.kept n acts stands.objects locks.left locks.parts few locks.sorted (full_log seat) (all_at (λ seat. Agrees placed after_deed objects locks.kept (full_log seat)) seats i seat locks.agrees at) in
+    record {
+      acts = acts;
+      entries_are = told;
+      played = run_of_logs (rules w never) n (scene w) _ acts whole_run (λ k low.
+          let (i, seat, at, is) = numbers k low in
+          let at' = there_by_slice seats i seat at in
+          let (pass, here, same) = mapped_at (λ (pass : Pass). pass.seat) passes i seat (ap (λ (l : List _). get_elem? l i) (sym these) ∙ at') in
+          let one = all_at (λ pass. IsPassOf space pass) passes i pass passed here in (
+            log_of seat,
+            subst (λ n. IsLog after_deed (scene w) n acts (log_of seat)) is (its i seat at'),
+            subst (λ s. IsProper (rules w never) (record { actor = k; given = [] }) 0 (log_of s)) same (subst (λ n. IsProper (rules w never) (record { actor = n; given = [] }) 0 (log pass)) (ap number_of same ∙ is) one.proper),
+          ));
+      locks = subst (λ (seats : List _). IsOfLocks space seats acts) these locks;
+      logs = all_from (λ (pass : Pass). story after_deed (number pass) (scene w) acts ≡ log pass) passes (λ i pass at.
+          let there = ap (λ (l : List _). get_elem? l i) these ∙ map_at (λ (pass : Pass). pass.seat) passes i pass at in
+          let l = its i pass.seat there in
+          story_is after_deed (number pass) (scene w) acts (log pass) whole_run.sorted l.rising l.same);
+      actors = λ k low.
+          let (i, seat, at, is) = numbers k low in
+          let (pass, here, same) = mapped_at (λ (pass : Pass). pass.seat) passes i seat (ap (λ (l : List _). get_elem? l i) (sym these) ∙ there_by_slice seats i seat at) in
+          (i, pass, read_slice passes i pass here, ap number_of same ∙ is);
+    }

@@ -4,3 +4,4 @@ mod Dealing
 mod Resting
 mod Through
 mod Longer
+mod Histories

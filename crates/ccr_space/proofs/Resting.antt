@@ -1,5 +1,5 @@
 -- Who is stopped, and whose actor is at rest.
-use Rattle.std.proofs.Common.{Bool, true, false, ◌≡◌, ℕ, zero, suc, ◌+◌, ◌<◌, List, [], ◌∷◌, ◌++◌, inl, inr, ◌⊎◌, sym, refl, ap, ◌∙◌, subst, arith, eqb, eq-eqb, Option, Some, None}
+use Rattle.std.proofs.Common.{Bool, true, false, ◌≡◌, ℕ, zero, suc, ◌+◌, ◌<◌, List, [], ◌∷◌, ◌++◌, sym, refl, ap, ◌∙◌, subst, arith, eq-eqb, None}
 use Rattle.std.specs.Prelude.{◌==◌, ◌&&◌, ◌||◌, filter, if◌then◌else◌}
 use Rattle.std.specs.List.{list_any, range_with_len}
 use Rattle.std.proofs.lemmas.Grind.{common_steps}
@@ -7,12 +7,9 @@ use mathlib.Core.Option.{some, some-injective, some-ne-none}
 use lib.ListN.{get_elem?}
 use Rattle.ccr_wiring.specs.declared.parts.Parts.{Parts}
 use Rattle.ccr_turns.proofs.Rows.{range-more}
-use Rattle.ccr_claim.specs.declared.asks.Asked.{Asked}
-use Rattle.ccr_claim.specs.declared.asks.Reply.{Reply}
-use Rattle.ccr_actor.specs.Acting.{Acting, Asking, quiet, settling, going, at_state, is_at_rest, kept, kept_if, next as next_of, rests_by}
-use Rattle.ccr_actor.specs.Actors.{State, asked, next, state_after as state_of}
-use Rattle.ccr_actor.specs.Nets.{replies_of}
-use Rattle.ccr_actor.proofs.Followed.{follows_long}
+use Rattle.ccr_actor.specs.Acting.{Acting, is_at_rest}
+use Rattle.ccr_actor.specs.Actors.{next}
+use Rattle.ccr_actor.proofs.Followed.{follows_rest}
 use Rattle.ccr_turns.specs.declared.history.Mark.{Mark}
 use Rattle.ccr_object.specs.declared.deed.Deed.{Deed}
 use Rattle.ccr_object.specs.declared.object.Placed.{Placed}
@@ -61,26 +58,6 @@ stopped_among passes count i pass actor at is stops low =
     subst (λ k. list_any (λ n. n == k) (stopped_of passes count) ≡ true) (let z : 0 + actor ≡ actor = omega arith in z)
     (any_in (is_stopped_in passes) actor 0 count (subst (λ k. is_stopped_in passes k ≡ true) (let z : actor ≡ 0 + actor = omega arith in z) (stopped_here passes i pass actor at is stops)) low)
 
-rests : (asking : Asking) (o : Option Asked) → rests_by asking o ≡ true → o ≡ None
-rests quiet None is = refl
-rests quiet (Some one) is = absurd cc
-rests (settling due) None is = refl
-rests (settling due) (Some one) is = absurd cc
-rests (going due) None is = refl
-rests (going due) (Some one) is = absurd cc
-
 -- an actor at rest that isn't short has nothing to ask next
-no_next : (w : Parts) (k : ℕ) (given : List Reply) (a : Acting) → a ≡ at_state w k (state_of w k None given) → a.state.is_short ≡ false → is_at_rest a ≡ true → next w k None given ≡ None
-no_next w k given a is long rest = by (state_of w k None given).is_short refl
-  where
-    s : State
-    s = state_of w k None given
-
-    by : (b : Bool) → s.is_short ≡ b → next w k None given ≡ None
-    by true short = absurd (let lacks : a.state.is_short ≡ true = ap (λ (x : Acting). x.state.is_short) is ∙ ap (λ b. (kept_if b s).is_short) short in cc)
-    by false here = let same : kept s ≡ s = ap (λ b. kept_if b s) here in ap (asked w k) (sym same) ∙ (sym (ap next_of is) ∙ rests a.asking (next_of a) rest)
-
 pub nothing_next : (w : Parts) (k : ℕ) (marks : List (Mark Deed Placed)) (a : Acting) → IsGoing w k marks a → is_at_rest a ≡ true → next w k None (heard_in w k marks).given ≡ None
-nothing_next w k marks a goes rest =
-    let is = follows_long w k goes.steps a goes.follows goes.long in
-    subst (λ given. next w k None given ≡ None) goes.replies (no_next w k (replies_of goes.steps) a is.1 goes.long rest)
+nothing_next w k marks a goes rest = subst (λ given. next w k None given ≡ None) goes.replies ((follows_rest w k goes.steps a goes.follows goes.long).0 rest)

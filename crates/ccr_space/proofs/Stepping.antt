@@ -13,16 +13,18 @@ use Rattle.ccr_places.specs.declared.notes.Note.{Note}
 use Rattle.ccr_claim.specs.declared.asks.Ask.{Ask}
 use Rattle.ccr_claim.specs.declared.asks.Asked.{Asked}
 use Rattle.ccr_claim.specs.declared.asks.Reply.{Reply}
+use Rattle.ccr_claim.specs.Asks.{fits}
 use Rattle.ccr_object.specs.declared.deed.Answer.{Answer}
 use Rattle.ccr_object.specs.declared.deed.Answer.TheVariants.{Replied, Unmet}
 use Rattle.ccr_object.specs.declared.deed.Deed.{Deed}
 use Rattle.ccr_object.specs.declared.object.Placed.{Placed}
-use Rattle.ccr_object.specs.Objects.{IsGiven, reply_of, answered, noted, answer_at}
-use Rattle.ccr_actor.specs.Acting.{Acting, at_state, next as next_of, pair_of, sent, IsAfter}
+use Rattle.ccr_object.specs.Objects.{IsGiven, is_due, note_of, reply_of, answered, noted, answer_at}
+use Rattle.ccr_actor.specs.Acting.{Acting, at_state, due_in, next as next_of, pair_of, sent, IsAfter}
 use Rattle.ccr_actor.specs.Actors.{next, state_after as state_of}
 use Rattle.ccr_actor.specs.Following.{Follows}
 use Rattle.ccr_actor.specs.Nets.{Step, replies_of}
 use Rattle.ccr_actor.proofs.Followed.{follows_long, follows_next, follows_reply}
+use Rattle.ccr_dispatch.proofs.Lowered.{due_sent}
 use Rattle.ccr_net.specs.Played.{Heard, heard, numbered, number_at, rules}
 use Rattle.ccr_net.specs.Runs.{never}
 use Rattle.ccr_space.specs.declared.space.step.Step.{Step as Came}
@@ -65,6 +67,7 @@ pub record Stepped (wiring : Parts) (k : ℕ) (old new : List (Mark Deed Placed)
   pub added : Mark Deed Placed
   pub more : new ≡ old ++ added ∷ []
   pub met : is_some added.note.note ≡ is_met reply
+  pub gave : added.note.note ≡ note_of added.before added.note.ask.value
   pub proper : IsProper (rules wiring never) (record { actor = k; given = [] }) 0 new
   pub state : heard_in wiring k new ≡ heard (heard_in wiring k old) reply
 
@@ -80,6 +83,7 @@ stepped wiring k place one reply old new proper asks there (stamp, note, before,
       added = m;
       more = more;
       met = ap is_some given.1 ∙ (with_note (answer_at before one.ask) ∙ ap is_met (sym given.0));
+      gave = given.1 ∙ ap (note_of before) (sym asked);
       proper = subst (IsProper (rules wiring never) s 0) (sym more) (proper_more (rules wiring never) s 0 old m proper comes high);
       state = ap (state_after (rules wiring never) s) more ∙ (state_more (rules wiring never) s old m ∙ ap (heard (heard_in wiring k old)) theirs);
     }
@@ -105,16 +109,26 @@ goes_on wiring k old new a b one reply going asks taught state =
 -- ---- what a step came to
 
 -- what was handed to the actor tells what the step came to
-pub made_met : (answer : Answer) (result : Came × Bool) → ((reply : Reply) → answer ≡ Replied reply → result.0 ≡ came.Made) → (answer ≡ Unmet → result ≡ (came.Unmet, true)) → result.0 ≡ came.Made → is_met answer ≡ true
-made_met (Replied reply) result replied unmet is = refl
-made_met Unmet result replied unmet is = absurd (let none = ap (λ (r : Came × Bool). r.0) (unmet refl) in cc)
+pub made_met : (answer : Answer) (result : Came × Bool) (short : Bool) → ((reply : Reply) → answer ≡ Replied reply → result ≡ (came.Made, short)) → (answer ≡ Unmet → result ≡ (came.Unmet, true)) → result.0 ≡ came.Made → (is_met answer ≡ true) × (result.1 ≡ short)
+made_met (Replied reply) result short replied unmet is = (refl, ap (λ (r : Came × Bool). r.1) (replied reply refl))
+made_met Unmet result short replied unmet is = absurd (let none = ap (λ (r : Came × Bool). r.0) (unmet refl) in cc)
 
-pub unmet_not : (answer : Answer) (result : Came × Bool) → ((reply : Reply) → answer ≡ Replied reply → result.0 ≡ came.Made) → (answer ≡ Unmet → result ≡ (came.Unmet, true)) → result.0 ≡ came.Unmet → (is_met answer ≡ false) × (result.1 ≡ true)
-unmet_not (Replied reply) result replied unmet is = absurd (let made = replied reply refl in cc)
-unmet_not Unmet result replied unmet is = (refl, ap (λ (r : Came × Bool). r.1) (unmet refl))
+pub unmet_not : (answer : Answer) (result : Came × Bool) (short : Bool) → ((reply : Reply) → answer ≡ Replied reply → result ≡ (came.Made, short)) → (answer ≡ Unmet → result ≡ (came.Unmet, true)) → result.0 ≡ came.Unmet → (is_met answer ≡ false) × (result.1 ≡ true)
+unmet_not (Replied reply) result short replied unmet is = absurd (let made = ap (λ (r : Came × Bool). r.0) (replied reply refl) in cc)
+unmet_not Unmet result short replied unmet is = (refl, ap (λ (r : Came × Bool). r.1) (unmet refl))
 
 -- the actor goes on where the pass does
 pub heard_on : (wiring : Parts) (k : ℕ) (old new : List (Mark Deed Placed)) (a b : Acting) (one : Asked) (answer : Answer) → IsGoing wiring k old a → next_of a ≡ Some one → IsHeard (sent a) answer b
     → heard_in wiring k new ≡ heard (heard_in wiring k old) answer → IsGoing wiring k new b
 heard_on wiring k old new a b one Unmet going asks taught state = absurd taught
 heard_on wiring k old new a b one (Replied reply) going asks taught state = goes_on wiring k old new a b one reply going asks taught state
+
+-- ---- what is replied fits what is unanswered
+
+-- an act's answer is one that its ask may have
+pub acts_due : (place : ℕ) (ask : Ask) (answer : Answer) (old new : List (Mark Deed Placed)) → Acts IsGiven place ask answer old new → is_due ask answer ≡ true
+acts_due place ask answer old new (stamp, note, before, earlier, more, high, given) = given.3
+
+pub due_reply : (a : Acting) (one : Asked) (answer : Answer) (reply : Reply) → next_of a ≡ Some one → is_due one.ask answer ≡ true → answer ≡ Replied reply → fits (due_in (sent a).asking) reply ≡ true
+due_reply a one answer reply asks due is =
+    ap (λ d. fits d reply) (due_sent a one asks) ∙ (ap (is_due one.ask) (sym is) ∙ due)

@@ -4,7 +4,6 @@ use Rattle.std.specs.Prelude.{All, ◌==◌}
 use Rattle.std.specs.List.{list_any}
 use lib.ListN.{get_elem?}
 use mathlib.Core.Option.{some}
-use Rattle.ccr_wiring.specs.declared.parts.Parts.{Parts}
 use Rattle.ccr_turns.proofs.Rows.{all_at, there_by_slice}
 use Rattle.ccr_turns.specs.declared.history.Mark.{Mark}
 use Rattle.ccr_runs.specs.declared.acts.Act.{Act}
@@ -16,7 +15,8 @@ use Rattle.ccr_object.specs.Objects.{after_deed}
 use Rattle.ccr_net.specs.declared.entries.Entry.{Entry}
 use Rattle.ccr_net.specs.Played.{scene}
 use Rattle.ccr_space.specs.Spaces.{Space, Pass, IsAtRest, IsPassOf, actor_count, heard_in, log, number, stopped_of, wiring_of}
-use Rattle.ccr_space.specs.Closes.{IsClosed, IsDone, IsThrough}
+use Rattle.ccr_wiring.specs.declared.parts.Parts.{Parts}
+use Rattle.ccr_space.specs.Closes.{IsBroughtToRest, IsClosed, IsDone, IsRested, IsThrough}
 use Rattle.ccr_space.proofs.Resting.{nothing_next, stopped_among}
 
 through : (space : Space) (passes : List Pass) (acts : List (Act Deed)) (short : List ℕ) (actor i : ℕ) (pass : Pass) → get_elem? passes i ≡ some pass → number pass ≡ actor → actor < actor_count space
@@ -32,7 +32,7 @@ through space passes acts short actor i pass at is low passed rest told those = 
         (nothing_next (wiring_of space) (number pass) (log pass) pass.actor (passed.going on) halted)))
 
 pub done : (space : Space) (passes : List Pass) (entries : List Entry) (short : List ℕ) → All (λ (pass : Pass). IsPassOf space pass) passes → All (λ (pass : Pass). IsAtRest pass) passes
-    → IsClosed (wiring_of space) (actor_count space) passes entries → short ≡ stopped_of passes (actor_count space) → IsDone (wiring_of space) (actor_count space) entries short
+    → IsClosed space passes entries → short ≡ stopped_of passes (actor_count space) → IsDone (wiring_of space) (actor_count space) entries short
 done space passes entries short all resting closed those = record {
   acts = closed.acts;
   entries_are = closed.entries_are;
@@ -46,3 +46,23 @@ done space passes entries short all resting closed those = record {
       (all_at (λ (pass : Pass). story after_deed (number pass) (scene (wiring_of space)) closed.acts ≡ log pass) passes i pass closed.logs at)
       those;
 }
+
+-- what the closed locks of a space at rest tell
+pub brought : (wiring : Parts) (count : ℕ) (space : Space) (passes : List Pass) (entries : List Entry) (short : List ℕ) → IsRested wiring count space passes
+    → IsClosed space passes entries → short ≡ stopped_of passes (actor_count space) → IsBroughtToRest wiring count entries short
+brought wiring count space passes entries short rested closed those = record {
+  space = space;
+  passes = passes;
+  rested = rested;
+  closed = closed;
+  short_are = subst (λ n. short ≡ stopped_of passes n) rested.count_is those;
+}
+
+-- it is a run after which each actor is through
+pub brought_is_done : (wiring : Parts) (count : ℕ) (entries : List Entry) (short : List ℕ) → IsBroughtToRest wiring count entries short → IsDone wiring count entries short
+brought_is_done wiring count entries short brought =
+    let rested = brought.rested in
+    let those : short ≡ stopped_of brought.passes (actor_count brought.space) = brought.short_are ∙ ap (stopped_of brought.passes) (sym rested.count_is) in
+    subst (λ n. IsDone wiring n entries short) rested.count_is
+    (subst (λ w. IsDone w (actor_count brought.space) entries short) rested.serves
+    (done brought.space brought.passes entries short rested.passes_are rested.resting brought.closed those))

@@ -13,7 +13,7 @@ use Rattle.ccr_object.specs.declared.deed.Deed.{Deed}
 use Rattle.ccr_object.specs.declared.object.Placed.{Placed}
 use Rattle.ccr_object.specs.declared.object.PlaceObject.{PlaceObject}
 use Rattle.ccr_object.specs.contracts.object.PlaceObjectKept.TheImpl.{ghosts}
-use Rattle.ccr_object.specs.Objects.{placed}
+use Rattle.ccr_object.specs.Objects.{note_of, placed}
 use Rattle.ccr_object.specs.Starts.{placed_at, places_of}
 use Rattle.ccr_turns.specs.Locks.{starts, seat_count, place_count, IsSeatOf, number_of, log_of}
 use Rattle.ccr_turns.specs.declared.history.Mark.{Mark}
@@ -94,9 +94,13 @@ IsHeard old (Replied reply) new = IsTaught old reply new
 abbrev pub IsAtRest : Pass → Type 0
 IsAtRest pass = (pass.stopped ≡ true) ⊎ (is_at_rest pass.actor ≡ true)
 
--- one entry more, with a note or without one
+-- the pass's actor found no memory
+abbrev pub is_short : Pass → Bool
+is_short pass = pass.actor.state.is_short
+
+-- one entry more, with a note or without one: what the object there notes of the ask, at the value that it had
 abbrev pub IsMore : Bool → Pass → Pass → Type 0
-IsMore noted old new = (mark : Mark Deed Placed) × ((log new ≡ log old ++ mark ∷ []) × (is_some mark.note.note ≡ noted))
+IsMore noted old new = (mark : Mark Deed Placed) × ((log new ≡ log old ++ mark ∷ []) × (is_some mark.note.note ≡ noted) × (mark.note.note ≡ note_of mark.before mark.note.ask.value))
 
 -- so many entries more, or the last number of 64 bits where there are more
 abbrev pub IsLonger : Pass → Pass → ℕ → Type 0

@@ -3,4 +3,6 @@
 
 mod space;
 
-pub use space::{Closed, Pass, PassOf, Space, SpaceOf, Step, run_threads};
+pub use space::{
+    Closed, Left, Pass, PassOf, Seen, Space, SpaceOf, Step, run_threads, run_threads_in_full,
+};

@@ -8,12 +8,14 @@ use ccr_wiring::Wiring;
 
 mod close;
 mod make;
+mod showing;
 mod step;
 mod threads;
 
-pub use close::Closed;
+pub use close::{Closed, Left};
+pub use showing::Seen;
 pub use step::Step;
-pub use threads::run_threads;
+pub use threads::{run_threads, run_threads_in_full};
 
 /// The locks, the numbers of the places, and the wiring. A struct with type parameters goes to other threads with no
 /// proof file; one over the locks of these objects alone does not.

@@ -1,23 +1,15 @@
-//! Tests of the public calls of the crates, as a user of each would call them.
+//! Tests that no row of a program can say: of threads that meet, and of a net of scripted replies.
 #![tactic(auto)]
 
 #[cfg(test)]
-mod claim;
-#[cfg(test)]
 mod compare;
 #[cfg(test)]
-mod json;
+mod drives;
 #[cfg(test)]
-mod model;
+mod script;
 #[cfg(test)]
-mod report;
+mod spaces;
 #[cfg(test)]
-mod spots;
+mod threads;
 #[cfg(test)]
-mod steps;
-#[cfg(test)]
-mod trace;
-#[cfg(test)]
-mod wiretext;
-#[cfg(test)]
-mod wirings;
+mod turns;

@@ -10,7 +10,7 @@ use std::alloc::Global;
 
 /// A line of a text: its number, from 1 on, its words, and whether it has only blanks and bytes of words.
 /// An unclean line has words too: the runs of bytes of words in it.
-#[derive(Debug, Drop)]
+#[derive(Drop)]
 pub struct Line {
     pub number: u32,
     pub words: List<Name>,

@@ -22,4 +22,5 @@ pub use laws::{lines_are_read_exactly, what_is_read_is_written, what_is_written_
 pub use reading::{ReadHistory, read_history};
 pub use refused::{Code, HistoryRefused};
 pub use values::values_are_small;
+pub use words::{put_message, put_number_word, put_task, put_value, put_word};
 pub use writing::write_history;

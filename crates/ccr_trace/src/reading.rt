@@ -21,7 +21,7 @@ use ccr_wiring::Wiring;
 use std::alloc::Global;
 
 /// A history that was read. `rest` is the byte where the line `report 1` begins, `lines` how many lines stand before it.
-#[derive(Debug, Drop)]
+#[derive(Drop)]
 pub struct ReadHistory {
     pub history: History,
     pub rest: usize,

@@ -8,7 +8,7 @@ use ccr_base::OutOfMemory;
 use thiserror::Error;
 
 /// What is wrong with a line.
-#[derive(Clone, Copy, Debug, PartialEq, Eq)]
+#[derive(Clone, Copy, PartialEq, Eq)]
 pub enum Code {
     /// It has none of the forms.
     Malformed,

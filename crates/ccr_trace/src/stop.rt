@@ -7,7 +7,7 @@ use ccr_base::OutOfMemory;
 use std::alloc::{AllocError, AllocFailed};
 
 /// The line has none of the forms, or names what the wiring doesn't have, or no memory was left.
-#[derive(Clone, Copy, Debug, PartialEq, Eq)]
+#[derive(Clone, Copy, PartialEq, Eq)]
 pub enum Stop {
     Memory,
     Malformed,

@@ -16,7 +16,7 @@ use std::alloc::Global;
 use std::marker::Model;
 
 /// The block in which the next line stands, with what stands in it so far.
-#[derive(Debug, Drop)]
+#[derive(Drop)]
 pub enum Block {
     Outside,
     Handler(HandlerPart),

@@ -12,7 +12,7 @@ pub fn is_text(word: &[u8], text: &str) -> bool
 }
 
 /// A word that may begin a line, somewhere in a wiring text.
-#[derive(Clone, Copy, Debug, PartialEq, Eq)]
+#[derive(Clone, Copy, PartialEq, Eq)]
 pub enum Keyword {
     Budget,
     Queue,

@@ -8,7 +8,7 @@ use ccr_base::OutOfMemory;
 use std::alloc::{AllocError, AllocFailed};
 
 /// What is wrong with a line, or with the end of the text.
-#[derive(Clone, Copy, Debug, PartialEq, Eq)]
+#[derive(Clone, Copy, PartialEq, Eq)]
 pub enum Code {
     /// The line isn't clean.
     Unclean,
@@ -65,7 +65,7 @@ impl Code {
 }
 
 /// A line is refused, or no memory was left.
-#[derive(Clone, Copy, Debug, PartialEq, Eq)]
+#[derive(Clone, Copy, PartialEq, Eq)]
 pub enum Stop {
     Memory,
     Refused(Code),

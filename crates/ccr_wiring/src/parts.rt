@@ -4,41 +4,41 @@ use ccr_base::{
     ArbiterNo, Group, Handler, HandlerNo, List, Name, Pattern, Policy, PortNo, QueueNo, Sent,
 };
 
-#[derive(Clone, Copy, Debug, PartialEq, Eq)]
+#[derive(Clone, Copy, PartialEq, Eq)]
 pub enum Kind {
     Receive,
     Choice,
     Interleave,
 }
 
-#[derive(Debug, Drop)]
+#[derive(Drop)]
 pub struct QueuePart {
     pub name: Name,
     pub policy: Policy,
 }
 
 /// A port set: 1 to 8 ports.
-#[derive(Debug, Drop)]
+#[derive(Drop)]
 pub struct SetPart {
     pub name: Name,
     pub ports: List<PortNo>,
 }
 
 /// A cause, and the port that its exceptions go to.
-#[derive(Debug, Drop)]
+#[derive(Drop)]
 pub struct CausePart {
     pub name: Name,
     pub port: PortNo,
 }
 
-#[derive(Debug, Drop)]
+#[derive(Drop)]
 pub struct HandlerPart {
     pub name: Name,
     pub handler: Handler,
 }
 
 /// A branch. Branches are numbered through all arbiters.
-#[derive(Debug, Drop)]
+#[derive(Drop)]
 pub struct BranchPart {
     pub name: Name,
     pub group: Group,
@@ -48,7 +48,7 @@ pub struct BranchPart {
 }
 
 /// A receive has one branch of its own name.
-#[derive(Debug, Drop)]
+#[derive(Drop)]
 pub struct ArbiterPart {
     pub name: Name,
     pub kind: Kind,
@@ -56,19 +56,19 @@ pub struct ArbiterPart {
 }
 
 /// Interleaves that share one protection: 2 to 8 of them, each in one domain at most.
-#[derive(Debug, Drop)]
+#[derive(Drop)]
 pub struct DomainPart {
     pub members: List<ArbiterNo>,
 }
 
-#[derive(Debug, Drop)]
+#[derive(Drop)]
 pub struct PosterPart {
     pub name: Name,
     pub posts: List<Sent>,
 }
 
 /// Everything that a wiring text says.
-#[derive(Debug, Drop)]
+#[derive(Drop)]
 pub struct Parts {
     /// 1, or 2: then values may have several numbers.
     pub version: u32,

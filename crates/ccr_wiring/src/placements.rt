@@ -19,7 +19,7 @@ pub struct PlacementOf<'w> {
 }
 
 /// Where a branch stands: its position among the branches of its arbiter, and the arbiter's domain.
-#[derive(Clone, Copy, Debug)]
+#[derive(Clone, Copy)]
 pub(crate) struct Position {
     pub arbiter: ArbiterNo,
     pub domain: ArbiterNo,

@@ -18,7 +18,7 @@ use std::alloc::Global;
 use std::marker::Model;
 
 /// A wiring in which no code of refusal stands. Contracts see its parts.
-#[derive(Debug, Drop)]
+#[derive(Drop)]
 pub struct Wiring {
     parts: Parts,
     spots: Vec<Spot>,

@@ -1,7 +1,8 @@
 -- The definition with no word of clap's says the same.
 use Rattle.std.proofs.Common.{◌≡◌, ◌∙◌, ◌⊎◌, inl, inr, ℕ, ◌+◌, ◌==◌, ◌&&◌, ◌||◌, Bool, true, false, cond, not, codes, refl, sym, ap, subst, arith, List, [], ◌∷◌, ◌++◌, length, take, drop, suc, Option, Some, None, option_map, nat_lt}
 use Rattle.std.specs.Prelude.{IfSome, is_some, option_and_then, nat_le, find}
-use Rattle.std.specs.List.{after_first, before_first, list_all, position_or_len}
+use Rattle.std.specs.List.{after_first, before_first, list_all, list_any, position_or_len}
+use Rattle.std.specs.Option.{option_or}
 use Rattle.std.specs.Char.{is_ascii_digit}
 use Rattle.std.specs.Str.{bytes_eq, is_utf8}
 use Rattle.std.specs.Str.Parse.{digits_value}
@@ -12,23 +13,32 @@ use Rattle.std.proofs.lemmas.Str.Ascii.{IsAscii-from_all}
 use Rattle.std.proofs.lemmas.List.Sums.{AllPass-from_list_all}
 use Rattle.clap.specs.Lexer.{has_byte, name_and_value, long_of, long_of_rest, short_of, short_of_rest, strip_byte}
 use Rattle.ccr_words.specs.Parts.{at_end, option_turn, Given, Part, State, Text, given_so_far, has, json, left_over, name_of, new_option_turn, option_of, schedule, size, takes_value, text_of, with_part, word, workers}
-use Rattle.ccr_words.specs.Table.{is_number, load_of, meaning, request_of, number, number_or}
+use Rattle.ccr_words.specs.Table.{is_number, load_of, meaning, plain_request, request_of, number, number_or, workers_alone}
 use Rattle.ccr_words.specs.Said.{begins_with, given_after, asked_for, turn, next_turn, plain_turn}
 use Rattle.ccr_words.specs.Parsing.{begins_with_hyphen, hyphen_or_left_over, other_turn, value_turn, parsed_after, parsed_turn, parsed_said, texts}
 use Rattle.ccr_words.specs.declared.requests.Request.{Request}
 use Rattle.ccr_words.specs.declared.requests.Request.TheVariants.{Read}
-use Rattle.ccr_words.specs.declared.requests.Command.TheVariants.{Run}
+use Rattle.ccr_words.specs.declared.requests.Command.{Command}
+use Rattle.ccr_words.specs.declared.requests.Command.TheVariants.{Run, Verify, Record, Replay, Steps, Steady, Service, Expand}
 
 -- ---- texts that no meaning takes
 
+abbrev table_words : List Text
+table_words =
+    codes "check" ∷ codes "run" ∷ codes "verify" ∷ codes "load" ∷ codes "record" ∷ codes "replay" ∷ codes "steps" ∷ codes "steady" ∷ codes "service"
+    ∷ codes "expand" ∷ []
+
 abbrev fine : Part → Text → Bool
-fine word text = bytes_eq text (codes "check") || (bytes_eq text (codes "run") || (bytes_eq text (codes "verify") || bytes_eq text (codes "load")))
+fine word text = list_any (bytes_eq text) table_words
 fine workers text = is_number text
 fine size text = is_number text
 fine _ text = true
 
 abbrev table : Bool → Bool → Bool → Bool → Option Request → Option Request → Option Request → Option Request → Option Request
 table a b c d x y z u = cond a x (cond b y (cond c z (cond d u None)))
+
+abbrev further : Bool → Bool → Bool → Bool → Bool → Bool → Option Request → Option Request → Option Request → Option Request → Option Request → Option Request → Option Request
+further a b c d e f x y z u v w = cond a x (cond b y (cond c z (cond d u (cond e v (cond f w None)))))
 
 table-none : (a b c d : Bool) (x y z u : Option Request) → x ≡ None → y ≡ None → z ≡ None → u ≡ None → table a b c d x y z u ≡ None
 table-none true b c d x y z u e f g h = e
@@ -37,12 +47,32 @@ table-none false false true d x y z u e f g h = g
 table-none false false false true x y z u e f g h = h
 table-none false false false false x y z u e f g h = refl
 
-table-bad : (a b c d : Bool) (x y z u : Option Request) → (a || (b || (c || d))) ≡ false → table a b c d x y z u ≡ None
-table-bad true b c d x y z u e = absurd (cc)
-table-bad false true c d x y z u e = absurd (cc)
-table-bad false false true d x y z u e = absurd (cc)
-table-bad false false false true x y z u e = absurd (cc)
-table-bad false false false false x y z u e = refl
+further-none : (a b c d e f : Bool) (x y z u v w : Option Request) → x ≡ None → y ≡ None → z ≡ None → u ≡ None → v ≡ None → w ≡ None → further a b c d e f x y z u v w ≡ None
+further-none true b c d e f x y z u v w ex ey ez eu ev ew = ex
+further-none false true c d e f x y z u v w ex ey ez eu ev ew = ey
+further-none false false true d e f x y z u v w ex ey ez eu ev ew = ez
+further-none false false false true e f x y z u v w ex ey ez eu ev ew = eu
+further-none false false false false true f x y z u v w ex ey ez eu ev ew = ev
+further-none false false false false false true x y z u v w ex ey ez eu ev ew = ew
+further-none false false false false false false x y z u v w ex ey ez eu ev ew = refl
+
+either-none : (x y : Option Request) → x ≡ None → y ≡ None → option_or x y ≡ None
+either-none None y e f = f
+either-none (Some r) y e f = absurd (cc)
+
+table-bad : (a b c d e f g h i j : Bool) (x y z u v w p q r s : Option Request) → (a || (b || (c || (d || (e || (f || (g || (h || (i || (j || false)))))))))) ≡ false
+    → option_or (table a b c d x y z u) (further e f g h i j v w p q r s) ≡ None
+table-bad true b c d e f g h i j x y z u v w p q r s bad = absurd (cc)
+table-bad false true c d e f g h i j x y z u v w p q r s bad = absurd (cc)
+table-bad false false true d e f g h i j x y z u v w p q r s bad = absurd (cc)
+table-bad false false false true e f g h i j x y z u v w p q r s bad = absurd (cc)
+table-bad false false false false true f g h i j x y z u v w p q r s bad = absurd (cc)
+table-bad false false false false false true g h i j x y z u v w p q r s bad = absurd (cc)
+table-bad false false false false false false true h i j x y z u v w p q r s bad = absurd (cc)
+table-bad false false false false false false false true i j x y z u v w p q r s bad = absurd (cc)
+table-bad false false false false false false false false true j x y z u v w p q r s bad = absurd (cc)
+table-bad false false false false false false false false false true x y z u v w p q r s bad = absurd (cc)
+table-bad false false false false false false false false false false x y z u v w p q r s bad = refl
 
 number-bad : (low high : ℕ) (text : Text) → is_number text ≡ false → number low high text ≡ None
 number-bad low high text bad = ap (λ b. cond (b && (nat_le low (digits_value 10 text) && nat_le (digits_value 10 text) high)) (Some (digits_value 10 text)) None) bad
@@ -51,7 +81,7 @@ load_none : (o : Option ℕ) (j : Bool) → load_of o None j ≡ None
 load_none None j = refl
 load_none (Some n) j = refl
 
-cond_none : (b : Bool) (x : Option Request) → x ≡ None → cond b None x ≡ None
+cond_none : {X : Type 0} (b : Bool) (x : Option X) → x ≡ None → cond b None x ≡ None
 cond_none true x e = refl
 cond_none false x e = e
 
@@ -61,24 +91,37 @@ check_none false b x = refl
 
 bad_meaning : (p : Part) (g : Given) (t : Text) → text_of p g ≡ Some t → fine p t ≡ false → meaning g ≡ None
 bad_meaning word g t is bad = ap (option_and_then (λ w. request_of w (text_of workers g) (text_of size g) (has schedule g) (has json g))) is
-    ∙ table-bad (bytes_eq t (codes "check")) (bytes_eq t (codes "run")) (bytes_eq t (codes "verify")) (bytes_eq t (codes "load")) _ _ _ _ bad
+    ∙ table-bad (bytes_eq t (codes "check")) (bytes_eq t (codes "run")) (bytes_eq t (codes "verify")) (bytes_eq t (codes "load")) (bytes_eq t (codes "record"))
+    (bytes_eq t (codes "replay")) (bytes_eq t (codes "steps")) (bytes_eq t (codes "steady")) (bytes_eq t (codes "service")) (bytes_eq t (codes "expand")) _ _ _ _ _ _ _ _ _ _ bad
 bad_meaning workers g t is bad = ap (λ o. option_and_then (λ w. request_of w o (text_of size g) (has schedule g) (has json g)) (text_of word g)) is ∙ go (text_of word g)
   where
+    alone : (command : ℕ → Command) → option_map (λ (n : ℕ). Read (command n) false) (workers_alone (Some t) (text_of size g) (has schedule g) (has json g)) ≡ None
+    alone command = ap (option_map (λ (n : ℕ). Read (command n) false)) (cond_none (is_some (text_of size g) || (has schedule g || has json g)) (number 0 16 t) (number-bad 0 16 t bad))
+
     go : (o : Option Text) → option_and_then (λ w. request_of w (Some t) (text_of size g) (has schedule g) (has json g)) o ≡ None
     go None = refl
-    go (Some w) = table-none (bytes_eq w (codes "check")) (bytes_eq w (codes "run")) (bytes_eq w (codes "verify")) (bytes_eq w (codes "load")) _ _ _ _ refl
+    go (Some w) = either-none _ _
+        (table-none (bytes_eq w (codes "check")) (bytes_eq w (codes "run")) (bytes_eq w (codes "verify")) (bytes_eq w (codes "load")) _ _ _ _ refl
         (cond_none (is_some (text_of size g)) _ (ap (option_map (λ (n : ℕ). Read (Run n (has schedule g)) (has json g))) (number-bad 0 16 t bad)))
         refl
-        (cond_none (has schedule g) _ (ap (λ o. load_of o (number_or 1000 1 10000 (text_of size g)) (has json g)) (number-bad 0 16 t bad)))
+        (cond_none (has schedule g) _ (ap (λ o. load_of o (number_or 1000 1 10000 (text_of size g)) (has json g)) (number-bad 0 16 t bad))))
+        (further-none (bytes_eq w (codes "record")) (bytes_eq w (codes "replay")) (bytes_eq w (codes "steps")) (bytes_eq w (codes "steady")) (bytes_eq w (codes "service")) (bytes_eq w (codes "expand")) _ _ _ _ _ _
+        (alone (λ n. Record n)) refl refl refl (alone (λ n. Service n)) refl)
 bad_meaning size g t is bad = ap (λ o. option_and_then (λ w. request_of w (text_of workers g) o (has schedule g) (has json g)) (text_of word g)) is ∙ go (text_of word g)
   where
+    plain : (command : Command) → plain_request command (text_of workers g) (Some t) (has schedule g) (has json g) ≡ None
+    plain command = check_none (is_some (text_of workers g)) (has schedule g || has json g) _
+
     go : (o : Option Text) → option_and_then (λ w. request_of w (text_of workers g) (Some t) (has schedule g) (has json g)) o ≡ None
     go None = refl
-    go (Some w) = table-none (bytes_eq w (codes "check")) (bytes_eq w (codes "run")) (bytes_eq w (codes "verify")) (bytes_eq w (codes "load")) _ _ _ _
+    go (Some w) = either-none _ _
+        (table-none (bytes_eq w (codes "check")) (bytes_eq w (codes "run")) (bytes_eq w (codes "verify")) (bytes_eq w (codes "load")) _ _ _ _
         (check_none (is_some (text_of workers g)) (has schedule g) _)
         refl
-        (check_none (is_some (text_of workers g)) (has schedule g || has json g) _)
-        (cond_none (has schedule g) _ (ap (λ o. load_of (number_or 0 0 16 (text_of workers g)) o (has json g)) (number-bad 1 10000 t bad) ∙ load_none (number_or 0 0 16 (text_of workers g)) (has json g)))
+        (plain Verify)
+        (cond_none (has schedule g) _ (ap (λ o. load_of (number_or 0 0 16 (text_of workers g)) o (has json g)) (number-bad 1 10000 t bad) ∙ load_none (number_or 0 0 16 (text_of workers g)) (has json g))))
+        (further-none (bytes_eq w (codes "record")) (bytes_eq w (codes "replay")) (bytes_eq w (codes "steps")) (bytes_eq w (codes "steady")) (bytes_eq w (codes "service")) (bytes_eq w (codes "expand")) _ _ _ _ _ _
+        refl (plain Replay) (plain Steps) (plain Steady) refl (plain Expand))
 bad_meaning schedule g t is bad = absurd (cc)
 bad_meaning json g t is bad = absurd (cc)
 
@@ -151,16 +194,18 @@ same_text a b e = (bytes_eq-Decides a b).0 e
 ascii_utf8 : (text : Text) → ascii text ≡ true → is_utf8 text ≡ true
 ascii_utf8 text all = is_utf8-from_IsUtf8 text (IsUtf8-from_ascii text (IsAscii-from_all text (λ k d lt. let small = AllPass-from_list_all (λ b. nat_lt b 128) text all k d lt in grind (arith, nat_tests, small))))
 
-fine_ascii : (p : Part) (text : Text) → takes_value p ≡ true → fine p text ≡ true → ascii text ≡ true
-fine_ascii word text takes is = word_ascii (bytes_eq text (codes "check")) (bytes_eq text (codes "run")) (bytes_eq text (codes "verify")) (bytes_eq text (codes "load")) refl refl refl refl is
+word_ascii : (text : Text) (words : List Text) → list_all ascii words ≡ true → list_any (bytes_eq text) words ≡ true → ascii text ≡ true
+word_ascii text [] all is = absurd (cc)
+word_ascii text (w ∷ words) all is =
+    let parts = and_parts (ascii w) (list_all ascii words) all in
+    go (bytes_eq text w) refl is parts.0 (word_ascii text words parts.1)
   where
-    word_ascii : (a b c d : Bool) → bytes_eq text (codes "check") ≡ a → bytes_eq text (codes "run") ≡ b → bytes_eq text (codes "verify") ≡ c → bytes_eq text (codes "load") ≡ d
-        → (a || (b || (c || d))) ≡ true → ascii text ≡ true
-    word_ascii true b c d ea eb ec ed e = ap ascii (same_text text (codes "check") ea)
-    word_ascii false true c d ea eb ec ed e = ap ascii (same_text text (codes "run") eb)
-    word_ascii false false true d ea eb ec ed e = ap ascii (same_text text (codes "verify") ec)
-    word_ascii false false false true ea eb ec ed e = ap ascii (same_text text (codes "load") ed)
-    word_ascii false false false false ea eb ec ed e = absurd (cc)
+    go : (b : Bool) → bytes_eq text w ≡ b → (b || list_any (bytes_eq text) words) ≡ true → ascii w ≡ true → (list_any (bytes_eq text) words ≡ true → ascii text ≡ true) → ascii text ≡ true
+    go true e any first rest = ap ascii (same_text text w e) ∙ first
+    go false e any first rest = rest any
+
+fine_ascii : (p : Part) (text : Text) → takes_value p ≡ true → fine p text ≡ true → ascii text ≡ true
+fine_ascii word text takes is = word_ascii text table_words refl is
 fine_ascii workers text takes is = digits_ascii text (and_parts (nat_lt 0 (length text)) (list_all is_ascii_digit text) is).1
 fine_ascii size text takes is = digits_ascii text (and_parts (nat_lt 0 (length text)) (list_all is_ascii_digit text) is).1
 fine_ascii schedule text takes is = absurd (cc)

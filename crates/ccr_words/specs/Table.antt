@@ -1,5 +1,6 @@
 -- The table of the words: which options a word may have, and which numbers.
 use Rattle.std.specs.Prelude.{◌&&◌, ◌||◌, ◌<◌, ◌≤◌, ℕ, Bool, false, Option, Some, None, if◌then◌else◌, codes, is_some, length, nat_lt, nat_le, option_and_then, option_map}
+use Rattle.std.specs.Option.{option_or}
 use Rattle.std.specs.List.{list_all}
 use Rattle.std.specs.Char.{is_ascii_digit}
 use Rattle.std.specs.Str.{bytes_eq}
@@ -9,7 +10,7 @@ use Rattle.ccr_words.specs.Parts as part
 use Rattle.ccr_words.specs.declared.requests.Request.{Request}
 use Rattle.ccr_words.specs.declared.requests.Request.TheVariants.{Read, Load}
 use Rattle.ccr_words.specs.declared.requests.Command.{Command}
-use Rattle.ccr_words.specs.declared.requests.Command.TheVariants.{Check, Run, Verify}
+use Rattle.ccr_words.specs.declared.requests.Command.TheVariants.{Check, Run, Verify, Record, Replay, Steps, Steady, Service, Expand}
 
 -- decimal digits, and at least one
 abbrev pub is_number : Text → Bool
@@ -33,9 +34,21 @@ check_request workers size schedule json = if is_some workers || (is_some size |
 abbrev pub run_request : Option Text → Option Text → Bool → Bool → Option Request
 run_request workers size schedule json = if is_some size then None else option_map (λ n. Read (Run n schedule) json) (number_or 4 0 16 workers)
 
--- `verify` has no option
-abbrev pub verify_request : Option Text → Option Text → Bool → Bool → Option Request
-verify_request workers size schedule json = if is_some workers || (is_some size || (schedule || json)) then None else Some (Read Verify false)
+-- a word that has no option
+abbrev pub plain_request : Command → Option Text → Option Text → Bool → Bool → Option Request
+plain_request command workers size schedule json = if is_some workers || (is_some size || (schedule || json)) then None else Some (Read command false)
+
+-- the workers of a word that may have --workers alone: from 0 to 16, else 4
+abbrev pub workers_alone : Option Text → Option Text → Bool → Bool → Option ℕ
+workers_alone workers size schedule json = if is_some size || (schedule || json) then None else number_or 4 0 16 workers
+
+-- `record` may have --workers
+abbrev pub record_request : Option Text → Option Text → Bool → Bool → Option Request
+record_request workers size schedule json = option_map (λ n. Read (Record n) false) (workers_alone workers size schedule json)
+
+-- `service` may have --workers
+abbrev pub service_request : Option Text → Option Text → Bool → Bool → Option Request
+service_request workers size schedule json = option_map (λ n. Read (Service n) false) (workers_alone workers size schedule json)
 
 abbrev pub load_of : Option ℕ → Option ℕ → Bool → Option Request
 load_of (Some workers) (Some size) json = Some (Load size workers json)
@@ -47,23 +60,39 @@ load_request workers size schedule json = if schedule then None else load_of (nu
 
 -- a run has at most 16 workers
 abbrev pub HasFewWorkers : Command → Type 0
-HasFewWorkers Check = Unit {0}
 HasFewWorkers (Run workers schedule) = workers ≤ 16
-HasFewWorkers Verify = Unit {0}
+HasFewWorkers (Record workers) = workers ≤ 16
+HasFewWorkers (Service workers) = workers ≤ 16
+HasFewWorkers _ = Unit {0}
 
 -- a load is of 1 to 10,000 posts and has at most 16 workers, and so has a run
 abbrev pub IsWithin : Request → Type 0
 IsWithin (Load size workers json) = ((0 < size) × (size ≤ 10000)) × (workers ≤ 16)
 IsWithin (Read command json) = HasFewWorkers command
 
--- the word with the options that were given
-abbrev pub request_of : Text → Option Text → Option Text → Bool → Bool → Option Request
-request_of word workers size schedule json =
+-- a word of a wiring, a run or its output
+abbrev pub wiring_word : Text → Option Text → Option Text → Bool → Bool → Option Request
+wiring_word word workers size schedule json =
     if bytes_eq word (codes "check") then check_request workers size schedule json
     else (if bytes_eq word (codes "run") then run_request workers size schedule json
-    else (if bytes_eq word (codes "verify") then verify_request workers size schedule json
+    else (if bytes_eq word (codes "verify") then plain_request Verify workers size schedule json
     else (if bytes_eq word (codes "load") then load_request workers size schedule json
     else None)))
+
+-- a word of a record, of what all runs agree on, or of a service
+abbrev pub further_word : Text → Option Text → Option Text → Bool → Bool → Option Request
+further_word word workers size schedule json =
+    if bytes_eq word (codes "record") then record_request workers size schedule json
+    else (if bytes_eq word (codes "replay") then plain_request Replay workers size schedule json
+    else (if bytes_eq word (codes "steps") then plain_request Steps workers size schedule json
+    else (if bytes_eq word (codes "steady") then plain_request Steady workers size schedule json
+    else (if bytes_eq word (codes "service") then service_request workers size schedule json
+    else (if bytes_eq word (codes "expand") then plain_request Expand workers size schedule json
+    else None)))))
+
+-- the word with the options that were given
+abbrev pub request_of : Text → Option Text → Option Text → Bool → Bool → Option Request
+request_of word workers size schedule json = option_or (wiring_word word workers size schedule json) (further_word word workers size schedule json)
 
 -- what was given asks for this
 abbrev pub meaning : Given → Option Request

@@ -3,7 +3,7 @@
 ghost use Rattle.std.specs.Prelude.{◌≡◌, ◌≤◌, IfSome, option_map};
 ghost use Rattle.std.specs.List.{list_all};
 ghost use Rattle.std.specs.Char.{is_ascii_digit};
-ghost use Rattle.ccr_words.specs.Table.{is_number, number, number_or, check_request, run_request, verify_request, load_request, request_of, IsWithin};
+ghost use Rattle.ccr_words.specs.Table.{is_number, number, number_or, check_request, run_request, plain_request, workers_alone, record_request, service_request, load_request, wiring_word, further_word, request_of, HasFewWorkers, IsWithin};
 
 use crate::requests::{Command, Request};
 
@@ -91,22 +91,77 @@ fn run_request(
     }
 }
 
-fn verify_request(
+/// A word that has no option.
+fn plain_request(
+    command: Command,
     workers: Option<&str>,
     size: Option<&str>,
     schedule: bool,
     json: bool,
 ) -> Option<Request>
-    ensures request { result ≡ verify_request (option_map (λ t. t.now) workers.entry) (option_map (λ t. t.now) size.entry) schedule json }
+    requires { HasFewWorkers command }
+    ensures request { result ≡ plain_request command (option_map (λ t. t.now) workers.entry) (option_map (λ t. t.now) size.entry) schedule json }
     ensures within { IfSome result IsWithin }
 {
     if workers.is_some() || size.is_some() || schedule || json {
         return None;
     }
     Some(Request::Read {
-        command: Command::Verify,
+        command,
         json: false,
     })
+}
+
+/// The workers of a word that may have `--workers` alone.
+fn workers_alone(
+    workers: Option<&str>,
+    size: Option<&str>,
+    schedule: bool,
+    json: bool,
+) -> Option<u32>
+    ensures workers { result ≡ workers_alone (option_map (λ t. t.now) workers.entry) (option_map (λ t. t.now) size.entry) schedule json }
+    ensures few { IfSome result (λ n. n ≤ 16) }
+{
+    if size.is_some() || schedule || json {
+        return None;
+    }
+    number_or(workers, USUAL_WORKERS, 0, MAX_WORKERS)
+}
+
+fn record_request(
+    workers: Option<&str>,
+    size: Option<&str>,
+    schedule: bool,
+    json: bool,
+) -> Option<Request>
+    ensures request { result ≡ record_request (option_map (λ t. t.now) workers.entry) (option_map (λ t. t.now) size.entry) schedule json }
+    ensures within { IfSome result IsWithin }
+{
+    match workers_alone(workers, size, schedule, json) {
+        Some(workers) => Some(Request::Read {
+            command: Command::Record { workers },
+            json: false,
+        }),
+        None => None,
+    }
+}
+
+fn service_request(
+    workers: Option<&str>,
+    size: Option<&str>,
+    schedule: bool,
+    json: bool,
+) -> Option<Request>
+    ensures request { result ≡ service_request (option_map (λ t. t.now) workers.entry) (option_map (λ t. t.now) size.entry) schedule json }
+    ensures within { IfSome result IsWithin }
+{
+    match workers_alone(workers, size, schedule, json) {
+        Some(workers) => Some(Request::Read {
+            command: Command::Service { workers },
+            json: false,
+        }),
+        None => None,
+    }
 }
 
 fn load_request(
@@ -134,6 +189,58 @@ fn load_request(
     }
 }
 
+/// A word of a wiring, a run or its output, with the options that it may have.
+fn wiring_word(
+    word: &str,
+    workers: Option<&str>,
+    size: Option<&str>,
+    schedule: bool,
+    json: bool,
+) -> Option<Request>
+    ensures request { result ≡ wiring_word word.now (option_map (λ t. t.now) workers.entry) (option_map (λ t. t.now) size.entry) schedule json }
+    ensures within { IfSome result IsWithin }
+{
+    if word == "check" {
+        check_request(workers, size, schedule, json)
+    } else if word == "run" {
+        run_request(workers, size, schedule, json)
+    } else if word == "verify" {
+        plain_request(Command::Verify, workers, size, schedule, json)
+    } else if word == "load" {
+        load_request(workers, size, schedule, json)
+    } else {
+        None
+    }
+}
+
+/// A word of a record, of what all runs agree on, or of a service, with the options that it may have.
+fn further_word(
+    word: &str,
+    workers: Option<&str>,
+    size: Option<&str>,
+    schedule: bool,
+    json: bool,
+) -> Option<Request>
+    ensures request { result ≡ further_word word.now (option_map (λ t. t.now) workers.entry) (option_map (λ t. t.now) size.entry) schedule json }
+    ensures within { IfSome result IsWithin }
+{
+    if word == "record" {
+        record_request(workers, size, schedule, json)
+    } else if word == "replay" {
+        plain_request(Command::Replay, workers, size, schedule, json)
+    } else if word == "steps" {
+        plain_request(Command::Steps, workers, size, schedule, json)
+    } else if word == "steady" {
+        plain_request(Command::Steady, workers, size, schedule, json)
+    } else if word == "service" {
+        service_request(workers, size, schedule, json)
+    } else if word == "expand" {
+        plain_request(Command::Expand, workers, size, schedule, json)
+    } else {
+        None
+    }
+}
+
 /// The word of the table, with the options that it may have.
 pub fn request_of(
     word: &str,
@@ -145,15 +252,8 @@ pub fn request_of(
     ensures request { result ≡ request_of word.now (option_map (λ t. t.now) workers.entry) (option_map (λ t. t.now) size.entry) schedule json }
     ensures within { IfSome result IsWithin }
 {
-    if word == "check" {
-        check_request(workers, size, schedule, json)
-    } else if word == "run" {
-        run_request(workers, size, schedule, json)
-    } else if word == "verify" {
-        verify_request(workers, size, schedule, json)
-    } else if word == "load" {
-        load_request(workers, size, schedule, json)
-    } else {
-        None
+    match wiring_word(word, workers, size, schedule, json) {
+        Some(request) => Some(request),
+        None => further_word(word, workers, size, schedule, json),
     }
 }

@@ -4,6 +4,7 @@ ghost use Rattle.std.specs.Prelude.{◌≡◌, ◌≤◌, IfOk, OnErr, IsOk, tru
 ghost use Rattle.ccr_port.specs.Replies.{reply_note};
 ghost use Rattle.ccr_claim.specs.Asks.{is_settling};
 ghost use Rattle.ccr_object.specs.Ports.{answer, after, claim_reply, got_count};
+ghost use Rattle.ccr_object.specs.Objects.{answered, is_due};
 
 use ccr_base::{Msg, OutOfMemory, Slot, TaskId};
 use ccr_claim::{Ask, Reply};
@@ -11,12 +12,14 @@ use ccr_places::{ClaimNote, Note};
 use ccr_port::{Claimed, PortObject};
 use std::alloc::Global;
 
+#[inline(always)]
 pub(super) fn act(
     alloc: Global,
     port: &mut PortObject,
     ask: Ask,
 ) -> Result<Option<(Reply, Note)>, OutOfMemory>
     ensures answer { IfOk result (λ given. given ≡ answer port.old ask) }
+    ensures fits { IfOk result (λ given. is_due ask (answered given) ≡ true) }
     ensures state { IfOk result (λ given. port.new ≡ after port.old ask) }
     ensures err { OnErr result (port.new ≡ port.old) }
     ensures settles { is_settling ask ≡ true → IsOk result }
@@ -42,12 +45,14 @@ pub(super) fn act(
     }
 }
 
+#[inline(always)]
 fn post(
     alloc: Global,
     port: &mut PortObject,
     message: Msg,
 ) -> Result<Option<(Reply, Note)>, OutOfMemory>
     ensures answer { IfOk result (λ given. given ≡ answer port.old (Ask.Post message)) }
+    ensures fits { IfOk result (λ given. is_due (Ask.Post message) (answered given) ≡ true) }
     ensures state { IfOk result (λ given. port.new ≡ after port.old (Ask.Post message)) }
     ensures err { OnErr result (port.new ≡ port.old) }
 {
@@ -61,12 +66,15 @@ fn post(
     }
 }
 
+#[tactic(auto, using(crate::proofs::Due::slot_due))]
+#[inline(always)]
 fn claim(
     port: &mut PortObject,
     task: TaskId,
     slot: Slot,
 ) -> Result<Option<(Reply, Note)>, OutOfMemory>
     ensures answer { IfOk result (λ given. given ≡ answer port.old (Ask.Claim task slot)) }
+    ensures fits { IfOk result (λ given. is_due (Ask.Claim task slot) (answered given) ≡ true) }
     ensures state { IfOk result (λ given. port.new ≡ after port.old (Ask.Claim task slot)) }
     ensures err { OnErr result (port.new ≡ port.old) }
 {
@@ -85,6 +93,7 @@ fn claim(
     )))
 }
 
+#[inline(always)]
 fn told(claimed: Claimed, most: u32) -> (Reply, ClaimNote)
     requires { got_count claimed ≤ most }
     ensures reply { result.0 ≡ claim_reply claimed }

@@ -10,6 +10,7 @@ use ccr_claim::{Ask, Reply};
 use ccr_places::Note;
 use ccr_queue::{Booked, QueueObject};
 
+#[inline(always)]
 pub(super) fn act(queue: &mut QueueObject, ask: Ask) -> Result<Option<(Reply, Note)>, OutOfMemory>
     ensures answer { IfOk result (λ given. given ≡ answer queue.old ask) }
     ensures state { IfOk result (λ given. queue.new ≡ after queue.old ask) }
@@ -35,6 +36,7 @@ pub(super) fn act(queue: &mut QueueObject, ask: Ask) -> Result<Option<(Reply, No
     }
 }
 
+#[inline(always)]
 fn book(
     queue: &mut QueueObject,
     task: TaskId,
@@ -67,6 +69,7 @@ fn book(
     }))
 }
 
+#[inline(always)]
 fn put(queue: &mut QueueObject, task: Task) -> Option<(Reply, Note)>
     ensures answer { result ≡ answer queue.old (Ask.Put task) }
     ensures state { queue.new ≡ after queue.old (Ask.Put task) }

@@ -1,23 +1,25 @@
 //! Closing the space.
 
-ghost use Rattle.std.specs.Prelude.{◌≡◌, ◌≤◌, ℕ, ◌<◌, ◌++◌, ◌∷◌, [], if◌then◌else◌, length, map, All, IfOk, OnOk, vec_capacity};
-ghost use Rattle.ccr_turns.specs.Locks.{IsSeatOf, log_of, number_of};
-ghost use Rattle.ccr_runs.specs.Runs.{IsLog, IsMerged};
-ghost use Rattle.ccr_object.specs.Objects.{after_deed};
-ghost use Rattle.ccr_net.specs.Played.{rules, scene};
-ghost use Rattle.ccr_net.specs.Runs.{never};
+ghost use Rattle.std.specs.Prelude.{◌≡◌, ◌≤◌, ℕ, ◌<◌, ◌^◌, ◌++◌, ◌∷◌, [], if◌then◌else◌, length, map, All, IfOk, OnOk, vec_capacity};
+ghost use Rattle.ccr_turns.specs.Histories.{history_stamps};
+ghost use Rattle.ccr_turns.specs.Lists.{Rises};
+ghost use Rattle.ccr_turns.specs.Locks.{IsSeatOf};
+ghost use Rattle.ccr_runs.specs.Orders.{merged};
 ghost use Rattle.ccr_net.specs.Visible.{visible as shown};
-ghost use Rattle.ccr_space.specs.Spaces.{IsPassOf, IsSpace, actor_count, is_stopped_in, log, number, stopped_of, wiring_of, HasSeat};
-ghost use Rattle.ccr_space.specs.Closes.{IsClosed};
+ghost use Rattle.ccr_space.specs.Spaces.{IsPassOf, IsSpace, actor_count, is_stopped_in, stopped_of, HasSeat};
+ghost use Rattle.ccr_space.specs.Closes.{IsClosed, IsOfLocks};
 
 use super::{Pass, PassOf, Space, SpaceOf};
 use ccr_base::{ActorNo, List, OutOfMemory};
 use ccr_model::History;
 use ccr_net::{Full, full_of, visible};
 use ccr_object::{Deed, PlaceObject};
-use ccr_runs::{Act, merge};
-use ccr_turns::Seat;
+use ccr_runs::merge;
+use ccr_turns::{Held, Seat};
 use std::alloc::Global;
+
+/// What a lock kept: its object and its history.
+pub type Left = (PlaceObject, List<Held<Deed>>);
 
 /// The entries of all places, the history that they show, and the actors whose passes are stopped.
 #[derive(Drop)]
@@ -34,7 +36,7 @@ impl<'w> Space<'w> {
         requires space { IsSpace self }
         requires passes { All (λ pass. IsPassOf self pass) passes }
         requires all { length passes ≡ actor_count self }
-        ensures run { IfOk result (λ closed. IsClosed (wiring_of self.entry) (actor_count self.entry) passes.entry closed.full.entries) }
+        ensures run { IfOk result (λ closed. IsClosed self.entry passes.entry closed.full.entries) }
         ensures history { IfOk result (λ closed. closed.history ≡ shown closed.full.entries) }
         ensures short { IfOk result (λ closed. closed.short ≡ stopped_of passes.entry (actor_count self.entry)) }
     {
@@ -43,7 +45,8 @@ impl<'w> Space<'w> {
         let short = short_of(alloc, passes.as_slice(), passes.len() as u32)?;
         let seats = Vec::with_capacity(alloc, passes.len())?;
         let seats = seats_of(passes, seats);
-        let acts = self.tell(alloc, List::from_vec(seats))?;
+        let kept = self.unlock(alloc, List::from_vec(seats))?;
+        let acts = merge(alloc, kept)?;
         let full = full_of(alloc, wiring, acts)?;
         let history = visible(alloc, wiring, &full)?;
         Ok(Closed {
@@ -53,17 +56,18 @@ impl<'w> Space<'w> {
         })
     }
 
-    /// The acts of all places, once all seats are handed in.
-    fn tell(
+    /// What each lock kept, once all seats are handed in.
+    pub(super) fn unlock(
         self,
         alloc: Global,
         seats: List<Seat<PlaceObject>>,
-    ) -> Result<List<Act<Deed>>, OutOfMemory>
+    ) -> Result<List<Left>, OutOfMemory>
         requires space { IsSpace self }
         requires seats { All (λ seat. IsSeatOf self.turns seat) seats }
         requires all { length seats ≡ actor_count self }
-        ensures merged { IfOk result (λ acts. IsMerged (rules (wiring_of self.entry) never) (actor_count self.entry) (scene (wiring_of self.entry)) acts) }
-        ensures logs { IfOk result (λ acts. All (λ seat. IsLog after_deed (scene (wiring_of self.entry)) (number_of seat) acts (log_of seat)) seats) }
+        ensures few { IfOk result (λ kept. length kept < 2 ^ 32) }
+        ensures rising { IfOk result (λ kept. All (λ left. Rises 0 (history_stamps left.1)) kept) }
+        ensures locks { IfOk result (λ kept. IsOfLocks self.entry seats (merged kept)) }
         ensures numbers { IfOk result (λ _. (actor : ℕ) → actor < actor_count self.entry → HasSeat seats actor) }
     {
         let SpaceOf {
@@ -72,17 +76,17 @@ impl<'w> Space<'w> {
             wiring: _,
         } = self;
         match turns.close(alloc, seats) {
-            Ok(kept) => {
-                let entries = merge(alloc, kept)?;
-                Ok(entries)
-            }
+            Ok(kept) => Ok(kept),
             Err(_) => Err(OutOfMemory),
         }
     }
 }
 
 /// The seats of the passes, in the room that was taken for them.
-fn seats_of(passes: Vec<Pass<'_>>, mut seats: Vec<Seat<PlaceObject>>) -> Vec<Seat<PlaceObject>>
+pub(super) fn seats_of(
+    passes: Vec<Pass<'_>>,
+    mut seats: Vec<Seat<PlaceObject>>,
+) -> Vec<Seat<PlaceObject>>
     requires seats { (seats.items ≡ []) × (length passes.items ≤ vec_capacity seats) }
     ensures seats { result.items ≡ map (λ pass. pass.seat) passes.entry.items }
 {
@@ -98,7 +102,11 @@ fn seats_of(passes: Vec<Pass<'_>>, mut seats: Vec<Seat<PlaceObject>>) -> Vec<Sea
 }
 
 /// Of so many actors, those whose passes are stopped.
-fn short_of(alloc: Global, passes: &[Pass<'_>], count: u32) -> Result<List<ActorNo>, OutOfMemory>
+pub(super) fn short_of(
+    alloc: Global,
+    passes: &[Pass<'_>],
+    count: u32,
+) -> Result<List<ActorNo>, OutOfMemory>
     ensures { IfOk result (λ short. short ≡ stopped_of passes.now count) }
 {
     let mut short = Vec::new(alloc);

@@ -1,18 +1,22 @@
 //! Steps of a pass.
 
-ghost use Rattle.std.specs.Prelude.{◌≡◌, ◌≢◌, true, false};
-ghost use Rattle.ccr_space.specs.Spaces.{IsPassOf, IsSpace, IsAtRest, IsHeard, IsLonger, IsMore, IsTaught, log, number};
+ghost use Rattle.std.specs.Prelude.{◌≡◌, ◌≢◌, true, false, Ok};
+ghost use Rattle.ccr_claim.specs.Asks.{fits};
+ghost use Rattle.ccr_actor.specs.Acting.{due_in, IsAfter};
+ghost use Rattle.ccr_space.specs.Spaces.{IsPassOf, IsSpace, IsAtRest, IsHeard, IsLonger, IsMore, is_short, log, number};
 
 use super::{Pass, Space};
 use ccr_actor::Actor;
-use ccr_base::{ActorNo, Gate, OpenGate};
-use ccr_claim::{Reply, fits};
+use ccr_base::{ActorNo, Gate, OpenGate, Place};
+use ccr_claim::Reply;
 use ccr_dispatch::{point_after, point_before};
 use ccr_object::Answer;
+use ccr_wiring::Wiring;
 use std::sync::Wait;
+use std::thread::yield_now;
 
 /// What a step of a pass came to.
-#[derive(Clone, Copy, Debug, PartialEq, Eq)]
+#[derive(Clone, Copy, PartialEq, Eq)]
 pub enum Step {
     Made,
     NoMemory,
@@ -21,15 +25,18 @@ pub enum Step {
 }
 
 impl Space<'_> {
-    /// Does the next step of the pass's actor, under one lock. It waits while another pass has that lock.
+    /// Does the next step of the pass's actor, under one lock. It waits while another pass has that lock. The pass is stopped
+    /// where the actor is short of memory then, and where the condition of its ask wasn't met.
     pub fn step<R: Wait>(&self, rt: &R, pass: &mut Pass<'_>) -> Step
         requires space { IsSpace self.now }
         requires pass { IsPassOf self.now pass.old }
         ensures pass { IsPassOf self.now pass.new }
         ensures number { number pass.new ≡ number pass.old }
         ensures rest { result ≡ Step.Rest → (pass.new ≡ pass.old) × IsAtRest pass.old }
+        ensures at_rest { IsAtRest pass.old → result ≡ Step.Rest }
         ensures stepped { result ≢ Step.Rest → pass.old.stopped ≡ false }
         ensures made { result ≡ Step.Made → IsMore true pass.old pass.new }
+        ensures short { result ≡ Step.Made → pass.new.stopped ≡ is_short pass.new }
         ensures unmet { result ≡ Step.Unmet → IsMore false pass.old pass.new × (pass.new.stopped ≡ true) }
         ensures memory { result ≡ Step.NoMemory → (log pass.new ≡ log pass.old) × (pass.new.stopped ≡ true) }
     {
@@ -43,8 +50,10 @@ impl Space<'_> {
         ensures pass { IsPassOf self.now pass.new }
         ensures number { number pass.new ≡ number pass.old }
         ensures rest { result ≡ Step.Rest → (pass.new ≡ pass.old) × IsAtRest pass.old }
+        ensures at_rest { IsAtRest pass.old → result ≡ Step.Rest }
         ensures stepped { result ≢ Step.Rest → pass.old.stopped ≡ false }
         ensures made { result ≡ Step.Made → IsMore true pass.old pass.new }
+        ensures short { result ≡ Step.Made → pass.new.stopped ≡ is_short pass.new }
         ensures unmet { result ≡ Step.Unmet → IsMore false pass.old pass.new × (pass.new.stopped ≡ true) }
         ensures memory { result ≡ Step.NoMemory → (log pass.new ≡ log pass.old) × (pass.new.stopped ≡ true) }
     {
@@ -61,10 +70,11 @@ impl Space<'_> {
         if let Some(point) = point_before(&ask) {
             gate.at(point, number);
         }
+        let is_last = is_last(self.wiring, place);
         let at = self.directory.number(place);
         match self.turns.act(rt, &mut pass.seat, at, ask) {
             Ok(answer) => {
-                let (step, stopped) = heard(gate, number, &mut pass.actor, answer);
+                let (step, stopped) = heard(gate, number, is_last, &mut pass.actor, answer);
                 pass.stopped = stopped;
                 step
             }
@@ -96,10 +106,26 @@ impl Space<'_> {
     }
 }
 
+/// Whether the place is the last queue, which a round asks last.
+fn is_last(wiring: &Wiring, place: Place) -> bool {
+    let queues = wiring.parts().queues.as_slice().len();
+    match place {
+        Place::Queue(queue) => queue as usize + 1 == queues,
+        _ => false,
+    }
+}
+
 /// Hands the answer to the actor, and tells what the step came to, and whether the pass is stopped.
-fn heard<G: Gate>(gate: &G, number: ActorNo, actor: &mut Actor<'_>, answer: Answer) -> (Step, bool)
+fn heard<G: Gate>(
+    gate: &G,
+    number: ActorNo,
+    is_last: bool,
+    actor: &mut Actor<'_>,
+    answer: Answer,
+) -> (Step, bool)
+    requires fits { (reply : _) → answer ≡ Answer.Replied reply → fits (due_in actor.old.asking) reply ≡ true }
     ensures made { answer ≡ Answer.Unmet → result ≡ (Step.Unmet, true) }
-    ensures replied { (reply : _) → answer ≡ Answer.Replied reply → result.0 ≡ Step.Made }
+    ensures replied { (reply : _) → answer ≡ Answer.Replied reply → result ≡ (Step.Made, actor.new.state.is_short) }
     ensures going { result.1 ≡ false → IsHeard actor.old answer actor.new }
 {
     match answer {
@@ -107,20 +133,23 @@ fn heard<G: Gate>(gate: &G, number: ActorNo, actor: &mut Actor<'_>, answer: Answ
             if let Some(point) = point_after(&reply) {
                 gate.at(point, number);
             }
+            if let Reply::Taken(None) = &reply {
+                if is_last {
+                    yield_now();
+                }
+            }
             (Step::Made, told(actor, reply))
         }
         Answer::Unmet => (Step::Unmet, true),
     }
 }
 
-/// Hands the reply to the actor, and tells whether it is short. An object keeps only what fits its place, so each of its
-/// replies is one that the ask may have; this is looked at here, since a lock's contract doesn't say what its object keeps.
+/// Hands the reply to the actor, and tells whether it is short.
 fn told(actor: &mut Actor<'_>, reply: Reply) -> bool
-    ensures going { result ≡ false → IsTaught actor.old reply actor.new }
+    requires fits { fits (due_in actor.old.asking) reply ≡ true }
+    ensures after { IsAfter actor.old (Ok reply) actor.new }
+    ensures short { result ≡ actor.new.state.is_short }
 {
-    if !fits(actor.due(), &reply) {
-        return true;
-    }
     actor.got(Ok(reply));
     actor.short()
 }

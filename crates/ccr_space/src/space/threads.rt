@@ -5,9 +5,9 @@ ghost use Rattle.ccr_model.specs.Legal.{IsLegal, is_covered};
 ghost use Rattle.ccr_net.specs.Runs.{IsRunAfter, never};
 ghost use Rattle.ccr_net.specs.Visible.{visible as shown};
 ghost use Rattle.ccr_space.specs.Spaces.{IsAtRest, IsPassOf, IsSpace};
-ghost use Rattle.ccr_space.specs.Closes.{IsAtEnd, IsDone};
+ghost use Rattle.ccr_space.specs.Closes.{IsAtEnd, IsBroughtToRest, IsDone, IsRested, told};
 
-use super::{Closed, Pass, Space};
+use super::{Closed, Pass, Seen, Space};
 use ccr_base::{Gate, List, OutOfMemory};
 use ccr_net::{played_runs_are_runs, visible_runs_are_legal_and_covered};
 use ccr_wiring::Wiring;
@@ -24,24 +24,25 @@ pub fn run_threads<R: Threads + Wait + Sync, G: Gate + Sync>(
     wiring: &Wiring,
     workers: u32,
     gate: &G,
-) -> Result<Closed, OutOfMemory>
+) -> Result<Seen, OutOfMemory>
     requires workers { workers ≤ 16 }
     requires actors { 1 ≤ length wiring.now.posters + workers }
-    ensures run { IfOk result (λ closed. IsRunAfter wiring.now workers never [] closed.full.entries) }
-    ensures rest { IfOk result (λ closed. (actor : ℕ) → actor < length wiring.now.posters + workers → IsAtEnd wiring.now closed.full.entries closed.short actor) }
-    ensures history { IfOk result (λ closed. closed.history ≡ shown closed.full.entries) }
-    ensures legal { IfOk result (λ closed. IsLegal wiring.now closed.history) }
-    ensures covered { IfOk result (λ closed. is_covered wiring.now closed.history ≡ true) }
+    ensures run { IfOk result (λ seen. IsRunAfter wiring.now workers never [] (told wiring.now seen.kept.value)) }
+    ensures rest { IfOk result (λ seen. (actor : ℕ) → actor < length wiring.now.posters + workers → IsAtEnd wiring.now (told wiring.now seen.kept.value) seen.short actor) }
+    ensures threads { IfOk result (λ seen. IsBroughtToRest wiring.now (length wiring.now.posters + workers) (told wiring.now seen.kept.value) seen.short) }
+    ensures history { IfOk result (λ seen. seen.history ≡ shown (told wiring.now seen.kept.value)) }
+    ensures legal { IfOk result (λ seen. IsLegal wiring.now seen.history) }
+    ensures covered { IfOk result (λ seen. is_covered wiring.now seen.history ≡ true) }
 {
     played_runs_are_runs();
     visible_runs_are_legal_and_covered();
     let _valid = wiring.parts();
-    let closed = closed_threads(rt, alloc, wiring, workers, gate)?;
-    Ok(closed)
+    let seen = closed_threads(rt, alloc, wiring, workers, gate)?;
+    Ok(seen)
 }
 
-/// The same, as the objects of the places play it.
-fn closed_threads<R: Threads + Wait + Sync, G: Gate + Sync>(
+/// The same, with every entry: what shows nothing in the history too.
+pub fn run_threads_in_full<R: Threads + Wait + Sync, G: Gate + Sync>(
     rt: &R,
     alloc: Global,
     wiring: &Wiring,
@@ -50,13 +51,52 @@ fn closed_threads<R: Threads + Wait + Sync, G: Gate + Sync>(
 ) -> Result<Closed, OutOfMemory>
     requires workers { workers ≤ 16 }
     requires actors { 1 ≤ length wiring.now.posters + workers }
-    ensures done { IfOk result (λ closed. IsDone wiring.now (length wiring.now.posters + workers) closed.full.entries closed.short) }
+    ensures run { IfOk result (λ closed. IsRunAfter wiring.now workers never [] closed.full.entries) }
+    ensures rest { IfOk result (λ closed. (actor : ℕ) → actor < length wiring.now.posters + workers → IsAtEnd wiring.now closed.full.entries closed.short actor) }
+    ensures threads { IfOk result (λ closed. IsBroughtToRest wiring.now (length wiring.now.posters + workers) closed.full.entries closed.short) }
     ensures history { IfOk result (λ closed. closed.history ≡ shown closed.full.entries) }
+{
+    played_runs_are_runs();
+    let _valid = wiring.parts();
+    let (space, passes) = rested_space(rt, alloc, wiring, workers, gate)?;
+    let closed = space.close(alloc, passes)?;
+    Ok(closed)
+}
+
+/// The same as `run_threads`, as the objects of the places play it.
+fn closed_threads<R: Threads + Wait + Sync, G: Gate + Sync>(
+    rt: &R,
+    alloc: Global,
+    wiring: &Wiring,
+    workers: u32,
+    gate: &G,
+) -> Result<Seen, OutOfMemory>
+    requires workers { workers ≤ 16 }
+    requires actors { 1 ≤ length wiring.now.posters + workers }
+    ensures done { IfOk result (λ seen. IsDone wiring.now (length wiring.now.posters + workers) (told wiring.now seen.kept.value) seen.short) }
+    ensures threads { IfOk result (λ seen. IsBroughtToRest wiring.now (length wiring.now.posters + workers) (told wiring.now seen.kept.value) seen.short) }
+    ensures history { IfOk result (λ seen. seen.history ≡ shown (told wiring.now seen.kept.value)) }
+{
+    let (space, passes) = rested_space(rt, alloc, wiring, workers, gate)?;
+    let seen = space.show(alloc, passes)?;
+    Ok(seen)
+}
+
+/// A space of the wiring, and the passes of all its actors, which came to rest in threads.
+fn rested_space<'w, R: Threads + Wait + Sync, G: Gate + Sync>(
+    rt: &R,
+    alloc: Global,
+    wiring: &'w Wiring,
+    workers: u32,
+    gate: &G,
+) -> Result<(Space<'w>, List<Pass<'w>>), OutOfMemory>
+    requires workers { workers ≤ 16 }
+    requires actors { 1 ≤ length wiring.now.posters + workers }
+    ensures { IfOk result (λ made. IsRested wiring.now (length wiring.now.posters + workers) made.0 made.1) }
 {
     let (space, passes) = Space::make(alloc, wiring, workers)?;
     let passes = space.all_through(rt, gate, passes.into_vec())?;
-    let closed = space.close(alloc, List::from_vec(passes))?;
-    Ok(closed)
+    Ok((space, List::from_vec(passes)))
 }
 
 impl Space<'_> {

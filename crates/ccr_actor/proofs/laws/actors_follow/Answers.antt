@@ -1,4 +1,4 @@
-use Rattle.ccr_actor.proofs.Followed.{follows_started, follows_proper, follows_reply, follows_refusal, follows_long, follows_settling}
+use Rattle.ccr_actor.proofs.Followed.{follows_started, follows_proper, follows_reply, follows_refusal, follows_long, follows_rest, follows_settling}
 use Rattle.ccr_actor.proofs.laws.actors_follow.Goals as goal
 
 pub returns-clause-start : goal.returns-clause-start
@@ -15,6 +15,9 @@ returns-clause-refusal c = follows_refusal
 
 pub returns-clause-long : goal.returns-clause-long
 returns-clause-long c = follows_long
+
+pub returns-clause-rest : goal.returns-clause-rest
+returns-clause-rest c = follows_rest
 
 pub returns-clause-short : goal.returns-clause-short
 returns-clause-short c = follows_settling

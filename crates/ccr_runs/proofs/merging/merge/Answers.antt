@@ -6,6 +6,7 @@ use Rattle.std.proofs.lemmas.List.Sorted.{IsNonDecreasingBy-from_sort_by_key, an
 use Rattle.ccr_turns.proofs.Rows.{all_at, there_by_slice}
 use Rattle.ccr_runs.specs.Merges.{tagged, history_at, Climbs, act_stamps, IsByPlace}
 use Rattle.ccr_runs.proofs.Sorting.{climbs, parts, all_inside, by_places}
+use Rattle.ccr_runs.proofs.InOrder.{sorted_is}
 use Rattle.ccr_runs.proofs.merging.merge.Goals as goal
 
 pub returns-clause-sorted : goal.returns-clause-sorted
@@ -30,3 +31,9 @@ returns-clause-by_place g c =
     let stable = c.in_ok-sort_by_cached_key.ensures.stable (λ e. e.stamp) (answers_always _ _ _ (λ f a r q k. search rules)) in
     subst (λ (es : List _). IsByPlace es) (sym c.from_vec.ensures)
     (by_places c.args.kept c.sort_by_cached_key.new.self.items (λ x. stable x ∙ ap (filter _) (c.in_ok-entries.ensures ∙ ap (tagged 0) c.into_vec.ensures)))
+
+pub returns-clause-exact : goal.returns-clause-exact
+returns-clause-exact g c =
+    let up = climbs c.sort_by_cached_key.new.self.items (IsNonDecreasingBy-from_sort_by_key (λ e. e.stamp) _ c.in_ok-sort_by_cached_key.ensures.sorted (λ a r q k. search rules)) in
+    let stable = c.in_ok-sort_by_cached_key.ensures.stable (λ e. e.stamp) (answers_always _ _ _ (λ f a r q k. search rules)) in
+    c.from_vec.ensures ∙ sorted_is (λ e. e.stamp) (tagged 0 c.args.kept) c.sort_by_cached_key.new.self.items up (λ x. stable x ∙ ap (filter _) (c.in_ok-entries.ensures ∙ ap (tagged 0) c.into_vec.ensures))

@@ -7,7 +7,7 @@ use Rattle.ccr_runs.specs.declared.acts.Act.{Act}
 use Rattle.ccr_net.specs.Acted.{act_after, act_at, deed_at, scene_after, stamp_of, placed_in, IsLeft, Stage}
 use Rattle.ccr_net.specs.Played.{position_of}
 use Rattle.ccr_net.proofs.Acted.{IsLeft-act, act_here, seen-push, seen_acts, written}
-use Rattle.ccr_net.proofs.Fitting.{KeepsOwn, fitting_answer, scene_after_own}
+use Rattle.ccr_net.proofs.Fitting.{fitting_answer}
 use Rattle.ccr_net.proofs.plain.PlainPlaces.act.Goals as goal
 
 -- the stamp, by what the acts left
@@ -54,8 +54,4 @@ returns-clause-acts c =
     subst P c.self.view_is all
 
 pub returns-clause-fits : goal.returns-clause-fits
-returns-clause-fits c =
-    let number = c.number-number.result in
-    let stands = ap (λ xs. placed_in xs number) c.deref_mut.ensures.value ∙ c.self.invariant.stand number in
-    let own : KeepsOwn (placed_in c.deref_mut.result.now number).object = subst (λ x. KeepsOwn x.object) (sym stands) (scene_after_own c.self.inside.wiring.now (seen_acts c.self.inside.acts.items) number) in
-    fitting_answer (placed_in c.deref_mut.result.now number) c.args.ask c.in_ok-answer.answer own c.in_ok-answer.ensures.reply
+returns-clause-fits c = fitting_answer c.args.ask c.in_ok-answer.answer c.in_ok-answer.ensures.fits

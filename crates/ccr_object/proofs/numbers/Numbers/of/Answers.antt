@@ -6,3 +6,6 @@ returns-clause-exact c = exact c.args.wiring.now
 
 pub returns-in_err-sites-clause-exact : goal.returns-in_err-sites-clause-exact
 returns-in_err-sites-clause-exact c = exact c.args.wiring.now
+
+pub returns-in_err-domains-clause-exact : goal.returns-in_err-domains-clause-exact
+returns-in_err-domains-clause-exact c = exact c.args.wiring.now

@@ -1,4 +1,8 @@
-use Rattle.std.proofs.Common.{◌∙◌, ap, length, take, refl, arith}
+use Rattle.std.proofs.Common.{◌∙◌, ap, length, sym, take, refl, arith}
+use Rattle.ccr_places.specs.Ports.{PortState}
+use Rattle.ccr_port.specs.declared.claims.Claimed.TheVariants.{Got}
+use Rattle.ccr_port.specs.Replies.{are_at}
+use Rattle.ccr_port.proofs.Owned.{claim_fits}
 use Rattle.ccr_port.specs.Entries.{are_under, messages_under}
 use Rattle.ccr_port.proofs.PortSteps.{lane-keys, short-reply, short-note, short-step, short-after, marks-there, got-reply, got-note, got-step, got-after, claimed}
 use Rattle.ccr_port.proofs.port.PortObject.claim.Goals as goal
@@ -45,7 +49,7 @@ invariant_of-self-2 c =
     let keys = lane-keys c.self.inside.items c.lane_for.new.lanes.items c.in_ok-number.number c.args.slot.now.pred c.index-lane.result.now c.in_ok-number.ensures.lanes c.in_ok-number.ensures.found c.index-lane.ensures in
     let fits = c.len-fitting.ensures ∙ ap length keys in
     let marks = c.as_slice.ensures.value ∙ c.in_ok-keys.ensures ∙ ap (take c.min-count.result) keys in
-    claimed c.self.inside.number c.self.inside.items c.args.task c.args.slot.now c.len-fitting.result fits (omega arith) c.self.invariant.apart c.min-count.result c.min-count.ensures c.lane_for.new.lanes.items _ (record { few = c.self.invariant.few; apart = c.self.invariant.apart; lanes = c.in_ok-number.ensures.lanes; marked = tt }) refl refl (c.in_ok-keys.ensures ∙ ap (take c.min-count.result) keys)
+    claimed c.self.inside.number c.self.inside.items c.args.task c.args.slot.now c.len-fitting.result fits (omega arith) c.self.invariant.apart c.min-count.result c.min-count.ensures c.lane_for.new.lanes.items _ (record { few = c.self.invariant.few; own = c.self.invariant.own; apart = c.self.invariant.apart; lanes = c.in_ok-number.ensures.lanes; marked = tt }) refl refl (c.in_ok-keys.ensures ∙ ap (take c.min-count.result) keys)
 
 pub returns-clause-reply : goal.returns-clause-reply
 returns-clause-reply c =
@@ -53,6 +57,9 @@ returns-clause-reply c =
     let fits = c.len-fitting.ensures ∙ ap length keys in
     let marks = c.as_slice.ensures.value ∙ c.in_ok-keys.ensures ∙ ap (take c.min-count.result) keys in
     rw (← c.self.view_is, c.in_default.is) (got-reply c.self.inside.number c.self.inside.items c.args.task c.args.slot.now c.len-fitting.result fits (omega arith) c.self.invariant.apart c.min-count.result c.min-count.ensures c.in_ok-copies.copies (c.in_ok-copies.ensures ∙ ap (λ ks. messages_under ks c.self.inside.items) marks))
+
+pub returns-clause-fits : goal.returns-clause-fits
+returns-clause-fits c = claim_fits c.args.self.now c.args.task c.args.slot.now (Got c.in_ok-copies.copies) (ap (λ (port : PortState). are_at port.number port.items) (sym c.self.view_is) ∙ c.self.invariant.own) c.requires (returns-clause-reply c)
 
 pub returns-clause-note : goal.returns-clause-note
 returns-clause-note c =

@@ -1,13 +1,14 @@
-use Rattle.std.proofs.Common.{◌≡◌, ◌∙◌, ℕ, [], sym, ap, subst, Some}
+use Rattle.std.proofs.Common.{◌≡◌, ◌∙◌, ℕ, [], true, sym, ap, subst, Some}
 use Rattle.ccr_base.specs.declared.names.Place.{Place}
 use Rattle.ccr_turns.specs.Locks.{log_of}
 use Rattle.ccr_runs.specs.Runs.{IsProper}
 use Rattle.ccr_claim.specs.declared.asks.Asked.{Asked}
-use Rattle.ccr_actor.specs.Acting.{Acting, next}
+use Rattle.ccr_claim.specs.Asks.{fits}
+use Rattle.ccr_actor.specs.Acting.{Acting, due_in, next}
 use Rattle.ccr_net.specs.Played.{number_at, position_of, rules}
 use Rattle.ccr_net.specs.Runs.{never}
 use Rattle.ccr_space.specs.Spaces.{IsGoing, IsHeard, log, number, wiring_of}
-use Rattle.ccr_space.proofs.Stepping.{Stepped, asks_of, comes_next, heard_on, made_met, stepped, unmet_not}
+use Rattle.ccr_space.proofs.Stepping.{Stepped, acts_due, asks_of, comes_next, due_reply, heard_on, made_met, stepped, unmet_not}
 use Rattle.ccr_space.proofs.space.step.Space.advance.Goals as goal
 
 abbrev one_of : (g : _) (c : goal.After-pass-1 g) → Asked
@@ -26,6 +27,12 @@ step g c =
     let there : c.number-at.result ≡ number_at w c.in-Some.place = c.number-at.ensures.number ∙ ap (position_of c.in-Some.place) c.requires.space.numbers in
     stepped w k c.number-at.result (one_of g c) c.in-Ok.answer (log c.args.pass.now) (log_of c.act.new.seat) c.requires.pass.proper (comes_next w k (log c.args.pass.now) c.args.pass.now.actor (one_of g c) (going g c) (asks g c)) there c.in-Ok.ensures.ok
 
+pub heard-step-requires : goal.heard-step-requires
+heard-step-requires g c =
+    let asks = asks_of (next c.args.pass.now.actor) c.in-Some.place c.in-Some.ask c.in-Some.ensures.asked in
+    let due = acts_due c.number-at.result c.in-Some.ask c.in-Ok.answer (log c.args.pass.now) (log_of c.act.new.seat) c.in-Ok.ensures.ok in
+    record { fits = λ reply is. subst (λ (a : Acting). fits (due_in a.asking) reply ≡ true) (sym c.in-Some.ensures.sent) (due_reply c.args.pass.now.actor (record { place = c.in-Some.place; ask = c.in-Some.ask }) c.in-Ok.answer reply asks due is) }
+
 pub returns-in-Ok-clause-pass : goal.returns-in-Ok-clause-pass
 returns-in-Ok-clause-pass g c =
     let w = wiring_of c.args.self.now in
@@ -41,10 +48,13 @@ returns-in-Ok-clause-pass g c =
     }
 
 pub returns-in-Ok-clause-made : goal.returns-in-Ok-clause-made
-returns-in-Ok-clause-made g c = λ is. let s = step g c in (s.added, (s.more, s.met ∙ made_met c.in-Ok.answer c.heard-step.result c.heard-step.ensures.replied c.heard-step.ensures.made is))
+returns-in-Ok-clause-made g c = λ is. let s = step g c in (s.added, (s.more, s.met ∙ (made_met c.in-Ok.answer c.heard-step.result c.heard-step.new.actor.state.is_short c.heard-step.ensures.replied c.heard-step.ensures.made is).0, s.gave))
+
+pub returns-in-Ok-clause-short : goal.returns-in-Ok-clause-short
+returns-in-Ok-clause-short g c = λ is. (made_met c.in-Ok.answer c.heard-step.result c.heard-step.new.actor.state.is_short c.heard-step.ensures.replied c.heard-step.ensures.made is).1
 
 pub returns-in-Ok-clause-unmet : goal.returns-in-Ok-clause-unmet
 returns-in-Ok-clause-unmet g c = λ is.
     let s = step g c in
-    let not = unmet_not c.in-Ok.answer c.heard-step.result c.heard-step.ensures.replied c.heard-step.ensures.made is in
-    ((s.added, (s.more, s.met ∙ not.0)), not.1)
+    let not = unmet_not c.in-Ok.answer c.heard-step.result c.heard-step.new.actor.state.is_short c.heard-step.ensures.replied c.heard-step.ensures.made is in
+    ((s.added, (s.more, s.met ∙ not.0, s.gave)), not.1)

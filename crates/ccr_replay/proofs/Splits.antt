@@ -1,0 +1,181 @@
+-- Where the first line stands that begins with a word, in a text whose lines are known.
+use Rattle.std.proofs.Common.{◌≡◌, ◌<◌, ℕ, suc, ◌+◌, ◌-◌, ◌^◌, take, drop, Bool, true, false, List, [], ◌∷◌, ◌++◌, length, map, Some, refl, sym, ap, ◌∙◌, append_assoc, arith, inl, inr, ◌⊎◌}
+use Rattle.std.specs.Prelude.{◌==◌, ◌&&◌, not, nat_lt, if◌then◌else◌, decimal}
+use Rattle.std.specs.List.{list_all, onto_first}
+use Rattle.std.specs.Char.{is_ascii_digit}
+use Rattle.std.proofs.lemmas.Bool.Decides.{nat_tests}
+use Rattle.std.proofs.lemmas.Grind.{common_steps}
+use Rattle.std.proofs.lemmas.Fmt.{digits_decimal, decimal_nonempty}
+use Rattle.std.proofs.lemmas.List.Concat.{flat_map-cons}
+use Rattle.ccr_text.specs.Lines.{begin_from, begins_with, cut, has_feed}
+use Rattle.ccr_text.specs.Spelling.{joined, line_text, text_of, AreLines, AreWords}
+use Rattle.ccr_text.specs.Words.{is_mark}
+use Rattle.ccr_replay.specs.Reading.{part_before}
+use Rattle.ccr_text.proofs.Again.{joined_feeds}
+use Rattle.ccr_text.proofs.Decimals.{own}
+
+both : (a b : Bool) → (a && b) ≡ true → (a ≡ true) × (b ≡ true)
+both true b e = (refl, e)
+both false b e = absurd (cc)
+
+-- how many bytes these lines have, each with its LF
+abbrev pub spans : List (List ℕ) → ℕ
+spans [] = 0
+spans (line ∷ lines) = (length line + 1) + spans lines
+
+-- no line begins with the word
+abbrev pub none_begins : List ℕ → List (List ℕ) → Bool
+none_begins word lines = list_all (λ line. not (begins_with word line)) lines
+
+-- ---- lines are passed over that don't begin with the word
+
+pub passed : (word : List ℕ) (byte number : ℕ) (lines more : List (List ℕ)) → none_begins word lines ≡ true → begin_from word byte number (lines ++ more) ≡ begin_from word (byte + spans lines) (number + length lines) more
+passed word byte number [] more none = grind (arith, common_steps)
+passed word byte number (line ∷ lines) more none =
+    let parts = both (not (begins_with word line)) (none_begins word lines) none in
+    let other : begins_with word line ≡ false = not_true (begins_with word line) parts.0 in
+    let bytes : (byte + (length line + 1)) + spans lines ≡ byte + spans (line ∷ lines) = omega arith in
+    let numbers : (number + 1) + length lines ≡ number + length (line ∷ lines) = omega arith in
+    ap (λ (t : Bool). if t then Some (byte, number) else begin_from word (byte + (length line + 1)) (number + 1) (lines ++ more)) other
+    ∙ passed word (byte + (length line + 1)) (number + 1) lines more parts.1
+    ∙ ap (λ (n : ℕ). begin_from word n ((number + 1) + length lines) more) bytes
+    ∙ ap (λ (n : ℕ). begin_from word (byte + spans (line ∷ lines)) n more) numbers
+  where
+    not_true : (t : Bool) → not t ≡ true → t ≡ false
+    not_true true e = absurd (cc)
+    not_true false e = refl
+
+-- ---- a text that ends with LF, and what stands behind it
+
+ended : List ℕ → List (List ℕ)
+ended text = cut (text ++ 10 ∷ [])
+
+onto_some : (b : ℕ) (first : List ℕ) (lines more : List (List ℕ)) → onto_first b ((first ∷ lines) ++ more) ≡ onto_first b (first ∷ lines) ++ more
+onto_some b first lines more = refl
+
+cut_some : (text : List ℕ) → (first : List ℕ) × (lines : List (List ℕ)) × (cut (text ++ 10 ∷ []) ≡ first ∷ lines)
+cut_some [] = ([], [], refl)
+cut_some (b ∷ text) = go (b == 10) (cut_some text)
+  where
+    go : (t : Bool) → (first : List ℕ) × (lines : List (List ℕ)) × (cut (text ++ 10 ∷ []) ≡ first ∷ lines) → (first : List ℕ) × (lines : List (List ℕ)) × ((if t then ([] ∷ cut (text ++ 10 ∷ [])) else onto_first b (cut (text ++ 10 ∷ []))) ≡ first ∷ lines)
+    go true more = ([], cut (text ++ 10 ∷ []), refl)
+    go false more = (b ∷ more.0, more.1, ap (onto_first b) more.2)
+
+pub cut_behind : (text more : List ℕ) → cut (text ++ 10 ∷ more) ≡ cut (text ++ 10 ∷ []) ++ cut more
+cut_behind [] more = refl
+cut_behind (b ∷ text) more = go (b == 10) (cut_behind text more)
+  where
+    go : (t : Bool) → cut (text ++ 10 ∷ more) ≡ cut (text ++ 10 ∷ []) ++ cut more → (if t then ([] ∷ cut (text ++ 10 ∷ more)) else onto_first b (cut (text ++ 10 ∷ more))) ≡ (if t then ([] ∷ cut (text ++ 10 ∷ [])) else onto_first b (cut (text ++ 10 ∷ []))) ++ cut more
+    go true same = ap (λ (ls : List (List ℕ)). [] ∷ ls) same
+    go false same =
+        let some = cut_some text in
+        ap (onto_first b) same
+        ∙ ap (λ (ls : List (List ℕ)). onto_first b (ls ++ cut more)) some.2
+        ∙ ap (λ (ls : List (List ℕ)). onto_first b ls ++ cut more) (sym some.2)
+
+spans_onto : (c : ℕ) (first : List ℕ) (lines : List (List ℕ)) → spans (onto_first c (first ∷ lines)) ≡ suc (spans (first ∷ lines))
+spans_onto c first lines = omega arith
+
+pub spans_ended : (text : List ℕ) → spans (cut (text ++ 10 ∷ [])) ≡ length text + 1
+spans_ended [] = refl
+spans_ended (b ∷ text) = go (b == 10) (spans_ended text)
+  where
+    go : (t : Bool) → spans (cut (text ++ 10 ∷ [])) ≡ length text + 1 → spans (if t then ([] ∷ cut (text ++ 10 ∷ [])) else onto_first b (cut (text ++ 10 ∷ []))) ≡ length (b ∷ text) + 1
+    go true same = omega (arith, same)
+    go false same =
+        let some = cut_some text in
+        let onto : spans (onto_first b (cut (text ++ 10 ∷ []))) ≡ suc (spans (cut (text ++ 10 ∷ []))) = ap (λ (ls : List (List ℕ)). spans (onto_first b ls)) some.2 ∙ spans_onto b some.0 some.1 ∙ ap (λ (ls : List (List ℕ)). suc (spans ls)) (sym some.2) in
+        onto ∙ omega (arith, same)
+
+-- the lines of a text to which one LF is added are its own, and maybe an empty one
+pub ended_lines : (text : List ℕ) → (cut (text ++ 10 ∷ []) ≡ cut text) ⊎ (cut (text ++ 10 ∷ []) ≡ cut text ++ [] ∷ [])
+ended_lines [] = inr refl
+ended_lines (b ∷ text) = go (b == 10) (ended_lines text)
+  where
+    onto : (ls : List (List ℕ)) → cut (text ++ 10 ∷ []) ≡ ls ++ [] ∷ [] → (onto_first b (cut (text ++ 10 ∷ [])) ≡ onto_first b ls) ⊎ (onto_first b (cut (text ++ 10 ∷ [])) ≡ onto_first b ls ++ [] ∷ [])
+    onto [] same = inl (ap (onto_first b) same)
+    onto (l ∷ ls) same = inr (ap (onto_first b) same)
+
+    go : (t : Bool) → (cut (text ++ 10 ∷ []) ≡ cut text) ⊎ (cut (text ++ 10 ∷ []) ≡ cut text ++ [] ∷ [])
+        → ((if t then ([] ∷ cut (text ++ 10 ∷ [])) else onto_first b (cut (text ++ 10 ∷ []))) ≡ (if t then ([] ∷ cut text) else onto_first b (cut text))) ⊎ ((if t then ([] ∷ cut (text ++ 10 ∷ [])) else onto_first b (cut (text ++ 10 ∷ []))) ≡ (if t then ([] ∷ cut text) else onto_first b (cut text)) ++ [] ∷ [])
+    go true (inl same) = inl (ap (λ (ls : List (List ℕ)). [] ∷ ls) same)
+    go true (inr same) = inr (ap (λ (ls : List (List ℕ)). [] ∷ ls) same)
+    go false (inl same) = inl (ap (onto_first b) same)
+    go false (inr same) = onto (cut text) same
+
+-- ---- lines that are given by their words
+
+pub no_feed : (line : List ℕ) → list_all (λ b. not (b == 10)) line ≡ true → has_feed line ≡ false
+no_feed [] none = refl
+no_feed (b ∷ line) none =
+    let parts = both (not (b == 10)) (list_all (λ b. not (b == 10)) line) none in
+    let other : (b == 10) ≡ false = grind (arith, nat_tests, parts.0) in
+    rw (other, no_feed line parts.1) refl
+
+pub cut_one : (line rest : List ℕ) → list_all (λ b. not (b == 10)) line ≡ true → cut (line ++ 10 ∷ rest) ≡ line ∷ cut rest
+cut_one [] rest none = refl
+cut_one (b ∷ line) rest none =
+    let parts = both (not (b == 10)) (list_all (λ b. not (b == 10)) line) none in
+    let other : (b == 10) ≡ false = grind (arith, nat_tests, parts.0) in
+    rw (other, cut_one line rest parts.1) refl
+
+pub cut_line : (words : List (List ℕ)) (rest : List ℕ) → AreWords words → cut (line_text words ++ rest) ≡ joined words ∷ cut rest
+cut_line words rest are = ap cut (append_assoc (joined words) (10 ∷ []) rest) ∙ cut_one (joined words) rest (joined_feeds words are)
+
+pub cut_lines : (lines : List (List (List ℕ))) (rest : List ℕ) → AreLines lines → cut (text_of lines ++ rest) ≡ map joined lines ++ cut rest
+cut_lines [] rest are = refl
+cut_lines (words ∷ lines) rest are =
+    ap (λ (t : List ℕ). cut (t ++ rest)) (flat_map-cons line_text words lines)
+    ∙ ap cut (append_assoc (line_text words) (text_of lines) rest)
+    ∙ cut_line words (text_of lines ++ rest) are.0
+    ∙ ap (λ (ls : List (List ℕ)). joined words ∷ ls) (cut_lines lines rest are.1)
+
+pub spans_lines : (lines : List (List (List ℕ))) → spans (map joined lines) ≡ length (text_of lines)
+spans_lines [] = refl
+spans_lines (words ∷ lines) =
+    let more = spans_lines lines in
+    let whole : length (text_of (words ∷ lines)) ≡ (length (joined words) + 1) + length (text_of lines) = grind (arith, common_steps, flat_map-cons line_text words lines) in
+    omega (arith, more, whole)
+
+digits_marks : (digits : List ℕ) → list_all is_ascii_digit digits ≡ true → list_all is_mark digits ≡ true
+digits_marks [] are = refl
+digits_marks (b ∷ digits) are =
+    let parts = both (is_ascii_digit b) (list_all is_ascii_digit digits) are in
+    let mark : is_mark b ≡ true = grind (arith, nat_tests, parts.0) in
+    rw (mark, digits_marks digits parts.1) refl
+
+-- the digits of a number are a word
+pub decimal_word : (n : ℕ) → n < 2 ^ 64 → ((length (decimal n) == 0) ≡ false) × (list_all is_mark (decimal n) ≡ true)
+decimal_word n fits =
+    let some : (length (decimal n) == 0) ≡ false = grind (arith, nat_tests, decimal_nonempty n fits) in
+    (some, digits_marks (decimal n) (digits_decimal own n fits))
+
+-- ---- the place that is found
+
+pub found : (word : List ℕ) (line : List ℕ) (lines : List (List ℕ)) (byte number : ℕ) → begins_with word line ≡ true → begin_from word byte number (line ∷ lines) ≡ Some (byte, number)
+found word line lines byte number is = ap (λ (t : Bool). if t then Some (byte, number) else begin_from word (byte + (length line + 1)) (number + 1) lines) is
+
+none-append : (word : List ℕ) (lines : List (List ℕ)) → none_begins word lines ≡ true → none_begins word (lines ++ [] ∷ []) ≡ true
+none-append word lines none = grind (arith, common_steps)
+
+pub ended_free : (word text : List ℕ) → none_begins word (cut text) ≡ true → none_begins word (cut (text ++ 10 ∷ [])) ≡ true
+ended_free word text none = go (ended_lines text)
+  where
+    go : (cut (text ++ 10 ∷ []) ≡ cut text) ⊎ (cut (text ++ 10 ∷ []) ≡ cut text ++ [] ∷ []) → none_begins word (cut (text ++ 10 ∷ [])) ≡ true
+    go (inl same) = ap (none_begins word) same ∙ none
+    go (inr same) = ap (none_begins word) same ∙ none-append word (cut text) none
+
+taken : (front back : List ℕ) → take (length front) (front ++ back) ≡ front
+taken front back = grind (arith, common_steps)
+
+pub part_is : (text behind : List ℕ) → 0 < length behind → part_before (length text + 1) (text ++ 10 ∷ behind) ≡ text
+part_is text behind some =
+    let inside : nat_lt (length text + 1) (length (text ++ 10 ∷ behind)) ≡ true = grind (arith, nat_tests, common_steps) in
+    let place : (length text + 1) - 1 ≡ length text = omega arith in
+    ap (λ (t : Bool). if t then take ((length text + 1) - 1) (text ++ 10 ∷ behind) else text ++ 10 ∷ behind) inside
+    ∙ ap (λ (n : ℕ). take n (text ++ 10 ∷ behind)) place
+    ∙ taken text (10 ∷ behind)
+
+pub out_is : (text behind : List ℕ) → drop (length text + 1) (text ++ 10 ∷ behind) ≡ behind
+out_is [] behind = refl
+out_is (b ∷ text) behind = let e = out_is text behind in grind (arith, common_steps, e)

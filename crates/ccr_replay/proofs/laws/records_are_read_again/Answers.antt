@@ -1,0 +1,5 @@
+use Rattle.ccr_replay.proofs.Round.{again}
+use Rattle.ccr_replay.proofs.laws.records_are_read_again.Goals as goal
+
+pub returns : goal.returns
+returns c = again

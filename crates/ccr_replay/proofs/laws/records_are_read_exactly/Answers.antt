@@ -1,0 +1,5 @@
+use Rattle.ccr_replay.proofs.Exact.{read, said}
+use Rattle.ccr_replay.proofs.laws.records_are_read_exactly.Goals as goal
+
+pub returns : goal.returns
+returns c = record { said = said; read = read }

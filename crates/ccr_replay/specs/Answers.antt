@@ -1,0 +1,43 @@
+-- What a function returned is what reading gives, unless memory ran out.
+use Rattle.std.specs.Prelude.{◌≡◌, ℕ, List, Result, Ok, Err}
+use Rattle.std.specs.Borrow.{Bor}
+use Rattle.ccr_wiretext.specs.declared.refused.ReadRefused.{ReadRefused}
+use Rattle.ccr_wiretext.specs.declared.refused.ReadRefused.TheVariants as answers
+use Rattle.ccr_replay.specs.declared.records.Record.{Record}
+use Rattle.ccr_replay.specs.declared.refusals.Code.{Code}
+use Rattle.ccr_replay.specs.declared.refusals.Code.TheVariants as refusals
+use Rattle.ccr_replay.specs.Grammar.{Says}
+
+-- the number by which a code is told
+abbrev pub code_number : Code → ℕ
+code_number refusals.Unclean = 1
+code_number refusals.Keyword = 3
+code_number refusals.WordCount = 4
+code_number refusals.Number = 5
+code_number refusals.Limit = 10
+code_number refusals.NoRecord = 16
+code_number refusals.Ending = 17
+
+abbrev pub Gives : {X : Type 0} → Result X Code → Result X ℕ → Type 0
+Gives (Ok x) read = read ≡ Ok x
+Gives (Err code) read = read ≡ Err (code_number code)
+
+-- the same of words behind a reference
+abbrev pub GivesSeen : {X : Type 0} → Result (Bor X) Code → Result X ℕ → Type 0
+GivesSeen (Ok seen) read = read ≡ Ok seen.now
+GivesSeen (Err code) read = read ≡ Err (code_number code)
+
+-- what is answered where a line is refused
+abbrev pub refused : ℕ → Code → ReadRefused
+refused line code = answers.At line (code_number code)
+
+-- what was read, or the first offending line and its code
+abbrev pub IsReading : {X : Type 0} → Result X ReadRefused → Result X (ℕ × ℕ) → Type 0
+IsReading (Ok x) read = read ≡ Ok x
+IsReading (Err answers.Memory) read = Unit {0}
+IsReading (Err (answers.At line code)) read = read ≡ Err (line, code)
+
+-- where a line is refused, the text says no record
+abbrev pub SaysNothing : List ℕ → ReadRefused → Type 0
+SaysNothing text answers.Memory = Unit {0}
+SaysNothing text (answers.At line code) = (said : Record) → Says text said → ⊥

@@ -1,0 +1,6 @@
+pub mod Schedules
+pub mod Steps
+pub mod Records
+pub mod Reading
+pub mod Answers
+pub mod Grammar

@@ -1,0 +1,77 @@
+//! A record, and its text.
+
+ghost use Rattle.std.specs.Prelude.{◌≡◌, ◌<◌, ◌≤◌, ◌+◌, ◌++◌, All, IfOk, Ok, OnOk, length, map};
+ghost use Rattle.ccr_text.specs.Spelling.{text_of};
+ghost use Rattle.ccr_wiring.specs.declared.parts.Parts.{Parts};
+ghost use Rattle.ccr_wiretext.specs.Reading.{reading_text};
+ghost use Rattle.ccr_replay.specs.Reading.{reading_record};
+ghost use Rattle.ccr_replay.specs.Records.{record_text, turn_words};
+
+use crate::laws::records_are_read_again;
+use ccr_base::{ActorNo, List, OutOfMemory};
+use ccr_text::put_bytes;
+use ccr_trace::put_number_word;
+use ccr_wiring::Wiring;
+use std::alloc::Global;
+
+/// A run as it is written down: its wiring, how many workers it had, and whose turn it was, in order.
+#[derive(Drop)]
+pub struct Record {
+    pub wiring: Wiring,
+    pub workers: u32,
+    pub turns: List<ActorNo>,
+}
+
+/// How many bytes the line of a turn has at most, for an actor of a wiring.
+const LINE: usize = 8;
+
+fn put_turns(out: &mut List<u8>, turns: &[ActorNo]) -> Result<(), OutOfMemory>
+    ensures { OnOk result (out.new ≡ out.old ++ text_of (map turn_words turns.now)) }
+{
+    for turn in turns {
+        put_bytes(out, b"turn")?;
+        put_number_word(out, u64::from(*turn))?;
+        put_bytes(out, b"\n")?;
+    }
+    Ok(())
+}
+
+fn put_record(
+    alloc: Global,
+    wiring_text: &[u8],
+    workers: u32,
+    turns: &[ActorNo],
+) -> Result<List<u8>, OutOfMemory>
+    ensures { IfOk result (λ text. text ≡ record_text wiring_text.now workers turns.now) }
+{
+    let mut out = List::from_vec(Vec::with_capacity(
+        alloc,
+        turns
+            .len()
+            .saturating_mul(LINE)
+            .saturating_add(wiring_text.len()),
+    )?);
+    put_bytes(&mut out, wiring_text)?;
+    put_bytes(&mut out, b"\nrecord 1")?;
+    put_number_word(&mut out, u64::from(workers))?;
+    put_bytes(&mut out, b"\n")?;
+    put_turns(&mut out, turns)?;
+    put_bytes(&mut out, b"done 0\n")?;
+    Ok(out)
+}
+
+/// The record of a run with so many workers: the wiring's text as it is, LF, the line `record 1 N`, a line `turn A` for each
+/// turn, and the last line `done 0`. Where the text says a wiring, and each turn is that of one of its posters or of the workers,
+/// it is read as that record.
+pub fn write_record(
+    alloc: Global,
+    wiring_text: &[u8],
+    workers: u32,
+    turns: &[ActorNo],
+) -> Result<List<u8>, OutOfMemory>
+    ensures text { IfOk result (λ text. text ≡ record_text wiring_text.now workers turns.now) }
+    ensures again { (wiring : Parts) → reading_text wiring_text.now ≡ Ok wiring → length wiring_text.now ≤ 1048576 → workers ≤ 16 → All (λ actor. actor < length wiring.posters + workers) turns.now → IfOk result (λ text. reading_record text ≡ Ok (record { wiring = wiring; workers = workers; turns = turns.now })) }
+{
+    records_are_read_again();
+    put_record(alloc, wiring_text, workers, turns)
+}

@@ -1,0 +1,52 @@
+//! Why a line is refused.
+
+ghost use Rattle.std.specs.Prelude.{◌≡◌};
+ghost use Rattle.ccr_replay.specs.Answers.{code_number, refused};
+
+use ccr_wiretext::ReadRefused;
+
+/// What is wrong with a line.
+#[derive(Clone, Copy)]
+pub enum Code {
+    /// The line isn't clean.
+    Unclean,
+    /// Another word stands where `1` or `0` has to.
+    Keyword,
+    /// A word is missing or too many.
+    WordCount,
+    /// Another word stands where the number of workers has to.
+    Number,
+    /// There are too many workers, or the wiring's text is too long.
+    Limit,
+    /// No line is that of the record.
+    NoRecord,
+    /// There is no last line, or something stands behind it.
+    Ending,
+}
+
+impl Code {
+    /// The number of the code (docs/FORMATS.md).
+    fn number(self) -> u8
+        ensures { result ≡ code_number self }
+    {
+        match self {
+            Code::Unclean => 1,
+            Code::Keyword => 3,
+            Code::WordCount => 4,
+            Code::Number => 5,
+            Code::Limit => 10,
+            Code::NoRecord => 16,
+            Code::Ending => 17,
+        }
+    }
+}
+
+/// The line is refused with the code.
+pub fn refused(line: u32, code: Code) -> ReadRefused
+    ensures { result ≡ refused line code }
+{
+    ReadRefused::At {
+        line,
+        code: code.number(),
+    }
+}

@@ -1,0 +1,5 @@
+use Rattle.ccr_service.proofs.Still.{still}
+use Rattle.ccr_service.proofs.stillness.quiet_is_still.Goals as goal
+
+pub returns : goal.returns
+returns c = still

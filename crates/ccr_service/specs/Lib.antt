@@ -1,0 +1,13 @@
+pub mod Stillness
+pub mod Expansion
+pub mod Served
+pub mod Replies
+pub mod Answered
+pub mod Services
+pub mod Telling
+pub mod Naming
+pub mod Places
+pub mod Drafts
+pub mod Reading
+pub mod Readings
+pub mod Grammar

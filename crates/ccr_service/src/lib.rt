@@ -1,0 +1,25 @@
+//! A service language: its parts, the wiring that they expand to, and what holds of each history of an expansion.
+#![tactic(auto)]
+
+mod cursor;
+mod draft;
+mod expanding;
+mod laws;
+mod names;
+mod parts;
+mod reading;
+mod replies;
+mod service;
+mod stillness;
+mod stop;
+mod tables;
+mod telling;
+
+pub use expanding::expand;
+pub use laws::requests_have_one_answer;
+pub use parts::{AskPart, ClientPart, OpPart, ServiceParts};
+pub use reading::read_service;
+pub use replies::Answer;
+pub use service::Service;
+pub use stillness::quiet_is_still;
+pub use telling::answers;

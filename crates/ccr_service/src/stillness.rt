@@ -1,0 +1,13 @@
+//! A quiet end without awaits. Each law is the contract of a function that does nothing.
+
+ghost use Rattle.std.specs.Prelude.{◌≡◌, ◌≤◌, ℕ, List, length};
+ghost use Rattle.ccr_wiring.specs.declared.parts.Parts.{Parts};
+ghost use Rattle.ccr_wiring.specs.Valid.{HasQueues};
+ghost use Rattle.ccr_model.specs.declared.history.Event.{Event};
+ghost use Rattle.ccr_model.specs.Legal.{IsLegal, IsQuiet};
+ghost use Rattle.ccr_service.specs.Stillness.{HasNoAwaits, IsStill};
+
+/// Where no handler awaits, no task waits, is ready, is queued or runs once nothing more is allowed.
+pub fn quiet_is_still()
+    ensures { (wiring : Parts) → HasQueues wiring → HasNoAwaits wiring → length wiring.posters ≤ 32 → (history : List Event) → IsLegal wiring history → IsQuiet wiring history → IsStill wiring history }
+{}

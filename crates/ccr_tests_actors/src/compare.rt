@@ -1,9 +1,0 @@
-//! Comparisons, each one call: the code of `assert_eq!` would stand in each test and be proved there.
-
-use std::fmt::Debug;
-use std::process::Abort;
-
-/// Stops the test where the two differ, and tells both.
-pub fn same<T: Copy + PartialEq + Debug>(rt: &impl Abort, found: T, wanted: T) {
-    assert_eq!(rt; found, wanted);
-}

@@ -1,0 +1,202 @@
+//! What the model's queries answer after the first events of a history.
+
+use crate::events::{put_end, put_messages, put_tasks, put_values};
+use crate::judging::{push, put_rule};
+use crate::reading::event_of;
+use ccr_base::{List, MsgId, OutOfMemory, PortNo, Spot, TaskId};
+use ccr_laws::fate;
+use ccr_model::choices::is_choice;
+use ccr_model::data::play_of;
+use ccr_model::enough::can_fire;
+use ccr_model::firings::{cut, dropped, fired, put as put_of};
+use ccr_model::live::{has_room, is_live};
+use ccr_model::posts::{held, taken};
+use ccr_model::rules::{cuts_at, drop_at, may_admit, may_put};
+use ccr_model::tasks::{queued, running, waiting};
+use ccr_model::{Event, Fate, History, TaskState, refused_by};
+use ccr_try::{first_number, put, put_message, put_number, put_task, put_truth};
+use ccr_wiring::Wiring;
+use std::alloc::Global;
+
+/// The history of the first so many events.
+fn first(alloc: Global, history: &History, count: u32) -> History {
+    let mut begun = History::new(alloc);
+    for event in history.events().iter().take(count as usize) {
+        push(alloc, &mut begun, event);
+    }
+    begun
+}
+
+/// For `COUNT EVENT` the rule by which the event is refused after so many events.
+pub fn refused(alloc: Global, wiring: &Wiring, history: &History, input: &str, out: &mut List<u8>) {
+    let (count, line) = first_number(input);
+    let begun = first(alloc, history, count);
+    if let Some(event) = event_of(alloc, wiring, line) {
+        if let Ok(rule) = refused_by(alloc, wiring, &begun, &event) {
+            put_rule(out, rule);
+        }
+    }
+}
+
+/// What is asked for: a task, a spot and a message.
+#[derive(Clone, Copy)]
+struct Subject {
+    task: TaskId,
+    spot: Spot,
+    message: MsgId,
+}
+
+/// The subject that a line `fire TASK SPOT MESSAGE` names.
+fn subject_of(alloc: Global, wiring: &Wiring, line: &str) -> Option<Subject> {
+    match event_of(alloc, wiring, line)? {
+        Event::Fire {
+            task,
+            spot,
+            messages,
+            ..
+        } => Some(Subject {
+            task,
+            spot,
+            message: *messages.as_slice().first()?,
+        }),
+        _ => None,
+    }
+}
+
+/// The tasks of the one Interleave and the one queue.
+fn tasks(
+    alloc: Global,
+    wiring: &Wiring,
+    events: &[Event],
+    word: &str,
+    spot: Spot,
+) -> Option<Result<Vec<TaskId>, OutOfMemory>> {
+    Some(match word {
+        "fired" => fired(alloc, events),
+        "cut" => cut(alloc, events),
+        "put" => put_of(alloc, events),
+        "dropped" => dropped(alloc, events),
+        "waiting" => waiting(alloc, wiring, events, 0),
+        "queued" => queued(alloc, wiring, events, 0),
+        "running" => running(alloc, events),
+        "cuts_at" => cuts_at(alloc, wiring, events, spot),
+        _ => return None,
+    })
+}
+
+/// What holds of a spot or a task.
+fn holds(
+    alloc: Global,
+    wiring: &Wiring,
+    events: &[Event],
+    word: &str,
+    of: Subject,
+) -> Option<Result<bool, OutOfMemory>> {
+    Some(match word {
+        "is_live" => is_live(alloc, wiring, events, of.spot),
+        "has_room" => has_room(alloc, wiring, events, of.spot),
+        "can_fire" => can_fire(alloc, wiring, events, of.spot),
+        "is_choice" => is_choice(alloc, wiring, events, of.spot, &[of.message]),
+        "may_admit" => may_admit(alloc, wiring, events, of.task),
+        "may_put" => may_put(alloc, wiring, events, of.task),
+        _ => return None,
+    })
+}
+
+fn put_held(alloc: Global, events: &[Event], port: PortNo, out: &mut List<u8>) {
+    if let Ok(messages) = held(alloc, events, port) {
+        for message in &messages {
+            put_message(out, message.id);
+        }
+    }
+}
+
+fn put_taken(alloc: Global, events: &[Event], out: &mut List<u8>) {
+    if let Ok(messages) = taken(alloc, events) {
+        put_messages(out, &messages);
+    }
+}
+
+fn put_drop(alloc: Global, wiring: &Wiring, events: &[Event], task: TaskId, out: &mut List<u8>) {
+    match drop_at(alloc, wiring, events, task) {
+        Ok(Some(other)) => put_task(out, other),
+        Ok(None) => put(out, b"none"),
+        Err(_) => put(out, b"memory"),
+    }
+}
+
+/// The ports and values of the posts of the task's segment.
+fn put_play(alloc: Global, wiring: &Wiring, events: &[Event], task: TaskId, out: &mut List<u8>) {
+    if let Ok(play) = play_of(alloc, wiring, events, task) {
+        for sent in play.posts.as_slice() {
+            put_number(out, u64::from(sent.port));
+            put_values(out, sent.value.numbers());
+        }
+    }
+}
+
+fn put_state(out: &mut List<u8>, state: TaskState) {
+    match state {
+        TaskState::Waiting => put(out, b" waiting"),
+        TaskState::Cut => put(out, b" cut"),
+        TaskState::Ready => put(out, b" ready"),
+        TaskState::Queued => put(out, b" queued"),
+        TaskState::Dropped => put(out, b" dropped"),
+        TaskState::Running => put(out, b" running"),
+        TaskState::Ended(how) => put_end(out, how),
+    }
+}
+
+fn put_fate(alloc: Global, wiring: &Wiring, history: &History, name: MsgId, out: &mut List<u8>) {
+    match fate(alloc, wiring, history, &name) {
+        Ok(Some(Fate::Taken { task, state })) => {
+            put_task(out, task);
+            put_state(out, state);
+        }
+        Ok(Some(Fate::Held)) => put(out, b"held"),
+        Ok(None) => put(out, b"none"),
+        Err(_) => put(out, b"memory"),
+    }
+}
+
+/// What the other queries answer.
+fn put_other(
+    alloc: Global,
+    wiring: &Wiring,
+    history: &History,
+    word: &str,
+    of: Subject,
+    out: &mut List<u8>,
+) {
+    let events = history.events();
+    match word {
+        "held_at_0" => put_held(alloc, events, 0, out),
+        "held_at_1" => put_held(alloc, events, 1, out),
+        "taken" => put_taken(alloc, events, out),
+        "drop_at" => put_drop(alloc, wiring, events, of.task, out),
+        "play_of" => put_play(alloc, wiring, events, of.task, out),
+        "fate" => put_fate(alloc, wiring, history, of.message, out),
+        _ => put(out, b"no such question"),
+    }
+}
+
+/// For `COUNT WORD fire TASK SPOT MESSAGE` what the query of this word answers after so many events.
+pub fn ask(alloc: Global, wiring: &Wiring, history: &History, input: &str, out: &mut List<u8>) {
+    let (count, rest) = first_number(input);
+    let (word, line) = rest.split_once(' ').unwrap_or((rest, ""));
+    let begun = first(alloc, history, count);
+    let Some(of) = subject_of(alloc, wiring, line) else {
+        return;
+    };
+    if let Some(found) = tasks(alloc, wiring, begun.events(), word, of.spot) {
+        if let Ok(tasks) = found {
+            put_tasks(out, &tasks);
+        }
+    } else if let Some(found) = holds(alloc, wiring, begun.events(), word, of) {
+        if let Ok(truth) = found {
+            put_truth(out, truth);
+        }
+    } else {
+        put_other(alloc, wiring, &begun, word, of, out);
+    }
+}

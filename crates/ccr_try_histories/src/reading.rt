@@ -1,0 +1,92 @@
+//! Texts of histories.
+
+use crate::events::put_event;
+use ccr_base::List;
+use ccr_model::{Event, History};
+use ccr_trace::{HistoryRefused, read_history, write_history};
+use ccr_try::{put, put_number, put_refused, text_of};
+use ccr_wiring::Wiring;
+use std::alloc::Global;
+
+/// The most bytes that a text has.
+const LONGEST: usize = 33_554_432;
+
+/// 0 0, or the line and code with which both texts, one behind the other, are refused.
+pub fn refusal(alloc: Global, wiring: &Wiring, past: &str, lines: &str, out: &mut List<u8>) {
+    let text = text_of(alloc, past, lines);
+    if text.len() > LONGEST {
+        return;
+    }
+    match read_history(alloc, wiring, text.as_slice()) {
+        Ok(_) => put_refused(out, 0, 0),
+        Err(HistoryRefused::At { line, code }) => put_refused(out, line, code),
+        Err(HistoryRefused::Memory) => put(out, b"memory"),
+    }
+}
+
+/// The history that the text says.
+pub fn history_of(alloc: Global, wiring: &Wiring, text: &str) -> Option<History> {
+    let text = text_of(alloc, text, "");
+    if text.len() > LONGEST {
+        return None;
+    }
+    match read_history(alloc, wiring, text.as_slice()) {
+        Ok(read) => Some(read.history),
+        Err(_) => None,
+    }
+}
+
+fn put_history(alloc: Global, wiring: &Wiring, history: &History, out: &mut List<u8>) {
+    if let Ok(text) = write_history(alloc, wiring, history) {
+        put(out, text.as_slice());
+    }
+}
+
+/// How many lines and bytes stand before the line `report 1`, and the history, written again.
+pub fn again(alloc: Global, wiring: &Wiring, text: &str, out: &mut List<u8>) {
+    let text = text_of(alloc, text, "");
+    if text.len() > LONGEST {
+        return;
+    }
+    if let Ok(read) = read_history(alloc, wiring, text.as_slice()) {
+        put_number(out, u64::from(read.lines));
+        put_number(out, read.rest as u64);
+        put(out, b" ");
+        put_history(alloc, wiring, &read.history, out);
+    }
+}
+
+/// The history of the one event of this line.
+fn one_event(alloc: Global, wiring: &Wiring, line: &str) -> Option<History> {
+    let head = if wiring.parts().version == 2 {
+        "history 2;"
+    } else {
+        "history 1;"
+    };
+    let mut text = text_of(alloc, head, line);
+    put(&mut text, b"\nreport 1\n");
+    if text.len() > LONGEST {
+        return None;
+    }
+    match read_history(alloc, wiring, text.as_slice()) {
+        Ok(read) => Some(read.history),
+        Err(_) => None,
+    }
+}
+
+/// The event of this line.
+pub fn event_of(alloc: Global, wiring: &Wiring, line: &str) -> Option<Event> {
+    let history = one_event(alloc, wiring, line)?;
+    history.events().first()?.copy(alloc).ok()
+}
+
+/// The numbers of the line's event, and the text of its history.
+pub fn event(alloc: Global, wiring: &Wiring, line: &str, out: &mut List<u8>) {
+    if let Some(history) = one_event(alloc, wiring, line) {
+        for event in history.events() {
+            put_event(out, event);
+        }
+        put(out, b" = ");
+        put_history(alloc, wiring, &history, out);
+    }
+}

@@ -1,0 +1,53 @@
+//! Turns, and records of runs.
+
+use crate::wirings::put_refusal;
+use ccr_base::List;
+use ccr_replay::{read_record, write_record};
+use ccr_schedule::read_turns;
+use ccr_try::{first_number, numbers_of, put, put_number, put_numbers, text_of};
+use std::alloc::Global;
+
+/// The most bytes that a record has.
+const LONGEST: usize = 33_554_432;
+
+/// The most lines before turns.
+const MOST_LINES: u32 = 4_000_000_000;
+
+/// The workers and the turns, or the line and code with which the text is refused.
+pub fn read(alloc: Global, text: &[u8], out: &mut List<u8>) {
+    if text.len() > LONGEST {
+        return;
+    }
+    match read_record(alloc, text) {
+        Ok(record) => {
+            put_number(out, u64::from(record.workers));
+            put_numbers(out, record.turns.as_slice());
+        }
+        Err(refused) => put_refusal(out, refused),
+    }
+}
+
+/// The record of the wiring text, for `WORKERS TURN ..`.
+pub fn write(alloc: Global, wiring: &str, input: &str, out: &mut List<u8>) {
+    let (workers, turns) = first_number(input);
+    let text = text_of(alloc, wiring, "");
+    let turns = numbers_of(alloc, turns);
+    if let Ok(written) = write_record(alloc, text.as_slice(), workers, turns.as_slice()) {
+        put(out, written.as_slice());
+    }
+}
+
+/// For `LINES ACTORS TEXT` the turns, of so many actors and behind so many lines, or the line and code with which they are refused.
+pub fn turns(alloc: Global, input: &str, out: &mut List<u8>) {
+    let (lines, rest) = first_number(input);
+    let (actors, rest) = first_number(rest);
+    let text = text_of(alloc, rest, "");
+    let text = text.as_slice();
+    if text.len() > LONGEST || lines > MOST_LINES {
+        return;
+    }
+    match read_turns(alloc, text, lines, actors) {
+        Ok(turns) => put_numbers(out, turns.as_slice()),
+        Err(refused) => put_refusal(out, refused),
+    }
+}

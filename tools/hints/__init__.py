@@ -1,0 +1,1 @@
+"""What tools/hint says: of refused texts (wirings) and of judged histories."""

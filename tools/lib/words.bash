@@ -1,0 +1,129 @@
+# What the launcher knows of the words of the program (docs/FORMATS.md, Words).
+
+declare -A options_of=(
+  [check]="--json" [run]="--workers --schedule --json" [verify]="" [load]="--workers --size --json" [record]="--workers" [replay]="" [steps]="" [steady]=""
+  [service]="--workers" [expand]="")
+all_words="check, run, verify, load, record, replay, steps, steady, service or expand"
+
+usage() {
+  printf '%s\ndone 1\n' "usage: ccr check|run|verify|load|record|replay|steps|steady|service|expand [--workers N] [--schedule] [--json] [--size N]"
+}
+
+help() {
+  cat <<'END'
+usage: ccr WORD [OPTIONS] [FILE ..]          where no file is named, standard input is read
+
+  check     is it a wiring? writes its canonical text                  --json
+  run       runs a wiring, writes its history and a report             --workers N, --schedule, --json
+  verify    judges a wiring with an output of run behind it
+  load      runs a generated wiring, writes the totals                 --workers N, --size N, --json
+  record    runs a wiring, writes whose turn it was, step by step      --workers N
+  replay    runs a record again, writes its history and a report
+  steps     runs a record again, writes each step
+  steady    writes the totals of a wiring, where they don't depend on who comes first
+  service   runs a service, writes what became of each request         --workers N
+  expand    writes the wiring that a service stands for
+
+  ccr run --workers 0 examples/first.ccr       on one thread: the same output each time
+  ccr run examples/service.ccr > out.txt       on threads: one of many legal outputs
+  ccr verify examples/service.ccr out.txt      is it legal, complete, quiet?
+
+--workers is 0 to 16 (4; for load 0), --size 1 to 10,000 (1,000). Standard output ends with 'done N', and N is the exit status: 0 all is well, 1 other
+words are due, 2 the text is refused, 6 a task was shed, 7 the output is wrong, 8 the text is too long (docs/FORMATS.md, What the program writes).
+END
+}
+
+# Whether it is a number from the least to the most.
+is_number() {
+  local digits=$1
+  [[ $digits =~ ^[0-9]+$ ]] || return
+  digits=${digits#"${digits%%[!0]*}"}
+  [ ${#digits} -le 5 ] && [ "${digits:-0}" -ge "$2" ] && [ "${digits:-0}" -le "$3" ]
+}
+
+is_file() {
+  [ -e "$1" ] && [ ! -d "$1" ]
+}
+
+# What is wrong with an option of that name, what stands right behind it, and its value.
+off_with_option() {
+  case $1 in
+    --workers) is_number "$3" 0 16 || echo "--workers wants a number from 0 to 16, and '$3' is none" ;;
+    --size) is_number "$3" 1 10000 || echo "--size wants a number from 1 to 10000, and '$3' is none" ;;
+    --json | --schedule) [ -z "$2" ] || echo "$1 takes no value" ;;
+    *) echo "there is no option '$1': there are --workers N, --schedule, --json, --size N" ;;
+  esac
+}
+
+is_word() {
+  case $1 in
+    check | run | verify | load | record | replay | steps | steady | service | expand) ;;
+    *) false ;;
+  esac
+}
+
+# Sets `off` to what is wrong with the words, where nothing was found before.
+find_off() {
+  off=${off:-$1}
+}
+
+# Sets `words` to what the program is given, `word` to the one that says what it does, `files` to those that it reads in place of standard input, and
+# `off` to what is wrong with the words, where something is.
+read_words() {
+  local has_ended="" name given=() others=()
+  words=() files=() word="" off=""
+  while [ $# -gt 0 ]; do
+    words+=("$1")
+    if [ -n "$has_ended" ] || [[ $1 != -* ]]; then
+      if ! is_word "$1"; then
+        others+=($((${#words[@]} - 1)))
+      elif [ -n "$word" ]; then
+        find_off "'$word' and '$1': one of them at a time"
+      else
+        word=$1
+      fi
+    elif [ "$1" = -- ]; then
+      has_ended=yes
+    else
+      name=${1%%=*}
+      [[ " ${given[*]} " != *" $name "* ]] || find_off "$name stands twice"
+      given+=("$name")
+      if [[ $1 == *=* || ($1 != --workers && $1 != --size) ]]; then
+        find_off "$(off_with_option "$name" "${1#"$name"}" "${1#*=}")"
+      else
+        find_off "$(off_with_option "$name" "=" "${2-}")"
+        [ $# -eq 1 ] || { words+=("$2") && shift; }
+      fi
+    fi
+    shift
+  done
+  take_others "${others[@]}"
+  look_at_options "${given[@]}"
+}
+
+# The words at these places are neither options nor of the table: files to be read, or what is wrong.
+take_others() {
+  local at other
+  for at in "$@"; do
+    other=${words[at]}
+    if ! is_file "$other"; then
+      find_off "'$other' is neither a word nor a file: the words are $all_words"
+    elif [ "$word" = load ]; then
+      find_off "'load' reads nothing: leave out '$other'"
+    elif [ -z "$word" ]; then
+      find_off "'$other' is a file, and a word says what to do with it, as in: ./ccr run --workers 4 $other"
+    else
+      files+=("$other")
+      unset "words[at]"
+    fi
+  done
+  words=("${words[@]}")
+}
+
+look_at_options() {
+  local name
+  [ -n "$word" ] || find_off "a word is missing: $all_words"
+  for name in "$@"; do
+    [[ -z $word || " ${options_of[$word]} " == *" $name "* ]] || find_off "'$word' has no option $name"
+  done
+}
