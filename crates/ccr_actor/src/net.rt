@@ -16,8 +16,8 @@ pub trait Net {
 
     ghost steps: { Self → ℕ → List Step };
 
-    /// The place's reply to the ask, which is one that the ask may have. An ask that settles is never refused, and a
-    /// refused one leaves no step.
+    /// Asks the place. Its reply fits the ask. Only want of memory refuses an ask, never one that settles, and then no step
+    /// is noted.
     fn act(&mut self, actor: ActorNo, place: Place, ask: Ask) -> Result<Reply, OutOfMemory>
         requires { IsProper (wiring self.old) actor (steps self.old actor) (record { place = place; ask = ask }) }
         ensures wiring { wiring self.new ≡ wiring self.old }

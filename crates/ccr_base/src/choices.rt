@@ -7,7 +7,7 @@ ghost use Rattle.ccr_base.specs.Choice.{choice, chosen, is_choosable, messages_a
 use crate::{List, OutOfMemory, Pred, Seen, Slot};
 use std::alloc::Global;
 
-/// The places of the first messages that satisfy the predicate, at most `most`.
+/// Goes through the messages from the oldest on, and notes the places of those that the predicate takes, until it has `most`.
 fn first_places<T: Seen>(
     alloc: Global,
     items: &[T],

@@ -2,12 +2,16 @@
 
 use crate::ActorNo;
 
-/// The points at which the gate is asked: after a claim was got, after a firing, after a start, before an end.
+/// What the actor has just done, or is about to do, when it stops at the gate.
 #[derive(Clone, Copy, PartialEq, Eq)]
 pub enum Point {
+    /// A port gave it a claim.
     Claimed,
+    /// Its firing is committed.
     Committed,
+    /// It took a task from a queue.
     Started,
+    /// The end of its task comes next.
     BeforeEnd,
 }
 

@@ -263,7 +263,16 @@ fn each_read_ends_it<R: AllocGlobal + Threads + Wait + Sync>(
     Ok(given.status == case.status && given.written.as_slice() == whole)
 }
 
-/// Whether each of so many writes, made to fail, ends the case with a front of what it writes, and one behind them isn't made.
+/// Whether this is what stands where a write failed: nothing at the first one, else a beginning of the whole.
+fn is_cut_short(written: &[u8], write: u64, whole: &[u8]) -> bool {
+    if write == 0 {
+        written.is_empty()
+    } else {
+        whole.starts_with(written)
+    }
+}
+
+/// Whether each of so many writes, made to fail, ends the case there, and one behind them isn't made.
 fn each_write_ends_it<R: AllocGlobal + Threads + Wait + Sync>(
     rt: &R,
     case: &Case<'_>,
@@ -272,7 +281,7 @@ fn each_write_ends_it<R: AllocGlobal + Threads + Wait + Sync>(
 ) -> Result<bool, OutOfMemory> {
     for write in 0..writes {
         let given = run_failing(rt, case, NEVER, write)?;
-        if given.status != WRITE_FAULT || !whole.starts_with(given.written.as_slice()) {
+        if given.status != WRITE_FAULT || !is_cut_short(given.written.as_slice(), write, whole) {
             return Ok(false);
         }
     }

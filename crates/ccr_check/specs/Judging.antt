@@ -32,7 +32,7 @@ is_unused books task = not (has_fired books task) && nat_le task.actor 32
 abbrev pub is_idle : Parts → Books → ℕ → Bool
 is_idle wiring books actor = nat_le (length wiring.posters) actor && nat_le actor 32 && not (is_busy books actor)
 
--- rule 16, shed: a post of its play is left, and the posts of tasks and the other running tasks that have a post left are together at least the budget
+-- rule 16, shed: it has a post left to make, and the budget is used up by what tasks posted and one post for each other task that has some left
 abbrev pub sheds : Parts → Books → TaskId → Bool
 sheds wiring books task = has_more books task && nat_le wiring.budget (books.task_posts + (unfinished books - 1))
 

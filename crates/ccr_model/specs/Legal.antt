@@ -50,6 +50,6 @@ are_whole_from history number (poster ∷ posters) = (posts_of_poster history nu
 abbrev pub is_complete : Parts → List Event → Bool
 is_complete wiring history = are_whole_from history 0 wiring.posters && (not (has_shed history) || (posts_of_tasks history == wiring.budget))
 
--- where a task was shed, the posts of tasks and the running tasks that have a post left are together at least the budget
+-- where a task was shed, what tasks posted and one post for each task that has some left use the budget up
 abbrev pub is_covered : Parts → List Event → Bool
 is_covered wiring history = not (has_shed history) || nat_le wiring.budget (posts_of_tasks history + count_unfinished wiring history)

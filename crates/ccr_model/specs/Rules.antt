@@ -108,7 +108,7 @@ abbrev pub is_shed : EndHow → Bool
 is_shed ends.Shed = true
 is_shed _ = false
 
--- rule 16, shed: a post of its play is left, and the posts of tasks and the other running tasks that have a post left are together at least the budget
+-- rule 16, shed: it has a post left to make, and the budget is used up by what tasks posted and one post for each other task that has some left
 abbrev pub may_shed : Parts → List Event → TaskId → Bool
 may_shed wiring history task = has_post_left wiring history task && nat_le wiring.budget (posts_of_tasks history + (count_unfinished wiring history - 1))
 

@@ -18,8 +18,8 @@ use ccr_claim::{Ask, Reply};
 use ccr_wiring::Wiring;
 use std::alloc::Global;
 
-/// The run in which each turn is the next step of that actor; a turn of an actor at rest adds nothing. The posters come
-/// first, then so many workers. Any want of memory ends the call.
+/// The run that these turns give. A turn makes its actor's next step, or nothing where the actor rests. Posters have the
+/// lowest numbers and the workers those behind them. Any want of memory ends the call.
 pub fn run_schedule(
     alloc: Global,
     wiring: &Wiring,

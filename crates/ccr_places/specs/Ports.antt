@@ -39,7 +39,7 @@ claimant port = option_map (λ (claim : StandingClaim). claim.task) port.claim
 abbrev pub is_claimed_by : PortState → TaskId → Bool
 is_claimed_by port task = option_map_or (λ (claim : StandingClaim). same_task task claim.task) port.claim false
 
--- the first messages that satisfy the predicate, at most so many
+-- from the oldest on, what the predicate takes, until there are so many
 abbrev pub first_fitting : ℕ → Pred → List Msg → List Msg
 first_fitting count pred messages = take count (fitting pred messages)
 

@@ -60,9 +60,9 @@ fn put_record(
     Ok(out)
 }
 
-/// The record of a run with so many workers: the wiring's text as it is, LF, the line `record 1 N`, a line `turn A` for each
-/// turn, and the last line `done 0`. Where the text says a wiring, and each turn is that of one of its posters or of the workers,
-/// it is read as that record.
+/// Writes the record of a run with so many workers. The wiring's text comes first, unchanged and with LF behind it; then the
+/// line `record 1 N`, each turn as `turn A`, and the last line `done 0`. Where the text says a wiring and has at most 1,048,576
+/// bytes, there are at most 16 workers, and each turn is that of one of its posters or of the workers, it is read as that record.
 pub fn write_record(
     alloc: Global,
     wiring_text: &[u8],

@@ -50,7 +50,7 @@ fn next_line(
     Ok(Some(Event::Post(message_of(alloc, id, sent)?)))
 }
 
-/// The next line of the lowest poster that has one left, which the number goes on to.
+/// The post that is due next: the lowest poster with posts left makes it. `poster` skips those that have none.
 pub(crate) fn first_post(
     alloc: Global,
     wiring: &Wiring,

@@ -7,7 +7,8 @@ ghost use Rattle.ccr_model.specs.declared.history.Event.{Event};
 ghost use Rattle.ccr_model.specs.Legal.{IsLegal, IsQuiet};
 ghost use Rattle.ccr_service.specs.Stillness.{HasNoAwaits, IsStill};
 
-/// Where no handler awaits, no task waits, is ready, is queued or runs once nothing more is allowed.
+/// Of a wiring with its queues, at most 32 posters and no handler that awaits: once nothing more is allowed after a legal history,
+/// no task waits, is ready, is queued or runs.
 pub fn quiet_is_still()
     ensures { (wiring : Parts) → HasQueues wiring → HasNoAwaits wiring → length wiring.posters ≤ 32 → (history : List Event) → IsLegal wiring history → IsQuiet wiring history → IsStill wiring history }
 {}

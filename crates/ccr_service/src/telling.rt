@@ -55,8 +55,8 @@ fn all_clients(
     Ok(answers)
 }
 
-/// One answer for each request, client by client in order, after a legal, complete and quiet history of the service's wiring. It
-/// takes a time that grows with the history and the requests alone.
+/// One answer for each request, client by client in order, after a legal, complete and quiet history of the service's wiring.
+/// It goes through the history once, and then looks each request up.
 pub fn answers(
     alloc: Global,
     service: &Service,

@@ -146,7 +146,7 @@ fn start(alloc: Global, wiring: &Wiring, branches: usize) -> Result<Counters, Ou
     })
 }
 
-/// The counters of the flow; none where each closed list has more task posts than the budget.
+/// Counts the flow; none where no closed list stays within the budget.
 pub fn find_flow(
     alloc: Global,
     wiring: &Wiring,

@@ -41,8 +41,8 @@ post a 2
 end
 ";
 
-/// How often a handler looks whether the other has started.
-const LOOKS: u32 = 20_000_000;
+/// How often a handler looks whether the other has started. Many seconds of looking, since a busy machine may let the other thread wait.
+const LOOKS: u64 = 20_000_000_000;
 
 /// The wiring that the text says.
 pub fn wiring_of(rt: &impl Abort, alloc: Global, text: &str) -> Wiring {

@@ -13,8 +13,8 @@ use std::test::*;
 const WIRING: &[u8] =
     b"ccr 1\nqueue q unbounded\nhandler h\nend\nport a\nport b\nport c\nreceive j always q h take a 1 any b 1 any\nreceive r always q h take c 1 any\nposter p0\npost a 1\nend\nposter p1\npost c 2\nend\n";
 
-/// How often an actor looks whether the other has come.
-const LOOKS: u32 = 20_000_000;
+/// How often an actor looks whether the other has come. Many seconds of looking, since a busy machine may let the other thread wait.
+const LOOKS: u64 = 20_000_000_000;
 
 /// Holds poster 0 behind its first claim until poster 1 has fired, and poster 1 behind its firing until poster 0 has claimed.
 #[derive(Drop)]

@@ -46,6 +46,6 @@ abbrev pub place_or_end : List ℕ → Option (ℕ × ℕ) → ℕ × ℕ
 place_or_end text None = (length text, length (cut text))
 place_or_end text (Some place) = place
 
--- the byte where the first line begins whose first word is this one, and how many lines stand before it
+-- the first line that opens with this word: the byte it begins at, and the lines before it
 abbrev pub line_of : List ℕ → List ℕ → ℕ × ℕ
 line_of text word = place_or_end text (begin_from word 0 0 (cut text))

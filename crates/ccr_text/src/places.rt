@@ -34,8 +34,8 @@ fn begins_with(word: &[u8], line: &[u8]) -> bool
     }
 }
 
-/// The byte where the first line begins whose first word is `word`, and how many lines stand before it; without such a
-/// line the text's length and its number of lines. One pass, which takes no memory.
+/// Finds the first line that opens with `word`: the byte it begins at and the lines before it. Where none does, the end of
+/// the text and all its lines. One pass, which takes no memory.
 pub fn line_of(text: &[u8], word: &[u8]) -> (usize, u32)
     requires { length text.now ≤ 33554432 }
     ensures place { result ≡ line_of text.now word.now }

@@ -37,7 +37,7 @@ pub fn cut_word(line: &[u8]) -> (&[u8], Option<&[u8]>)
     (line, None)
 }
 
-/// The words of a line: the longest runs of the bytes 33 to 126.
+/// The words of a line. A word goes on as long as its bytes are printable and no space (33 to 126).
 pub fn words_in(alloc: Global, line: &[u8]) -> Result<List<Name>, OutOfMemory>
     ensures { IfOk result (λ words. words ≡ words_of line.now) }
 {

@@ -12,8 +12,8 @@ use std::sync::{Arc, Wait};
 use std::test::*;
 use std::thread;
 
-// How often the first object looks at the flag.
-const LOOKS: u32 = 20_000_000;
+// How often the first object looks at the flag. Many seconds of looking, since a busy machine may let the other thread wait.
+const LOOKS: u64 = 20_000_000_000;
 
 #[derive(Drop)]
 enum Meeting {

@@ -19,7 +19,7 @@ fn last_stamp<N>(history: &Vec<Held<N>>) -> u128
     }
 }
 
-// Takes room for one entry, lets the object act, and appends the entry. At `Err` nothing changed.
+// Reserves the entry's room first, so that what the object did is always written down. At `Err` nothing changed.
 pub(crate) fn play<O: Kept>(
     cell: &mut Cell<O, O::Note>,
     number: u32,

@@ -1,0 +1,440 @@
+//! What the kit's library has and Rust's doesn't: containers that say where memory is short. As far as the crates use it.
+#![allow(dead_code)]
+use std::borrow::Borrow;
+use std::collections::TryReserveError;
+use std::hash::{Hash, Hasher};
+use std::ops::{Deref, DerefMut};
+
+#[derive(Clone, Copy)]
+pub struct Global;
+
+#[derive(Debug)]
+pub struct AllocError;
+
+/// A value that found no room.
+pub struct AllocFailed<T> {
+    pub value: T,
+}
+
+impl From<TryReserveError> for AllocError {
+    fn from(_: TryReserveError) -> Self {
+        AllocError
+    }
+}
+
+pub mod prelude {
+    pub use super::{ToTextIn, Vec};
+}
+
+#[derive(Debug, PartialEq, Eq, Hash)]
+pub struct Vec<T>(std::vec::Vec<T>);
+
+impl<T> Vec<T> {
+    pub const fn new(_: Global) -> Self {
+        Vec(std::vec::Vec::new())
+    }
+
+    pub fn with_capacity(_: Global, count: usize) -> Result<Self, AllocError> {
+        let mut items = std::vec::Vec::new();
+        items.try_reserve_exact(count)?;
+        Ok(Vec(items))
+    }
+
+    pub fn push(&mut self, item: T) -> Result<(), AllocFailed<T>> {
+        if self.0.len() == self.0.capacity() && self.0.try_reserve(1).is_err() {
+            return Err(AllocFailed { value: item });
+        }
+        self.0.push(item);
+        Ok(())
+    }
+
+    pub fn reserve(&mut self, count: usize) -> Result<(), AllocError> {
+        Ok(self.0.try_reserve(count)?)
+    }
+
+    pub fn push_reserved(&mut self, item: T) {
+        self.0.push(item)
+    }
+
+    pub fn append(&mut self, other: &mut Vec<T>) -> Result<(), AllocError> {
+        self.0.try_reserve(other.0.len())?;
+        self.0.append(&mut other.0);
+        Ok(())
+    }
+
+    pub fn as_slice(&self) -> &[T] {
+        &self.0
+    }
+
+    pub fn remove(&mut self, at: usize) -> T {
+        self.0.remove(at)
+    }
+
+    pub fn clear(&mut self) {
+        self.0.clear()
+    }
+
+    pub fn truncate(&mut self, count: usize) {
+        self.0.truncate(count)
+    }
+
+    pub fn pop(&mut self) -> Option<T> {
+        self.0.pop()
+    }
+
+    pub fn retain<F: FnMut(&T) -> bool>(&mut self, stays: F) {
+        self.0.retain(stays)
+    }
+}
+
+impl<T: Copy> Vec<T> {
+    pub fn from_slice(alloc: Global, items: &[T]) -> Result<Self, AllocError> {
+        let mut all = Vec::with_capacity(alloc, items.len())?;
+        all.0.extend_from_slice(items);
+        Ok(all)
+    }
+
+    pub fn extend_from_slice(&mut self, items: &[T]) -> Result<(), AllocError> {
+        self.0.try_reserve(items.len())?;
+        self.0.extend_from_slice(items);
+        Ok(())
+    }
+
+    pub fn from_elem(_: Global, item: T, count: usize) -> Result<Self, AllocError> {
+        Ok(Vec(std::vec![item; count]))
+    }
+}
+
+impl<T> Deref for Vec<T> {
+    type Target = [T];
+    fn deref(&self) -> &[T] {
+        &self.0
+    }
+}
+
+impl<T> DerefMut for Vec<T> {
+    fn deref_mut(&mut self) -> &mut [T] {
+        &mut self.0
+    }
+}
+
+impl<T> Borrow<[T]> for Vec<T> {
+    fn borrow(&self) -> &[T] {
+        &self.0
+    }
+}
+
+impl<T> IntoIterator for Vec<T> {
+    type Item = T;
+    type IntoIter = std::vec::IntoIter<T>;
+    fn into_iter(self) -> Self::IntoIter {
+        self.0.into_iter()
+    }
+}
+
+impl<'a, T> IntoIterator for &'a Vec<T> {
+    type Item = &'a T;
+    type IntoIter = std::slice::Iter<'a, T>;
+    fn into_iter(self) -> Self::IntoIter {
+        self.0.iter()
+    }
+}
+
+pub struct VecDeque<T>(std::collections::VecDeque<T>);
+
+impl<T> VecDeque<T> {
+    pub const fn new(_: Global) -> Self {
+        VecDeque(std::collections::VecDeque::new())
+    }
+
+    pub fn push_back(&mut self, item: T) -> Result<(), AllocFailed<T>> {
+        if self.0.len() == self.0.capacity() && self.0.try_reserve(1).is_err() {
+            return Err(AllocFailed { value: item });
+        }
+        self.0.push_back(item);
+        Ok(())
+    }
+}
+
+impl<T> Deref for VecDeque<T> {
+    type Target = std::collections::VecDeque<T>;
+    fn deref(&self) -> &Self::Target {
+        &self.0
+    }
+}
+
+impl<T> DerefMut for VecDeque<T> {
+    fn deref_mut(&mut self) -> &mut Self::Target {
+        &mut self.0
+    }
+}
+
+pub struct BTreeSet<T>(std::collections::BTreeSet<T>);
+
+impl<T: Ord> BTreeSet<T> {
+    pub const fn new(_: Global) -> Self {
+        BTreeSet(std::collections::BTreeSet::new())
+    }
+
+    pub fn insert(&mut self, item: T) -> Result<bool, AllocError> {
+        Ok(self.0.insert(item))
+    }
+}
+
+impl<T> Deref for BTreeSet<T> {
+    type Target = std::collections::BTreeSet<T>;
+    fn deref(&self) -> &Self::Target {
+        &self.0
+    }
+}
+
+impl<T> DerefMut for BTreeSet<T> {
+    fn deref_mut(&mut self) -> &mut Self::Target {
+        &mut self.0
+    }
+}
+
+/// A hash by multiplying and folding, as the kit's maps have it.
+#[derive(Default)]
+struct Folding(u64);
+
+impl Folding {
+    fn fold(&mut self, number: u64) {
+        let product = u128::from(self.0 ^ number ^ 0x243F_6A88_85A3_08D3) * 0x9E37_79B9_7F4A_7C15;
+        self.0 = (product as u64) ^ ((product >> 64) as u64);
+    }
+}
+
+impl Hasher for Folding {
+    fn finish(&self) -> u64 {
+        self.0
+    }
+
+    fn write(&mut self, bytes: &[u8]) {
+        for part in bytes.chunks(8) {
+            let mut number = [0; 8];
+            number[..part.len()].copy_from_slice(part);
+            self.fold(u64::from_le_bytes(number));
+        }
+    }
+
+    fn write_u8(&mut self, number: u8) {
+        self.fold(u64::from(number))
+    }
+
+    fn write_u32(&mut self, number: u32) {
+        self.fold(u64::from(number))
+    }
+
+    fn write_u64(&mut self, number: u64) {
+        self.fold(number)
+    }
+
+    fn write_usize(&mut self, number: usize) {
+        self.fold(number as u64)
+    }
+
+    fn write_isize(&mut self, number: isize) {
+        self.fold(number as u64)
+    }
+}
+
+fn hash_of<Q: Hash + ?Sized>(key: &Q) -> u64 {
+    let mut hasher = Folding::default();
+    key.hash(&mut hasher);
+    hasher.finish()
+}
+
+/// No place in a table.
+const FREE: u32 = u32::MAX;
+
+/// A map that keeps the order in which keys came.
+pub struct IndexMap<K, V> {
+    keys: std::vec::Vec<K>,
+    values: std::vec::Vec<V>,
+    hashes: std::vec::Vec<u64>,
+    /// The places of the keys, by hash; a power of two of them.
+    table: std::vec::Vec<u32>,
+}
+
+impl<K: Eq + Hash, V> IndexMap<K, V> {
+    pub const fn new(_: Global) -> Self {
+        IndexMap {
+            keys: std::vec::Vec::new(),
+            values: std::vec::Vec::new(),
+            hashes: std::vec::Vec::new(),
+            table: std::vec::Vec::new(),
+        }
+    }
+
+    pub fn get_index_of<Q: Hash + Eq + ?Sized>(&self, key: &Q) -> Option<usize>
+    where
+        K: Borrow<Q>,
+    {
+        if self.table.is_empty() {
+            return None;
+        }
+        let (hash, mask) = (hash_of(key), self.table.len() - 1);
+        let mut at = hash as usize & mask;
+        loop {
+            let place = self.table[at];
+            if place == FREE {
+                return None;
+            }
+            let place = place as usize;
+            if self.hashes[place] == hash && self.keys[place].borrow() == key {
+                return Some(place);
+            }
+            at = (at + 1) & mask;
+        }
+    }
+
+    pub fn get<Q: Hash + Eq + ?Sized>(&self, key: &Q) -> Option<&V>
+    where
+        K: Borrow<Q>,
+    {
+        Some(&self.values[self.get_index_of(key)?])
+    }
+
+    pub fn get_mut<Q: Hash + Eq + ?Sized>(&mut self, key: &Q) -> Option<&mut V>
+    where
+        K: Borrow<Q>,
+    {
+        let place = self.get_index_of(key)?;
+        Some(&mut self.values[place])
+    }
+
+    pub fn contains_key<Q: Hash + Eq + ?Sized>(&self, key: &Q) -> bool
+    where
+        K: Borrow<Q>,
+    {
+        self.get_index_of(key).is_some()
+    }
+
+    pub fn get_index(&self, place: usize) -> Option<(&K, &V)> {
+        Some((self.keys.get(place)?, &self.values[place]))
+    }
+
+    pub fn len(&self) -> usize {
+        self.keys.len()
+    }
+
+    pub fn iter(&self) -> impl Iterator<Item = (&K, &V)> {
+        self.keys.iter().zip(self.values.iter())
+    }
+
+    pub fn insert(&mut self, key: K, value: V) -> Result<Option<V>, AllocError> {
+        if let Some(place) = self.get_index_of(&key) {
+            return Ok(Some(std::mem::replace(&mut self.values[place], value)));
+        }
+        if (self.keys.len() + 1) * 4 > self.table.len() * 3 {
+            self.grow();
+        }
+        let hash = hash_of(&key);
+        self.enter(hash, self.keys.len());
+        self.keys.push(key);
+        self.values.push(value);
+        self.hashes.push(hash);
+        Ok(None)
+    }
+
+    fn enter(&mut self, hash: u64, place: usize) {
+        let mask = self.table.len() - 1;
+        let mut at = hash as usize & mask;
+        while self.table[at] != FREE {
+            at = (at + 1) & mask;
+        }
+        self.table[at] = place as u32;
+    }
+
+    fn grow(&mut self) {
+        let size = (self.table.len() * 2).max(16);
+        self.table.clear();
+        self.table.resize(size, FREE);
+        for place in 0..self.hashes.len() {
+            self.enter(self.hashes[place], place);
+        }
+    }
+}
+
+pub type HashMap<K, V> = IndexMap<K, V>;
+
+pub struct IndexSet<K>(IndexMap<K, ()>);
+
+impl<K: Eq + Hash> IndexSet<K> {
+    pub const fn new(alloc: Global) -> Self {
+        IndexSet(IndexMap::new(alloc))
+    }
+
+    pub fn insert(&mut self, key: K) -> Result<bool, AllocError> {
+        Ok(self.0.insert(key, ())?.is_none())
+    }
+
+    pub fn get_index_of<Q: Hash + Eq + ?Sized>(&self, key: &Q) -> Option<usize>
+    where
+        K: Borrow<Q>,
+    {
+        self.0.get_index_of(key)
+    }
+
+    pub fn contains<Q: Hash + Eq + ?Sized>(&self, key: &Q) -> bool
+    where
+        K: Borrow<Q>,
+    {
+        self.0.contains_key(key)
+    }
+
+    pub fn len(&self) -> usize {
+        self.0.len()
+    }
+}
+
+pub type HashSet<K> = IndexSet<K>;
+
+/// What contracts see of a value. It has nothing here.
+pub struct Snapshot<T>(std::marker::PhantomData<T>);
+
+/// A number's digits.
+pub struct Buffer([u8; 20]);
+
+impl Buffer {
+    pub fn new() -> Self {
+        Buffer([0; 20])
+    }
+
+    pub fn format(&mut self, number: u64) -> &str {
+        let (mut left, mut at) = (number, self.0.len());
+        while left >= 10 {
+            at -= 2;
+            self.0[at..at + 2].copy_from_slice(&PAIRS[(left % 100) as usize]);
+            left /= 100;
+        }
+        if left > 0 || number == 0 {
+            at -= 1;
+            self.0[at] = b'0' + left as u8;
+        }
+        // (they are digits)
+        unsafe { std::str::from_utf8_unchecked(&self.0[at..]) }
+    }
+}
+
+/// The numbers below 100, two digits each.
+static PAIRS: [[u8; 2]; 100] = {
+    let mut pairs = [[0; 2]; 100];
+    let mut number = 0;
+    while number < 100 {
+        pairs[number] = [b'0' + (number / 10) as u8, b'0' + (number % 10) as u8];
+        number += 1;
+    }
+    pairs
+};
+
+pub trait ToTextIn {
+    fn to_text_in(&self, alloc: Global) -> Result<String, AllocError>;
+}
+
+impl ToTextIn for u64 {
+    fn to_text_in(&self, _: Global) -> Result<String, AllocError> {
+        Ok(self.to_string())
+    }
+}
