@@ -18,7 +18,7 @@ use std::sync::Wait;
 use std::thread::Threads;
 
 /// The entries of the closed run. Where it names an actor that was told of want of memory, that is the answer.
-fn unless_short(closed: Closed) -> Result<Full, OutOfMemory>
+fn entries_unless_short(closed: Closed) -> Result<Full, OutOfMemory>
     ensures short { is_ok result ≡ (length closed.short == 0) }
     ensures entries { IfOk result (λ full. full ≡ closed.full) }
 {
@@ -43,7 +43,7 @@ fn threaded_turns<R: AllocGlobal + Threads + Wait + Sync, G: Gate + Sync>(
     schedules_give_runs_again();
     let alloc = rt.alloc();
     let closed = run_threads_in_full(rt, alloc, wiring, workers, gate)?;
-    let full = unless_short(closed)?;
+    let full = entries_unless_short(closed)?;
     match schedule_of(alloc, wiring, workers, &full)? {
         Some(turns) => Ok(turns),
         None => unreachable!(),

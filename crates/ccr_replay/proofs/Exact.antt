@@ -16,7 +16,7 @@ use Rattle.ccr_schedule.specs.Turns.{reading_turns, turns_on}
 use Rattle.ccr_schedule.proofs.LinesSaid as turns_lines
 use Rattle.ccr_replay.specs.declared.records.Record.{Record}
 use Rattle.ccr_replay.specs.Grammar.{AreRecord, AreSkipped, IsLastLine, IsRecordLine, Says}
-use Rattle.ccr_replay.specs.Reading.{after_feed, and_then, behind_first, done_in, done_on, done_place, ending, line_at, on_line, output_part, part_before, reading_behind, reading_lines, reading_part, reading_record, record_behind, record_place, skipped_in, skipped_lines, skipped_on, turns_behind, wiring_part, workers_in, workers_of, workers_on}
+use Rattle.ccr_replay.specs.Reading.{after_feed, and_then, behind_first, done_in, done_on, done_place, ending, line_at, on_line, recorded_turns, part_before, reading_behind, reading_lines, reading_part, reading_record, record_behind, record_place, skipped_in, skipped_lines, skipped_on, turns_behind, recorded_wiring, workers_in, workers_of, workers_on}
 use Rattle.ccr_replay.proofs.Cuts.{cut_after, found_at, fronted, parted}
 use Rattle.ccr_replay.proofs.NoRecord.{no_record}
 use Rattle.ccr_replay.proofs.Splits.{cut_behind, ended_free, found, none_begins, out_is, part_is, passed, spans, spans_ended}
@@ -127,11 +127,11 @@ read text r says =
     let bytes = t ++ 10 ∷ b in
     let wiring : reading_text t ≡ Ok r.wiring = text_read t r.wiring says.wiring in
     let place = record_found t b are.first (are.middle ++ are.last ∷ are.others) (no_record t r.wiring wiring) are.all (record_begins r.workers are.first are.first_line) in
-    let part : wiring_part bytes ≡ t = ap (λ (p : ℕ × ℕ). part_before p.0 bytes) place ∙ part_is t b (some_bytes b are.first (are.middle ++ are.last ∷ are.others) are.all) in
-    let out : output_part bytes ≡ b = ap (λ (p : ℕ × ℕ). drop p.0 bytes) place ∙ out_is t b in
+    let part : recorded_wiring bytes ≡ t = ap (λ (p : ℕ × ℕ). part_before p.0 bytes) place ∙ part_is t b (some_bytes b are.first (are.middle ++ are.last ∷ are.others) are.all) in
+    let out : recorded_turns bytes ≡ b = ap (λ (p : ℕ × ℕ). drop p.0 bytes) place ∙ out_is t b in
     ap reading_record says.whole
-    ∙ ap (λ (x : List ℕ). and_then (reading_part x) (λ w. reading_behind w (record_place bytes).1 (output_part bytes))) part
-    ∙ ap (λ (x : Result Parts (ℕ × ℕ)). and_then x (λ w. reading_behind w (record_place bytes).1 (output_part bytes))) (part_read t r.wiring says.short wiring)
+    ∙ ap (λ (x : List ℕ). and_then (reading_part x) (λ w. reading_behind w (record_place bytes).1 (recorded_turns bytes))) part
+    ∙ ap (λ (x : Result Parts (ℕ × ℕ)). and_then x (λ w. reading_behind w (record_place bytes).1 (recorded_turns bytes))) (part_read t r.wiring says.short wiring)
     ∙ ap (reading_behind r.wiring (record_place bytes).1) out
     ∙ lines_read r.wiring (record_place bytes).1 r.workers r.turns b are
 

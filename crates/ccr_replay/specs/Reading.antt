@@ -12,7 +12,7 @@ use Rattle.ccr_replay.specs.declared.records.Record.{Record}
 
 -- ---- what stands where
 
--- where the first line begins whose first word is `record`, and how many lines stand before it; else the text's length and its lines
+-- the line that opens with `record`: the byte it begins at and the lines before it; where there is none, the end of the text and all its lines
 abbrev pub record_place : List ℕ → ℕ × ℕ
 record_place bytes = line_of bytes (codes "record")
 
@@ -20,12 +20,13 @@ record_place bytes = line_of bytes (codes "record")
 abbrev pub part_before : ℕ → List ℕ → List ℕ
 part_before place bytes = if nat_lt place (length bytes) then take (place - 1) bytes else bytes
 
-abbrev pub wiring_part : List ℕ → List ℕ
-wiring_part bytes = part_before (record_place bytes).0 bytes
+-- the text of the wiring that was recorded
+abbrev pub recorded_wiring : List ℕ → List ℕ
+recorded_wiring bytes = part_before (record_place bytes).0 bytes
 
 -- the line of the record and all behind it
-abbrev pub output_part : List ℕ → List ℕ
-output_part bytes = drop (record_place bytes).0 bytes
+abbrev pub recorded_turns : List ℕ → List ℕ
+recorded_turns bytes = drop (record_place bytes).0 bytes
 
 -- what stands behind the first LF
 abbrev pub after_feed : List ℕ → List ℕ
@@ -135,4 +136,4 @@ reading_behind wiring before bytes = reading_lines wiring before bytes (cut byte
 
 -- the record that a text says, or its first offending line and the code
 abbrev pub reading_record : List ℕ → Result Record (ℕ × ℕ)
-reading_record bytes = and_then (reading_part (wiring_part bytes)) (λ wiring. reading_behind wiring (record_place bytes).1 (output_part bytes))
+reading_record bytes = and_then (reading_part (recorded_wiring bytes)) (λ wiring. reading_behind wiring (record_place bytes).1 (recorded_turns bytes))
