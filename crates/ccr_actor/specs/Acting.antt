@@ -38,6 +38,7 @@ due_in (going due) = due
 abbrev pub bare : List Asked → State
 bare hand = record (fresh_state resting) { hand = hand; is_short = true }
 
+-- the state of an actor that was told of want of memory, where it was
 abbrev pub kept_if : Bool → State → State
 kept_if true state = bare state.hand
 kept_if false state = state
@@ -54,6 +55,7 @@ at_state wiring actor state = record { wiring = wiring; actor = actor; state = k
 abbrev pub started : Parts → ℕ → Acting
 started wiring actor = at_state wiring actor (start wiring actor)
 
+-- the place and what is asked of it
 abbrev pub pair_of : Asked → Place × Ask
 pair_of one = (one.place, one.ask)
 
@@ -70,15 +72,18 @@ sent_work (playing task place play) = sent_play task place play play.posts play.
 sent_work (posting task place play sent) = posting task place play (record sent { causes = [] })
 sent_work work = work
 
+-- the state once the ask of this turn was sent
 abbrev pub sent_state : State → Turn → State
 sent_state state (settle one more) = record state { hand = more }
 sent_state state go_on = record state { work = sent_work state.work }
 sent_state state _ = state
 
+-- what the actor waits for after this ask: an end of what it owes, or the next step
 abbrev pub asking_by : Turn → Ask → Asking
 asking_by (settle one more) ask = settling (due_of ask)
 asking_by _ ask = going (due_of ask)
 
+-- what the actor waits for; nothing where it asked nothing
 abbrev pub asking_of : Turn → Option Asked → Asking
 asking_of part None = quiet
 asking_of part (Some one) = asking_by part one.ask
@@ -93,11 +98,13 @@ sent a = record a { state = sent_state a.state (turn a.state); asking = asking_o
 
 -- ---- once that is answered
 
+-- the state once the reply came
 abbrev pub state_after_reply : Acting → Asking → Reply → State
 state_after_reply a quiet reply = a.state
 state_after_reply a (settling due) reply = settled a.wiring a.state a.state.hand reply
 state_after_reply a (going due) reply = after a.wiring a.actor a.state reply
 
+-- the actor once the reply came
 abbrev pub answered : Acting → Reply → Acting
 answered a reply = at_state a.wiring a.actor (state_after_reply a a.asking reply)
 
@@ -112,6 +119,7 @@ IsAfter a (Err refused) new = new ≡ shortened a
 
 -- ---- rest
 
+-- whether it waits for nothing and asks nothing
 abbrev pub rests_by : Asking → Option Asked → Bool
 rests_by quiet None = true
 rests_by asking one = false

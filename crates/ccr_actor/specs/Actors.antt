@@ -58,28 +58,35 @@ name_at actor state = record { actor = actor; attempt = state.attempt }
 
 -- ---- the ask
 
+-- the message that a task's post is
 abbrev pub task_message : TaskId → ℕ → Sent → Msg
 task_message task place sent = record { id = names.Task task place; port = sent.port; value = sent.value; causes = sent.causes }
 
+-- the message that a poster's line is
 abbrev pub script_message : ℕ → ℕ → Sent → Msg
 script_message actor place sent = record { id = names.Script actor place; port = sent.port; value = sent.value; causes = sent.causes }
 
+-- how the end of a play is told: the root is over, or the task is suspended
 abbrev pub end_ask : Task → Play → PlayEnd → Asked
 end_ask task play plays.Done = at_place (places.Arbiter task.arbiter) (asks.Over task.id task.root hows.Done)
 end_ask task play (plays.Failed value) = at_place (places.Arbiter task.arbiter) (asks.Over task.id task.root (hows.Failed value))
 end_ask task play (plays.Yield site) = at_place (places.Site (branch_of task.spot) (segment_of task.spot)) (asks.Suspend (record task { causes = play.causes }))
 
+-- a draw from the budget for the next post; the end where no post is left
 abbrev pub play_ask : Task → Play → List Sent → Asked
 play_ask task play [] = end_ask task play play.end
 play_ask task play (sent ∷ posts) = at_place places.Meter asks.Draw
 
+-- the next line's post; where none is left the poster leaves
 abbrev pub line_ask : ℕ → ℕ → List Sent → Asked
 line_ask actor place [] = at_place places.Meter asks.Leave
 line_ask actor place (sent ∷ sents) = at_place (places.Port sent.port) (asks.Post (script_message actor place sent))
 
+-- the post that was drawn for
 abbrev pub post_ask : Task → ℕ → Sent → Asked
 post_ask task place sent = at_place (places.Port sent.port) (asks.Post (task_message task.id place sent))
 
+-- what the work asks next; nothing where it rests
 abbrev pub work_ask : ℕ → Work → Option Asked
 work_ask actor (lines place sents) = Some (line_ask actor place sents)
 work_ask actor round = Some (at_place places.Meter asks.Left)
@@ -97,6 +104,7 @@ pub data Turn : Type 0 where
   go_on : Turn
   stop : Turn
 
+-- what comes first: what is owed, then admissions, then attempts, then the work
 abbrev pub turn_of : Bool → List Asked → List ℕ → List Spot → Turn
 turn_of short (asked ∷ more) arbiters spots = settle asked more
 turn_of true [] arbiters spots = stop
@@ -108,9 +116,11 @@ turn_of false [] [] [] = go_on
 abbrev pub spots_left : State → List Spot
 spots_left state = if nat_lt state.attempt (2 ^ 32) then state.spots else []
 
+-- what the actor turns to next
 abbrev pub turn : State → Turn
 turn state = turn_of state.is_short state.hand state.arbiters (spots_left state)
 
+-- the ask of this turn
 abbrev pub ask_in : Parts → ℕ → State → Turn → Option Asked
 ask_in wiring actor state (settle asked more) = Some asked
 ask_in wiring actor state (admit arbiter more) = Some (at_place (places.Arbiter arbiter) asks.Admit)
@@ -146,6 +156,7 @@ strike state more = record state { arbiters = more }
 abbrev pub put_admitted : State → List ℕ → Task → State
 put_admitted state more task = record state { hand = put_ask task ∷ []; admitted = state.admitted + 1; arbiters = if nat_lt (state.admitted + 1) 32768 then state.arbiters else [] }
 
+-- an admitted task is queued; else this domain is done
 abbrev pub after_admit : State → List ℕ → Reply → State
 after_admit state more (replies.Admitted (Some task)) = put_admitted state more task
 after_admit state more _ = strike state more
@@ -154,6 +165,7 @@ after_admit state more _ = strike state more
 abbrev pub end_attempt : State → List Asked → List Spot → State
 end_attempt state hand spots = record state { hand = hand; spots = spots; phase = booking; attempt = state.attempt + 1 }
 
+-- the attempt ends, and hands back what it has
 abbrev pub give_up : Parts → ℕ → State → Spot → List Spot → State
 give_up wiring actor state spot more = end_attempt state (release (plan_of wiring spot) (name_at actor state) state.phase) more
 
@@ -166,10 +178,12 @@ admissions_after wiring spot (Some task) = []
 abbrev pub driven_on : State → Spot → List Spot → List Spot
 driven_on state spot more = if nat_lt (state.fired + 1) 32768 then spot ∷ more else []
 
+-- the attempt ends with a firing; what that asks for is owed
 abbrev pub fire : Parts → ℕ → State → Spot → List Spot → Option Task → List Cut → State
 fire wiring actor state spot more task cuts =
     record (end_attempt state (firing_hand (name_at actor state) (had_in state.phase) task cuts) (driven_on state spot more)) { fired = state.fired + 1; arbiters = admissions_after wiring spot task; admitted = 0 }
 
+-- the attempt after a reply
 abbrev pub after_attempt : Parts → ℕ → State → Spot → List Spot → Reply → State
 after_attempt wiring actor state spot more replies.Booked = record state { phase = claiming (slots_in (plan_of wiring spot).pattern) [] }
 after_attempt wiring actor state spot more (replies.Got messages) = record state { phase = claimed (plan_of wiring spot) messages state.phase }
@@ -193,9 +207,11 @@ take_from wiring state left queue (part ∷ parts) = record state { work = takin
 abbrev pub play_in : Parts → Task → Play
 play_in wiring task = play (exception_port wiring) task.values (segment_of task.spot) task.causes (actions_from (segment_of task.spot) (option_map_or (λ (s : Placement). actions_of wiring s.branch.handler) (placement wiring (branch_of task.spot)) []))
 
+-- the task that was taken is played
 abbrev pub begin_play : Parts → State → ℕ → Task → State
 begin_play wiring state queue task = record (driving state (throttled wiring queue (policy_of wiring queue))) { work = playing task 0 (play_in wiring task); taken = state.taken + 1 }
 
+-- a task is played; where there was none the next queue is asked
 abbrev pub after_take : Parts → State → ℕ → ℕ → List QueuePart → Reply → State
 after_take wiring state left queue more (replies.Taken (Some task)) = begin_play wiring state queue task
 after_take wiring state left queue more _ = take_from wiring state left (queue + 1) more
@@ -204,26 +220,32 @@ after_take wiring state left queue more _ = take_from wiring state left (queue +
 abbrev pub next_round : ℕ → Work
 next_round taken = if nat_lt taken 32768 then round else resting
 
+-- the work goes on, and the domain of the root is asked for admissions
 abbrev pub after_over : Parts → State → Task → State
 after_over wiring state task = record state { work = next_round state.taken; arbiters = add_arbiter wiring task.arbiter state.arbiters; admitted = 0 }
 
+-- a suspended task's site is driven; else the root was over
 abbrev pub after_end : Parts → State → Task → PlayEnd → State
 after_end wiring state task (plays.Yield site) = record (driving state (next_site task.spot ∷ [])) { work = next_round state.taken }
 after_end wiring state task _ = after_over wiring state task
 
+-- a post that was drawn for comes next, a task without budget is shed, and an end goes on
 abbrev pub after_play : Parts → State → Task → ℕ → Play → List Sent → Reply → State
 after_play wiring state task place play [] reply = after_end wiring state task play.end
 after_play wiring state task place play (sent ∷ posts) (replies.Drawn n) = record state { work = posting task place (record play { posts = posts }) sent }
 after_play wiring state task place play (sent ∷ posts) _ = record state { work = shedding task }
 
+-- the spots at the port of the line are driven; a poster that left rests
 abbrev pub after_line : Parts → State → ℕ → List Sent → State
 after_line wiring state place [] = record state { work = resting }
 after_line wiring state place (sent ∷ sents) = record (driving state (spots_at wiring sent.port)) { work = lines (place + 1) sents }
 
+-- the queues are asked, where the meter said what is left
 abbrev pub after_round : Parts → State → Reply → State
 after_round wiring state (replies.Left n) = take_from wiring state n 0 wiring.queues
 after_round wiring state _ = state
 
+-- the work after a reply
 abbrev pub after_work : Parts → State → Work → Reply → State
 after_work wiring state (lines place sents) reply = after_line wiring state place sents
 after_work wiring state round reply = after_round wiring state reply
@@ -233,6 +255,7 @@ after_work wiring state (posting task place play sent) reply = record (driving s
 after_work wiring state (shedding task) reply = after_over wiring state task
 after_work wiring state resting reply = state
 
+-- the state after the reply to this turn's ask
 abbrev pub after_in : Parts → ℕ → State → Turn → Reply → State
 after_in wiring actor state (settle asked more) reply = settled wiring state more reply
 after_in wiring actor state (admit arbiter more) reply = after_admit state more reply
@@ -259,6 +282,7 @@ after wiring actor state reply = after_in wiring actor state (turn state) reply
 abbrev pub work_of : Parts → ℕ → Work
 work_of wiring actor = option_map_or (λ (p : PosterPart). lines 0 p.posts) (slice_get wiring.posters actor) round
 
+-- an actor with this work that has made no step
 abbrev pub fresh_state : Work → State
 fresh_state work = record { hand = []; arbiters = []; admitted = 0; spots = []; phase = booking; fired = 0; work = work; attempt = 0; taken = 0; empty = 0; is_short = false }
 

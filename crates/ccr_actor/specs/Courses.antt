@@ -32,10 +32,12 @@ use Rattle.ccr_actor.specs.Inside.{work_of}
 use Rattle.ccr_actor.specs.Plans.{plan_of, arbiter_at}
 use Rattle.ccr_actor.specs.Hands.{AreSettling}
 
+-- what the attempt owes; nothing where there is none
 abbrev pub hand_of : Option AttemptState → List Asked
 hand_of None = []
 hand_of (Some attempt) = attempt.hand
 
+-- how far the attempt is; a new one books first
 abbrev pub phase_of : Option AttemptState → Phase
 phase_of None = booking
 phase_of (Some attempt) = attempt.phase
@@ -50,6 +52,7 @@ abbrev pub due_next : Option AttemptState → Due
 due_next None = dues.Nothing
 due_next (Some attempt) = due_of (attempt_ask attempt.plan attempt.task attempt.phase).ask
 
+-- that a dropped task's root is over, where one was dropped
 abbrev pub dropped_asks : Option Task → List Asked
 dropped_asks None = []
 dropped_asks (Some task) = over_dropped task ∷ []
@@ -95,6 +98,7 @@ abbrev pub IsPast : Option AttemptState → Type 0
 IsPast None = Unit {0}
 IsPast (Some attempt) = HasEnded attempt
 
+-- whether the attempt goes on
 abbrev pub runs_by : Option Outcome → Bool
 runs_by None = true
 runs_by (Some outcome) = false
@@ -197,12 +201,14 @@ abbrev pub IsTold : Part → Due → Reply → Type 0
 IsTold parts.Hand due reply = IsSettlingDue due × (fits due reply ≡ true)
 IsTold _ due reply = due ≡ dues.Nothing
 
+-- what the actor waits for in this part of its course
 abbrev pub asking_in : Part → Due → Asking
 asking_in parts.Over due = settling due
 asking_in parts.Hand due = settling due
 asking_in parts.Put due = settling due
 asking_in _ due = going due
 
+-- what the actor waits for, once this was asked; nothing where nothing was
 abbrev pub asking_by : Option (Part × Asked) → Asking
 asking_by None = quiet
 asking_by (Some taken) = asking_in taken.0 (due_of taken.1.ask)
@@ -259,6 +265,7 @@ target _ wiring actor state (Ok reply) = settled wiring state state.hand reply
 
 -- ---- what is made ready
 
+-- the causes are those of the line's first post, if it has one
 abbrev pub IsLineOf : List Sent → Option (List ℕ) → Type 0
 IsLineOf [] causes = Unit {0}
 IsLineOf (sent ∷ more) causes = causes ≡ Some sent.causes
@@ -316,6 +323,7 @@ IsCounted works.Resting taken empty = Unit {0}
 
 -- ---- the actor
 
+-- what the actor waits for, where an ask has no reply yet
 abbrev pub asking_at : Option (Part × Due) → Asking
 asking_at None = quiet
 asking_at (Some unanswered) = asking_in unanswered.0 unanswered.1

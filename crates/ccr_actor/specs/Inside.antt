@@ -20,6 +20,7 @@ use Rattle.ccr_actor.specs.declared.work.Work.{Work as Works}
 use Rattle.ccr_actor.specs.declared.work.Work.TheVariants as works
 use Rattle.ccr_actor.specs.Actors.{Work, lines, round, taking, playing, posting, shedding, resting}
 
+-- to say that the root of the task is over
 abbrev pub over_ask : Task → How → Asked
 over_ask task how = at_place (places.Arbiter task.arbiter) (asks.Over task.id task.root how)
 
@@ -33,12 +34,15 @@ how_over (plays.Yield site) = None
 abbrev pub suspend_ask : Task → Play → Asked
 suspend_ask task play = at_place (places.Site (branch_of task.spot) (segment_of task.spot)) (asks.Suspend (record task { causes = play.causes }))
 
+-- what the task still plays
 abbrev pub play_of : Playing → Play
 play_of p = record { posts = p.posts.items; end = p.end; causes = p.causes }
 
+-- the work of one who plays
 abbrev pub playing_of : Playing → Work
 playing_of p = playing p.task p.place (play_of p)
 
+-- the work of one who was given budget for this post
 abbrev pub posting_of : Playing → Sent → Work
 posting_of p sent = posting p.task p.place (play_of p) sent
 

@@ -10,6 +10,7 @@ pub record Step : Type 0 where
   pub asked : Asked
   pub reply : Reply
 
+-- the replies of the steps
 abbrev pub replies_of : List Step → List Reply
 replies_of steps = map (λ (step : Step). step.reply) steps
 

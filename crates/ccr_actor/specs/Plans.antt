@@ -59,6 +59,7 @@ abbrev pub throttled : Parts → ℕ → Policy → List Spot
 throttled wiring queue (Throttle n) = filter (is_for wiring queue) (spots wiring)
 throttled wiring queue _ = []
 
+-- whether the arbiter is an Interleave
 abbrev pub is_interleave : Kind → Bool
 is_interleave kinds.Receive = false
 is_interleave kinds.Choice = false

@@ -8,6 +8,7 @@ use Rattle.ccr_actor.specs.Nets.{Step}
 use Rattle.ccr_net.specs.declared.entries.Entry.{Entry}
 use Rattle.ccr_net.specs.Runs.{Lacks, replies_of}
 
+-- the step that an ask and its reply are; none where nothing was asked
 abbrev pub step_to : Option Asked → Reply → List Step
 step_to None reply = []
 step_to (Some one) reply = record { asked = one; reply = reply } ∷ []

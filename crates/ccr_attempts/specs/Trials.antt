@@ -22,9 +22,11 @@ pub record Trial : Type 0 where
   pub lack : Option ℕ
   pub answers : List Answer
 
+-- how the attempt stands after these answers
 abbrev pub state_of : Trial → AttemptState
 state_of t = attempt_after t.plan t.task t.lack t.answers
 
+-- the steps that the attempt made
 abbrev pub steps_of : Trial → List Step
 steps_of t = steps t.plan t.task t.lack t.answers
 
@@ -33,6 +35,7 @@ pub data Stretch : Type 0 where
   between : Step → Stretch
   attempt : Trial → Stretch
 
+-- the steps of a stretch: the one between attempts, or all of an attempt
 abbrev pub steps_in : Stretch → List Step
 steps_in (between step) = step ∷ []
 steps_in (attempt t) = steps_of t
@@ -68,6 +71,7 @@ abbrev pub IsDone : Parts → ℕ → Stretch → Type 0
 IsDone wiring actor (between step) = is_of_attempt step.asked.ask ≡ false
 IsDone wiring actor (attempt t) = IsOwn wiring actor t × (GaveUp t ⊎ Fired t)
 
+-- each stretch is whole
 abbrev pub AreDone : Parts → ℕ → List Stretch → Type 0
 AreDone wiring actor [] = Unit {0}
 AreDone wiring actor (stretch ∷ stretches) = IsDone wiring actor stretch × AreDone wiring actor stretches

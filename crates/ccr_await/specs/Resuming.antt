@@ -37,6 +37,7 @@ abbrev pub reply_of : List Task → Task → Commit
 reply_of [] task = Dead NoneWaiting
 reply_of (first ∷ others) task = Fired (Some (resumed first task)) []
 
+-- what a resuming task is told: it fired, if one is suspended, else it is dead
 abbrev pub commit_reply : SiteTasks → Task → Commit
 commit_reply site task = reply_of site.suspended task
 

@@ -28,6 +28,7 @@ use Rattle.ccr_claim.specs.declared.plan.Had.{Had}
 use Rattle.ccr_claim.specs.Asks.{Answer, due_of}
 use Rattle.ccr_claim.specs.Plans.{slots_in, narrowed, in_pattern, names_of, firing_task, resumes, commit_place}
 
+-- an ask of this place
 abbrev pub at_place : Place → Ask → Asked
 at_place place ask = record { place = place; ask = ask }
 
@@ -47,6 +48,7 @@ had_in (claiming slots had) = had
 abbrev pub commit_ask : ClaimPlan → TaskId → List Msg → Asked
 commit_ask plan name messages = at_place (commit_place plan plan.spot) (asks.Commit (firing_task plan name messages) (names_of messages))
 
+-- the ask for the next slot's messages; the commit once there is no slot left
 abbrev pub claim_ask : ClaimPlan → TaskId → List Slot → List Had → Asked
 claim_ask plan name (slot ∷ slots) had = at_place (places.Port slot.port) (asks.Claim name slot)
 claim_ask plan name [] had = commit_ask plan name (in_pattern plan.pattern had)
@@ -56,18 +58,23 @@ abbrev pub attempt_ask : ClaimPlan → TaskId → Phase → Asked
 attempt_ask plan name booking = at_place (places.Queue plan.queue) (asks.Book name (resumes plan.spot))
 attempt_ask plan name (claiming slots had) = claim_ask plan name slots had
 
+-- to hand the messages back
 abbrev pub free_ask : TaskId → Had → Asked
 free_ask name had = at_place (places.Port had.slot.port) (asks.Free name)
 
+-- to take the messages for good
 abbrev pub consume_ask : TaskId → Had → Asked
 consume_ask name had = at_place (places.Port had.slot.port) (asks.Consume name)
 
+-- to give the room in the queue back
 abbrev pub unbook_ask : ℕ → TaskId → Asked
 unbook_ask queue name = at_place (places.Queue queue) (asks.Unbook name)
 
+-- to give back the room that a cut task had
 abbrev pub cut_ask : Cut → Asked
 cut_ask cut = unbook_ask cut.queue cut.task
 
+-- to queue the task
 abbrev pub put_ask : Task → Asked
 put_ask task = at_place (places.Queue task.queue) (asks.Put task)
 
@@ -100,6 +107,7 @@ pub record AttemptState : Type 0 where
   pub ended : Option Outcome
   pub due : Due
 
+-- an attempt before its first ask
 abbrev pub begun : ClaimPlan → TaskId → AttemptState
 begun plan task = record { plan = plan; task = task; hand = []; phase = booking; ended = None; due = dues.Nothing }
 
@@ -115,6 +123,7 @@ next_of plan task (asked ∷ more) ended phase = nexts.Ask asked.place asked.ask
 next_of plan task [] (Some outcome) phase = nexts.Ended outcome
 next_of plan task [] None phase = nexts.Ask (attempt_ask plan task phase).place (attempt_ask plan task phase).ask
 
+-- what the attempt does next: an ask, or its end
 abbrev pub next : AttemptState → Next
 next state = next_of state.plan state.task state.hand state.ended state.phase
 
@@ -123,6 +132,7 @@ abbrev pub told : Outcome → Outcome
 told (outcomes.Fired waits dropped) = outcomes.Fired waits None
 told (outcomes.GaveUp why) = outcomes.GaveUp why
 
+-- the attempt once its next ask was sent
 abbrev pub sent_of : AttemptState → List Asked → Option Outcome → AttemptState
 sent_of state (asked ∷ more) ended = record state { hand = more; due = due_of asked.ask }
 sent_of state [] (Some outcome) = record state { hand = []; ended = Some (told outcome) }
@@ -177,6 +187,7 @@ abbrev pub answered : AttemptState → Answer → AttemptState
 answered state (Ok reply) = replied state reply
 answered state (Err refused) = given_up whys.Memory state
 
+-- an attempt that is out of memory is given up, unless it has ended
 abbrev pub in_want_of : Option Outcome → AttemptState → AttemptState
 in_want_of None state = given_up whys.Memory state
 in_want_of (Some outcome) state = state

@@ -47,6 +47,7 @@ abbrev pub steps : ClaimPlan → TaskId → Option ℕ → List Answer → List 
 steps plan task None answers = steps_from (begun plan task) answers
 steps plan task (Some n) answers = if nat_le n (length answers) then steps_from (begun plan task) (take n answers) ++ steps_from (wanting plan task n answers) (drop n answers) else steps_from (begun plan task) answers
 
+-- the answers may come in this order; where the attempt is out of memory after so many of them, those behind may come after it gave up
 abbrev pub AreSplit : Bool → ClaimPlan → TaskId → ℕ → List Answer → Type 0
 AreSplit true plan task n answers = MayFollow (begun plan task) (take n answers) × MayFollow (wanting plan task n answers) (drop n answers)
 AreSplit false plan task n answers = MayFollow (begun plan task) answers
@@ -64,10 +65,12 @@ asks_of past = map (λ (step : Step). step.asked) past
 abbrev pub settling : List Asked → List Asked
 settling asked = filter (λ (a : Asked). is_settling a.ask) asked
 
+-- the place, where the answer is that messages were got there
 abbrev pub got_at : Answer → Place → List Place
 got_at (Ok (replies.Got messages)) place = place ∷ []
 got_at _ place = []
 
+-- the place, where the answer is that room was booked there
 abbrev pub booked_at : Answer → Place → List Place
 booked_at (Ok replies.Booked) place = place ∷ []
 booked_at _ place = []
@@ -77,6 +80,7 @@ pub record Shot : Type 0 where
   pub task : Option Task
   pub cuts : List Cut
 
+-- the firing, where the answer is one
 abbrev pub shot_by : Answer → List Shot
 shot_by (Ok (replies.Fired task cuts)) = record { task = task; cuts = cuts } ∷ []
 shot_by _ = []
@@ -97,12 +101,15 @@ shots past = flat_map (λ (step : Step). shot_by step.answer) past
 abbrev pub cuts_of : List Shot → List Cut
 cuts_of fired = flat_map (λ (shot : Shot). shot.cuts) fired
 
+-- to hand back what was got at this place
 abbrev pub free_at : TaskId → Place → Asked
 free_at task place = at_place place (asks.Free task)
 
+-- to take for good what was got at this place
 abbrev pub consume_at : TaskId → Place → Asked
 consume_at task place = at_place place (asks.Consume task)
 
+-- to give back the room that was booked at this place
 abbrev pub unbook_at : TaskId → Place → Asked
 unbook_at task place = at_place place (asks.Unbook task)
 

@@ -12,6 +12,7 @@ use Rattle.ccr_actor.specs.Courses.{owed}
 
 -- ---- what is in hand
 
+-- how many tasks the ask queues
 abbrev pub puts_by : Ask → ℕ
 puts_by (asks.Put task) = 1
 puts_by _ = 0

@@ -22,9 +22,11 @@ use Rattle.ccr_gen.specs.Posters.{posters}
 abbrev pub any_of : ℕ → ℕ → Slot
 any_of port count = record { port = port; least = count; most = count; pred = Any }
 
+-- an unbounded queue, and one that takes eight tasks at a time
 abbrev pub queues : List QueuePart
 queues = record { name = codes "q"; policy = Unbounded } ∷ record { name = codes "t"; policy = Throttle 8 } ∷ []
 
+-- the ports: three that are posted to, the one of the sums, and the one behind them all
 abbrev pub ports : List (List ℕ)
 ports = codes "a" ∷ codes "b" ∷ codes "c" ∷ codes "up" ∷ codes "out" ∷ []
 
@@ -36,6 +38,7 @@ handler name action = record { name = name; handler = record { actions = action 
 abbrev pub handlers : List HandlerPart
 handlers = handler (codes "hj") (Post 3 Sum) ∷ handler (codes "ho") (Post 4 (Arg 0)) ∷ []
 
+-- a branch whose pattern is these slots
 abbrev pub branch : List ℕ → Group → ℕ → ℕ → List Slot → BranchPart
 branch name group queue handler slots = record { name = name; group = group; queue = queue; handler = handler; pattern = Slots slots }
 

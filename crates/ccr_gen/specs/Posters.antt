@@ -12,8 +12,10 @@ sent k = record { port = k % 3; value = k ∷ []; causes = [] }
 abbrev pub script : ℕ → ℕ → List Sent
 script size poster = map sent (filter (λ k. k % 4 == poster) (range_with_len 0 size))
 
+-- the poster of this number, with its part of so many posts
 abbrev pub poster : ℕ → List ℕ → ℕ → PosterPart
 poster size name number = record { name = name; posts = script size number }
 
+-- the four posters
 abbrev pub posters : ℕ → List PosterPart
 posters size = poster size (codes "w0") 0 ∷ poster size (codes "w1") 1 ∷ poster size (codes "w2") 2 ∷ poster size (codes "w3") 3 ∷ []

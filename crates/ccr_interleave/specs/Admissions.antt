@@ -10,11 +10,13 @@ use Rattle.ccr_places.specs.TaskTables.{tasks_where, kept_of}
 use Rattle.ccr_interleave.specs.declared.admission.Admission.{Admission}
 use Rattle.ccr_interleave.specs.declared.admission.Admission.TheVariants.{Outside, Shared, Alone}
 
+-- whether it is admitted beside others
 abbrev pub is_shared : Admission → Bool
 is_shared Outside = false
 is_shared Shared = true
 is_shared Alone = false
 
+-- whether it is admitted alone
 abbrev pub is_alone : Admission → Bool
 is_alone Outside = false
 is_alone Shared = false

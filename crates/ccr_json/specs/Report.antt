@@ -18,6 +18,7 @@ use Rattle.ccr_json.specs.Totals.{totals_value}
 abbrev pub branch_value : List (List ℕ) → List Event → Spot → Data
 branch_value branches history spot = object (member (codes "fired") (count (length (fired_at history spot))) (member (codes "name") (string (spot_word branches spot)) no_members))
 
+-- a port's counts and name
 abbrev pub port_value : List Event → ℕ → List ℕ → Data
 port_value history port name = object (member (codes "held") (count (length (held history port))) (member (codes "name") (string name) (member (codes "posted") (count (length (posted history port))) (member (codes "taken") (count (length (taken_at history port))) no_members))))
 
@@ -26,6 +27,7 @@ abbrev pub port_values : List Event → ℕ → List (List ℕ) → List Data
 port_values history port [] = []
 port_values history port (name ∷ names) = port_value history port name ∷ port_values history (port + 1) names
 
+-- a queue's counts and name
 abbrev pub queue_value : Parts → List Event → ℕ → QueuePart → Data
 queue_value wiring history queue part = object (member (codes "dropped") (count (length (dropped_at wiring history queue))) (member (codes "name") (string part.name) (member (codes "put") (count (length (put_at wiring history queue))) no_members)))
 

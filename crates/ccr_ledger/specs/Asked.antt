@@ -82,6 +82,7 @@ waits_first books task = option_map_or (λ (card : Card). is_first (row books.wa
 abbrev pub may_admit_card : Books → Card → Bool
 may_admit_card books card = if card.concurrent then number books.alone card.domain == 0 else number books.admitted card.domain == 0
 
+-- whether the task may be admitted; not one that never fired
 abbrev pub may_admit_task : Books → TaskId → Bool
 may_admit_task books task = option_map_or (may_admit_card books) (card_at books.tasks task) false
 
@@ -90,6 +91,7 @@ abbrev pub is_ready_stage : Stage → Bool
 is_ready_stage stages.Ready = true
 is_ready_stage _ = false
 
+-- whether the task may be put; not one that never fired
 abbrev pub is_ready : Books → TaskId → Bool
 is_ready books task = option_map_or (λ (card : Card). is_ready_stage card.stage) (card_at books.tasks task) false
 
@@ -113,6 +115,7 @@ runs books task = list_any (λ (r : Runner). same_task r.task task) books.runnin
 abbrev pub play_in : Books → TaskId → Play
 play_in books task = option_map_or (λ (card : Card). card.play) (card_at books.tasks task) no_play
 
+-- how many posts the task made; none where it never fired
 abbrev pub made_in : Books → TaskId → ℕ
 made_in books task = option_map_or (λ (card : Card). card.made) (card_at books.tasks task) 0
 

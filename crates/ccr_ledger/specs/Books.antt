@@ -50,6 +50,7 @@ number numbers place = option_map_or (λ n. n) (slice_get numbers place) 0
 abbrev pub more : ℕ → List ℕ → List ℕ
 more place numbers = slice_set numbers place (number numbers place + 1)
 
+-- one less at this place
 abbrev pub less : ℕ → List ℕ → List ℕ
 less place numbers = slice_set numbers place (number numbers place - 1)
 

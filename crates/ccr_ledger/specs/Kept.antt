@@ -39,9 +39,11 @@ is_admitted history task = has_task (ever_admitted history) task && not (is_over
 abbrev pub queue_of : Parts → Spot → ℕ
 queue_of wiring spot = option_map_or (λ (s : Placement). s.branch.queue) (placement wiring (branch_of spot)) 0
 
+-- the number of the domain of the spot's branch
 abbrev pub domain_of : Parts → Spot → ℕ
 domain_of wiring spot = option_map_or (λ (s : Placement). s.arbiter) (placement wiring (branch_of spot)) 0
 
+-- whether tasks of the spot's branch run beside others
 abbrev pub is_concurrent_at : Parts → Spot → Bool
 is_concurrent_at wiring spot = option_map_or (λ (s : Placement). is_concurrent s.branch.group) (placement wiring (branch_of spot)) false
 

@@ -18,6 +18,7 @@ use Rattle.ccr_net.specs.Played.{scene, number_at}
 
 -- ---- what the acts leave
 
+-- the scene once these acts were made in it
 abbrev pub scene_from : Scene Placed → List (Act Deed) → Scene Placed
 scene_from v [] = v
 scene_from v (act ∷ acts) = scene_from (moved after_deed v act) acts
@@ -26,6 +27,7 @@ scene_from v (act ∷ acts) = scene_from (moved after_deed v act) acts
 abbrev pub scene_after : Parts → List (Act Deed) → Scene Placed
 scene_after wiring acts = scene_from (scene wiring) acts
 
+-- the stamp of the actor's last act; this one where it made none
 abbrev pub stamp_from : ℕ → ℕ → List (Act Deed) → ℕ
 stamp_from actor last [] = last
 stamp_from actor last (act ∷ acts) = stamp_from actor (cond (act.seat == actor) act.stamp last) acts
@@ -44,6 +46,7 @@ deed_at place ask = record { note = note_of place ask; ask = record { marker = r
 abbrev pub act_at : Scene Placed → ℕ → ℕ → ℕ → Ask → Act Deed
 act_at v last number actor ask = record { place = number; seat = actor; stamp = suc (max (v number).1 last); note = deed_at (v number).0 ask }
 
+-- the act by which the actor asks this place, behind those acts
 abbrev pub act_after : Parts → List (Act Deed) → ℕ → Place → Ask → Act Deed
 act_after wiring acts actor place ask = act_at (scene_after wiring acts) (stamp_of actor acts) (number_at wiring place) actor ask
 

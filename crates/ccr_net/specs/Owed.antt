@@ -59,6 +59,7 @@ abbrev pub most : ℕ → Ask → ℕ
 most count (asks.Commit task messages) = 2 + 2 * count
 most count _ = 2
 
+-- what is owed after the step: what it paid is less, what it took on is more
 abbrev pub owed_after : ℕ → Step → ℕ
 owed_after owed step = owed - cost step.asked.ask + gain step.reply
 

@@ -35,6 +35,7 @@ use Rattle.ccr_claim.specs.declared.asks.Ask.TheVariants as asks
 
 -- ---- what each place keeps after these notes of its own
 
+-- the port after these notes
 abbrev pub port_after : ℕ → List Note → PortState
 port_after number earlier = ports.kept (ports.start number) earlier
 
@@ -44,9 +45,11 @@ branches_before zero parts = 0
 branches_before (suc number) [] = 0
 branches_before (suc number) (part ∷ parts) = length part.branches + branches_before number parts
 
+-- the number of the arbiter's first branch
 abbrev pub first_branch : Parts → ℕ → ℕ
 first_branch wiring number = branches_before number wiring.arbiters
 
+-- whether the group fires once at most
 abbrev pub is_once : Group → Bool
 is_once groups.Once = true
 is_once groups.Always = false
@@ -81,21 +84,26 @@ groups_in wiring domain = map (λ (s : Placement). s.branch.group) (filter (is_p
 abbrev pub interleave_after : Parts → ℕ → List Note → InterleaveState
 interleave_after wiring domain earlier = interleaves.kept (interleaves.start (branches_from domain 0 (placements wiring)) (groups_in wiring domain)) earlier
 
+-- the await site after these notes
 abbrev pub site_after : ℕ → ℕ → List Note → SiteState
 site_after branch site earlier = sites.kept (sites.start branch site) earlier
 
+-- the queue after these notes
 abbrev pub queue_after : Parts → ℕ → List Note → QueueState
 queue_after wiring number earlier = queues.kept (queues.start number (policy_of wiring number)) earlier
 
+-- the meter after these notes
 abbrev pub meter_after : ℕ → List Note → MeterState
 meter_after budget earlier = meters.kept (meters.start budget) earlier
 
 -- ---- the note, where the condition is met
 
+-- the note, where the condition is met
 abbrev pub given : Bool → Note → Option Note
 given true note = Some note
 given false note = None
 
+-- what a port notes of an ask; nothing where it isn't for a port or its condition isn't met
 abbrev pub port_note : PortState → Ask → Option Note
 port_note port (asks.Post message) = given (ports.may_post port message) (notes.Post message)
 port_note port (asks.Claim task slot) = given (ports.may_claim port task slot) (notes.Claim task slot (ports.claim_note port slot))
@@ -108,22 +116,26 @@ abbrev pub commit_note : Task → List MsgId → Option By → Note → Note
 commit_note task messages None fires = fires
 commit_note task messages (Some by) fires = notes.Dead task.id task.spot by
 
+-- what an arbiter notes of an ask; nothing where it isn't for an arbiter or its condition isn't met
 abbrev pub arbiter_note : ArbiterState → Ask → Option Note
 arbiter_note arbiter (asks.Commit task messages) = given (arbiters.may_commit arbiter task) (commit_note task messages (arbiters.dead_by arbiter) (notes.Fired task.id task.spot messages []))
 arbiter_note arbiter (asks.Over task root how) = given (arbiters.may_over arbiter root) (notes.Over task root how)
 arbiter_note arbiter _ = None
 
+-- what an Interleave notes of an ask; nothing where it isn't for an Interleave or its condition isn't met
 abbrev pub interleave_note : InterleaveState → Ask → Option Note
 interleave_note place (asks.Commit task messages) = given (interleaves.may_commit place task) (commit_note task messages (interleaves.dead_by place) (notes.Fired task.id task.spot messages (interleaves.cut_note place task.spot)))
 interleave_note place asks.Admit = Some (notes.Admit (interleaves.admit_note place))
 interleave_note place (asks.Over task root how) = given (interleaves.may_over place root) (notes.Over task root how)
 interleave_note place _ = None
 
+-- what an await site notes of an ask; nothing where it isn't for an await site or its condition isn't met
 abbrev pub site_note : SiteState → Ask → Option Note
 site_note state (asks.Commit task messages) = given (sites.may_commit state task) (commit_note task messages (sites.dead_by state) (notes.Fired task.id task.spot messages []))
 site_note state (asks.Suspend task) = Some (notes.Suspend task.id)
 site_note state _ = None
 
+-- what a queue notes of an ask; nothing where it isn't for a queue or its condition isn't met
 abbrev pub queue_note : QueueState → Ask → Option Note
 queue_note queue (asks.Book task resumes) = given (queues.may_book queue task) (notes.Book task resumes (queues.book_note queue resumes))
 queue_note queue (asks.Unbook task) = given (queues.may_unbook queue task) (notes.Unbook task)
@@ -131,6 +143,7 @@ queue_note queue (asks.Put task) = given (queues.may_put queue task.id) (notes.P
 queue_note queue asks.Take = Some (notes.Take (queues.take_note queue))
 queue_note queue _ = None
 
+-- what the meter notes of an ask; nothing where it isn't for the meter or its condition isn't met
 abbrev pub meter_note : MeterState → Ask → Option Note
 meter_note meter asks.Draw = Some (notes.Draw (meters.draw_note meter))
 meter_note meter asks.Leave = given (meters.may_leave meter) notes.Leave
@@ -143,6 +156,7 @@ note_by_kind wiring number kinds.Receive part earlier ask = arbiter_note (arbite
 note_by_kind wiring number kinds.Choice part earlier ask = arbiter_note (arbiter_after (first_branch wiring number) part earlier) ask
 note_by_kind wiring number kinds.Interleave part earlier ask = interleave_note (interleave_after wiring number earlier) ask
 
+-- what the arbiter of this number notes of an ask; nothing where there is none
 abbrev pub note_at_arbiter : Parts → ℕ → Option ArbiterPart → List Note → Ask → Option Note
 note_at_arbiter wiring number None earlier ask = None
 note_at_arbiter wiring number (Some part) earlier ask = note_by_kind wiring number part.kind part earlier ask

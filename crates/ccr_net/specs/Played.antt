@@ -45,10 +45,12 @@ pub record Heard : Type 0 where
   pub actor : ℕ
   pub given : List Reply
 
+-- the replies heard, once this answer came
 abbrev pub heard : Heard → Answer → Heard
 heard s (Replied reply) = record s { given = s.given ++ reply ∷ [] }
 heard s Unmet = s
 
+-- the ask with the number of its place
 abbrev pub numbered : Parts → Asked → ℕ × Ask
 numbered wiring one = (number_at wiring one.place, one.ask)
 
@@ -97,5 +99,6 @@ steps_in wiring acts actor = filter_map (step_of wiring) (story after_deed actor
 abbrev pub entry_of : Parts → Act Deed → Option Entry
 entry_of wiring act = option_map (λ note. record { actor = act.seat; place = place_at wiring act.place; stamp = act.stamp; note = note }) act.note.note
 
+-- the entries that the acts leave
 abbrev pub entries_of : Parts → List (Act Deed) → List Entry
 entries_of wiring acts = filter_map (entry_of wiring) acts

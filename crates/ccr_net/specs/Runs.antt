@@ -22,6 +22,7 @@ use Rattle.ccr_net.specs.Visible.{visible}
 use Rattle.ccr_net.specs.Views.{view, cut_view}
 use Rattle.ccr_net.specs.Places.{note_of, port_after}
 
+-- whether the two are one place
 abbrev pub same_place : Place → Place → Bool
 same_place (places.Port p) (places.Port q) = p == q
 same_place (places.Arbiter p) (places.Arbiter q) = p == q
@@ -54,10 +55,12 @@ claim_reply slot port (Got n) = replies.Got (first_fitting n slot.pred port.item
 claim_reply slot port (Busy task) = replies.Busy task
 claim_reply slot port (Short n) = replies.Short n
 
+-- how a booking is told: booked, or that so many are there already
 abbrev pub book_reply : Option ℕ → Reply
 book_reply None = replies.Booked
 book_reply (Some n) = replies.Full n
 
+-- how a draw is told: the number drawn, or that the budget is spent
 abbrev pub draw_reply : Option ℕ → Reply
 draw_reply None = replies.Spent
 draw_reply (Some n) = replies.Drawn n
@@ -83,6 +86,7 @@ reply_of wiring past entry = reply_to wiring (visible (past ++ entry ∷ [])) (n
 abbrev pub reply_for : Parts → ℕ → List Entry → Entry → List Reply
 reply_for wiring actor past entry = if entry.actor == actor then reply_of wiring past entry ∷ [] else []
 
+-- the replies that the actor got, behind a past of entries
 abbrev pub replies_from : Parts → ℕ → List Entry → List Entry → List Reply
 replies_from wiring actor past [] = []
 replies_from wiring actor past (entry ∷ entries) = reply_for wiring actor past entry ++ replies_from wiring actor (past ++ entry ∷ []) entries
@@ -129,6 +133,7 @@ pub record IsRun (wiring : Parts) (workers : ℕ) (entries : List Entry) : Type 
 
 -- ---- schedules
 
+-- the entries, with the one that was made, if one was
 abbrev pub with_made : List Entry → Option Entry → List Entry
 with_made entries None = entries
 with_made entries (Some entry) = entries ++ entry ∷ []

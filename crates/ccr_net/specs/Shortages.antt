@@ -52,6 +52,7 @@ turned_by wiring refused run actor (Some one) =
 abbrev pub turned : Parts → List ℕ → SoFar → ℕ → SoFar
 turned wiring refused run actor = turned_by wiring refused run actor (next wiring actor (run.lacks actor) (replies_of wiring run.entries actor))
 
+-- the run after these turns
 abbrev pub turned_from : Parts → List ℕ → SoFar → List ℕ → SoFar
 turned_from wiring refused run [] = run
 turned_from wiring refused run (actor ∷ turns) = turned_from wiring refused (turned wiring refused run actor) turns

@@ -29,6 +29,7 @@ pub record Known : Type 0 where
 abbrev pub site_count : Parts → BranchPart → ℕ
 site_count wiring branch = length (awaited (actions_of wiring branch.handler))
 
+-- how many await sites each of the arbiter's branches has
 abbrev pub arbiter_sites : Parts → ArbiterPart → List ℕ
 arbiter_sites wiring arbiter = map (site_count wiring) arbiter.branches
 
@@ -41,6 +42,7 @@ abbrev pub domain_tests : List DomainPart → ℕ → List Bool
 domain_tests domains zero = []
 domain_tests domains (suc number) = domain_tests domains number ++ (domain_of domains number == number) ∷ []
 
+-- how many of each kind the wiring has
 abbrev pub numbers_of : Parts → Known
 numbers_of wiring = record {
   ports = length wiring.ports;
@@ -50,6 +52,7 @@ numbers_of wiring = record {
   sites = site_counts wiring;
 }
 
+-- of a wiring that has nothing
 abbrev pub no_numbers : Known
 no_numbers = record { ports = 0; queues = 0; causes = 0; domains = []; sites = [] }
 
@@ -70,9 +73,11 @@ has_each count causes = list_all (λ cause. nat_lt cause count) causes
 abbrev pub has_causes : Known → List ℕ → Bool
 has_causes known causes = has_each known.causes causes && are_apart causes
 
+-- whether there are the message's port and causes
 abbrev pub has_message : Known → Msg → Bool
 has_message known message = nat_lt message.port known.ports && has_causes known message.causes
 
+-- whether there are the task's spot, domain, queue and causes
 abbrev pub has_task : Known → Task → Bool
 has_task known task = has_spot known task.spot && has_domain known task.arbiter && nat_lt task.queue known.queues && has_causes known task.causes
 
@@ -94,6 +99,7 @@ IsSpotOf wiring (Site branch site) = is_some (site_port wiring branch site) ≡ 
 abbrev pub AreCausesOf : Parts → List ℕ → Type 0
 AreCausesOf wiring causes = All (λ cause. cause < length wiring.causes) causes × (are_apart causes ≡ true)
 
+-- the wiring has the message's port and its causes
 abbrev pub IsMessageOf : Parts → Msg → Type 0
 IsMessageOf wiring message = (message.port < length wiring.ports) × AreCausesOf wiring message.causes
 
@@ -101,6 +107,7 @@ IsMessageOf wiring message = (message.port < length wiring.ports) × AreCausesOf
 abbrev pub IsDomainOf : Parts → ℕ → Type 0
 IsDomainOf wiring number = (number < length wiring.arbiters) × (domain_of wiring.domains number ≡ number)
 
+-- the wiring has the task's spot, domain, queue and causes
 abbrev pub IsTaskOf : Parts → Task → Type 0
 IsTaskOf wiring task = IsSpotOf wiring task.spot × IsDomainOf wiring task.arbiter × (task.queue < length wiring.queues) × AreCausesOf wiring task.causes
 

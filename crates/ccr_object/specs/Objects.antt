@@ -39,10 +39,12 @@ after (Site site) ask = Site (sites.after site ask)
 after (Queue queue) ask = Queue (queues.after queue ask)
 after (Meter meter) ask = Meter (meters.after meter ask)
 
+-- what the actor hears of it
 abbrev pub answered : Option (Reply × Note) → Answer
 answered None = Unmet
 answered (Some given) = Replied given.0
 
+-- what the history notes of it
 abbrev pub noted : Option (Reply × Note) → Option Note
 noted given = option_map (λ (g : Reply × Note). g.1) given
 
@@ -62,9 +64,11 @@ answer_at place ask = if is_known place.numbers ask then answer place.object ask
 abbrev pub after_at : Placed → Ask → Placed
 after_at place ask = record { numbers = place.numbers; object = if is_known place.numbers ask then after place.object ask else place.object }
 
+-- what the place answers to the ask
 abbrev pub reply_of : Placed → Ask → Answer
 reply_of place ask = answered (answer_at place ask)
 
+-- what is noted where the place answers the ask
 abbrev pub note_of : Placed → Ask → Option Note
 note_of place ask = noted (answer_at place ask)
 

@@ -11,6 +11,7 @@ use Rattle.ccr_port.specs.declared.claims.Claimed.TheVariants.{Got, Busy, Short}
 use Rattle.ccr_port.specs.Replies.{claim_reply as claimed}
 use Rattle.ccr_places.specs.Ports.{PortState, may_post, may_claim, may_consume, may_free, claim_note, after_post, after_claim, after_consume, after_free}
 
+-- how the outcome of a claim is told
 abbrev pub claim_reply : Claimed → Reply
 claim_reply (Got messages) = replies.Got messages
 claim_reply (Busy task) = replies.Busy task
@@ -30,6 +31,7 @@ answer port (asks.Consume task) = if may_consume port task then Some (replies.Do
 answer port (asks.Free task) = if may_free port task then Some (replies.Done, notes.Free task) else None
 answer port _ = None
 
+-- the port after the ask
 abbrev pub after : PortState → Ask → PortState
 after port (asks.Post message) = if may_post port message then after_post port message else port
 after port (asks.Claim task slot) = if may_claim port task slot then after_claim port task slot (claim_note port slot) else port

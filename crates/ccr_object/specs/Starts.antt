@@ -32,6 +32,7 @@ abbrev pub port_places : ℕ → List Place
 port_places zero = []
 port_places (suc number) = port_places number ++ places.Port number ∷ []
 
+-- the places of the queues below this number
 abbrev pub queue_places : ℕ → List Place
 queue_places zero = []
 queue_places (suc number) = queue_places number ++ places.Queue number ∷ []
@@ -46,6 +47,7 @@ abbrev pub site_place : Spot → Option Place
 site_place (Branch branch) = None
 site_place (SiteOf branch site) = Some (places.Site branch site)
 
+-- the places of the await sites among the spots
 abbrev pub site_places : List Spot → List Place
 site_places spots = filter_map site_place spots
 
@@ -59,6 +61,7 @@ places_of wiring = port_places (length wiring.ports) ++ arbiter_places wiring.do
 abbrev pub member_of : ℕ → ℕ → Placement → Option (ℕ × Group)
 member_of domain branch s = if s.arbiter == domain then Some (branch, s.branch.group) else None
 
+-- the branch and its group, where it is one of this domain
 abbrev pub member_at : Parts → ℕ → Spot → Option (ℕ × Group)
 member_at wiring domain (Branch branch) = option_and_then (member_of domain branch) (placement wiring branch)
 member_at wiring domain (SiteOf branch site) = None
@@ -67,15 +70,19 @@ member_at wiring domain (SiteOf branch site) = None
 abbrev pub members : Parts → ℕ → List (ℕ × Group)
 members wiring domain = filter_map (member_at wiring domain) (spots wiring)
 
+-- the branches of the members
 abbrev pub branches_of : List (ℕ × Group) → List ℕ
 branches_of listed = map (λ (member : ℕ × Group). member.0) listed
 
+-- the groups of the members
 abbrev pub groups_of : List (ℕ × Group) → List Group
 groups_of listed = map (λ (member : ℕ × Group). member.1) listed
 
+-- the first member's branch; 0 where there is none
 abbrev pub first_branch : List (ℕ × Group) → ℕ
 first_branch listed = option_map_or (λ (member : ℕ × Group). member.0) (slice_get listed 0) 0
 
+-- whether the group fires once at most
 abbrev pub is_once : Group → Bool
 is_once groups.Once = true
 is_once groups.Always = false

@@ -50,6 +50,7 @@ group_among branches groups (Site branch site) = None
 abbrev pub group_at : InterleaveState → Spot → Option Group
 group_at place spot = group_among place.branches place.groups spot
 
+-- whether it is the group that ends all
 abbrev pub is_teardown : Option Group → Bool
 is_teardown None = false
 is_teardown (Some Once) = false
@@ -59,6 +60,7 @@ is_teardown (Some Teardown) = true
 is_teardown (Some Exclusive) = false
 is_teardown (Some Concurrent) = false
 
+-- whether it is a group whose tasks run beside each other
 abbrev pub is_concurrent : Option Group → Bool
 is_concurrent None = false
 is_concurrent (Some Once) = false
@@ -165,6 +167,7 @@ abbrev pub waiting_code : Coded Waiting
 waiting_code =
     code_by (TaskId × Spot) (coded× name.the_row.coded place_of_firing.the_row.coded) (λ w. (w.task, w.spot)) (λ p. record { task = p.0; spot = p.1 }) (λ _. refl)
 
+-- its parts as a tuple, by which states are compared
 abbrev pub interleave_code : Coded InterleaveState
 interleave_code =
     code_by (List ℕ × (List Group × (List TaskId × (List Waiting × (TaskSet × (TaskSet × Option TaskId))))))
@@ -173,6 +176,7 @@ interleave_code =
     (λ p. record { branches = p.0; groups = p.1.0; fired = p.1.1.0; waiting = p.1.1.1.0; shared = p.1.1.1.1.0; alone = p.1.1.1.1.1.0; teardown = p.1.1.1.1.1.1 })
     (λ _. refl)
 
+-- its state and tasks as a pair, by which they are compared
 abbrev pub interleave_tasks_code : Coded InterleaveTasks
 interleave_tasks_code =
     code_by (InterleaveState × List Task) (coded× interleave_code (coded_list whole.the_row.coded)) (λ s. (s.state, s.tasks)) (λ p. record { state = p.0; tasks = p.1 }) (λ _. refl)

@@ -33,9 +33,11 @@ pub record QueueState : Type 0 where
 abbrev pub start : ℕ → Policy → QueueState
 start number policy = record { number = number; policy = policy; fresh = set.empty; resuming = set.empty; queued = [] }
 
+-- whether the task has a booking, fresh or to resume
 abbrev pub is_booked : QueueState → TaskId → Bool
 is_booked queue task = set.contains queue.fresh task || set.contains queue.resuming task
 
+-- whether the task is queued
 abbrev pub is_queued : QueueState → TaskId → Bool
 is_queued queue task = list_any (λ (queued : Queued). same_task task queued.task) queue.queued
 
@@ -143,6 +145,7 @@ abbrev pub queued_code : Coded Queued
 queued_code =
     code_by (TaskId × Bool) (coded× name.the_row.coded coded_bool) (λ q. (q.task, q.resumes)) (λ p. record { task = p.0; resumes = p.1 }) (λ _. refl)
 
+-- its parts as a tuple, by which states are compared
 abbrev pub queue_code : Coded QueueState
 queue_code =
     code_by (ℕ × (Policy × (TaskSet × (TaskSet × List Queued))))
@@ -151,6 +154,7 @@ queue_code =
     (λ p. record { number = p.0; policy = p.1.0; fresh = p.1.1.0; resuming = p.1.1.1.0; queued = p.1.1.1.1 })
     (λ _. refl)
 
+-- its state and tasks as a pair, by which they are compared
 abbrev pub queue_tasks_code : Coded QueueTasks
 queue_tasks_code =
     code_by (QueueState × List Task) (coded× queue_code (coded_list whole.the_row.coded)) (λ q. (q.state, q.tasks)) (λ p. record { state = p.0; tasks = p.1 }) (λ _. refl)

@@ -20,6 +20,7 @@ task_cmp = then_cmp (on (λ (t : TaskId). t.actor) nat_cmp) (on (λ (t : TaskId)
 abbrev pub TaskSet : Type 0
 TaskSet = set.FinSet task_cmp
 
+-- its names as a list, by which sets are compared
 abbrev pub task_set_code : Coded TaskSet
 task_set_code = set.code name.the_row.coded
 

@@ -12,16 +12,19 @@ use Rattle.ccr_queue.specs.declared.stage.QueueStage.{QueueStage}
 use Rattle.ccr_queue.specs.declared.stage.QueueStage.TheVariants.{Fresh, Resuming, Queued as StandsQueued}
 use Rattle.ccr_queue.specs.declared.stage.QueuedTask.{QueuedTask}
 
+-- whether it is booked to start
 abbrev pub is_fresh : QueueStage → Bool
 is_fresh Fresh = true
 is_fresh Resuming = false
 is_fresh StandsQueued = false
 
+-- whether it is booked to resume
 abbrev pub is_resuming : QueueStage → Bool
 is_resuming Fresh = false
 is_resuming Resuming = true
 is_resuming StandsQueued = false
 
+-- whether it is queued
 abbrev pub is_queued : QueueStage → Bool
 is_queued Fresh = false
 is_queued Resuming = false

@@ -18,6 +18,7 @@ code_number refusals.Limit = 10
 code_number refusals.NoRecord = 16
 code_number refusals.Ending = 17
 
+-- the reader's answer is this value, or a refusal with this code's number
 abbrev pub Gives : {X : Type 0} → Result X Code → Result X ℕ → Type 0
 Gives (Ok x) read = read ≡ Ok x
 Gives (Err code) read = read ≡ Err (code_number code)

@@ -80,6 +80,7 @@ behind_first line = if line.clean then Ok (drop 1 line.words) else Err 1
 abbrev pub workers_on : Line → Result ℕ ℕ
 workers_on line = behind_first line >>= workers_in
 
+-- whether the line is the last line of a record
 abbrev pub done_on : Line → Result (Unit {0}) ℕ
 done_on line = behind_first line >>= done_in
 
@@ -131,6 +132,7 @@ reading_lines wiring before bytes [] = Err (max before 1, 16)
 reading_lines wiring before bytes (line ∷ lines) =
     and_then (on_line (before + 1) (workers_on (numbered_line (before + 1) line))) (λ workers. record_behind wiring (before + 1) workers (after_feed bytes))
 
+-- the record of this wiring that stands in these bytes, behind so many lines
 abbrev pub reading_behind : Parts → ℕ → List ℕ → Result Record (ℕ × ℕ)
 reading_behind wiring before bytes = reading_lines wiring before bytes (cut bytes)
 

@@ -6,6 +6,7 @@ use Rattle.ccr_text.specs.Spelling.{text_of}
 abbrev pub record_words : ℕ → List (List ℕ)
 record_words workers = codes "record" ∷ codes "1" ∷ decimal workers ∷ []
 
+-- the line of a turn
 abbrev pub turn_words : ℕ → List (List ℕ)
 turn_words actor = codes "turn" ∷ decimal actor ∷ []
 

@@ -21,6 +21,7 @@ use Rattle.ccr_replay.specs.Records.{done_words}
 
 -- ---- the place: its kind and its name. A domain has the name of the arbiter of its number, a site that of its spot
 
+-- the place's kind and name
 abbrev pub place_words : Parts → Place → List (List ℕ)
 place_words wiring (places.Port port) = codes "port" ∷ port_name wiring port ∷ []
 place_words wiring (places.Arbiter arbiter) = codes "arbiter" ∷ arbiter_name wiring arbiter ∷ []
@@ -35,33 +36,40 @@ abbrev pub task_or_none : Option TaskId → List ℕ
 task_or_none None = codes "none"
 task_or_none (Some task) = task_word task
 
+-- the number, or the word `none`
 abbrev pub number_or_none : Option ℕ → List ℕ
 number_or_none None = codes "none"
 number_or_none (Some number) = decimal number
 
+-- how a claim ended
 abbrev pub claim_words : ClaimNote → List (List ℕ)
 claim_words (Got count) = codes "got" ∷ decimal count ∷ []
 claim_words (Busy task) = codes "busy" ∷ task_word task ∷ []
 claim_words (Short count) = codes "short" ∷ decimal count ∷ []
 
+-- why an attempt came too late
 abbrev pub by_words : By → List (List ℕ)
 by_words (bys.Fired task) = codes "by" ∷ task_word task ∷ []
 by_words bys.NoneWaiting = codes "none" ∷ []
 
+-- how a root came to its end
 abbrev pub how_words : How → List (List ℕ)
 how_words hows.Done = codes "done" ∷ []
 how_words (hows.Failed value) = codes "failed" ∷ value_word value ∷ []
 how_words hows.Shed = codes "shed" ∷ []
 how_words hows.Dropped = codes "dropped" ∷ []
 
+-- how many tasks a queue without room has
 abbrev pub full_words : Option ℕ → List (List ℕ)
 full_words None = []
 full_words (Some count) = codes "full" ∷ decimal count ∷ []
 
+-- the task that a full queue dropped
 abbrev pub drop_words : Option TaskId → List (List ℕ)
 drop_words None = []
 drop_words (Some task) = codes "drop" ∷ task_word task ∷ []
 
+-- what a step did, in words
 abbrev pub note_words : Note → List (List ℕ)
 note_words (notes.Post message) = codes "post" ∷ message_word message.id ∷ []
 note_words (notes.Claim task slot reply) = codes "claim" ∷ task_word task ∷ claim_words reply
@@ -86,5 +94,6 @@ note_words (notes.Left count) = codes "left" ∷ decimal count ∷ []
 abbrev pub step_words : Parts → Entry → List (List ℕ)
 step_words wiring entry = codes "step" ∷ decimal entry.stamp ∷ decimal entry.actor ∷ (place_words wiring entry.place ++ note_words entry.note)
 
+-- a line for each step, and the last line
 abbrev pub steps_text : Parts → List Entry → List ℕ
 steps_text wiring entries = text_of (map (step_words wiring) entries ++ done_words ∷ [])

@@ -41,6 +41,7 @@ queue_of wiring history task = option_map (λ (s : Placement). s.branch.queue) (
 abbrev pub queues_of : Parts → List Event → List TaskId → List ℕ
 queues_of wiring history tasks = flat_map (λ task. option_to_list (queue_of wiring history task)) tasks
 
+-- the queues of the arbiter's branches
 abbrev pub queues_in : ArbiterPart → List ℕ
 queues_in arbiter = map (λ (part : BranchPart). part.queue) arbiter.branches
 

@@ -13,6 +13,7 @@ use Rattle.ccr_text.specs.Spelling.{text_of}
 use Rattle.ccr_spots.specs.Words.{branch_names, spot_word}
 use Rattle.ccr_report.specs.Counting.{taken_at, put_at, dropped_at}
 
+-- the line of a port
 abbrev pub port_words : List Event → ℕ → List ℕ → List (List ℕ)
 port_words history port name = codes "port" ∷ name ∷ codes "posted" ∷ decimal (length (posted history port)) ∷ codes "taken" ∷ decimal (length (taken_at history port)) ∷ codes "held" ∷ decimal (length (held history port)) ∷ []
 
@@ -21,9 +22,11 @@ abbrev pub port_lines : List Event → ℕ → List (List ℕ) → List (List (L
 port_lines history port [] = []
 port_lines history port (name ∷ names) = port_words history port name ∷ port_lines history (port + 1) names
 
+-- the line of a branch or an await site
 abbrev pub spot_words : List (List ℕ) → List Event → Spot → List (List ℕ)
 spot_words branches history spot = codes "branch" ∷ spot_word branches spot ∷ codes "fired" ∷ decimal (length (fired_at history spot)) ∷ []
 
+-- the line of a queue
 abbrev pub queue_words : Parts → List Event → ℕ → QueuePart → List (List ℕ)
 queue_words wiring history queue part = codes "queue" ∷ part.name ∷ codes "put" ∷ decimal (length (put_at wiring history queue)) ∷ codes "dropped" ∷ decimal (length (dropped_at wiring history queue)) ∷ []
 
@@ -36,6 +39,7 @@ queue_lines wiring history queue (part ∷ parts) = queue_words wiring history q
 abbrev pub amount_text : List ℕ → ℕ → List ℕ
 amount_text word number = 32 ∷ (word ++ 32 ∷ decimal number)
 
+-- the line of the totals
 abbrev pub total_words : Totals → List (List ℕ)
 total_words total = codes "total" ∷ codes "posted" ∷ decimal total.posted ∷ codes "taken" ∷ decimal total.taken ∷ codes "held" ∷ decimal total.held
     ∷ codes "fired" ∷ decimal total.fired ∷ codes "done" ∷ decimal total.done ∷ codes "failed" ∷ decimal total.failed ∷ codes "shed" ∷ decimal total.shed
@@ -45,5 +49,6 @@ total_words total = codes "total" ∷ codes "posted" ∷ decimal total.posted �
 abbrev pub report_lines : Parts → List Event → List (List (List ℕ))
 report_lines wiring history = (codes "report" ∷ codes "1" ∷ []) ∷ (port_lines history 0 wiring.ports ++ map (spot_words (branch_names wiring) history) (spots wiring) ++ queue_lines wiring history 0 wiring.queues ++ total_words (totals history) ∷ [])
 
+-- the report on the history
 abbrev pub report_text : Parts → List Event → List ℕ
 report_text wiring history = text_of (report_lines wiring history)

@@ -14,6 +14,7 @@ code_number refusals.WordCount = 4
 code_number refusals.Number = 5
 code_number refusals.Limit = 10
 
+-- the reader's answer is this value, or a refusal with this code's number
 abbrev pub Gives : {X : Type 0} → Result X Code → Result X ℕ → Type 0
 Gives (Ok x) read = read ≡ Ok x
 Gives (Err code) read = read ≡ Err (code_number code)

@@ -29,6 +29,7 @@ turn_in actors (first ∷ words) = if is_comment first then Ok None else (turn_o
 abbrev pub turn_on : ℕ → Line → Result (Option ℕ) ℕ
 turn_on actors line = if line.clean then turn_in actors line.words else Err 1
 
+-- the actor, where there is one
 abbrev pub option_list : Option ℕ → List ℕ
 option_list None = []
 option_list (Some actor) = actor ∷ []

@@ -23,9 +23,11 @@ pub record Drafted : Type 0 where
 abbrev pub nothing : Drafted
 nothing = record { parts = record { policy = policies.Unbounded; ops = []; clients = [] }; policied = false; names = []; asks = 0; block = None }
 
+-- the service so far, with its policy
 abbrev pub with_policy : Drafted → Policy → Drafted
 with_policy draft rule = record draft { parts = record draft.parts { policy = rule }; policied = true }
 
+-- the service so far, with one operation more
 abbrev pub with_op : Drafted → OpPart → Drafted
 with_op draft part = record draft { parts = record draft.parts { ops = draft.parts.ops ++ part ∷ [] }; names = draft.names ++ (part.name, kinds.Op (length draft.parts.ops)) ∷ [] }
 
@@ -37,6 +39,7 @@ with_client draft name = record draft { names = draft.names ++ (name, kinds.Clie
 abbrev pub with_ask : Drafted → ClientPart → AskPart → Drafted
 with_ask draft part ask = record draft { asks = draft.asks + 1; block = Some (record part { asks = part.asks ++ ask ∷ [] }) }
 
+-- the service so far, with a client that is whole
 abbrev pub end_client : Drafted → ClientPart → Drafted
 end_client draft part = record draft { parts = record draft.parts { clients = draft.parts.clients ++ part ∷ [] } }
 

@@ -24,10 +24,12 @@ code_number codes.NoOp = 11
 code_number codes.SecondPolicy = 13
 code_number codes.NameForm = 14
 
+-- want of memory promises nothing; a refusal is the reader's, with this code's number
 abbrev pub Fails : {Y : Type 0} → Stop → Result Y ℕ → Type 0
 Fails stops.Memory read = Unit {0}
 Fails (stops.Refused code) read = read ≡ Err (code_number code)
 
+-- the reader's answer is this value, or the refusal
 abbrev pub Gives : {X : Type 0} → Result X Stop → Result X ℕ → Type 0
 Gives (Ok x) read = read ≡ Ok x
 Gives (Err stop) read = Fails stop read
@@ -47,6 +49,7 @@ abbrev pub LeavesBy : {X Y : Type 0} → (X → Y) → Words → Result X Stop �
 LeavesBy view rest (Ok x) read = read ≡ Ok (view x, rest)
 LeavesBy view rest (Err stop) read = Fails stop read
 
+-- the reader's answer is this value with the words that are left, or the refusal
 abbrev pub Leaves : {X : Type 0} → Words → Result X Stop → Result (X × Words) ℕ → Type 0
 Leaves rest result read = LeavesBy (λ x. x) rest result read
 

@@ -30,6 +30,7 @@ abbrev pub reply_by : Bool → ServiceParts → ℕ → OpPart → ℕ → ℕ �
 reply_by false service op part client value = record { posts = success op part client value ∷ []; end = Done; causes = client ∷ [] }
 reply_by true service op part client value = record { posts = fault service client value ∷ []; end = Failed (value ∷ []); causes = client ∷ [] }
 
+-- what the operation replies to a client's value: a fault past its bound, else a response
 abbrev pub reply : ServiceParts → ℕ → OpPart → ℕ → ℕ → Play
 reply service op part client value = reply_by (is_past part.below value) service op part client value
 

@@ -23,9 +23,11 @@ is_service_name (first ∷ others) = is_ascii_alphabetic first && nat_lt (length
 abbrev pub op_names : List OpPart → List (List ℕ)
 op_names ops = map (λ (op : OpPart). op.name) ops
 
+-- the clients' names
 abbrev pub client_names : List ClientPart → List (List ℕ)
 client_names clients = map (λ (client : ClientPart). client.name) clients
 
+-- the names of operations and clients
 abbrev pub service_names : ServiceParts → List (List ℕ)
 service_names service = op_names service.ops ++ client_names service.clients
 

@@ -66,10 +66,12 @@ told_by faults false false (Some m) = if m.port == faults then told.Fault m else
 abbrev pub told_from : Tables → ℕ → RequestId → Answer
 told_from tables faults request = option_map_or (λ task. told_by faults (contains same_task tables.cuts task) (contains same_task tables.drops task) (option_map (λ (m : Bor Msg). m.now) (get same_task tables.posts task))) (get same_request tables.takers request) told.Held
 
+-- the answers of a client's requests, from this place on
 abbrev pub told_asks : Tables → ℕ → ℕ → ℕ → List AskPart → List Answer
 told_asks tables faults client place [] = []
 told_asks tables faults client place (ask ∷ asks) = told_from tables faults (record { client = client; place = place }) ∷ told_asks tables faults client (place + 1) asks
 
+-- the answers of the clients' requests, client by client from this number on
 abbrev pub told_clients : Tables → ℕ → ℕ → List ClientPart → List Answer
 told_clients tables faults number [] = []
 told_clients tables faults number (client ∷ clients) = told_asks tables (faults + number) number 0 client.asks ++ told_clients tables faults (number + 1) clients

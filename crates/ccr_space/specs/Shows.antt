@@ -13,6 +13,7 @@ abbrev pub note_shown : ℕ → Option Note → List Event
 note_shown actor None = []
 note_shown actor (Some note) = shown actor note
 
+-- the event with the stamp of its step
 abbrev pub stamped : ℕ → Event → Stamped Event
 stamped stamp event = record { stamp = stamp; item = event }
 

@@ -33,6 +33,7 @@ use Rattle.ccr_space.specs.declared.space.PassOf.{PassOf}
 abbrev pub Space : Type 0
 Space = SpaceOf (Turns PlaceObject Ask Answer Deed Placed) (List Place) (Bor Parts)
 
+-- a pass at the locks of the wiring's places
 abbrev pub Pass : Type 0
 Pass = PassOf Acting (Seat PlaceObject Ask Answer Deed Placed ghosts)
 
@@ -86,6 +87,7 @@ pub record IsPassOf (space : Space) (pass : Pass) : Type 0 where
 abbrev pub IsTaught : Acting → Reply → Acting → Type 0
 IsTaught old reply new = IsAfter old (Ok reply) new × (new.state.is_short ≡ false)
 
+-- the actor was taught the reply; an ask whose condition isn't met never comes
 abbrev pub IsHeard : Acting → Answer → Acting → Type 0
 IsHeard old Unmet new = ⊥
 IsHeard old (Replied reply) new = IsTaught old reply new

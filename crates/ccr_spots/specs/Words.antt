@@ -11,6 +11,7 @@ use Rattle.ccr_wiring.specs.declared.parts.Parts.{Parts}
 abbrev pub name_at : List (List ℕ) → ℕ → List ℕ
 name_at names number = unwrap_or (slice_get names number) []
 
+-- the names of the arbiter's branches
 abbrev pub branch_names_of : ArbiterPart → List (List ℕ)
 branch_names_of arbiter = map (λ (part : BranchPart). part.name) arbiter.branches
 

@@ -23,6 +23,7 @@ abbrev pub LeavesBy : {X Y : Type 0} → (X → Y) → Words → Result X Stop �
 LeavesBy view rest (Ok x) said = said ≡ Some (view x, rest)
 LeavesBy view rest (Err stop) said = SaysNone stop said
 
+-- the reader's answer is this value with the words that are left, or it has none
 abbrev pub Leaves : {X : Type 0} → Words → Result X Stop → Option (X × Words) → Type 0
 Leaves rest result said = LeavesBy (λ x. x) rest result said
 
@@ -39,6 +40,7 @@ HasCode stops.Memory read = Unit {0}
 HasCode stops.Malformed read = read ≡ Err 1
 HasCode stops.Unknown read = read ≡ Err 2
 
+-- the reader's answer is this value, or the refusal
 abbrev pub Gives : {X : Type 0} → Result X Stop → Result X ℕ → Type 0
 Gives (Ok x) read = read ≡ Ok x
 Gives (Err stop) read = HasCode stop read

@@ -24,6 +24,7 @@ abbrev pub word : Words → Option (List ℕ × Words)
 word [] = None
 word (first ∷ words) = Some (first, words)
 
+-- nothing stands behind
 abbrev pub no_more : Words → Option (Unit {0})
 no_more [] = Some tt
 no_more (first ∷ words) = None
@@ -35,6 +36,7 @@ place read words = do
   value ← read first.0
   Some (value, first.1)
 
+-- whether there is at least one
 abbrev pub is_some_of : {A : Type 0} → List A → Bool
 is_some_of values = not (length values == 0)
 

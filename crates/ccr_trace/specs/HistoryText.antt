@@ -18,10 +18,12 @@ abbrev pub cut_words : List TaskId → List (List ℕ)
 cut_words [] = []
 cut_words (task ∷ tasks) = codes "cut" ∷ map task_word (task ∷ tasks)
 
+-- the task that the put drops, where it drops one
 abbrev pub dropped_words : Option TaskId → List (List ℕ)
 dropped_words None = []
 dropped_words (Some task) = codes "drop" ∷ task_word task ∷ []
 
+-- how the task ended
 abbrev pub end_words : EndHow → List (List ℕ)
 end_words ends.Done = codes "done" ∷ []
 end_words (ends.Failed value) = codes "failed" ∷ value_word value ∷ []
@@ -49,5 +51,6 @@ first_words parts = codes "history" ∷ version_word parts.version ∷ []
 abbrev pub history_lines : Parts → List Event → List (List (List ℕ))
 history_lines parts history = first_words parts ∷ map (event_words parts) history
 
+-- the history's lines
 abbrev pub history_text : Parts → List Event → List ℕ
 history_text parts history = text_of (history_lines parts history)

@@ -48,6 +48,7 @@ IsKnownSpot parts (Site branch site) = IsSome (site_port parts branch site)
 abbrev pub IsOfVersion : Parts → List ℕ → Type 0
 IsOfVersion parts value = length value ≤ most_numbers parts.version
 
+-- the value of a failure is one of the wiring's version
 abbrev pub IsKnownEnd : Parts → EndHow → Type 0
 IsKnownEnd parts (ends.Failed value) = IsOfVersion parts value
 IsKnownEnd parts ends.Done = Unit {0}
@@ -63,6 +64,7 @@ IsKnown parts (events.Put task dropped) = Unit {0}
 IsKnown parts (events.Start task actor) = Unit {0}
 IsKnown parts (events.End task how) = IsKnownEnd parts how
 
+-- each event names only what the wiring has
 abbrev pub AreKnown : Parts → List Event → Type 0
 AreKnown parts history = All (IsKnown parts) history
 
@@ -75,13 +77,16 @@ HasMessages (events.Put task dropped) = Unit {0}
 HasMessages (events.Start task actor) = Unit {0}
 HasMessages (events.End task how) = Unit {0}
 
+-- each firing takes a message at least
 abbrev pub HaveMessages : List Event → Type 0
 HaveMessages history = All HasMessages history
 
+-- the number of the site fits 32 bits
 abbrev pub IsShortSpot : Spot → Type 0
 IsShortSpot (Branch branch) = Unit {0}
 IsShortSpot (Site branch site) = site < 2 ^ 32
 
+-- the value of a failure has numbers, few enough
 abbrev pub IsShortEnd : EndHow → Type 0
 IsShortEnd (ends.Failed value) = HasNumbers value
 IsShortEnd ends.Done = Unit {0}
@@ -97,5 +102,6 @@ IsShort (events.Put task dropped) = IsTask task × IsDropped dropped
 IsShort (events.Start task actor) = IsTask task × (actor < 2 ^ 32)
 IsShort (events.End task how) = IsTask task × IsShortEnd how
 
+-- the numbers of each event fit their types
 abbrev pub AreShort : List Event → Type 0
 AreShort history = All IsShort history

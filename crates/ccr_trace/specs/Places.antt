@@ -11,6 +11,7 @@ use Rattle.ccr_trace.specs.Said.{SpotName, most_numbers}
 
 -- one step behind another: nothing where one has nothing
 infixl 10 ◌>>=◌
+-- the second reads on where the first found something
 abbrev pub ◌>>=◌ : {A B : Type 0} → Option A → (A → Option B) → Option B
 found >>= next = option_and_then next found
 
@@ -22,6 +23,7 @@ where_spelled word n = if bytes_eq word (decimal n) then Some n else None
 unfoldable pub exact_number : List ℕ → Option ℕ
 exact_number word = number_of word >>= where_spelled word
 
+-- the number, where it fits 32 bits
 abbrev pub where_short : ℕ → Option ℕ
 where_short n = if nat_lt n (2 ^ 32) then Some n else None
 
@@ -37,6 +39,7 @@ each read (first ∷ words) = do
   values ← each read words
   Some (value ∷ values)
 
+-- the numbers, where there are at most so many
 abbrev pub where_few : ℕ → List ℕ → Option (List ℕ)
 where_few most numbers = if nat_le (length numbers) most then Some numbers else None
 
@@ -83,9 +86,11 @@ unfoldable pub message_of : List ℕ → Option MsgId
 message_of [] = None
 message_of (b ∷ numbers) = if b == 115 then script_in (pieces 46 numbers) else if b == 116 then answer_in (pieces 46 numbers) else None
 
+-- the spot of this word and site, where the word is a name
 abbrev pub spot_with : List ℕ → Option ℕ → Option SpotName
 spot_with word site = if is_name_of word then Some (record { name = word; site = site }) else None
 
+-- the spot that the parts around `@` say
 abbrev pub spot_in : List (List ℕ) → Option SpotName
 spot_in (word ∷ []) = spot_with word None
 spot_in (word ∷ site ∷ []) = short_number site >>= λ k. spot_with word (Some k)

@@ -11,6 +11,7 @@ use Rattle.ccr_trace.specs.Said.{Said}
 use Rattle.ccr_trace.specs.Forms.{said_on}
 use Rattle.ccr_trace.specs.Known.{known}
 
+-- what was found, else the refusal with this code
 abbrev pub or_code : {A : Type 0} → Option A → ℕ → Result A ℕ
 or_code None code = Err code
 or_code (Some x) code = Ok x

@@ -24,10 +24,12 @@ pub data Said : Type 0 where
   Start : TaskId → ℕ → Said
   End : TaskId → EndHow → Said
 
+-- the site behind `@`, where there is one
 abbrev pub site_word : Option ℕ → List ℕ
 site_word None = []
 site_word (Some site) = 64 ∷ decimal site
 
+-- the word for the spot
 abbrev pub spot_name_word : SpotName → List ℕ
 spot_name_word spot = spot.name ++ site_word spot.site
 
@@ -48,17 +50,21 @@ spelled said = joined (said_words said)
 abbrev pub IsTask : TaskId → Type 0
 IsTask task = (task.actor < 2 ^ 32) × (task.attempt < 2 ^ 32)
 
+-- the numbers of the name fit 32 bits
 abbrev pub IsMessage : MsgId → Type 0
 IsMessage (ids.Script actor place) = (actor < 2 ^ 32) × (place < 2 ^ 32)
 IsMessage (ids.Task task place) = IsTask task × (place < 2 ^ 32)
 
+-- the word is a name
 abbrev pub IsName : List ℕ → Type 0
 IsName word = is_name_of word ≡ true
 
+-- the site fits 32 bits, where there is one
 abbrev pub IsSite : Option ℕ → Type 0
 IsSite None = Unit {0}
 IsSite (Some site) = site < 2 ^ 32
 
+-- the numbers of the dropped task fit 32 bits, where there is one
 abbrev pub IsDropped : Option TaskId → Type 0
 IsDropped None = Unit {0}
 IsDropped (Some task) = IsTask task
@@ -75,6 +81,7 @@ HasNumbers value = (0 < length value) × All (λ n. n < 2 ^ 64) value
 abbrev pub IsValue : ℕ → List ℕ → Type 0
 IsValue version value = HasNumbers value × (length value ≤ most_numbers version)
 
+-- the value of a failure is one of the version
 abbrev pub IsEnd : ℕ → EndHow → Type 0
 IsEnd version (ends.Failed value) = IsValue version value
 IsEnd version ends.Done = Unit {0}

@@ -13,6 +13,7 @@ IsSingle value = length value ≤ 1
 abbrev pub IsSmallValue : List ℕ → Type 0
 IsSmallValue value = length value ≤ 8
 
+-- the value of a failure has at most 8 numbers
 abbrev pub IsSmallEnd : EndHow → Type 0
 IsSmallEnd (ends.Failed value) = IsSmallValue value
 IsSmallEnd ends.Done = Unit {0}
@@ -28,5 +29,6 @@ HasSmallValue (events.Put task dropped) = Unit {0}
 HasSmallValue (events.Start task actor) = Unit {0}
 HasSmallValue (events.End task how) = IsSmallEnd how
 
+-- each value has at most 8 numbers
 abbrev pub HaveSmallValues : List Event → Type 0
 HaveSmallValues history = All HasSmallValue history

@@ -25,5 +25,6 @@ value_word value = join_with_byte 44 (map decimal value)
 abbrev pub other_numbers : List ℕ → List ℕ
 other_numbers numbers = flat_map (λ n. 44 ∷ decimal n) numbers
 
+-- the names of the causes
 abbrev pub cause_names : Parts → List (List ℕ)
 cause_names parts = map (λ (part : CausePart). part.name) parts.causes

@@ -46,6 +46,7 @@ nothing version = record {
 abbrev pub with_name : Declared → List ℕ → Named → Declared
 with_name draft name what = record draft { names = draft.names ++ (name, what) ∷ [] }
 
+-- the wiring so far, with its budget
 abbrev pub with_budget : Declared → ℕ → Declared
 with_budget draft budget = record draft { parts = record draft.parts { budget = budget }; budgeted = true }
 
@@ -53,12 +54,15 @@ with_budget draft budget = record draft { parts = record draft.parts { budget = 
 abbrev pub with_queue : Declared → QueuePart → Declared
 with_queue draft part = with_name (record draft { parts = record draft.parts { queues = draft.parts.queues ++ part ∷ [] } }) part.name (kinds.Queue (length draft.parts.queues))
 
+-- the wiring so far, with one port more
 abbrev pub with_port : Declared → List ℕ → Declared
 with_port draft name = with_name (record draft { parts = record draft.parts { ports = draft.parts.ports ++ name ∷ [] } }) name (kinds.Port (length draft.parts.ports))
 
+-- the wiring so far, with one set of ports more
 abbrev pub with_set : Declared → SetPart → Declared
 with_set draft part = with_name (record draft { parts = record draft.parts { sets = draft.parts.sets ++ part ∷ [] } }) part.name (kinds.Set (length draft.parts.sets))
 
+-- the wiring so far, with one cause more
 abbrev pub with_cause : Declared → CausePart → Declared
 with_cause draft part = with_name (record draft { parts = record draft.parts { causes = draft.parts.causes ++ part ∷ [] } }) part.name (kinds.Cause (length draft.parts.causes))
 
@@ -70,6 +74,7 @@ with_spots draft branch = record draft { spotted = draft.spotted ++ branch_named
 abbrev pub receiver : BranchPart → ArbiterPart
 receiver branch = record { name = branch.name; kind = arbiters.Receive; branches = branch ∷ [] }
 
+-- the wiring so far, with one receiver more
 abbrev pub with_receive : Declared → BranchPart → Declared
 with_receive draft branch = with_name (record (with_spots draft branch) { parts = record draft.parts { arbiters = draft.parts.arbiters ++ receiver branch ∷ [] } }) branch.name kinds.Branch
 
@@ -81,9 +86,11 @@ with_domain draft part = record draft { parts = record draft.parts { domains = d
 abbrev pub with_handler : Declared → List ℕ → Declared
 with_handler draft name = with_name (record draft { block = blocks.Handler (record { name = name; handler = record { actions = [] } }) }) name (kinds.Handler (length draft.parts.handlers))
 
+-- the wiring so far, in the block of a new arbiter
 abbrev pub with_arbiter : Declared → Kind → List ℕ → Declared
 with_arbiter draft kind name = with_name (record draft { block = blocks.Arbiter (record { name = name; kind = kind; branches = [] }) }) name (kinds.Arbiter (length draft.parts.arbiters))
 
+-- the wiring so far, in the block of a new poster
 abbrev pub with_poster : Declared → List ℕ → Declared
 with_poster draft name = with_name (record draft { block = blocks.Poster (record { name = name; posts = [] }) }) name kinds.Poster
 
@@ -91,9 +98,11 @@ with_poster draft name = with_name (record draft { block = blocks.Poster (record
 abbrev pub with_action : Declared → HandlerPart → Action → Declared
 with_action draft part action = record draft { block = blocks.Handler (record part { handler = record { actions = part.handler.actions ++ action ∷ [] } }) }
 
+-- the wiring so far, with one branch more in the block of its arbiter
 abbrev pub with_branch : Declared → ArbiterPart → BranchPart → Declared
 with_branch draft part branch = with_name (record (with_spots draft branch) { block = blocks.Arbiter (record part { branches = part.branches ++ branch ∷ [] }) }) branch.name kinds.Branch
 
+-- the wiring so far, with one post more in the block of its poster
 abbrev pub with_post : Declared → PosterPart → Sent → Declared
 with_post draft part post = record draft { block = blocks.Poster (record part { posts = part.posts ++ post ∷ [] }) }
 
@@ -101,9 +110,11 @@ with_post draft part post = record draft { block = blocks.Poster (record part { 
 abbrev pub end_handler : Declared → HandlerPart → Declared
 end_handler draft part = record draft { parts = record draft.parts { handlers = draft.parts.handlers ++ part ∷ [] }; block = blocks.Outside }
 
+-- the wiring so far, with the arbiter whose block ends
 abbrev pub end_arbiter : Declared → ArbiterPart → Declared
 end_arbiter draft part = record draft { parts = record draft.parts { arbiters = draft.parts.arbiters ++ part ∷ [] }; block = blocks.Outside }
 
+-- the wiring so far, with the poster whose block ends
 abbrev pub end_poster : Declared → PosterPart → Declared
 end_poster draft part = record draft { parts = record draft.parts { posters = draft.parts.posters ++ part ∷ [] }; block = blocks.Outside }
 

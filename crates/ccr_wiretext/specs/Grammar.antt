@@ -60,6 +60,7 @@ pub record IsWithin (low high : ℕ) (digits : List ℕ) (n : ℕ) : Type 0 wher
   pub above : low ≤ n
   pub below : n ≤ high
 
+-- the words say this policy
 abbrev pub IsPolicy : Words → Policy → Type 0
 IsPolicy words policies.Unbounded = words ≡ codes "unbounded" ∷ []
 IsPolicy words (policies.Discard n) = (digits : List ℕ) × (words ≡ codes "discard" ∷ digits ∷ []) × IsWithin 1 1000 digits n
@@ -104,6 +105,7 @@ pub record IsPart (version : ℕ) (words : Words) (message place : ℕ) : Type 0
   pub counted : IsWithin 0 65535 first message
   pub within : IsWithin 0 7 second place
 
+-- the words say this expression, in a text of this version
 abbrev pub IsExpr : ℕ → Words → Expr → Type 0
 IsExpr version words (exprs.Number value) = (word : List ℕ) × (words ≡ word ∷ []) × IsValueWord version word value
 IsExpr version words (exprs.Part message place) = IsPart version words message place
@@ -111,6 +113,7 @@ IsExpr version words (exprs.Arg k) = (digits : List ℕ) × (words ≡ codes "ar
 IsExpr version words exprs.Sum = words ≡ codes "sum" ∷ []
 IsExpr version words exprs.Count = words ≡ codes "count" ∷ []
 
+-- the words say this predicate
 abbrev pub IsPred : Words → Pred → Type 0
 IsPred words preds.Any = words ≡ codes "any" ∷ []
 IsPred words (preds.Eq n) = (digits : List ℕ) × (words ≡ codes "eq" ∷ digits ∷ []) × IsNumber digits n

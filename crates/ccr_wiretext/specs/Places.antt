@@ -24,6 +24,7 @@ Words = List (List ℕ)
 
 -- one step behind another: the first that offends decides
 infixl 10 ◌>>=◌
+-- the second reads on where the first refused nothing
 abbrev pub ◌>>=◌ : {A B : Type 0} → Result A ℕ → (A → Result B ℕ) → Result B ℕ
 (Ok x) >>= f = f x
 (Err code) >>= f = Err code

@@ -63,6 +63,7 @@ unfoldable pub reading_after : So → ℕ → List Line → Result Parts (ℕ ×
 reading_after so last [] = at_line (max last 1) (at_end so)
 reading_after so last (line ∷ lines) = elim (after_line so line) [ Ok new ↦ reading_after new line.number lines | Err code ↦ Err (line.number, code) ]
 
+-- the parts that the lines say, or the first offending line and its code
 abbrev pub reading : List Line → Result Parts (ℕ × ℕ)
 reading lines = reading_after None 0 lines
 

@@ -33,15 +33,19 @@ use Rattle.ccr_wiretext.specs.Places.{Words}
 abbrev pub port_name : Parts → ℕ → List ℕ
 port_name parts port = unwrap_or (slice_get parts.ports port) []
 
+-- the name of the queue
 abbrev pub queue_name : Parts → ℕ → List ℕ
 queue_name parts queue = option_map_or (λ (part : QueuePart). part.name) (slice_get parts.queues queue) []
 
+-- the name of the cause
 abbrev pub cause_name : Parts → ℕ → List ℕ
 cause_name parts cause = option_map_or (λ (part : CausePart). part.name) (slice_get parts.causes cause) []
 
+-- the name of the handler
 abbrev pub handler_name : Parts → ℕ → List ℕ
 handler_name parts handler = option_map_or (λ (part : HandlerPart). part.name) (slice_get parts.handlers handler) []
 
+-- the name of the arbiter
 abbrev pub arbiter_name : Parts → ℕ → List ℕ
 arbiter_name parts arbiter = option_map_or (λ (part : ArbiterPart). part.name) (slice_get parts.arbiters arbiter) []
 
@@ -49,23 +53,29 @@ arbiter_name parts arbiter = option_map_or (λ (part : ArbiterPart). part.name) 
 abbrev pub version_words : ℕ → Words
 version_words version = codes "ccr" ∷ (if version == 2 then codes "2" else codes "1") ∷ []
 
+-- the line of the budget
 abbrev pub budget_words : ℕ → Words
 budget_words budget = codes "budget" ∷ decimal budget ∷ []
 
+-- how a policy is written
 abbrev pub policy_words : Policy → Words
 policy_words policies.Unbounded = codes "unbounded" ∷ []
 policy_words (policies.Discard n) = codes "discard" ∷ decimal n ∷ []
 policy_words (policies.Throttle n) = codes "throttle" ∷ decimal n ∷ []
 
+-- the line of a queue
 abbrev pub queue_words : QueuePart → Words
 queue_words part = codes "queue" ∷ part.name ∷ policy_words part.policy
 
+-- the line of a port
 abbrev pub port_words : List ℕ → Words
 port_words name = codes "port" ∷ name ∷ []
 
+-- the line of a set of ports
 abbrev pub set_words : Parts → SetPart → Words
 set_words parts part = codes "portset" ∷ part.name ∷ map (port_name parts) part.ports
 
+-- the line of a cause
 abbrev pub cause_words : Parts → CausePart → Words
 cause_words parts part = codes "cause" ∷ part.name ∷ port_name parts part.port ∷ []
 
@@ -73,6 +83,7 @@ cause_words parts part = codes "cause" ∷ part.name ∷ port_name parts part.po
 abbrev pub value_word : List ℕ → List ℕ
 value_word value = join_with_byte 44 (map decimal value)
 
+-- how an expression is written
 abbrev pub expr_words : Expr → Words
 expr_words (exprs.Number value) = value_word value ∷ []
 expr_words (exprs.Part message place) = codes "part" ∷ decimal message ∷ decimal place ∷ []
@@ -80,6 +91,7 @@ expr_words (exprs.Arg k) = codes "arg" ∷ decimal k ∷ []
 expr_words exprs.Sum = codes "sum" ∷ []
 expr_words exprs.Count = codes "count" ∷ []
 
+-- the line of an action
 abbrev pub action_words : Parts → Action → Words
 action_words parts (actions.Post port value) = codes "post" ∷ port_name parts port ∷ expr_words value
 action_words parts (actions.Fail value) = codes "fail" ∷ expr_words value
@@ -91,18 +103,22 @@ action_words parts (actions.Await port) = codes "await" ∷ port_name parts port
 abbrev pub end_words : Words
 end_words = codes "end" ∷ []
 
+-- the block of a handler
 abbrev pub handler_lines : Parts → HandlerPart → List Words
 handler_lines parts part = (codes "handler" ∷ part.name ∷ []) ∷ (map (action_words parts) part.handler.actions ++ end_words ∷ [])
 
+-- how a predicate is written
 abbrev pub pred_words : Pred → Words
 pred_words preds.Any = codes "any" ∷ []
 pred_words (preds.Eq n) = codes "eq" ∷ decimal n ∷ []
 pred_words (preds.Lt n) = codes "lt" ∷ decimal n ∷ []
 pred_words (preds.Ge n) = codes "ge" ∷ decimal n ∷ []
 
+-- how a slot is written
 abbrev pub slot_words : Parts → Slot → Words
 slot_words parts slot = port_name parts slot.port ∷ decimal slot.least ∷ pred_words slot.pred
 
+-- how a pattern is written
 abbrev pub pattern_words : Parts → Pattern → Words
 pattern_words parts (patterns.Slots slots) = codes "take" ∷ flat_map (slot_words parts) slots
 pattern_words parts (patterns.Gather total first second) = codes "gather" ∷ decimal total ∷ port_name parts first ∷ port_name parts second ∷ []
@@ -116,6 +132,7 @@ group_words name groups.Teardown = codes "teardown" ∷ name ∷ []
 group_words name groups.Exclusive = codes "exclusive" ∷ name ∷ []
 group_words name groups.Concurrent = codes "concurrent" ∷ name ∷ []
 
+-- the line of a branch in an arbiter's block
 abbrev pub branch_words : Parts → BranchPart → Words
 branch_words parts branch = group_words branch.name branch.group ++ queue_name parts branch.queue ∷ handler_name parts branch.handler ∷ pattern_words parts branch.pattern
 
@@ -131,12 +148,15 @@ arbiter_lines parts part = elim part.kind [
   | arbiters.Interleave ↦ block_lines parts (codes "interleave") part
 ]
 
+-- the line of a domain of several arbiters
 abbrev pub combine_words : Parts → DomainPart → Words
 combine_words parts part = codes "combine" ∷ map (arbiter_name parts) part.members
 
+-- the line of a post in a poster's block
 abbrev pub post_words : Parts → Sent → Words
 post_words parts post = codes "post" ∷ port_name parts post.port ∷ value_word post.value ∷ map (cause_name parts) post.causes
 
+-- the block of a poster
 abbrev pub poster_lines : Parts → PosterPart → List Words
 poster_lines parts part = (codes "poster" ∷ part.name ∷ []) ∷ (map (post_words parts) part.posts ++ end_words ∷ [])
 

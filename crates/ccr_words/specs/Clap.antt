@@ -13,8 +13,10 @@ raw_rule size = record (new_rule (codes "size")) { long = Some (codes "size"); a
 raw_rule schedule = record (new_rule (codes "schedule")) { long = Some (codes "schedule"); action = Some SetTrue }
 raw_rule json = record (new_rule (codes "json")) { long = Some (codes "json"); action = Some SetTrue }
 
+-- a program that knows no word yet, and neither help nor version
 abbrev pub bare : App
 bare = on_top (λ (s : Shape). record s { no_binary_name = true; disable_help_flag = true; disable_version_flag = true }) (new_app (codes "ccr"))
 
+-- the program's words as the parser has them
 abbrev pub app : App
 app = with_rule (with_rule (with_rule (with_rule (with_rule bare (raw_rule word)) (raw_rule workers)) (raw_rule size)) (raw_rule schedule)) (raw_rule json)

@@ -11,18 +11,21 @@ use Rattle.ccr_words.specs.Parts as part
 use Rattle.ccr_words.specs.Table.{meaning}
 use Rattle.ccr_words.specs.declared.requests.Request.{Request}
 
--- a word that is no option
+-- a word that is no long option: short ones aren't known, and any other word is left over
 abbrev pub hyphen_or_left_over : State → Text → Option Text → Option State
 hyphen_or_left_over s text (Some flags) = None
 hyphen_or_left_over s text None = left_over s text
 
+-- a word for which no part waits: a long option, else a short one or a word that is left over
 abbrev pub other_turn : State → Text → Option (Text × Option Text) → Option State
 other_turn s text (Some p) = new_option_turn s (option_of p.0) p.1
 other_turn s text None = hyphen_or_left_over s text (short_of text)
 
+-- whether the word would be read as an option
 abbrev pub begins_with_hyphen : Text → Bool
 begins_with_hyphen text = bytes_eq text (codes "--") || (is_some (long_of text) || is_some (short_of text))
 
+-- the value that a part waits for, the sign that options end, or any other word
 abbrev pub value_turn : State → Option Part → Text → Option State
 value_turn s (Some part) text =
     if begins_with_hyphen text then None else Some (given_so_far (with_part part text s.given))

@@ -3,6 +3,7 @@ use Rattle.std.specs.Prelude.{◌||◌, ◌++◌, ◌∷◌, ℕ, Bool, true, fa
 use Rattle.std.specs.List.{list_any}
 use Rattle.std.specs.Str.{bytes_eq}
 
+-- a word as it was given, byte by byte
 abbrev pub Text : Type 0
 Text = List ℕ
 
@@ -14,6 +15,7 @@ pub data Part : Type 0 where
   schedule : Part
   json : Part
 
+-- the name under which the part is given
 abbrev pub name_of : Part → Text
 name_of word = codes "word"
 name_of workers = codes "workers"
@@ -39,6 +41,7 @@ takes_value _ = true
 abbrev pub Given : Type 0
 Given = List (Part × Text)
 
+-- whether the part was given
 abbrev pub has : Part → Given → Bool
 has part given = list_any (λ g. bytes_eq (name_of g.0) (name_of part)) given
 
@@ -46,6 +49,7 @@ has part given = list_any (λ g. bytes_eq (name_of g.0) (name_of part)) given
 abbrev pub text_of : Part → Given → Option Text
 text_of part given = option_map (λ g. g.1) (find (λ g. bytes_eq (name_of g.0) (name_of part)) given)
 
+-- one part more was given
 abbrev pub with_part : Part → Text → Given → Given
 with_part part text given = given ++ (part, text) ∷ []
 
@@ -55,9 +59,11 @@ pub record State : Type 0 where
   pub awaits : Option Part
   pub ended : Bool
 
+-- no part waits for its value
 abbrev pub given_so_far : Given → State
 given_so_far given = record { given = given; awaits = None; ended = false }
 
+-- before the first word
 abbrev pub start : State
 start = given_so_far []
 

@@ -6,6 +6,7 @@ use Rattle.ccr_words.specs.Parts.{Given, Part, State, Text, at_end, given_so_far
 use Rattle.ccr_words.specs.Table.{meaning}
 use Rattle.ccr_words.specs.declared.requests.Request.{Request}
 
+-- whether the text's first byte is this one
 abbrev pub begins_with : ℕ → Text → Bool
 begins_with byte [] = false
 begins_with byte (x ∷ xs) = x == byte

@@ -22,6 +22,7 @@ number low high text =
     if is_number text && (nat_le low (digits_value 10 text) && nat_le (digits_value 10 text) high)
     then Some (digits_value 10 text) else None
 
+-- the number that was given, within the bounds; the default where none was given
 abbrev pub number_or : ℕ → ℕ → ℕ → Option Text → Option ℕ
 number_or default low high None = Some default
 number_or default low high (Some text) = number low high text
@@ -50,6 +51,7 @@ record_request workers size schedule json = option_map (λ n. Read (Record n) fa
 abbrev pub service_request : Option Text → Option Text → Bool → Bool → Option Request
 service_request workers size schedule json = option_map (λ n. Read (Service n) false) (workers_alone workers size schedule json)
 
+-- a load, where both numbers are good
 abbrev pub load_of : Option ℕ → Option ℕ → Bool → Option Request
 load_of (Some workers) (Some size) json = Some (Load size workers json)
 load_of _ _ json = None
