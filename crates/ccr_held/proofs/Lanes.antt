@@ -1,5 +1,6 @@
 -- How lanes stay lanes while messages come and go.
 use Rattle.std.proofs.Common.{◌≡◌, ℕ, zero, suc, ◌+◌, ◌-◌, ◌<◌, ◌≤◌, Bool, true, false, not, ◌&&◌, List, [], ◌∷◌, ◌++◌, length, filter, map, take, drop, Option, Some, None, refl, sym, ap, ◌∙◌, arith, length-append, append-nil, append_assoc, add-one}
+use Rattle.std.specs.Bool.{Decides}
 use Rattle.std.specs.Prelude.{◌==◌, nat_lt, is_some, option_map, option_to_list, if◌then◌else◌}
 use Rattle.std.specs.List.{slice_get, list_all, remove}
 use Rattle.std.proofs.lemmas.List.Elements.{filter-append}
@@ -347,6 +348,18 @@ last_lane lanes now n lane last grown = rw (grown, last) (at_end lanes)
     at_end : (ls : List Places) → slice_get (ls ++ lane ∷ []) (length ls) ≡ Some lane
     at_end [] = refl
     at_end (l ∷ ls) = at_end ls
+
+-- the lane that was looked at isn't of the predicate, so one that is stands behind it
+pub passed_over : (lanes : List Places) (n k : ℕ) (here : Places) (pred : Pred) (b : Bool) → here ≡ get_or lanes n here → Decides b (here.pred ≡ pred) → b ≡ false → n ≤ k → HasLane lanes k pred → n + 1 ≤ k
+passed_over lanes n k here pred b read decides other low has = of_test (n == k) refl
+  where
+    of_test : (same : Bool) → (n == k) ≡ same → n + 1 ≤ k
+    of_test true is =
+        let same : n ≡ k = grind (arith, nat_tests, is) in
+        let this : here ≡ has.0 = read ∙ get_or_from_slice_get lanes n has.0 here (rw same has.1) in
+        let yes : b ≡ true = decides.1 (rw this has.2) in
+        absurd (cc)
+    of_test false is = grind (arith, nat_tests, is, low)
 
 pub set_found : (lanes : List Places) (n : ℕ) (lane now : Places) → slice_get lanes n ≡ Some lane → slice_get (set lanes n now) n ≡ Some now
 set_found [] n lane now at = absurd (cc)

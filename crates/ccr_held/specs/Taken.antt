@@ -1,5 +1,5 @@
 -- What is taken out of a port, and what is left.
-use Rattle.std.specs.Prelude.{ℕ, zero, suc, List, [], ◌∷◌, if◌then◌else◌}
+use Rattle.std.specs.Prelude.{◌≡◌, ◌⊎◌, ℕ, zero, suc, List, [], ◌∷◌, if◌then◌else◌}
 use Rattle.ccr_base.specs.declared.names.MsgId.{MsgId}
 use Rattle.ccr_base.specs.declared.messages.Msg.{Msg}
 use Rattle.ccr_base.specs.declared.patterns.Pred.{Pred}
@@ -15,6 +15,11 @@ without_first pred (message ∷ messages) = if holds pred message.value then mes
 abbrev pub without_some : ℕ → Pred → List Msg → List Msg
 without_some zero pred messages = messages
 without_some (suc count) pred messages = without_some count pred (without_first pred messages)
+
+-- these are left of the messages where some were taken: none came, and their order stays
+abbrev pub IsLeftOf : List Msg → List Msg → Type 0
+IsLeftOf [] left = left ≡ []
+IsLeftOf (message ∷ messages) left = IsLeftOf messages left ⊎ ((others : List Msg) × (left ≡ message ∷ others) × IsLeftOf messages others)
 
 -- how many of the names, from the first on, are those of the messages
 abbrev pub shared : List Msg → List MsgId → ℕ

@@ -1,11 +1,11 @@
 //! The messages of a port.
 
-ghost use Rattle.std.specs.Prelude.{◌≡◌, ◌<◌, ◌≤◌, [], ◌∷◌, ◌++◌, IfOk, OnOk, OnErr, length, map, take, drop, nat_le};
+ghost use Rattle.std.specs.Prelude.{◌≡◌, ◌<◌, ◌≤◌, ℕ, [], ◌∷◌, ◌++◌, IfOk, OnOk, OnErr, length, map, take, drop, nat_le};
 ghost use Rattle.std.specs.List.{slice_get};
 ghost use Rattle.ccr_base.specs.declared.messages.Msg.{Msg};
 ghost use Rattle.ccr_base.specs.Choice.{fitting};
 ghost use Rattle.ccr_held.specs.Lanes.{AreLanes, HasFront, HasLane, IsLane, entered, entered_item, fitting_places, is_here, lost, name_at, names_at};
-ghost use Rattle.ccr_held.specs.Taken.{same_front, shared, without_first, without_some};
+ghost use Rattle.ccr_held.specs.Taken.{IsLeftOf, same_front, shared, without_first, without_some};
 
 use crate::lane::Lane;
 use ccr_base::{Msg, MsgId, OutOfMemory, Pred, Value};
@@ -108,7 +108,7 @@ fn lane_of(alloc: Global, items: &[Option<Msg>], pred: Pred) -> Result<Lane, Out
     Ok(lane)
 }
 
-/// The number of the lane of the predicate, which is made where there is none.
+/// The number of the lane of the predicate, which is made where there is none, and only there.
 fn lane_for(
     alloc: Global,
     items: &[Option<Msg>],
@@ -118,6 +118,7 @@ fn lane_for(
     requires { AreLanes items.now lanes.old.items }
     ensures lanes { AreLanes items.now lanes.new.items }
     ensures found { IfOk result (λ number. HasLane lanes.new.items number pred) }
+    ensures once { (number : ℕ) → HasLane lanes.old.items number pred → lanes.new.items ≡ lanes.old.items }
 {
     for number in 0..lanes.len() {
         if lanes[number].is_of(pred) {
@@ -281,6 +282,7 @@ impl HeldMessages {
         taken: &mut Vec<Msg>,
     ) -> Result<(), OutOfMemory>
         ensures rest { OnOk result (self.new ≡ without_some most pred self.old) }
+        ensures left { IsLeftOf self.old self.new }
         ensures taken { OnOk result (taken.new.items ≡ taken.old.items ++ take most (fitting pred self.old)) }
     {
         for _ in 0..most {
@@ -295,6 +297,7 @@ impl HeldMessages {
     /// taken before.
     pub fn take_oldest(&mut self, count: usize, taken: &mut Vec<Msg>) -> Result<(), OutOfMemory>
         ensures rest { OnOk result (self.new ≡ drop count self.old) }
+        ensures left { IsLeftOf self.old self.new }
         ensures taken { OnOk result (taken.new.items ≡ taken.old.items ++ take count self.old) }
     {
         self.take_some(Pred::Any, count, taken)

@@ -72,6 +72,19 @@ impl<T: Drop> Rows<T> {
         Ok(())
     }
 
+    /// The item becomes the only one of the row. There is no row past the last number.
+    pub fn enter_alone(&mut self, number: usize, item: T) -> Result<(), OutOfMemory>
+        ensures ok { OnOk result (self.new ≡ with_row self.old number (item ∷ [])) }
+        ensures err { OnErr result (self.new ≡ self.old) }
+    {
+        if number < self.rows.len() {
+            let emptied = &mut self.rows[number];
+            emptied.clear();
+            emptied.push_back(item)?;
+        }
+        Ok(())
+    }
+
     /// Takes the first of the row out.
     pub fn leave(&mut self, number: usize) -> Option<T>
         ensures item { result ≡ slice_get (row self.old number) 0 }

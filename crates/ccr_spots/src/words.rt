@@ -1,6 +1,7 @@
 //! The word of a spot.
 
-ghost use Rattle.std.specs.Prelude.{◌≡◌, ◌++◌, IfOk, OnOk};
+ghost use Rattle.std.specs.Prelude.{◌≡◌, ◌≤◌, ◌++◌, IfOk, OnErr, OnOk, length, take};
+ghost use Rattle.ccr_text.specs.Spelling.{Grew};
 ghost use Rattle.ccr_spots.specs.Words.{spot_word};
 
 use crate::names::name_at;
@@ -17,9 +18,36 @@ pub fn spot_text(alloc: Global, branches: &[Name], spot: Spot) -> Result<List<u8
     Ok(word)
 }
 
-/// Adds the word for the spot at the end.
+/// Adds the word for the spot at the end. Without memory the text stays as it was.
 pub fn put_spot_word(out: &mut List<u8>, branches: &[Name], spot: Spot) -> Result<(), OutOfMemory>
-    ensures { OnOk result (out.new ≡ out.old ++ spot_word branches.now spot) }
+    ensures ok { OnOk result (out.new ≡ out.old ++ spot_word branches.now spot) }
+    ensures err { OnErr result (out.new ≡ out.old) }
+{
+    let len = out.as_slice().len();
+    match put_parts(out, branches, spot) {
+        Ok(()) => Ok(()),
+        Err(refused) => {
+            shorten(out, len);
+            Err(refused)
+        }
+    }
+}
+
+/// Takes off the end what stands behind this length.
+fn shorten(out: &mut List<u8>, len: usize)
+    requires { len ≤ length out.old }
+    ensures { out.new ≡ take len out.old }
+{
+    'longer: while out.as_slice().len() > len {
+        let last = out.as_slice().len() - 1;
+        out.remove(last);
+    }
+}
+
+/// Adds the parts of the word, one after another. Without memory some of them may stand behind the text.
+fn put_parts(out: &mut List<u8>, branches: &[Name], spot: Spot) -> Result<(), OutOfMemory>
+    ensures ok { OnOk result (out.new ≡ out.old ++ spot_word branches.now spot) }
+    ensures err { OnErr result (Grew out.old out.new) }
 {
     match spot {
         Spot::Branch(branch) => put_bytes(out, name_at(branches, branch)),

@@ -1,5 +1,6 @@
-use Rattle.std.proofs.Common.{◌∙◌, ◌++◌, sym, ap, append-nil, option_to_list}
+use Rattle.std.proofs.Common.{refl, ◌∙◌, ◌++◌, sym, ap, append-nil, option_to_list}
 use Rattle.ccr_held.specs.Taken.{without_first}
+use Rattle.ccr_held.proofs.Lefts.{left_first, left_same, left_then}
 use Rattle.ccr_held.proofs.Taking.{some_more, taken-step}
 use Rattle.ccr_held.proofs.held.HeldMessages.take_some.Goals as goal
 use Rattle.ccr_held.proofs.held.HeldMessages.take_some.Goals.{in-Some+in_ok-push, in_default}
@@ -11,4 +12,11 @@ loop-preserved c = record {
     | in-Some+in_ok-push w ↦ ap (λ v. v.items) w.taken-is ∙ (w.in_ok-push.ensures.items ∙ ap (λ o. c.loop.taken.items ++ option_to_list o) (sym w.in-Some.is))
     | in_default w ↦ ap (λ v. v.items) w.taken-is ∙ (sym (append-nil c.loop.taken.items) ∙ ap (λ o. c.loop.taken.items ++ option_to_list o) (sym w.in_default.is))
   ]);
+  left = left_then c.args.self.now c.loop.self _ c.loop.invariant.left (rw c.in_ok-message.ensures.rest (left_first c.args.pred c.loop.self));
 }
+
+pub loop-init : goal.loop-init
+loop-init c = record { rest = refl; taken = sym (append-nil c.args.taken.now.items); left = left_same c.args.self.now }
+
+pub returns-in_err-push-clause-left : goal.returns-in_err-push-clause-left
+returns-in_err-push-clause-left c = left_then c.args.self.now c.loop.self _ c.loop.invariant.left (rw c.in_ok-message.ensures.rest (left_first c.args.pred c.loop.self))
