@@ -7,6 +7,7 @@ ghost use Rattle.ccr_base.specs.Choice.{fitting};
 ghost use Rattle.ccr_held.specs.Lanes.{AreLanes, HasFront, HasLane, IsLane, entered, entered_item, fitting_places, is_here, lost, name_at, names_at};
 ghost use Rattle.ccr_held.specs.Taken.{IsLeftOf, same_front, shared, without_first, without_some};
 
+use crate::item::Item;
 use crate::lane::Lane;
 use ccr_base::{Msg, MsgId, OutOfMemory, Pred, Value};
 use std::alloc::Global;
@@ -16,7 +17,7 @@ use std::marker::Model;
 #[derive(Drop)]
 pub struct HeldMessages {
     alloc: Global,
-    items: Vec<Option<Msg>>,
+    items: Vec<Item>,
     lanes: Vec<Lane>,
     /// How many messages are there.
     left: usize,
@@ -57,17 +58,17 @@ fn lose_all(lanes: &mut Vec<Lane>, value: Value)
 }
 
 /// Whether the message of the place is still there.
-fn is_here(items: &[Option<Msg>], place: usize) -> bool
+fn is_here(items: &[Item], place: usize) -> bool
     ensures { result ≡ is_here items.now place }
 {
     match items.get(place) {
-        Some(item) => item.is_some(),
+        Some(item) => item.is_here(),
         None => false,
     }
 }
 
 /// Places of messages that are gone leave the lane, until so many at its front, or all, are of messages that are there.
-fn tidy(items: &[Option<Msg>], lane: &mut Lane, most: usize)
+fn tidy(items: &[Item], lane: &mut Lane, most: usize)
     requires { IsLane items.now lane.old }
     ensures lane { IsLane items.now lane.new }
     ensures pred { lane.new.pred ≡ lane.old.pred }
@@ -87,17 +88,17 @@ fn tidy(items: &[Option<Msg>], lane: &mut Lane, most: usize)
 }
 
 /// Enters the place, where a message is there that satisfies the lane's predicate.
-fn enter_item(lane: &mut Lane, place: usize, item: &Option<Msg>) -> Result<(), OutOfMemory>
+fn enter_item(lane: &mut Lane, place: usize, item: &Item) -> Result<(), OutOfMemory>
     ensures { OnOk result (lane.new ≡ entered_item place item.now lane.old) }
 {
-    match item {
-        Some(message) => lane.enter(place, message.value),
+    match item.value() {
+        Some(value) => lane.enter(place, value),
         None => Ok(()),
     }
 }
 
 /// A lane of the predicate with the places of all messages that satisfy it.
-fn lane_of(alloc: Global, items: &[Option<Msg>], pred: Pred) -> Result<Lane, OutOfMemory>
+fn lane_of(alloc: Global, items: &[Item], pred: Pred) -> Result<Lane, OutOfMemory>
     ensures lane { IfOk result (IsLane items.now) }
     ensures pred { IfOk result (λ lane. lane.pred ≡ pred) }
 {
@@ -111,7 +112,7 @@ fn lane_of(alloc: Global, items: &[Option<Msg>], pred: Pred) -> Result<Lane, Out
 /// The number of the lane of the predicate, which is made where there is none, and only there.
 fn lane_for(
     alloc: Global,
-    items: &[Option<Msg>],
+    items: &[Item],
     lanes: &mut Vec<Lane>,
     pred: Pred,
 ) -> Result<usize, OutOfMemory>
@@ -133,7 +134,7 @@ fn lane_for(
 /// The number of the lane of the predicate, which is tidy up to so many places.
 fn tidy_lane(
     alloc: Global,
-    items: &[Option<Msg>],
+    items: &[Item],
     lanes: &mut Vec<Lane>,
     pred: Pred,
     most: usize,
@@ -150,7 +151,7 @@ fn tidy_lane(
 /// The names of the messages of the lane's first places, at most so many.
 fn first_names(
     alloc: Global,
-    items: &[Option<Msg>],
+    items: &[Item],
     lane: &Lane,
     most: usize,
 ) -> Result<Vec<MsgId>, OutOfMemory>
@@ -169,11 +170,10 @@ fn first_names(
 }
 
 /// The name of the message of the place, while it is there.
-fn name_at(items: &[Option<Msg>], place: usize) -> Option<MsgId>
+fn name_at(items: &[Item], place: usize) -> Option<MsgId>
     ensures { result ≡ name_at items.now place }
 {
-    let message = items.get(place)?.as_ref()?;
-    Some(message.id)
+    items.get(place)?.id()
 }
 
 /// How many of the names, from the first on, are the same.
@@ -197,7 +197,7 @@ fn count_shared(oldest: &[MsgId], names: &[MsgId]) -> usize
 /// The place of the oldest message that satisfies the predicate.
 fn first_fitting(
     alloc: Global,
-    items: &[Option<Msg>],
+    items: &[Item],
     lanes: &mut Vec<Lane>,
     pred: Pred,
 ) -> Result<Option<usize>, OutOfMemory>
@@ -227,13 +227,14 @@ impl HeldMessages {
         ensures ok { OnOk result (self.new ≡ self.old ++ message ∷ []) }
         ensures err { OnErr result (self.new ≡ self.old) }
     {
-        let place = self.items.len();
-        self.items.push(None)?;
-        if let Err(refused) = enter_all(&mut self.lanes, place, message.value) {
+        let (place, value) = (self.items.len(), message.value);
+        let item = Item::of(self.alloc, message)?;
+        self.items.push(Item::gone())?;
+        if let Err(refused) = enter_all(&mut self.lanes, place, value) {
             self.lanes.clear();
             return Err(refused);
         }
-        self.items[place] = Some(message);
+        self.items[place] = item;
         self.left += 1;
         Ok(())
     }
@@ -265,7 +266,7 @@ impl HeldMessages {
         let Some(place) = first_fitting(self.alloc, &self.items, &mut self.lanes, pred)? else {
             return Ok(None);
         };
-        let Some(message) = self.items[place].take() else {
+        let Some(message) = self.items[place].take(self.alloc) else {
             return Ok(None);
         };
         lose_all(&mut self.lanes, message.value);
