@@ -20,7 +20,7 @@ use Rattle.ccr_actor.specs.declared.work.Work.{Work as Works}
 use Rattle.ccr_actor.specs.declared.work.Work.TheVariants as works
 use Rattle.ccr_actor.specs.Inside.{work_of}
 use Rattle.ccr_actor.specs.Within.{IsPaced, IsWithin}
-use Rattle.ccr_actor.specs.Courses.{IsAsked, IsAnswered, IsBeside, IsBounded, IsCounted, IsReady, IsHeld, IsPast, IsUnderWay, phase_of, IsSettlingDue, IsStep, IsToldSo, IsUnanswered, asking_at, asking_by, asking_in, attempt_due, due_at, seen, state_of, target}
+use Rattle.ccr_actor.specs.Courses.{IsAsked, IsBeside, IsBounded, IsCounted, IsReady, IsHeld, IsPast, IsUnderWay, phase_of, IsSettlingDue, IsStep, IsUnanswered, asking_at, asking_by, asking_in, due_at, seen, state_of, target}
 use Rattle.ccr_actor.proofs.Kept.{kept_asked, kept_asking, kept_sent, kept_whole, kept_short, kept_settled, settled_short, after_short}
 use Rattle.ccr_actor.proofs.Steps.{past_phase, first_spot}
 use Rattle.ccr_actor.proofs.Bounds.{bounded_after, bounded_settled}

@@ -26,7 +26,7 @@ use Rattle.ccr_actor.specs.Plans.{plan_of}
 use Rattle.ccr_actor.proofs.Settled.{release-settles, firing-settles}
 
 -- whether the reply is one to an attempt that runs
-abbrev is_own : Reply → Bool
+abbrev pub is_own : Reply → Bool
 is_own replies.Done = false
 is_own (replies.Got m) = true
 is_own (replies.Busy t) = true
@@ -90,7 +90,7 @@ commit_own (replies.Drawn n) task plan had is = cc is
 commit_own replies.Spent task plan had is = cc is
 commit_own (replies.Left n) task plan had is = cc is
 
-own : (plan : ClaimPlan) (task : TaskId) (phase : Phase) (r : Reply) → fits (due_of (attempt_ask plan task phase).ask) r ≡ true → is_own r ≡ true
+pub own : (plan : ClaimPlan) (task : TaskId) (phase : Phase) (r : Reply) → fits (due_of (attempt_ask plan task phase).ask) r ≡ true → is_own r ≡ true
 own plan task booking r is = book_own r task false plan is
 own plan task (claiming [] had) r is = commit_own r task plan had is
 own plan task (claiming (slot ∷ slots) had) r is = claim_own r task plan slot slots had is

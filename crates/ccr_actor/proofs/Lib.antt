@@ -7,4 +7,5 @@ pub mod Bounds
 mod Worked
 pub mod Kept
 mod Acted
+mod Needed
 pub mod Followed

@@ -108,10 +108,10 @@ always_err (Ok done) P p = tt
 always_err (Err refused) P p = p
 
 -- the turn of a course that drives
-driven-turn : (short : Bool) (hand : List Asked) (arbiters : List ℕ) (left : Bool) (spots : List Spot) (spot : Spot) (more : List Spot) → short ≡ false → hand ≡ [] → arbiters ≡ [] → left ≡ true → spots ≡ spot ∷ more → turn_of short hand arbiters (cond left spots []) ≡ drive spot more
+pub driven-turn : (short : Bool) (hand : List Asked) (arbiters : List ℕ) (left : Bool) (spots : List Spot) (spot : Spot) (more : List Spot) → short ≡ false → hand ≡ [] → arbiters ≡ [] → left ≡ true → spots ≡ spot ∷ more → turn_of short hand arbiters (cond left spots []) ≡ drive spot more
 driven-turn short hand arbiters left spots spot more s h a l at = rw (s, h, a, l, at) refl
 
-hand_runs : (wiring : Parts) (name : TaskId) (spots : List Spot) (o : Option AttemptState) → Runs wiring name spots o → hand_of o ≡ []
+pub hand_runs : (wiring : Parts) (name : TaskId) (spots : List Spot) (o : Option AttemptState) → Runs wiring name spots o → hand_of o ≡ []
 hand_runs wiring name [] o runs = absurd runs
 hand_runs wiring name (spot ∷ more) None runs = absurd runs
 hand_runs wiring name (spot ∷ more) (Some attempt) runs = runs.hand

@@ -29,6 +29,7 @@ use Rattle.ccr_actor.specs.declared.work.Work.TheVariants as works
 use Rattle.ccr_actor.specs.Acting.{Acting, Asking, quiet, settling, going, kept}
 use Rattle.ccr_actor.specs.Actors.{State, spots_left, settled, after, in_attempt, end_attempt, driven_on, after_attempt}
 use Rattle.ccr_actor.specs.Inside.{work_of}
+use Rattle.ccr_actor.specs.Needs.{attempt_needs, settling_needs, work_needs, work_unnumbered}
 use Rattle.ccr_actor.specs.Plans.{plan_of, arbiter_at}
 use Rattle.ccr_actor.specs.Hands.{AreSettling}
 
@@ -262,6 +263,24 @@ target parts.Admit wiring actor state (Ok reply) = after wiring actor state repl
 target parts.Drive wiring actor state (Ok reply) = after wiring actor state reply
 target parts.Work wiring actor state (Ok reply) = after wiring actor state reply
 target _ wiring actor state (Ok reply) = settled wiring state state.hand reply
+
+-- whether the answer needs memory for what is kept of it; a refused ask found none
+abbrev pub answer_needs : Part → Parts → State → Answer → Bool
+answer_needs part wiring state (Err refused) = true
+answer_needs parts.Admit wiring state (Ok reply) = false
+answer_needs parts.Drive wiring state (Ok reply) = attempt_needs reply
+answer_needs parts.Work wiring state (Ok reply) = work_needs wiring state state.work reply
+answer_needs _ wiring state (Ok reply) = settling_needs wiring state reply
+
+-- the same of an answer to the attempt
+abbrev pub heard_needs : Answer → Bool
+heard_needs (Ok reply) = attempt_needs reply
+heard_needs (Err refused) = true
+
+-- whether the answer is a task without numbers
+abbrev pub answer_unnumbered : Part → Parts → State → Answer → Bool
+answer_unnumbered parts.Work wiring state (Ok reply) = work_unnumbered wiring state.work reply
+answer_unnumbered _ wiring state answer = false
 
 -- ---- what is made ready
 

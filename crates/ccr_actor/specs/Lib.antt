@@ -1,6 +1,7 @@
 pub mod Plans
 pub mod Actors
 pub mod Acting
+pub mod Needs
 pub mod Inside
 pub mod Courses
 pub mod Hands

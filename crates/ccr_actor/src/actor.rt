@@ -1,6 +1,6 @@
 //! An actor: a poster or a worker.
 
-ghost use Rattle.std.specs.Prelude.{◌≡◌, ◌<◌, ◌≤◌, ◌==◌, false, not, IfOk, IsTrue, length};
+ghost use Rattle.std.specs.Prelude.{◌≡◌, ◌<◌, ◌≤◌, ◌==◌, true, false, not, IfOk, IsOk, IsTrue, OnErr, length};
 ghost use Rattle.std.specs.Option.{option_map};
 ghost use Rattle.ccr_wiring.specs.Valid.{IsValid};
 ghost use Rattle.ccr_claim.specs.Asks.{may_come};
@@ -8,7 +8,8 @@ ghost use Rattle.ccr_actor.specs.Acting.{due_in, is_at_rest, next, pair_of, quie
 ghost use Rattle.ccr_actor.specs.Courses.{seen, IsCounted, IsHeld};
 ghost use Rattle.ccr_actor.specs.Inside.{work_of};
 ghost use Rattle.ccr_actor.specs.Within.{IsWithin};
-ghost use Rattle.ccr_actor.specs.Actors.{work_of as work_at};
+ghost use Rattle.ccr_actor.specs.Needs.{needs_memory, next_needs, takes_unnumbered};
+ghost use Rattle.ccr_actor.specs.Actors.{start, work_of as work_at};
 
 use crate::course::{Course, Part};
 use crate::work::Work;
@@ -46,19 +47,21 @@ impl<'w> Actor<'w> {
         number: ActorNo,
     ) -> Result<Actor<'w>, OutOfMemory>
         requires { number < length wiring.now.posters }
-        ensures { IfOk result (λ actor. actor ≡ started wiring.now number) }
+        ensures started { IfOk result (λ actor. actor ≡ started wiring.now number) }
+        ensures needs { OnErr result (IsTrue (next_needs (start wiring.now number))) }
     {
         begin(alloc, wiring, number)
     }
 
-    /// The worker of this number, before its first step. Takes the memory for its first ask.
+    /// The worker of this number, before its first step. Its first ask takes no memory.
     pub fn worker(
         alloc: Global,
         wiring: &'w Wiring,
         number: ActorNo,
     ) -> Result<Actor<'w>, OutOfMemory>
         requires { length wiring.now.posters ≤ number }
-        ensures { IfOk result (λ actor. actor ≡ started wiring.now number) }
+        ensures started { IfOk result (λ actor. actor ≡ started wiring.now number) }
+        ensures ok { IsOk result }
     {
         begin(alloc, wiring, number)
     }
@@ -85,6 +88,8 @@ impl<'w> Actor<'w> {
     pub fn got(&mut self, reply: Result<Reply, OutOfMemory>)
         requires { IsTrue (may_come (due_in self.old.asking) reply) }
         ensures after { IsAfter self.old reply self.new }
+        ensures needs { IfOk reply (λ r. self.old.state.is_short ≡ false → self.new.state.is_short ≡ true → IsTrue (needs_memory self.old r)) }
+        ensures unnumbered { IfOk reply (λ r. IsTrue (takes_unnumbered self.old r) → self.new.state.is_short ≡ true) }
         ensures quiet { self.new.asking ≡ quiet }
         ensures within { self.new.state.is_short ≡ false → IsWithin self.new.state }
     {
@@ -152,7 +157,8 @@ fn first_work(wiring: &Wiring, number: ActorNo) -> Work<'_>
 
 /// The actor of this number, before its first step.
 fn begin(alloc: Global, wiring: &Wiring, number: ActorNo) -> Result<Actor<'_>, OutOfMemory>
-    ensures { IfOk result (λ actor. actor ≡ started wiring.now number) }
+    ensures started { IfOk result (λ actor. actor ≡ started wiring.now number) }
+    ensures needs { OnErr result (IsTrue (next_needs (start wiring.now number))) }
 {
     let mut course = Course {
         alloc,

@@ -1,10 +1,11 @@
 //! What an actor does with an answer.
 
-ghost use Rattle.std.specs.Prelude.{◌≡◌, ◌⊎◌, false, OnOk, OnErr, IsErr};
+ghost use Rattle.std.specs.Prelude.{◌≡◌, ◌⊎◌, true, false, OnOk, OnErr, IsErr, IsTrue};
 ghost use Rattle.ccr_claim.specs.declared.asks.Due.TheVariants as dues;
 ghost use Rattle.ccr_actor.specs.Acting.{kept};
 ghost use Rattle.ccr_actor.specs.Actors.{State, shorten};
-ghost use Rattle.ccr_actor.specs.Courses.{due_at, state_of, target, IsAnswered, IsBeside, IsBounded, IsCounted, IsPast, IsReady, IsStep, IsUnderWay};
+ghost use Rattle.ccr_actor.specs.Courses.{answer_needs, answer_unnumbered, due_at, state_of, target, IsAnswered, IsBeside, IsBounded, IsCounted, IsPast, IsReady, IsStep, IsUnderWay};
+ghost use Rattle.ccr_actor.specs.Needs.{next_needs};
 
 use crate::course::{Course, Part};
 use ccr_base::OutOfMemory;
@@ -28,6 +29,8 @@ impl Course<'_> {
         ensures counted { OnOk result (self.new.short ≡ false → IsCounted self.new.work self.new.taken self.new.empty) }
         ensures long { OnErr result (self.old.short ≡ false) }
         ensures refused { OnErr reply (IsErr result) }
+        ensures needs { OnErr result (IsTrue (answer_needs part self.old.wiring.now (state_of self.old) reply)) }
+        ensures numbered { OnOk result (answer_unnumbered part self.old.wiring.now (state_of self.old) reply ≡ false) }
         ensures beside { IsBeside self.old self.new }
     {
         if let Part::Drive = part {
@@ -54,6 +57,8 @@ impl Course<'_> {
         requires counted { OnOk made (self.old.short ≡ false → IsCounted self.old.work self.old.taken self.old.empty) }
         ensures state { (target : State) → target.is_short ≡ self.old.short → IsStep made self.old.wiring.now self.old.number target (state_of self.old) → (kept (state_of self.new) ≡ kept target) ⊎ ((target.is_short ≡ false) × (kept (state_of self.new) ≡ kept (shorten self.old.wiring.now self.old.number target))) }
         ensures refused { (target : State) → OnErr made (self.old.short ≡ false → IsStep made self.old.wiring.now self.old.number target (state_of self.old) → kept (state_of self.new) ≡ kept (shorten self.old.wiring.now self.old.number target)) }
+        ensures needs { OnOk made (self.old.short ≡ false → self.new.short ≡ true → IsTrue (next_needs (state_of self.old))) }
+        ensures short { OnErr made (self.new.short ≡ true) }
         ensures ready { IsReady self.new }
         ensures quiet { due_at self.new.attempt ≡ dues.Nothing }
         ensures counted { self.new.short ≡ false → IsCounted self.new.work self.new.taken self.new.empty }

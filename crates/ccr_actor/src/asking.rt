@@ -1,11 +1,12 @@
 //! What an actor asks next, and what it makes ready for that.
 
-ghost use Rattle.std.specs.Prelude.{◌≡◌, ◌⊎◌, ◌==◌, true, false, [], not, is_some, length, OnOk, OnErr, MatchOption, IfSome, IfNone, option_map};
+ghost use Rattle.std.specs.Prelude.{◌≡◌, ◌⊎◌, ◌==◌, true, false, [], not, is_some, length, IfOk, IsTrue, OnOk, OnErr, MatchOption, IfSome, IfNone, option_map};
 ghost use Rattle.ccr_claim.specs.declared.asks.Due.TheVariants as dues;
 ghost use Rattle.ccr_actor.specs.Acting.{asking_of, sent_state, sent_work};
 ghost use Rattle.ccr_actor.specs.Actors.{asked, line_ask, spots_left, turn, work_ask};
 ghost use Rattle.ccr_actor.specs.Courses.{asking_by, due_at, due_next, is_running, state_of, taken_due, IsAsked, IsBeside, IsCounted, IsIdle, IsLine, IsLineOf, IsPast, IsReady, IsUnderWay};
 ghost use Rattle.ccr_actor.specs.Inside.{work_of};
+ghost use Rattle.ccr_actor.specs.Needs.{has_any, next_needs, next_work_needs};
 ghost use Rattle.ccr_claim.specs.Asks.{due_of};
 ghost use Rattle.ccr_claim.specs.Attempts.{attempt_ask};
 
@@ -15,6 +16,7 @@ use crate::wired::plan_of;
 use crate::work::{Work, over};
 use ccr_base::{ActorNo, CauseNo, How, List, Msg, MsgId, OutOfMemory, Place, Sent, TaskId};
 use ccr_claim::{Ask, Asked, Attempt, Progress};
+use std::alloc::Global;
 
 /// The post of the script's next line, or the poster leaves.
 fn line_ask(
@@ -48,6 +50,17 @@ fn line_ask(
             causes,
         }),
     }
+}
+
+/// The same causes. To copy none takes no memory.
+fn copied(alloc: Global, causes: &List<CauseNo>) -> Result<List<CauseNo>, OutOfMemory>
+    ensures same { IfOk result (λ same. same ≡ causes.now) }
+    ensures needs { OnErr result (IsTrue (has_any causes.now)) }
+{
+    if causes.is_empty() {
+        return Ok(List::new(alloc));
+    }
+    causes.copy(alloc)
 }
 
 impl Course<'_> {
@@ -114,12 +127,14 @@ impl Course<'_> {
         requires idle { IsIdle self.old }
         requires arbiters { self.old.arbiters.items ≡ [] }
         requires spots { not (length (spots_left (state_of self.old)) == 0) ≡ true }
+        requires short { self.old.short ≡ false }
         requires attempt { IsPast self.old.attempt ⊎ IsUnderWay self.old }
         requires quiet { due_at self.old.attempt ≡ dues.Nothing }
         ensures state { state_of self.new ≡ state_of self.old }
         ensures way { OnOk result (IsUnderWay self.new) }
         ensures quiet { due_at self.new.attempt ≡ dues.Nothing }
         ensures past { OnErr result (IsPast self.new.attempt) }
+        ensures needs { OnErr result (IsTrue (next_needs (state_of self.old))) }
         ensures work { (self.new.work ≡ self.old.work) × (self.new.line ≡ self.old.line) }
         ensures beside { IsBeside self.old self.new }
     {
@@ -142,6 +157,7 @@ impl Course<'_> {
     fn make_line(&mut self) -> Result<(), OutOfMemory>
         ensures state { state_of self.new ≡ state_of self.old }
         ensures line { OnOk result (IsLine self.new.work self.new.line) }
+        ensures needs { OnErr result (IsTrue (next_work_needs (work_of self.old.work))) }
         ensures attempt { self.new.attempt ≡ self.old.attempt }
         ensures idle { (self.new.dropped ≡ self.old.dropped) × (self.new.put ≡ self.old.put) }
         ensures work { self.new.work ≡ self.old.work }
@@ -149,7 +165,7 @@ impl Course<'_> {
     {
         if let Work::Lines { lines, .. } = &self.work {
             if let Some(sent) = lines.first() {
-                self.line = Some(sent.causes.copy(self.alloc)?);
+                self.line = Some(copied(self.alloc, &sent.causes)?);
             }
         }
         Ok(())
@@ -171,6 +187,7 @@ impl Course<'_> {
         ensures ready { OnOk result (IsReady self.new) }
         ensures err { OnErr result (IsPast self.new.attempt) }
         ensures idle { OnErr result ((state_of self.new).hand ≡ []) }
+        ensures needs { OnErr result (IsTrue (next_needs (state_of self.old))) }
         ensures quiet { due_at self.new.attempt ≡ dues.Nothing }
         ensures work { self.new.work ≡ self.old.work }
         ensures beside { IsBeside self.old self.new }

@@ -1,10 +1,11 @@
 //! Where an actor is in its course: what it has in hand, its admissions, its drive, and its work.
 
-ghost use Rattle.std.specs.Prelude.{◌≡◌, ◌<◌, ◌==◌, ◌&&◌, ◌^◌, drop, not, IfOk, OnOk, OnErr, None, Some, length};
+ghost use Rattle.std.specs.Prelude.{◌≡◌, ◌<◌, ◌==◌, ◌&&◌, ◌^◌, drop, not, IfOk, IsTrue, OnOk, OnErr, None, Some, length};
 ghost use Rattle.std.specs.List.{list_any};
 ghost use Rattle.ccr_claim.specs.Inside.{IsFirst};
 ghost use Rattle.ccr_actor.specs.Actors.{add_arbiter, after_admit};
 ghost use Rattle.ccr_actor.specs.Courses.{state_of, hand_of, IsBeside, IsIdle};
+ghost use Rattle.ccr_actor.specs.Needs.{adds_arbiter};
 
 use crate::wired::is_interleave_number;
 use crate::work::Work;
@@ -79,6 +80,7 @@ impl Course<'_> {
     pub fn add_arbiter(&mut self, arbiter: ArbiterNo) -> Result<(), OutOfMemory>
         ensures ok { OnOk result (state_of self.new ≡ record (state_of self.old) { arbiters = add_arbiter self.old.wiring.now arbiter self.old.arbiters.items }) }
         ensures err { OnErr result (state_of self.new ≡ state_of self.old) }
+        ensures needs { OnErr result (IsTrue (adds_arbiter self.old.wiring.now arbiter self.old.arbiters.items)) }
         ensures attempt { self.new.attempt ≡ self.old.attempt }
         ensures work { self.new.work ≡ self.old.work }
         ensures beside { IsBeside self.old self.new }

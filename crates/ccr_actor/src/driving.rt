@@ -1,12 +1,12 @@
 //! The drive of an actor: an attempt after the other at its spots.
 
-ghost use Rattle.std.specs.Prelude.{◌≡◌, ◌<◌, ◌==◌, ◌⊎◌, ◌^◌, ◌∷◌, drop, not, IsTrue, OnOk, OnErr, IsErr, length, List};
+ghost use Rattle.std.specs.Prelude.{◌≡◌, ◌<◌, ◌==◌, ◌⊎◌, ◌^◌, ◌∷◌, drop, not, true, IsTrue, OnOk, OnErr, IsErr, length, List};
 ghost use Rattle.ccr_base.specs.declared.names.Spot.{Spot};
 ghost use Rattle.ccr_claim.specs.declared.asks.Due.TheVariants as dues;
 ghost use Rattle.ccr_claim.specs.Asks.{may_come};
 ghost use Rattle.ccr_claim.specs.Attempts.{booking};
 ghost use Rattle.ccr_actor.specs.Actors.{end_attempt, spots_left};
-ghost use Rattle.ccr_actor.specs.Courses.{state_of, phase_of, due_at, due_next, fired_on, heard, IsBeside, IsPast, IsStep, IsUnderWay};
+ghost use Rattle.ccr_actor.specs.Courses.{state_of, phase_of, due_at, due_next, fired_on, heard, heard_needs, IsBeside, IsPast, IsStep, IsUnderWay};
 
 use crate::attempting::{answer, is_memory};
 use crate::course::{ATTEMPTS, Course, MOST};
@@ -30,6 +30,7 @@ impl Course<'_> {
         requires fired { self.old.fired < 32768 }
         ensures ok { OnOk result (state_of self.new ≡ fired_on self.old.wiring.now (state_of self.old) spot (drop 1 self.old.spots.items) waits (state_of self.old).hand) }
         ensures err { OnErr result ((state_of self.new).hand ≡ (state_of self.old).hand) }
+        ensures needs { OnErr result (waits ≡ true) }
         ensures attempt { self.new.attempt ≡ self.old.attempt }
         ensures work { self.new.work ≡ self.old.work }
         ensures beside { IsBeside self.old self.new }
@@ -73,6 +74,7 @@ impl Course<'_> {
         ensures attempt { OnOk result (IsPast self.new.attempt ⊎ IsUnderWay self.new) }
         ensures past { OnErr result (IsPast self.new.attempt) }
         ensures refused { OnErr reply (IsErr result) }
+        ensures needs { OnErr result (IsTrue (heard_needs reply)) }
         ensures counts { OnOk result ((self.new.taken ≡ self.old.taken) × (self.new.empty ≡ self.old.empty)) }
         ensures quiet { due_at self.new.attempt ≡ dues.Nothing }
         ensures work { self.new.work ≡ self.old.work }

@@ -1,6 +1,6 @@
 //! What an actor has in hand.
 
-ghost use Rattle.std.specs.Prelude.{◌≡◌, ◌∷◌, false, None, IfSome, IfNone, OnOk, OnErr, option_map};
+ghost use Rattle.std.specs.Prelude.{◌≡◌, ◌∷◌, ◌&&◌, false, nat_lt, None, IfSome, IfNone, IsTrue, OnOk, OnErr, option_map};
 ghost use Rattle.ccr_claim.specs.declared.asks.Due.TheVariants as dues;
 ghost use Rattle.ccr_claim.specs.Asks.{due_of};
 ghost use Rattle.ccr_claim.specs.Attempts.{over_dropped, put_ask};
@@ -9,6 +9,7 @@ ghost use Rattle.ccr_actor.specs.Inside.{due_taken};
 ghost use Rattle.ccr_actor.specs.Acting.{kept, settling};
 ghost use Rattle.ccr_actor.specs.Actors.{admit_too, settled};
 ghost use Rattle.ccr_actor.specs.Courses.{asking_in, dropped_by, due_at, hand_of, phase_of, state_of, taken_due, IsBeside, IsIdle, IsPast, IsSettling, IsSettlingDue, IsStep, IsTold};
+ghost use Rattle.ccr_actor.specs.Needs.{adds_arbiter, settling_needs};
 
 use crate::attempting::{settle, take_hand};
 use crate::course::{Course, MOST, Part};
@@ -99,6 +100,7 @@ impl Course<'_> {
         ensures ok { OnOk result (kept (state_of self.new) ≡ kept (record (state_of self.old) { hand = over_dropped task ∷ (state_of self.old).hand; arbiters = admit_too self.old.wiring.now (state_of self.old) task })) }
         ensures err { OnErr result ((state_of self.new).hand ≡ over_dropped task ∷ (state_of self.old).hand) }
         ensures long { OnErr result (self.old.short ≡ false) }
+        ensures needs { OnErr result (IsTrue (nat_lt self.old.admitted 32768 && adds_arbiter self.old.wiring.now task.arbiter self.old.arbiters.items)) }
         ensures attempt { self.new.attempt ≡ self.old.attempt }
         ensures work { self.new.work ≡ self.old.work }
         ensures beside { IsBeside self.old self.new }
@@ -118,6 +120,7 @@ impl Course<'_> {
         requires told { IsTold part (due_at self.old.attempt) reply }
         ensures step { IsStep result self.old.wiring.now self.old.number (settled self.old.wiring.now (state_of self.old) (state_of self.old).hand reply) (state_of self.new) }
         ensures long { OnErr result (self.old.short ≡ false) }
+        ensures needs { OnErr result (IsTrue (settling_needs self.old.wiring.now (state_of self.old) reply)) }
         ensures past { IsPast self.new.attempt }
         ensures quiet { due_at self.new.attempt ≡ dues.Nothing }
         ensures work { self.new.work ≡ self.old.work }

@@ -1,6 +1,6 @@
 //! What a wiring says that an actor goes by: the plan at a spot, the spots to drive, and the play of a task.
 
-ghost use Rattle.std.specs.Prelude.{◌≡◌, ◌==◌, [], IfOk, filter, map};
+ghost use Rattle.std.specs.Prelude.{◌≡◌, ◌==◌, [], IfOk, IsTrue, OnErr, filter, map};
 ghost use Rattle.std.specs.List.{slice_get, list_any};
 ghost use Rattle.std.specs.Option.{option_map_or};
 ghost use Rattle.ccr_handler.specs.Playing.{actions_from, play};
@@ -8,6 +8,7 @@ ghost use Rattle.ccr_wiring.specs.declared.parts.CausePart.{CausePart};
 ghost use Rattle.ccr_wiring.specs.Wirings.{Placement, placement, segment_of, spots as spots_of, actions_of, awaited, branch_of, exception_port, policy_of, site_port};
 ghost use Rattle.ccr_claim.specs.Plans.{ports_in};
 ghost use Rattle.ccr_actor.specs.Actors.{play_in};
+ghost use Rattle.ccr_actor.specs.Needs.{has_any};
 ghost use Rattle.ccr_actor.specs.Plans.{one_of, pattern_at, queue_at, arbiter_at, plan_of, names_port, spots_at, is_for, throttled, is_interleave_number};
 
 use ccr_base::{
@@ -180,7 +181,8 @@ fn names_port(wiring: &Wiring, port: PortNo, spot: Spot) -> bool
 
 /// The spots that name the port.
 pub fn spots_at(alloc: Global, wiring: &Wiring, port: PortNo) -> Result<VecDeque<Spot>, OutOfMemory>
-    ensures { IfOk result (λ spots. spots.items ≡ spots_at wiring.now port) }
+    ensures spots { IfOk result (λ spots. spots.items ≡ spots_at wiring.now port) }
+    ensures needs { OnErr result (IsTrue (has_any (spots_at wiring.now port))) }
 {
     let mut spots = VecDeque::new(alloc);
     for spot in wiring.spots() {

@@ -1,9 +1,10 @@
 //! The work of an actor: its script, its rounds, and the plays of its tasks.
 
-ghost use Rattle.std.specs.Prelude.{◌≡◌, [], ℕ, ◌<◌, ◌+◌, ◌^◌, IfSome, OnOk, OnErr, length};
+ghost use Rattle.std.specs.Prelude.{◌≡◌, [], ℕ, ◌<◌, ◌≤◌, ◌+◌, ◌^◌, false, IfNone, IfSome, IsTrue, OnOk, OnErr, length};
 ghost use Rattle.ccr_actor.specs.Actors.{after_end, after_line, after_over, after_play, after_round, after_take, after_work, round, begin_play, driving, next_round, playing as playing_on, rest_or_round, shedding, take_from};
 ghost use Rattle.ccr_actor.specs.Courses.{state_of, IsBeside, IsCounted, IsPlayCounted, IsStep};
 ghost use Rattle.ccr_actor.specs.Inside.{play_of, work_of};
+ghost use Rattle.ccr_actor.specs.Needs.{adds_arbiter, end_needs, has_any, is_unnumbered, line_needs, play_needs, take_needs, take_unnumbered, work_needs, work_unnumbered};
 ghost use Rattle.ccr_actor.specs.Plans.{spots_at};
 ghost use Rattle.ccr_claim.specs.Attempts.{booking};
 ghost use Rattle.ccr_wiring.specs.Wirings.{segment_of};
@@ -18,9 +19,10 @@ use ccr_wiring::QueuePart;
 use std::collections::VecDeque;
 use std::mem::replace;
 
-/// The number of the segment that a task fired at the spot runs; none where there is no such number.
+/// The number of the segment that a task fired at the spot runs; none where it has none of 32 bits.
 fn segment_of(spot: Spot) -> Option<u32>
-    ensures { IfSome result (λ segment. segment ≡ segment_of spot) }
+    ensures number { IfSome result (λ segment. segment ≡ segment_of spot) }
+    ensures none { IfNone result (2 ^ 32 ≤ segment_of spot) }
 {
     match spot {
         Spot::Branch(_) => Some(0),
@@ -59,6 +61,7 @@ impl<'w> Course<'w> {
         ensures ok { OnOk result (state_of self.new ≡ after_line self.old.wiring.now (state_of self.old) place lines.now) }
         ensures counted { OnOk result (IsCounted self.new.work self.new.taken self.new.empty) }
         ensures err { OnErr result ((state_of self.new).hand ≡ (state_of self.old).hand) }
+        ensures needs { OnErr result (IsTrue (line_needs self.old.wiring.now lines.now)) }
         ensures attempt { self.new.attempt ≡ self.old.attempt }
         ensures beside { IsBeside self.old self.new }
     {
@@ -114,14 +117,15 @@ impl<'w> Course<'w> {
         }
     }
 
-    /// The task's segment begins. A play of more posts than have numbers counts as want of memory, as does a segment
-    /// without one.
+    /// The task's segment begins. Where it has no number of 32 bits, or more posts than there are such numbers, the answer is
+    /// want of memory.
     fn begin_play(&mut self, queue: u32, task: Task) -> Result<(), OutOfMemory>
         requires taken { self.old.taken < 32768 }
         requires empty { self.old.empty < 10000 }
         ensures ok { OnOk result (state_of self.new ≡ begin_play self.old.wiring.now (state_of self.old) queue task) }
         ensures counted { OnOk result (IsCounted self.new.work self.new.taken self.new.empty) }
         ensures err { OnErr result ((state_of self.new).hand ≡ (state_of self.old).hand) }
+        ensures numbered { OnOk result (is_unnumbered self.old.wiring.now task ≡ false) }
         ensures attempt { self.new.attempt ≡ self.old.attempt }
         ensures beside { IsBeside self.old self.new }
     {
@@ -129,7 +133,7 @@ impl<'w> Course<'w> {
             return Err(OutOfMemory);
         };
         let Play { posts, end, causes } = play_in(self.alloc, self.wiring, &task, segment)?;
-        if posts.len() >= u32::MAX as usize {
+        if posts.len() > u32::MAX as usize {
             return Err(OutOfMemory);
         }
         self.spots = throttled(self.alloc, self.wiring, queue)?;
@@ -152,6 +156,7 @@ impl<'w> Course<'w> {
         ensures ok { OnOk result (state_of self.new ≡ after_over self.old.wiring.now (state_of self.old) task.now) }
         ensures counted { OnOk result (IsCounted self.new.work self.new.taken self.new.empty) }
         ensures err { OnErr result ((state_of self.new).hand ≡ (state_of self.old).hand) }
+        ensures needs { OnErr result (IsTrue (adds_arbiter self.old.wiring.now task.now.arbiter self.old.arbiters.items)) }
         ensures attempt { self.new.attempt ≡ self.old.attempt }
         ensures beside { IsBeside self.old self.new }
     {
@@ -167,6 +172,7 @@ impl<'w> Course<'w> {
         ensures ok { OnOk result (state_of self.new ≡ after_end self.old.wiring.now (state_of self.old) playing.now.task playing.now.end) }
         ensures counted { OnOk result (IsCounted self.new.work self.new.taken self.new.empty) }
         ensures err { OnErr result ((state_of self.new).hand ≡ (state_of self.old).hand) }
+        ensures needs { OnErr result (IsTrue (end_needs self.old.wiring.now (state_of self.old) playing.now.task playing.now.end)) }
         ensures attempt { self.new.attempt ≡ self.old.attempt }
         ensures beside { IsBeside self.old self.new }
     {
@@ -190,6 +196,7 @@ impl<'w> Course<'w> {
         ensures ok { OnOk result (state_of self.new ≡ after_play self.old.wiring.now (state_of self.old) playing.task playing.place (play_of playing) playing.posts.items reply.now) }
         ensures counted { OnOk result (IsCounted self.new.work self.new.taken self.new.empty) }
         ensures err { OnErr result ((state_of self.new).hand ≡ (state_of self.old).hand) }
+        ensures needs { OnErr result (IsTrue (play_needs self.old.wiring.now (state_of self.old) playing.task playing.end playing.posts.items)) }
         ensures attempt { self.new.attempt ≡ self.old.attempt }
         ensures beside { IsBeside self.old self.new }
     {
@@ -210,6 +217,7 @@ impl<'w> Course<'w> {
         ensures ok { OnOk result (state_of self.new ≡ record (driving (state_of self.old) (spots_at self.old.wiring.now sent.now.port)) { work = playing_on playing.task (playing.place + 1) (play_of playing) }) }
         ensures counted { OnOk result (IsCounted self.new.work self.new.taken self.new.empty) }
         ensures err { OnErr result ((state_of self.new).hand ≡ (state_of self.old).hand) }
+        ensures needs { OnErr result (IsTrue (has_any (spots_at self.old.wiring.now sent.now.port))) }
         ensures attempt { self.new.attempt ≡ self.old.attempt }
         ensures beside { IsBeside self.old self.new }
     {
@@ -262,6 +270,8 @@ impl<'w> Course<'w> {
         ensures ok { OnOk result (state_of self.new ≡ after_take self.old.wiring.now (state_of self.old) left queue more.now reply) }
         ensures counted { OnOk result (IsCounted self.new.work self.new.taken self.new.empty) }
         ensures err { OnErr result ((state_of self.new).hand ≡ (state_of self.old).hand) }
+        ensures needs { OnErr result (IsTrue (take_needs reply)) }
+        ensures numbered { OnOk result (take_unnumbered self.old.wiring.now reply ≡ false) }
         ensures attempt { self.new.attempt ≡ self.old.attempt }
         ensures beside { IsBeside self.old self.new }
     {
@@ -279,6 +289,8 @@ impl<'w> Course<'w> {
         requires idle { (state_of self.old).hand ≡ [] }
         requires phase { (state_of self.old).phase ≡ booking }
         ensures step { IsStep result self.old.wiring.now self.old.number (after_work self.old.wiring.now (state_of self.old) (state_of self.old).work reply) (state_of self.new) }
+        ensures needs { OnErr result (IsTrue (work_needs self.old.wiring.now (state_of self.old) (state_of self.old).work reply)) }
+        ensures numbered { OnOk result (work_unnumbered self.old.wiring.now (state_of self.old).work reply ≡ false) }
         ensures counted { OnOk result (IsCounted self.new.work self.new.taken self.new.empty) }
         ensures attempt { self.new.attempt ≡ self.old.attempt }
         ensures beside { IsBeside self.old self.new }

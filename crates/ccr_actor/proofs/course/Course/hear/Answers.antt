@@ -5,7 +5,8 @@ use Rattle.ccr_claim.specs.declared.outcomes.Progress.TheVariants as progresses
 use Rattle.ccr_claim.specs.Attempts.{progress_of}
 use Rattle.ccr_actor.specs.Acting.{kept}
 use Rattle.ccr_actor.specs.Actors.{State, end_attempt}
-use Rattle.ccr_actor.specs.Courses.{EndsSo, IsHeard, IsGivenUp, IsPast, is_memory, fired_on, heard, state_of}
+use Rattle.ccr_actor.specs.Courses.{EndsSo, IsHeard, IsGivenUp, IsPast, is_memory, fired_on, heard, heard_needs, state_of}
+use Rattle.ccr_actor.proofs.Needed.{heard_wants, on_err, wants}
 use Rattle.ccr_actor.proofs.Steps.{heard_in, ends, first_spot, is_first, hand_alone, fired_in, given_in, always_ok, always_err}
 use Rattle.ccr_actor.proofs.course.Course.hear.Goals as goal
 
@@ -74,3 +75,18 @@ returns-then-is_memory-clause-past c =
     let up : IsGivenUp (is_memory c.in-GaveUp.why) old.wiring.now old.number (state_of old) first.1 reached new = subst (λ s. IsHeard old.wiring.now old.number (record { actor = old.number; attempt = old.count }) (state_of old) first.0 first.1 reached s new) stand so in
     let memory : is_memory c.in-GaveUp.why ≡ true = sym c.is_memory.ensures ∙ c.if-is_memory.true in
     (subst (λ b. IsGivenUp b old.wiring.now old.number (state_of old) first.1 reached new) memory up).ended
+
+pub returns-in-Fired-clause-needs : goal.returns-in-Fired-clause-needs
+returns-in-Fired-clause-needs c =
+    let new = c.answer.new.attempt in
+    let stand : progress_of new.ended ≡ progresses.Fired c.in-Fired.waits = sym c.answer.ensures.progress ∙ c.in-Fired.is in
+    on_err c.fire.result (c.in-Fired.waits ≡ true) (heard_needs c.args.reply ≡ true)
+    (λ waits. heard_wants c.args.self.now.attempt c.in-Some-attempt.attempt new c.args.reply c.in-Some-attempt.is c.requires.reply c.requires.asked c.answer.ensures.after (ap wants stand ∙ waits))
+    c.fire.ensures.needs
+
+pub returns-then-is_memory-clause-needs : goal.returns-then-is_memory-clause-needs
+returns-then-is_memory-clause-needs c =
+    let new = c.answer.new.attempt in
+    let stand : progress_of new.ended ≡ progresses.GaveUp c.in-GaveUp.why = sym c.answer.ensures.progress ∙ c.in-GaveUp.is in
+    let memory : is_memory c.in-GaveUp.why ≡ true = sym c.is_memory.ensures ∙ c.if-is_memory.true in
+    heard_wants c.args.self.now.attempt c.in-Some-attempt.attempt new c.args.reply c.in-Some-attempt.is c.requires.reply c.requires.asked c.answer.ensures.after (ap wants stand ∙ memory)
