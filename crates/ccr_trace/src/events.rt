@@ -1,6 +1,6 @@
 //! The lines of events.
 
-ghost use Rattle.std.specs.Prelude.{◌≡◌, ◌<◌, ◌^◌, ◌++◌, ◌∷◌, [], OnOk, map, codes, decimal};
+ghost use Rattle.std.specs.Prelude.{◌≡◌, ◌++◌, ◌∷◌, [], OnOk, map, codes};
 ghost use Rattle.std.specs.List.{All};
 ghost use Rattle.ccr_text.specs.Spelling.{line_text};
 ghost use Rattle.ccr_trace.specs.Words.{task_word, message_word, value_word, spot_word, name_at, branch_names, cause_names};
@@ -9,12 +9,18 @@ ghost use Rattle.ccr_trace.specs.Known.{IsShortSpot, IsShortEnd, IsShort};
 ghost use Rattle.ccr_trace.specs.HistoryText.{behind, cut_words, dropped_words, end_words, event_words};
 
 use crate::names::cause_name;
-use crate::words::{put_message, put_number_word, put_spot, put_task, put_value, put_word};
-use ccr_base::{CauseNo, List, Msg, MsgId, Name, OutOfMemory, Spot, TaskId};
+use crate::plain::{
+    put_drop_line, put_end_line, put_plain_fire, put_plain_post, put_start, put_task_line,
+};
+use crate::words::{put_message, put_spot, put_task, put_value, put_word};
+use ccr_base::{CauseNo, List, Msg, MsgId, Name, OutOfMemory, Spot, TaskId, Value};
 use ccr_model::{EndHow, Event};
 use ccr_spots::name_at;
 use ccr_text::put_bytes;
 use ccr_wiring::{CausePart, Parts};
+
+/// How long a name is at most in a line that is built from its end.
+const MAX_NAME_BYTES: usize = 16;
 
 /// Adds the event's line.
 pub fn put_event(
@@ -46,6 +52,22 @@ fn put_post(out: &mut List<u8>, parts: &Parts, message: &Msg) -> Result<(), OutO
     ensures text { OnOk result (out.new ≡ out.old ++ line_text (codes "post" ∷ message_word message.now.id ∷ name_at parts.now.ports message.now.port ∷ value_word message.now.value ∷ map (name_at (cause_names parts.now)) message.now.causes)) }
     ensures numbers { OnOk result (IsMessage message.now.id × HasNumbers message.now.value) }
 {
+    let port = name_at(parts.ports.as_slice(), message.port);
+    if let Some((number, others)) = message.value.numbers().split_first()
+        && others.is_empty()
+        && message.causes.is_empty()
+        && port.len() <= MAX_NAME_BYTES
+    {
+        return put_plain_post(out, message.id, port, *number);
+    }
+    put_full_post(out, parts, message)
+}
+
+/// The line word by word.
+fn put_full_post(out: &mut List<u8>, parts: &Parts, message: &Msg) -> Result<(), OutOfMemory>
+    ensures text { OnOk result (out.new ≡ out.old ++ line_text (codes "post" ∷ message_word message.now.id ∷ name_at parts.now.ports message.now.port ∷ value_word message.now.value ∷ map (name_at (cause_names parts.now)) message.now.causes)) }
+    ensures numbers { OnOk result (IsMessage message.now.id × HasNumbers message.now.value) }
+{
     put_bytes(out, b"post")?;
     put_message(out, message.id)?;
     put_word(out, name_at(parts.ports.as_slice(), message.port))?;
@@ -68,6 +90,31 @@ fn put_causes(
 }
 
 fn put_fire(
+    out: &mut List<u8>,
+    branches: &[Name],
+    task: TaskId,
+    spot: Spot,
+    messages: &List<MsgId>,
+    cuts: &List<TaskId>,
+) -> Result<(), OutOfMemory>
+    ensures text { OnOk result (out.new ≡ out.old ++ line_text (codes "fire" ∷ task_word task ∷ spot_word branches.now spot ∷ (map message_word messages.now ++ cut_words cuts.now))) }
+    ensures numbers { OnOk result (IsTask task × IsShortSpot spot × All IsMessage messages.now × All IsTask cuts.now) }
+{
+    if let Spot::Branch(branch) = spot
+        && cuts.is_empty()
+        && let Some((message, others)) = messages.as_slice().split_first()
+        && others.is_empty()
+    {
+        let name = name_at(branches, branch);
+        if name.len() <= MAX_NAME_BYTES {
+            return put_plain_fire(out, task, name, *message);
+        }
+    }
+    put_full_fire(out, branches, task, spot, messages, cuts)
+}
+
+/// The line word by word.
+fn put_full_fire(
     out: &mut List<u8>,
     branches: &[Name],
     task: TaskId,
@@ -117,54 +164,35 @@ fn put_tasks(out: &mut List<u8>, tasks: &[TaskId]) -> Result<(), OutOfMemory>
     Ok(())
 }
 
-/// A line of a word and a task.
-fn put_task_line(out: &mut List<u8>, word: &[u8], task: TaskId) -> Result<(), OutOfMemory>
-    ensures text { OnOk result (out.new ≡ out.old ++ line_text (word.now ∷ task_word task ∷ [])) }
-    ensures numbers { IsTask task }
-{
-    put_bytes(out, word)?;
-    put_task(out, task)?;
-    put_bytes(out, b"\n")
-}
-
 fn put_put(out: &mut List<u8>, task: TaskId, dropped: Option<TaskId>) -> Result<(), OutOfMemory>
     ensures text { OnOk result (out.new ≡ out.old ++ line_text (codes "put" ∷ task_word task ∷ dropped_words dropped)) }
     ensures numbers { OnOk result (IsTask task × IsDropped dropped) }
 {
-    let Some(dropped) = dropped else {
-        return put_task_line(out, b"put", task);
-    };
-    put_bytes(out, b"put")?;
-    put_task(out, task)?;
-    put_word(out, b"drop")?;
-    put_task(out, dropped)?;
-    put_bytes(out, b"\n")
-}
-
-fn put_start(out: &mut List<u8>, task: TaskId, actor: u32) -> Result<(), OutOfMemory>
-    ensures text { OnOk result (out.new ≡ out.old ++ line_text (codes "start" ∷ task_word task ∷ decimal actor ∷ [])) }
-    ensures numbers { OnOk result (IsTask task × (actor < 2 ^ 32)) }
-{
-    put_bytes(out, b"start")?;
-    put_task(out, task)?;
-    put_number_word(out, u64::from(actor))?;
-    put_bytes(out, b"\n")
+    match dropped {
+        None => put_task_line(out, b"put", task),
+        Some(dropped) => put_drop_line(out, task, dropped),
+    }
 }
 
 fn put_end(out: &mut List<u8>, task: TaskId, how: EndHow) -> Result<(), OutOfMemory>
     ensures text { OnOk result (out.new ≡ out.old ++ line_text (codes "end" ∷ task_word task ∷ end_words how)) }
     ensures numbers { OnOk result (IsTask task × IsShortEnd how) }
 {
+    match how {
+        EndHow::Done => put_end_line(out, task, b"done"),
+        EndHow::Yield => put_end_line(out, task, b"yield"),
+        EndHow::Shed => put_end_line(out, task, b"shed"),
+        EndHow::Failed(value) => put_failed(out, task, value),
+    }
+}
+
+fn put_failed(out: &mut List<u8>, task: TaskId, value: Value) -> Result<(), OutOfMemory>
+    ensures text { OnOk result (out.new ≡ out.old ++ line_text (codes "end" ∷ task_word task ∷ codes "failed" ∷ value_word value ∷ [])) }
+    ensures numbers { OnOk result (IsTask task × HasNumbers value) }
+{
     put_bytes(out, b"end")?;
     put_task(out, task)?;
-    match how {
-        EndHow::Done => put_word(out, b"done")?,
-        EndHow::Failed(value) => {
-            put_word(out, b"failed")?;
-            put_value(out, value)?;
-        }
-        EndHow::Yield => put_word(out, b"yield")?,
-        EndHow::Shed => put_word(out, b"shed")?,
-    }
+    put_word(out, b"failed")?;
+    put_value(out, value)?;
     put_bytes(out, b"\n")
 }

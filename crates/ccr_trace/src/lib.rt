@@ -11,6 +11,8 @@ mod names;
 mod numbers;
 mod pieces;
 mod places;
+mod plain;
+mod prepending;
 mod reading;
 mod refused;
 mod stop;

@@ -6,9 +6,10 @@ ghost use Rattle.ccr_trace.specs.Words.{task_word, message_word, value_word, oth
 ghost use Rattle.ccr_trace.specs.Said.{IsTask, IsMessage, HasNumbers};
 ghost use Rattle.ccr_trace.specs.Known.{IsShortSpot};
 
+use crate::prepending::{prepend_message, prepend_task};
 use ccr_base::{List, MsgId, Name, OutOfMemory, Spot, TaskId, Value};
 use ccr_spots::put_spot_word;
-use ccr_text::{put_bytes, put_number};
+use ccr_text::{LineBuffer, put_bytes, put_number};
 
 pub fn put_word(out: &mut List<u8>, word: &[u8]) -> Result<(), OutOfMemory>
     ensures { OnOk result (out.new ≡ out.old ++ 32 ∷ word.now) }
@@ -28,29 +29,18 @@ pub fn put_task(out: &mut List<u8>, task: TaskId) -> Result<(), OutOfMemory>
     ensures text { OnOk result (out.new ≡ out.old ++ 32 ∷ task_word task) }
     ensures numbers { IsTask task }
 {
-    put_bytes(out, b" t")?;
-    put_number(out, u64::from(task.actor))?;
-    put_bytes(out, b".")?;
-    put_number(out, u64::from(task.attempt))
+    let mut word = LineBuffer::new();
+    prepend_task(&mut word, task);
+    put_bytes(out, word.as_slice())
 }
 
 pub fn put_message(out: &mut List<u8>, message: MsgId) -> Result<(), OutOfMemory>
     ensures text { OnOk result (out.new ≡ out.old ++ 32 ∷ message_word message) }
     ensures numbers { IsMessage message }
 {
-    match message {
-        MsgId::Script { actor, place } => {
-            put_bytes(out, b" s")?;
-            put_number(out, u64::from(actor))?;
-            put_bytes(out, b".")?;
-            put_number(out, u64::from(place))
-        }
-        MsgId::Task { task, place } => {
-            put_task(out, task)?;
-            put_bytes(out, b".")?;
-            put_number(out, u64::from(place))
-        }
-    }
+    let mut word = LineBuffer::new();
+    prepend_message(&mut word, message);
+    put_bytes(out, word.as_slice())
 }
 
 /// Each number behind a comma.

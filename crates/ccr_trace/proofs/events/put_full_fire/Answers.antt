@@ -1,7 +1,7 @@
 use Rattle.std.proofs.Common.{◌≡◌, ◌++◌}
 use Rattle.std.proofs.lemmas.Result.{IfOk-equal}
 use Rattle.ccr_trace.proofs.Lines.{fire_line}
-use Rattle.ccr_trace.proofs.events.put_fire.Goals as goal
+use Rattle.ccr_trace.proofs.events.put_full_fire.Goals as goal
 
 pub returns-clause-text : goal.returns-clause-text
 returns-clause-text c =
