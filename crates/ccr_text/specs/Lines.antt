@@ -10,6 +10,11 @@ abbrev pub cut : List ℕ → List (List ℕ)
 cut [] = []
 cut (b ∷ bytes) = if b == 10 then [] ∷ cut bytes else onto_first b (cut bytes)
 
+-- what stands before the first LF
+abbrev pub first_line : List ℕ → List ℕ
+first_line [] = []
+first_line (b ∷ bytes) = if b == 10 then [] else b ∷ first_line bytes
+
 -- whether an LF stands in the bytes
 abbrev pub has_feed : List ℕ → Bool
 has_feed bytes = list_any (λ b. b == 10) bytes

@@ -1,8 +1,8 @@
 //! Words of a line, and which words are names.
 
-ghost use Rattle.std.specs.Prelude.{◌≡◌, ◌<◌, [], ◌∷◌, IfOk, IfSome, IfNone, length};
+ghost use Rattle.std.specs.Prelude.{◌≡◌, ◌<◌, [], ◌∷◌, ◌++◌, true, false, IfOk, IfSome, IfNone, length};
 ghost use Rattle.std.specs.List.{list_all};
-ghost use Rattle.ccr_text.specs.Words.{is_mark, is_clean, pieces, words_of, is_name_of, may_be_in_name};
+ghost use Rattle.ccr_text.specs.Words.{is_blank, is_mark, is_clean, pieces, words_of, is_name_of, may_be_in_name};
 
 use ccr_base::{List, Name, OutOfMemory};
 use std::alloc::Global;
@@ -16,11 +16,19 @@ fn is_mark_byte(byte: u8) -> bool
     (33..=126).contains(&byte)
 }
 
+/// Space, tab and CR.
+pub fn is_blank_byte(byte: u8) -> bool
+    ensures { result ≡ is_blank byte }
+{
+    matches!(byte, b' ' | b'\t' | b'\r')
+}
+
 /// Whether the bytes are blanks (space, tab, CR) and bytes of words (33 to 126) alone.
 pub fn is_clean_line(line: &[u8]) -> bool
     ensures { result ≡ is_clean line.now }
 {
-    line.iter().all(|byte| matches!(*byte, b' ' | b'\t' | b'\r') || is_mark_byte(*byte))
+    line.iter()
+        .all(|byte| is_blank_byte(*byte) || is_mark_byte(*byte))
 }
 
 /// What stands before the first byte that is no mark, and what stands behind that byte.
@@ -35,6 +43,21 @@ pub fn cut_word(line: &[u8]) -> (&[u8], Option<&[u8]>)
         }
     }
     (line, None)
+}
+
+/// The bytes of words at the beginning, and the first byte that is none with what follows it.
+pub fn cut_run(bytes: &[u8]) -> (&[u8], Option<(u8, &[u8])>)
+    ensures marks { list_all is_mark result.0.now ≡ true }
+    ensures whole { IfNone result.1 (bytes.now ≡ result.0.now) }
+    ensures parts { IfSome result.1 (λ behind. bytes.now ≡ result.0.now ++ behind.0 ∷ behind.1.now) }
+    ensures other { IfSome result.1 (λ behind. is_mark behind.0 ≡ false) }
+{
+    for (place, byte) in bytes.iter().enumerate() {
+        if !is_mark_byte(*byte) {
+            return (&bytes[..place], Some((*byte, &bytes[place + 1..])));
+        }
+    }
+    (bytes, None)
 }
 
 /// The words of a line. A word goes on as long as its bytes are printable and no space (33 to 126).

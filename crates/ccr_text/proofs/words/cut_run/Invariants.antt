@@ -1,0 +1,8 @@
+use Rattle.std.proofs.Common.{◌≡◌, take, true}
+use Rattle.std.specs.List.{list_all}
+use Rattle.ccr_text.specs.Words.{is_mark}
+use Rattle.ccr_text.proofs.words.cut_run.Given as goal
+
+-- marks so far
+abbrev pub invariant-loop-place : goal.invariant-loop-place
+invariant-loop-place l = list_all is_mark (take l.place l.bytes) ≡ true
