@@ -1,0 +1,111 @@
+-- How many entries tell something of a task at a place, and when one of them ends what one other began.
+use Rattle.std.proofs.Common.{inl, inr, ◌⊎◌, ◌≡◌, ◌≤◌, ◌<◌, ℕ, zero, suc, ◌+◌, Bool, true, false, List, [], ◌∷◌, ◌++◌, length, Some, refl, sym, arith, ap, ◌∙◌, subst, append_assoc, append-nil, length-append}
+use Rattle.std.specs.Prelude.{filter, if◌then◌else◌}
+use Rattle.std.proofs.lemmas.List.Elements.{filter-append}
+use Rattle.ccr_base.specs.declared.names.Place.{Place}
+use Rattle.ccr_base.specs.declared.names.TaskId.{TaskId}
+use Rattle.ccr_base.specs.Names.{has_task}
+use Rattle.ccr_wiring.specs.declared.parts.Parts.{Parts}
+use Rattle.ccr_model.proofs.Booleans.{both}
+use Rattle.ccr_model.proofs.Members.{Among, Among-either}
+use Rattle.ccr_places.specs.declared.notes.Note.{Note}
+use Rattle.ccr_net.specs.declared.entries.Entry.{Entry}
+use Rattle.ccr_net.specs.Runs.{Lacks, IsRunAfter, made_by, same_place}
+use Rattle.ccr_net.proofs.MeterPart.{bit}
+use Rattle.ccr_net.proofs.Noted.{filter_among}
+use Rattle.ccr_rests.specs.Ends.{EndsOnce, tells, telling}
+
+abbrev pub count : (Note → List TaskId) → Place → TaskId → List Entry → ℕ
+count names pl t es = length (telling names pl t es)
+
+pub count-append : (names : Note → List TaskId) (pl : Place) (t : TaskId) (es fs : List Entry) → count names pl t (es ++ fs) ≡ count names pl t es + count names pl t fs
+count-append names pl t es fs = ap length (filter-append (tells names pl t) es fs) ∙ length-append (telling names pl t es) (telling names pl t fs)
+
+pub count-first : (names : Note → List TaskId) (pl : Place) (t : TaskId) (e : Entry) (es : List Entry) → count names pl t (e ∷ es) ≡ bit (tells names pl t e) + count names pl t es
+count-first names pl t e es = by (tells names pl t e)
+  where
+    by : (b : Bool) → length (if b then e ∷ telling names pl t es else telling names pl t es) ≡ bit b + length (telling names pl t es)
+    by true = omega arith
+    by false = omega arith
+
+pub count-push : (names : Note → List TaskId) (pl : Place) (t : TaskId) (es : List Entry) (e : Entry) → count names pl t (es ++ e ∷ []) ≡ count names pl t es + bit (tells names pl t e)
+count-push names pl t es e = let all = count-append names pl t es (e ∷ []) in let one = count-first names pl t e [] in omega (arith, all, one)
+
+-- each entry that tells it is of the actor whose attempt the task is
+abbrev pub AreOwn : (Note → List TaskId) → List Entry → Type 0
+AreOwn names es = (x : Entry) → Among x es → (t : TaskId) → has_task (names x.note) t ≡ true → x.actor ≡ t.actor
+
+pub own-push : (names : Note → List TaskId) (es : List Entry) (e : Entry) → ((t : TaskId) → has_task (names e.note) t ≡ true → e.actor ≡ t.actor) → AreOwn names es → AreOwn names (es ++ e ∷ [])
+own-push names es e own all x is t has = of_split (Among-either x es (e ∷ []) is)
+  where
+    of_split : Among x es ⊎ Among x (e ∷ []) → x.actor ≡ t.actor
+    of_split (inl old) = all x old t has
+    of_split (inr (inl same)) = ap (λ (y : Entry). y.actor) same ∙ own t (subst (λ (y : Entry). has_task (names y.note) t ≡ true) same has)
+    of_split (inr (inr none)) = absurd none
+
+none_of : (xs : List Entry) → length xs ≡ 0 → xs ≡ []
+none_of [] is = refl
+none_of (x ∷ xs) is = absurd (omega (arith, is))
+
+one_of : (xs : List Entry) → length xs ≡ 1 → (x : Entry) × (xs ≡ x ∷ [])
+one_of [] is = absurd (omega (arith, is))
+one_of (x ∷ xs) is = (x, ap (λ ys. x ∷ ys) (none_of xs (omega (arith, is))))
+
+-- who is left by a test passes it
+pub passing : {X : Type 0} (p : X → Bool) (xs : List X) (x : X) → Among x (filter p xs) → p x ≡ true
+passing p [] x is = absurd is
+passing p (y ∷ xs) x is = by (p y) refl is (passing p xs x)
+  where
+    by : (b : Bool) → p y ≡ b → Among x (if b then y ∷ filter p xs else filter p xs) → (Among x (filter p xs) → p x ≡ true) → p x ≡ true
+    by true at (inl same) rest = ap p same ∙ at
+    by true at (inr more) rest = rest more
+    by false at more rest = rest more
+
+-- some entry tells it
+pub some_telling : (names : Note → List TaskId) (pl : Place) (t : TaskId) (es : List Entry) → 1 ≤ count names pl t es → (x : Entry) × Among x es × (has_task (names x.note) t ≡ true)
+some_telling names pl t es some = of (telling names pl t es) refl
+  where
+    of : (xs : List Entry) → telling names pl t es ≡ xs → (x : Entry) × Among x es × (has_task (names x.note) t ≡ true)
+    of [] at = absurd (let none = ap length at in omega (arith, none, some))
+    of (x ∷ xs) at = let there = subst (Among x) (sym at) (inl refl) in (x, filter_among (tells names pl t) es x there, (both (same_place x.place pl) (has_task (names x.note) t) (passing (tells names pl t) es x there)).1)
+
+-- one began it, and no other, and the entry alone ends it
+pub ends_once : (begins ends : Note → List TaskId) (pl : Place) (t : TaskId) (past : List Entry) (e : Entry) (more : List Entry) → AreOwn begins past → tells ends pl t e ≡ true → count begins pl t past ≡ 1 → count ends pl t past ≡ 0 → count begins pl t (past ++ e ∷ more) ≤ 1 → count ends pl t (past ++ e ∷ more) ≤ 1 → EndsOnce begins ends pl t past e more
+ends_once begins ends pl t past e more own is one none few few_ends = record {
+  beginning = found.0;
+  begun = found.1;
+  by_itself = own found.0 (filter_among (tells begins pl t) past found.0 among) t (both (same_place found.0.place pl) (has_task (begins found.0.note) t) (passing (tells begins pl t) past found.0 among)).1;
+  not_begun_later = none_of (telling begins pl t (e ∷ more)) (let all = count-append begins pl t past (e ∷ more) in omega (arith, all, one, few));
+  not_ended_before = none_of (telling ends pl t past) none;
+  not_ended_later = none_of (telling ends pl t more) (let all = count-append ends pl t past (e ∷ more) in let first = count-first ends pl t e more in let here = ap bit is in omega (arith, all, first, here, few_ends));
+}
+  where
+    found : (x : Entry) × (telling begins pl t past ≡ x ∷ [])
+    found = one_of (telling begins pl t past) one
+
+    among : Among found.0 (telling begins pl t past)
+    among = subst (Among found.0) (sym found.1) (inl refl)
+
+-- ---- a run in parts
+
+pub record Parted (w : Parts) (n : ℕ) (lacks : Lacks) (past : List Entry) (e : Entry) (more : List Entry) : Type 0 where
+  pub run : IsRunAfter w n lacks [] past
+  pub low : e.actor < length w.posters + n
+  pub made : made_by w lacks past e.actor ≡ Some e
+
+front : (w : Parts) (n : ℕ) (lacks : Lacks) (past es fs : List Entry) → IsRunAfter w n lacks past (es ++ fs) → IsRunAfter w n lacks past es
+front w n lacks past [] fs run = tt
+front w n lacks past (x ∷ es) fs run = (run.0, run.1, front w n lacks (past ++ x ∷ []) es fs run.2)
+
+behind : (w : Parts) (n : ℕ) (lacks : Lacks) (past es fs : List Entry) → IsRunAfter w n lacks past (es ++ fs) → IsRunAfter w n lacks (past ++ es) fs
+behind w n lacks past [] fs run = subst (λ p. IsRunAfter w n lacks p fs) (sym (append-nil past)) run
+behind w n lacks past (x ∷ es) fs run = subst (λ p. IsRunAfter w n lacks p fs) (append_assoc past (x ∷ []) es) (behind w n lacks (past ++ x ∷ []) es fs run.2)
+
+pub parted : (w : Parts) (n : ℕ) (lacks : Lacks) (past : List Entry) (e : Entry) (more : List Entry) → IsRunAfter w n lacks [] (past ++ e ∷ more) → Parted w n lacks past e more
+parted w n lacks past e more run = let rest = behind w n lacks [] past (e ∷ more) run in record { run = front w n lacks [] past (e ∷ more) run; low = rest.0; made = rest.1 }
+
+-- each entry is of one of the actors
+pub low_actors : (w : Parts) (n : ℕ) (lacks : Lacks) (past es : List Entry) → IsRunAfter w n lacks past es → (x : Entry) → Among x es → x.actor < length w.posters + n
+low_actors w n lacks past [] run x is = absurd is
+low_actors w n lacks past (e ∷ es) run x (inl same) = subst (λ (y : Entry). y.actor < length w.posters + n) (sym same) run.0
+low_actors w n lacks past (e ∷ es) run x (inr more) = low_actors w n lacks (past ++ e ∷ []) es run.2 x more

@@ -1,0 +1,126 @@
+-- Who has fired after an entry, and what that does to the state of its actor.
+use Rattle.std.proofs.Common.{inl, inr, ◌⊎◌, ◌≡◌, ◌≤◌, ◌<◌, ℕ, suc, ◌+◌, Bool, true, false, List, [], ◌∷◌, ◌++◌, map, Option, Some, None, refl, sym, arith, ap, ◌∙◌, subst}
+use Rattle.std.specs.Prelude.{if◌then◌else◌}
+use Rattle.std.proofs.lemmas.Grind.{common_steps}
+use Rattle.ccr_base.specs.declared.names.MsgId.{MsgId}
+use Rattle.ccr_base.specs.declared.names.Place.{Place}
+use Rattle.ccr_base.specs.declared.names.Spot.{Spot}
+use Rattle.ccr_base.specs.declared.names.TaskId.{TaskId}
+use Rattle.ccr_base.specs.declared.tasks.How.TheVariants as hows
+use Rattle.ccr_base.specs.declared.tasks.Task.{Task}
+use Rattle.ccr_base.specs.Names.{has_task}
+use Rattle.ccr_wiring.specs.declared.parts.Parts.{Parts}
+use Rattle.ccr_model.specs.declared.history.Event.{Event}
+use Rattle.ccr_model.specs.Firings.{fired}
+use Rattle.ccr_model.proofs.Booleans.{both, or_left}
+use Rattle.ccr_model.proofs.SameNames.{same_task-self}
+use Rattle.ccr_model.proofs.TaskLists.{among_left, among_right, of_more, of_one}
+use Rattle.ccr_places.specs.declared.notes.Note.{Note}
+use Rattle.ccr_places.specs.declared.notes.Note.TheVariants as notes
+use Rattle.ccr_actor.specs.Actors.{State, after, after_attempt, after_in, fire}
+use Rattle.ccr_net.specs.declared.entries.Entry.{Entry}
+use Rattle.ccr_net.specs.Runs.{Lacks, notes_at, reply_of, reply_to, same_place, state_of, waits}
+use Rattle.ccr_net.specs.Views.{cut_view, view}
+use Rattle.ccr_net.specs.Visible.{event_of, shown, visible}
+use Rattle.ccr_net.proofs.Assembly.{Holds}
+use Rattle.ccr_net.proofs.MeterPart.{bit}
+use Rattle.ccr_net.proofs.Pushes.{Step, visible-push}
+use Rattle.ccr_rests.specs.Ends.{fired_by, tells}
+use Rattle.ccr_rests.proofs.EntryCounts.{count, count-first}
+use Rattle.ccr_rests.proofs.NoteKinds.{kind_noted}
+use Rattle.ccr_rests.proofs.Rising.{Tries, tries}
+
+pub record IsFiring (note : Note) (t : TaskId) : Type 0 where
+  pub spot : Spot
+  pub messages : List MsgId
+  pub cuts : List TaskId
+  pub noted : note ≡ notes.Fired t spot messages cuts
+
+-- only a firing shows that a task fired
+shows_firing : (a : ℕ) (note : Note) (t : TaskId) → has_task (fired (shown a note)) t ≡ true → IsFiring note t
+shows_firing a (notes.Fired u s ms cs) t has = record { spot = s; messages = ms; cuts = cs; noted = ap (λ v. notes.Fired v s ms cs) (sym (of_one u t has)) }
+shows_firing a (notes.Post m) t has = absurd (cc)
+shows_firing a (notes.Claim u s r) t has = absurd (cc)
+shows_firing a (notes.Consume u) t has = absurd (cc)
+shows_firing a (notes.Free u) t has = absurd (cc)
+shows_firing a (notes.Dead u s by) t has = absurd (cc)
+shows_firing a (notes.Admit None) t has = absurd (cc)
+shows_firing a (notes.Admit (Some u)) t has = absurd (cc)
+shows_firing a (notes.Over u r hows.Done) t has = absurd (cc)
+shows_firing a (notes.Over u r (hows.Failed value)) t has = absurd (cc)
+shows_firing a (notes.Over u r hows.Shed) t has = absurd (cc)
+shows_firing a (notes.Over u r hows.Dropped) t has = absurd (cc)
+shows_firing a (notes.Suspend u) t has = absurd (cc)
+shows_firing a (notes.Book u r f) t has = absurd (cc)
+shows_firing a (notes.Unbook u) t has = absurd (cc)
+shows_firing a (notes.Put u d) t has = absurd (cc)
+shows_firing a (notes.Take None) t has = absurd (cc)
+shows_firing a (notes.Take (Some u)) t has = absurd (cc)
+shows_firing a (notes.Draw k) t has = absurd (cc)
+shows_firing a notes.Leave t has = absurd (cc)
+shows_firing a (notes.Left k) t has = absurd (cc)
+
+fired-append : (h evs : List Event) → fired (h ++ evs) ≡ fired h ++ fired evs
+fired-append h evs = grind (arith, common_steps)
+
+-- who has fired then fired before, or the entry is its firing
+pub fired_then : (es : List Entry) (e : Entry) (t : TaskId) → has_task (fired (visible (es ++ e ∷ []))) t ≡ true → (has_task (fired (visible es)) t ≡ true) ⊎ IsFiring e.note t
+fired_then es e t has = of_more (fired (visible es)) (fired (event_of e)) t ((has_task (fired (visible es)) t ≡ true) ⊎ IsFiring e.note t) (ap (λ ts. has_task ts t) (sym (ap fired (visible-push es e) ∙ fired-append (visible es) (event_of e))) ∙ has) (λ old. inl old) (λ new. inr (shows_firing e.actor e.note t new))
+
+pub firing_told : (note : Note) (t : TaskId) → has_task (fired_by note) t ≡ true → IsFiring note t
+firing_told (notes.Fired u s ms cs) t has = record { spot = s; messages = ms; cuts = cs; noted = ap (λ v. notes.Fired v s ms cs) (sym (of_one u t has)) }
+firing_told (notes.Post m) t has = absurd (cc)
+firing_told (notes.Claim u s r) t has = absurd (cc)
+firing_told (notes.Consume u) t has = absurd (cc)
+firing_told (notes.Free u) t has = absurd (cc)
+firing_told (notes.Dead u s by) t has = absurd (cc)
+firing_told (notes.Admit u) t has = absurd (cc)
+firing_told (notes.Over u r how) t has = absurd (cc)
+firing_told (notes.Suspend u) t has = absurd (cc)
+firing_told (notes.Book u r f) t has = absurd (cc)
+firing_told (notes.Unbook u) t has = absurd (cc)
+firing_told (notes.Put u d) t has = absurd (cc)
+firing_told (notes.Take u) t has = absurd (cc)
+firing_told (notes.Draw k) t has = absurd (cc)
+firing_told notes.Leave t has = absurd (cc)
+firing_told (notes.Left k) t has = absurd (cc)
+
+pub told_firing : (pl : Place) (t : TaskId) (e : Entry) → tells fired_by pl t e ≡ true → IsFiring e.note t
+told_firing pl t e is = firing_told e.note t (both (same_place e.place pl) (has_task (fired_by e.note) t) is).1
+
+-- what is told to have fired has fired
+pub fired_told : (pl : Place) (t : TaskId) (es : List Entry) → 1 ≤ count fired_by pl t es → has_task (fired (visible es)) t ≡ true
+fired_told pl t [] some = absurd (omega (arith, some))
+fired_told pl t (e ∷ es) some = ap (λ ts. has_task ts t) (fired-append (event_of e) (visible es)) ∙ by (tells fired_by pl t e) refl (fired_told pl t es)
+  where
+    self : (u : TaskId) → has_task (u ∷ []) u ≡ true
+    self u = or_left _ false (same_task-self u)
+
+    of_firing : IsFiring e.note t → has_task (fired (event_of e)) t ≡ true
+    of_firing is = ap (λ note. has_task (fired (shown e.actor note)) t) is.noted ∙ self t
+
+    by : (b : Bool) → tells fired_by pl t e ≡ b → (1 ≤ count fired_by pl t es → has_task (fired (visible es)) t ≡ true) → has_task (fired (event_of e) ++ fired (visible es)) t ≡ true
+    by true at rest = among_left (fired (event_of e)) (fired (visible es)) t (of_firing (told_firing pl t e at))
+    by false at rest = among_right (fired (event_of e)) (fired (visible es)) t (rest (let first = count-first fired_by pl t e es in let none = ap bit at in omega (arith, first, none, some)))
+
+-- ---- the firing's actor
+
+-- a firing ends the attempt, and is counted
+pub record Counts (st next : State) : Type 0 where
+  pub attempt : next.attempt ≡ st.attempt + 1
+  pub fired : next.fired ≡ st.fired + 1
+
+pub fire_counts : (w : Parts) (n : ℕ) (lacks : Lacks) (es : List Entry) (e : Entry) → Holds w n lacks es → Step w lacks es e → (t : TaskId) → IsFiring e.note t → Counts (state_of w lacks es e.actor) (after w e.actor (state_of w lacks es e.actor) (reply_of w es e))
+fire_counts w n lacks es e holds step t is = subst (Counts (state_of w lacks es e.actor)) (sym next_so) (record { attempt = refl; fired = refl })
+  where
+    three : kind_noted e.note ≡ 3
+    three = ap kind_noted is.noted
+
+    tried : Tries w es e (state_of w lacks es e.actor)
+    tried = tries w n lacks es e holds step (omega (arith, three)) (omega (arith, three))
+
+    handed : Option Task
+    handed = if waits w is.spot then None else Some (view w (visible (es ++ e ∷ [])) t)
+
+    next_so : after w e.actor (state_of w lacks es e.actor) (reply_of w es e) ≡ fire w e.actor (state_of w lacks es e.actor) tried.spot tried.more handed (map (cut_view w (visible (es ++ e ∷ []))) is.cuts)
+    next_so = ap (λ tu. after_in w e.actor (state_of w lacks es e.actor) tu (reply_of w es e)) tried.turns ∙ ap (λ note. after_attempt w e.actor (state_of w lacks es e.actor) tried.spot tried.more (reply_to w (visible (es ++ e ∷ [])) (notes_at es e.place) note)) is.noted

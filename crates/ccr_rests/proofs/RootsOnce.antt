@@ -1,0 +1,409 @@
+-- A root is noted over once, at its domain.
+use Rattle.std.proofs.Common.{inl, inr, ◌⊎◌, ◌≡◌, ◌≤◌, ◌<◌, ℕ, zero, suc, ◌+◌, Bool, true, false, not, ◌&&◌, ◌||◌, List, [], ◌∷◌, ◌++◌, drop, flat_map, length, Option, Some, None, refl, sym, arith, ap, ◌∙◌, subst, append-nil}
+use Rattle.std.specs.Prelude.{◌==◌, if◌then◌else◌, slice_get}
+use Rattle.std.specs.FinSet as set
+use Rattle.std.specs.Option.{option_map_or}
+use Rattle.std.proofs.lemmas.Grind.{common_steps}
+use Rattle.ccr_base.specs.declared.names.MsgId.{MsgId}
+use Rattle.ccr_base.specs.declared.names.Place.{Place}
+use Rattle.ccr_base.specs.declared.names.Place.TheVariants as places
+use Rattle.ccr_base.specs.declared.names.Spot.{Spot}
+use Rattle.ccr_base.specs.declared.names.TaskId.{TaskId}
+use Rattle.ccr_base.specs.declared.tasks.By.{By}
+use Rattle.ccr_base.specs.declared.tasks.How.{How}
+use Rattle.ccr_base.specs.declared.tasks.Task.{Task}
+use Rattle.ccr_base.specs.Names.{same_task, has_task}
+use Rattle.ccr_wiring.specs.declared.parts.ArbiterPart.{ArbiterPart}
+use Rattle.ccr_wiring.specs.declared.parts.Kind.{Kind}
+use Rattle.ccr_wiring.specs.declared.parts.Kind.TheVariants as kinds
+use Rattle.ccr_wiring.specs.declared.parts.Parts.{Parts}
+use Rattle.ccr_wiring.specs.Valid.{IsValid}
+use Rattle.ccr_wiring.specs.Wirings.{Placement, placement, branch_of}
+use Rattle.ccr_model.specs.Firings.{Firing, fired, firing_named}
+use Rattle.ccr_model.specs.Tasks.{is_branch_where}
+use Rattle.ccr_model.proofs.Allowing.{OneName-legal}
+use Rattle.ccr_model.proofs.Booleans.{both, eq-self, no_both, or_left, same_number}
+use Rattle.ccr_model.proofs.FiringFacts.{BranchFacts, BranchFacts-where, fired_by_named}
+use Rattle.ccr_model.proofs.SameNames.{same_task-is, same_task-self}
+use Rattle.ccr_model.proofs.TaskLists.{among_left, among_right, of_one}
+use Rattle.ccr_model.proofs.TaskPlaces.{placement_by}
+use Rattle.ccr_model.proofs.TasksLeft.{has_task-append}
+use Rattle.ccr_places.specs.declared.notes.Note.{Note}
+use Rattle.ccr_places.specs.declared.notes.Note.TheVariants as notes
+use Rattle.ccr_places.specs.Arbiters.{ArbiterState}
+use Rattle.ccr_places.specs.Arbiters as arbiters
+use Rattle.ccr_places.specs.Interleaves.{InterleaveState, Waiting}
+use Rattle.ccr_places.specs.Interleaves as interleaves
+use Rattle.ccr_places.specs.TaskSets.{task_cmp}
+use Rattle.ccr_claim.specs.declared.asks.Ask.{Ask}
+use Rattle.ccr_claim.specs.declared.asks.Ask.TheVariants as asks
+use Rattle.ccr_net.specs.declared.entries.Entry.{Entry}
+use Rattle.ccr_net.specs.Places.{arbiter_after, arbiter_note, commit_note, first_branch, interleave_after, interleave_note, note_at_arbiter, note_by_kind, note_of}
+use Rattle.ccr_net.specs.Runs.{IsRunAfter, Lacks, made_by, notes_at, port_at, same_place, state_of}
+use Rattle.ccr_net.specs.Views.{arbiter_of}
+use Rattle.ccr_net.specs.Visible.{visible}
+use Rattle.ccr_net.proofs.ActorSteps.{unfired}
+use Rattle.ccr_net.proofs.ArbiterPart.{fired_note, fired_there, is_of, none_at_first}
+use Rattle.ccr_net.proofs.Assembly.{Holds}
+use Rattle.ccr_net.proofs.BookingPart.{in-less, in-more}
+use Rattle.ccr_net.proofs.MeterPart.{bit}
+use Rattle.ccr_net.proofs.Noted.{given_some}
+use Rattle.ccr_net.proofs.NotedOvers.{is_over_ask, noted_other, noted_over}
+use Rattle.ccr_net.proofs.PlayedPlaces.{same_place-is}
+use Rattle.ccr_net.proofs.PlayedRuns.{run_on}
+use Rattle.ccr_net.proofs.PlayedWhole.{run_holds}
+use Rattle.ccr_net.proofs.Pushes.{Step, Step-made, along_run, notes_at-push}
+use Rattle.ccr_rests.specs.Ends.{EndsOnce, fired_by, over_by, tells}
+use Rattle.ccr_rests.proofs.BookingsOnce.{less}
+use Rattle.ccr_rests.proofs.EntryCounts.{AreOwn, Parted, count, count-append, count-first, count-push, ends_once, own-push, parted}
+use Rattle.ccr_rests.proofs.Fires.{IsFiring, fired_told, firing_told, told_firing}
+use Rattle.ccr_rests.proofs.Rising.{fires_itself}
+
+-- ---- a note at a receiver or a choice
+
+fires_more : (f s o : Bool) → bit ((f || (s || false)) && o) ≤ bit (f && o) + bit (s || false)
+fires_more true s true = omega arith
+fires_more true s false = omega arith
+fires_more false true true = omega arith
+fires_more false true false = omega arith
+fires_more false false o = omega arith
+
+ends_more : (f o s : Bool) → (s ≡ true → f && not o ≡ true) → bit (s || false) + bit (f && not (o || (s || false))) ≤ bit (f && not o)
+ends_more true false true may = omega arith
+ends_more true true true may = absurd (let is = may refl in cc)
+ends_more false o true may = absurd (let is = may refl in cc)
+ends_more true true false may = omega arith
+ends_more true false false may = omega arith
+ends_more false o false may = omega arith
+
+-- a root that is noted over might be, and only a firing makes that so
+arbiter_may : (st : ArbiterState) (ask : Ask) (note : Note) (r : TaskId) → arbiter_note st ask ≡ Some note → bit (has_task (over_by note) r) + bit (arbiters.may_over (arbiters.after st note) r) ≤ bit (arbiters.may_over st r) + bit (has_task (fired_by note) r)
+arbiter_may st (asks.Commit t ms) note r is = by_dead (arbiters.dead_by st) (given_some (arbiters.may_commit st t) (commit_note t ms (arbiters.dead_by st) (notes.Fired t.id t.spot ms [])) note is).1
+  where
+    by_dead : (dead : Option By) → note ≡ commit_note t ms dead (notes.Fired t.id t.spot ms []) → bit (has_task (over_by note) r) + bit (arbiters.may_over (arbiters.after st note) r) ≤ bit (arbiters.may_over st r) + bit (has_task (fired_by note) r)
+    by_dead None noted = rw (noted, has_task-append st.fired (t.id ∷ []) r) (let more = fires_more (has_task st.fired r) (same_task r t.id) (not (has_task st.over r)) in omega (arith, more))
+    by_dead (Some dead) noted = rw noted (omega arith)
+arbiter_may st (asks.Over t u how) note r is = rw (parts.1, has_task-append st.over (u ∷ []) r) (let fewer = ends_more (has_task st.fired r) (has_task st.over r) (same_task r u) (λ same. ap (arbiters.may_over st) (same_task-is r u same) ∙ parts.0) in omega (arith, fewer))
+  where
+    parts : (arbiters.may_over st u ≡ true) × (note ≡ notes.Over t u how)
+    parts = given_some (arbiters.may_over st u) (notes.Over t u how) note is
+arbiter_may st (asks.Post m) note r is = absurd (cc)
+arbiter_may st (asks.Claim u s) note r is = absurd (cc)
+arbiter_may st (asks.Consume u) note r is = absurd (cc)
+arbiter_may st (asks.Free u) note r is = absurd (cc)
+arbiter_may st asks.Admit note r is = absurd (cc)
+arbiter_may st (asks.Suspend u) note r is = absurd (cc)
+arbiter_may st (asks.Book u b) note r is = absurd (cc)
+arbiter_may st (asks.Unbook u) note r is = absurd (cc)
+arbiter_may st (asks.Put u) note r is = absurd (cc)
+arbiter_may st asks.Take note r is = absurd (cc)
+arbiter_may st asks.Draw note r is = absurd (cc)
+arbiter_may st asks.Leave note r is = absurd (cc)
+arbiter_may st asks.Left note r is = absurd (cc)
+
+-- ---- a note at a domain of Interleaves
+
+-- how often the task waits
+abbrev waits_count : List Waiting → TaskId → ℕ
+waits_count [] r = 0
+waits_count (x ∷ xs) r = bit (same_task r x.task) + waits_count xs r
+
+waits-append : (xs ys : List Waiting) (r : TaskId) → waits_count (xs ++ ys) r ≡ waits_count xs r + waits_count ys r
+waits-append [] ys r = omega arith
+waits-append (x ∷ xs) ys r = let rest = waits-append xs ys r in omega (arith, rest)
+
+-- who waits may be admitted, and who is admitted may be noted over
+abbrev may_end : InterleaveState → TaskId → ℕ
+may_end place r = bit (interleaves.is_admitted place r) + waits_count place.waiting r
+
+rooted : (a b c : Bool) → bit ((a || b) || c) ≤ bit (b || c) + bit a
+rooted true b c = omega arith
+rooted false b c = omega arith
+
+rooted_other : (a b c : Bool) → bit (b || (a || c)) ≤ bit (b || c) + bit a
+rooted_other true true c = omega arith
+rooted_other true false c = omega arith
+rooted_other false b c = omega arith
+
+admits_more : (place : InterleaveState) (x : Waiting) (r : TaskId) → bit (interleaves.is_admitted (interleaves.with_root place x) r) ≤ bit (interleaves.is_admitted place r) + bit (same_task r x.task)
+admits_more place x r = by (interleaves.is_concurrent (interleaves.group_at place x.spot))
+  where
+    by : (b : Bool) → bit (set.contains (if b then set.insert place.shared x.task else place.shared) r || set.contains (if b then place.alone else set.insert place.alone x.task) r) ≤ bit (interleaves.is_admitted place r) + bit (same_task r x.task)
+    by true = rw (in-more place.shared x.task r) (rooted (same_task r x.task) (set.contains place.shared r) (set.contains place.alone r))
+    by false = rw (in-more place.alone x.task r) (rooted_other (same_task r x.task) (set.contains place.shared r) (set.contains place.alone r))
+
+admission : (place : InterleaveState) (o : Option TaskId) (r : TaskId) → may_end (interleaves.after_admit place o) r ≤ may_end place r
+admission place None r = omega arith
+admission place (Some t) r = by place.waiting refl
+  where
+    by : (xs : List Waiting) → place.waiting ≡ xs → may_end (interleaves.after_admission place) r ≤ may_end place r
+    by [] at = rw at (omega arith)
+    by (x ∷ xs) at = rw at (let more = admits_more place x r in omega (arith, more))
+
+spares : (b : Bool) (xs : List Waiting) (x : Waiting) (r : TaskId) → waits_count ((if b then [] else xs) ++ x ∷ []) r ≤ waits_count xs r + bit (same_task r x.task)
+spares true xs x r = omega arith
+spares false xs x r = let all = waits-append xs (x ∷ []) r in omega (arith, all)
+
+or_none : (b : Bool) → bit (b || false) ≡ bit b
+or_none true = refl
+or_none false = refl
+
+domain_may : (place : InterleaveState) (ask : Ask) (note : Note) (r : TaskId) → interleave_note place ask ≡ Some note → bit (has_task (over_by note) r) + may_end (interleaves.after place note) r ≤ may_end place r + bit (has_task (fired_by note) r)
+domain_may place (asks.Commit t ms) note r is = by_dead (interleaves.dead_by place) (given_some (interleaves.may_commit place t) (commit_note t ms (interleaves.dead_by place) (notes.Fired t.id t.spot ms (interleaves.cut_note place t.spot))) note is).1
+  where
+    by_dead : (dead : Option By) → note ≡ commit_note t ms dead (notes.Fired t.id t.spot ms (interleaves.cut_note place t.spot)) → bit (has_task (over_by note) r) + may_end (interleaves.after place note) r ≤ may_end place r + bit (has_task (fired_by note) r)
+    by_dead None noted = rw noted (let more = spares (interleaves.is_teardown (interleaves.group_at place t.spot)) place.waiting (record { task = t.id; spot = t.spot }) r in let one = or_none (same_task r t.id) in omega (arith, more, one))
+    by_dead (Some dead) noted = rw noted (omega arith)
+domain_may place asks.Admit note r is = rw noted (let more = admission place (interleaves.admit_note place) r in omega (arith, more))
+  where
+    noted : note ≡ notes.Admit (interleaves.admit_note place)
+    noted = cc
+domain_may place (asks.Over t u how) note r is = rw (parts.1, in-less place.shared u r, in-less place.alone u r) (let one = less (same_task r u) (set.contains place.shared r) (set.contains place.alone r) (λ same. ap (interleaves.is_admitted place) (same_task-is r u same) ∙ parts.0) in omega (arith, one))
+  where
+    parts : (interleaves.may_over place u ≡ true) × (note ≡ notes.Over t u how)
+    parts = given_some (interleaves.may_over place u) (notes.Over t u how) note is
+domain_may place (asks.Post m) note r is = absurd (cc)
+domain_may place (asks.Claim u s) note r is = absurd (cc)
+domain_may place (asks.Consume u) note r is = absurd (cc)
+domain_may place (asks.Free u) note r is = absurd (cc)
+domain_may place (asks.Suspend u) note r is = absurd (cc)
+domain_may place (asks.Book u b) note r is = absurd (cc)
+domain_may place (asks.Unbook u) note r is = absurd (cc)
+domain_may place (asks.Put u) note r is = absurd (cc)
+domain_may place asks.Take note r is = absurd (cc)
+domain_may place asks.Draw note r is = absurd (cc)
+domain_may place asks.Leave note r is = absurd (cc)
+domain_may place asks.Left note r is = absurd (cc)
+
+-- ---- at whichever arbiter
+
+arbiter-push : (first : ℕ) (part : ArbiterPart) (earlier : List Note) (note : Note) → arbiter_after first part (earlier ++ note ∷ []) ≡ arbiters.after (arbiter_after first part earlier) note
+arbiter-push first part earlier note = pushed (arbiter_after first part []) earlier
+  where
+    pushed : (st : ArbiterState) (earlier : List Note) → arbiters.kept st (earlier ++ note ∷ []) ≡ arbiters.after (arbiters.kept st earlier) note
+    pushed st [] = refl
+    pushed st (x ∷ earlier) = pushed (arbiters.after st x) earlier
+
+domain-push : (w : Parts) (i : ℕ) (earlier : List Note) (note : Note) → interleave_after w i (earlier ++ note ∷ []) ≡ interleaves.after (interleave_after w i earlier) note
+domain-push w i earlier note = pushed (interleave_after w i []) earlier
+  where
+    pushed : (st : InterleaveState) (earlier : List Note) → interleaves.kept st (earlier ++ note ∷ []) ≡ interleaves.after (interleaves.kept st earlier) note
+    pushed st [] = refl
+    pushed st (x ∷ earlier) = pushed (interleaves.after st x) earlier
+
+-- how often the root may still be noted over there
+abbrev may_in : Parts → ℕ → Kind → ArbiterPart → List Note → TaskId → ℕ
+may_in w i kinds.Receive part earlier r = bit (arbiters.may_over (arbiter_after (first_branch w i) part earlier) r)
+may_in w i kinds.Choice part earlier r = bit (arbiters.may_over (arbiter_after (first_branch w i) part earlier) r)
+may_in w i kinds.Interleave part earlier r = may_end (interleave_after w i earlier) r
+
+abbrev may_of : Parts → ℕ → Option ArbiterPart → List Note → TaskId → ℕ
+may_of w i None earlier r = 0
+may_of w i (Some part) earlier r = may_in w i part.kind part earlier r
+
+part_may : (w : Parts) (i : ℕ) (o : Option ArbiterPart) (earlier : List Note) (ask : Ask) (note : Note) (r : TaskId) → note_at_arbiter w i o earlier ask ≡ Some note → bit (has_task (over_by note) r) + may_of w i o (earlier ++ note ∷ []) r ≤ may_of w i o earlier r + bit (has_task (fired_by note) r)
+part_may w i None earlier ask note r is = absurd (cc)
+part_may w i (Some part) earlier ask note r is = by part.kind is
+  where
+    by : (kind : Kind) → note_by_kind w i kind part earlier ask ≡ Some note → bit (has_task (over_by note) r) + may_in w i kind part (earlier ++ note ∷ []) r ≤ may_in w i kind part earlier r + bit (has_task (fired_by note) r)
+    by kinds.Receive now = rw (arbiter-push (first_branch w i) part earlier note) (arbiter_may (arbiter_after (first_branch w i) part earlier) ask note r now)
+    by kinds.Choice now = rw (arbiter-push (first_branch w i) part earlier note) (arbiter_may (arbiter_after (first_branch w i) part earlier) ask note r now)
+    by kinds.Interleave now = rw (domain-push w i earlier note) (domain_may (interleave_after w i earlier) ask note r now)
+
+-- before all notes no root may be
+may_first : (w : Parts) (i : ℕ) (o : Option ArbiterPart) (r : TaskId) → may_of w i o [] r ≡ 0
+may_first w i None r = refl
+may_first w i (Some part) r = by part.kind
+  where
+    by : (kind : Kind) → may_in w i kind part [] r ≡ 0
+    by kinds.Receive = ap (λ ts. bit (has_task ts r && not (has_task (arbiter_after (first_branch w i) part []).over r))) (none_at_first (first_branch w i) part)
+    by kinds.Choice = ap (λ ts. bit (has_task ts r && not (has_task (arbiter_after (first_branch w i) part []).over r))) (none_at_first (first_branch w i) part)
+    by kinds.Interleave = rw (set.contains-empty task_cmp r) refl
+
+abbrev may_at : Parts → List Entry → ℕ → TaskId → ℕ
+may_at w es i r = may_of w i (slice_get w.arbiters i) (notes_at es (places.Arbiter i)) r
+
+entry_may : (w : Parts) (lacks : Lacks) (es : List Entry) (e : Entry) → Step w lacks es e → (i : ℕ) (r : TaskId) → bit (tells over_by (places.Arbiter i) r e) + may_at w (es ++ e ∷ []) i r ≤ may_at w es i r + bit (tells fired_by (places.Arbiter i) r e)
+entry_may w lacks es e step i r = subst (λ ns. bit (tells over_by (places.Arbiter i) r e) + may_of w i (slice_get w.arbiters i) ns r ≤ may_at w es i r + bit (tells fired_by (places.Arbiter i) r e)) (sym (notes_at-push es e (places.Arbiter i))) (by (same_place e.place (places.Arbiter i)) refl)
+  where
+    by : (b : Bool) → same_place e.place (places.Arbiter i) ≡ b → bit (b && has_task (over_by e.note) r) + may_of w i (slice_get w.arbiters i) (notes_at es (places.Arbiter i) ++ (if b then e.note ∷ [] else [])) r ≤ may_at w es i r + bit (b && has_task (fired_by e.note) r)
+    by true at = part_may w i (slice_get w.arbiters i) (notes_at es (places.Arbiter i)) step.asking.ask e.note r (subst (λ pl. note_of w pl (notes_at es pl) step.asking.ask ≡ Some e.note) (sym step.there ∙ same_place-is e.place (places.Arbiter i) at) step.gives)
+    by false at = subst (λ ns. 0 + may_of w i (slice_get w.arbiters i) ns r ≤ may_at w es i r + 0) (sym (append-nil (notes_at es (places.Arbiter i)))) (omega arith)
+
+-- ---- along a run
+
+pub record RootsKnown (w : Parts) (es : List Entry) : Type 0 where
+  pub balanced : (i : ℕ) (r : TaskId) → count over_by (places.Arbiter i) r es + may_at w es i r ≤ count fired_by (places.Arbiter i) r es
+  pub once : (i : ℕ) (r : TaskId) → count fired_by (places.Arbiter i) r es ≤ 1
+  pub own : AreOwn fired_by es
+
+module _ (w : Parts) (n : ℕ) (lacks : Lacks) (es : List Entry) (e : Entry) (holds : Holds w n lacks es) (step : Step w lacks es e) (known : RootsKnown w es) where
+  own_firing : (t : TaskId) → IsFiring e.note t → e.actor ≡ t.actor
+  own_firing t is = sym (ap (λ (u : TaskId). u.actor) (fires_itself w n lacks es e holds step t is.spot is.messages is.cuts is.noted))
+
+  -- who fires hasn't fired before
+  fresh : (i : ℕ) (r : TaskId) → tells fired_by (places.Arbiter i) r e ≡ true → count fired_by (places.Arbiter i) r es ≡ 0
+  fresh i r is = by (count fired_by (places.Arbiter i) r es) refl
+    where
+      firing : IsFiring e.note r
+      firing = told_firing (places.Arbiter i) r e is
+
+      by : (k : ℕ) → count fired_by (places.Arbiter i) r es ≡ k → count fired_by (places.Arbiter i) r es ≡ 0
+      by zero at = at
+      by (suc k) at = absurd (no_both (subst (λ t. has_task (fired (visible es)) t ≡ true) (fires_itself w n lacks es e holds step r firing.spot firing.messages firing.cuts firing.noted) (fired_told (places.Arbiter i) r es (omega (arith, at)))) (unfired w (visible es) (port_at es) e.actor (state_of w lacks es e.actor) (holds.actors e.actor).claims))
+
+  once_on : (i : ℕ) (r : TaskId) → count fired_by (places.Arbiter i) r (es ++ e ∷ []) ≤ 1
+  once_on i r = by (tells fired_by (places.Arbiter i) r e) refl
+    where
+      by : (b : Bool) → tells fired_by (places.Arbiter i) r e ≡ b → count fired_by (places.Arbiter i) r (es ++ e ∷ []) ≤ 1
+      by true at = (let none = fresh i r at in let all = count-push fired_by (places.Arbiter i) r es e in let one = ap bit at in omega (arith, none, all, one))
+      by false at = (let few = known.once i r in let all = count-push fired_by (places.Arbiter i) r es e in let one = ap bit at in omega (arith, few, all, one))
+
+  pub roots_known-kept : RootsKnown w (es ++ e ∷ [])
+  roots_known-kept = record {
+    balanced = λ i r. (let before = known.balanced i r in let change = entry_may w lacks es e step i r in let overs = count-push over_by (places.Arbiter i) r es e in let fires = count-push fired_by (places.Arbiter i) r es e in omega (arith, before, change, overs, fires));
+    once = once_on;
+    own = own-push fired_by es e (λ t has. own_firing t (firing_told e.note t has)) known.own;
+  }
+
+-- ---- at which domain
+
+over_asked : (ask : Ask) → is_over_ask ask ≡ true → (t : TaskId) × (r : TaskId) × (how : How) × (ask ≡ asks.Over t r how)
+over_asked (asks.Over t r how) is = (t, r, how, refl)
+over_asked (asks.Post m) is = absurd (cc)
+over_asked (asks.Claim u s) is = absurd (cc)
+over_asked (asks.Consume u) is = absurd (cc)
+over_asked (asks.Free u) is = absurd (cc)
+over_asked (asks.Commit u ms) is = absurd (cc)
+over_asked asks.Admit is = absurd (cc)
+over_asked (asks.Suspend u) is = absurd (cc)
+over_asked (asks.Book u b) is = absurd (cc)
+over_asked (asks.Unbook u) is = absurd (cc)
+over_asked (asks.Put u) is = absurd (cc)
+over_asked asks.Take is = absurd (cc)
+over_asked asks.Draw is = absurd (cc)
+over_asked asks.Leave is = absurd (cc)
+over_asked asks.Left is = absurd (cc)
+
+over_told : (note : Note) (r : TaskId) → has_task (over_by note) r ≡ true → noted_over note ≡ [] → ⊥
+over_told (notes.Over t u how) r has none = absurd (cc)
+over_told (notes.Fired u s ms cs) r has none = absurd (cc)
+over_told (notes.Post m) r has none = absurd (cc)
+over_told (notes.Claim u s k) r has none = absurd (cc)
+over_told (notes.Consume u) r has none = absurd (cc)
+over_told (notes.Free u) r has none = absurd (cc)
+over_told (notes.Dead u s by) r has none = absurd (cc)
+over_told (notes.Admit u) r has none = absurd (cc)
+over_told (notes.Suspend u) r has none = absurd (cc)
+over_told (notes.Book u b f) r has none = absurd (cc)
+over_told (notes.Unbook u) r has none = absurd (cc)
+over_told (notes.Put u d) r has none = absurd (cc)
+over_told (notes.Take u) r has none = absurd (cc)
+over_told (notes.Draw k) r has none = absurd (cc)
+over_told notes.Leave r has none = absurd (cc)
+over_told (notes.Left k) r has none = absurd (cc)
+
+-- only an arbiter notes a root over
+at_arbiter : (w : Parts) (place : Place) (earlier : List Note) (ask : Ask) (note : Note) (r : TaskId) → note_of w place earlier ask ≡ Some note → has_task (over_by note) r ≡ true → (i : ℕ) × (place ≡ places.Arbiter i)
+at_arbiter w place earlier ask note r is has = by (is_over_ask ask) refl
+  where
+    of_place : (pl : Place) (t u : TaskId) (how : How) → note_of w pl earlier (asks.Over t u how) ≡ Some note → (i : ℕ) × (pl ≡ places.Arbiter i)
+    of_place (places.Arbiter i) t u how now = (i, refl)
+    of_place (places.Port p) t u how now = absurd (cc)
+    of_place (places.Site b k) t u how now = absurd (cc)
+    of_place (places.Queue q) t u how now = absurd (cc)
+    of_place places.Meter t u how now = absurd (cc)
+
+    by : (b : Bool) → is_over_ask ask ≡ b → (i : ℕ) × (place ≡ places.Arbiter i)
+    by true at = (let found = over_asked ask at in of_place place found.0 found.1 found.2 (subst (λ x. note_of w place earlier x ≡ Some note) found.3 is))
+    by false at = absurd (over_told note r has (noted_other w place earlier ask note at is))
+
+-- who is told to have fired at an arbiter is among those that its notes say
+there-append : (xs ys : List Note) → fired_there (xs ++ ys) ≡ fired_there xs ++ fired_there ys
+there-append xs ys = grind (arith, common_steps)
+
+fired_at_it : (i : ℕ) (r : TaskId) (es : List Entry) → 1 ≤ count fired_by (places.Arbiter i) r es → has_task (fired_there (notes_at es (places.Arbiter i))) r ≡ true
+fired_at_it i r [] some = absurd (omega (arith, some))
+fired_at_it i r (e ∷ es) some = by (same_place e.place (places.Arbiter i)) refl (count-first fired_by (places.Arbiter i) r e es) (fired_at_it i r es)
+  where
+    of_firing : IsFiring e.note r → has_task (fired_note e.note) r ≡ true
+    of_firing is = ap (λ x. has_task (fired_note x) r) is.noted ∙ or_left (same_task r r) false (same_task-self r)
+
+    of_told : (c : Bool) → has_task (fired_by e.note) r ≡ c → count fired_by (places.Arbiter i) r (e ∷ es) ≡ bit (true && c) + count fired_by (places.Arbiter i) r es → (1 ≤ count fired_by (places.Arbiter i) r es → has_task (fired_there (notes_at es (places.Arbiter i))) r ≡ true) → has_task (fired_note e.note ++ fired_there (notes_at es (places.Arbiter i))) r ≡ true
+    of_told true told sums rest = among_left (fired_note e.note) (fired_there (notes_at es (places.Arbiter i))) r (of_firing (firing_told e.note r told))
+    of_told false told sums rest = among_right (fired_note e.note) (fired_there (notes_at es (places.Arbiter i))) r (rest (omega (arith, sums, some)))
+
+    by : (b : Bool) → same_place e.place (places.Arbiter i) ≡ b → count fired_by (places.Arbiter i) r (e ∷ es) ≡ bit (b && has_task (fired_by e.note) r) + count fired_by (places.Arbiter i) r es → (1 ≤ count fired_by (places.Arbiter i) r es → has_task (fired_there (notes_at es (places.Arbiter i))) r ≡ true) → has_task (fired_there ((if b then e.note ∷ [] else []) ++ notes_at es (places.Arbiter i))) r ≡ true
+    by false at first rest = rest (omega (arith, first, some))
+    by true at first rest = of_told (has_task (fired_by e.note) r) refl first rest
+
+-- ---- the law
+
+module _ (w : Parts) (workers : ℕ) (lacks : Lacks) (valid : IsValid w) (few : workers ≤ 16) where
+  holds_so : (es : List Entry) → IsRunAfter w workers lacks [] es → Holds w (length w.posters + workers) lacks es
+  holds_so es run = (run_holds w workers lacks es valid few run).holds
+
+  record RunKnown (es : List Entry) : Type 0 where
+    run : IsRunAfter w workers lacks [] es
+    roots : RootsKnown w es
+
+  run_known : (es : List Entry) → IsRunAfter w workers lacks [] es → RunKnown es
+  run_known es run = along_run w workers lacks RunKnown kept (record { run = tt; roots = record { balanced = λ i r. (let none = may_first w i (slice_get w.arbiters i) r in omega (arith, none)); once = λ i r. omega arith; own = λ x is t has. absurd is } }) es run
+    where
+      kept : (past : List Entry) (e : Entry) → RunKnown past → e.actor < length w.posters + workers → made_by w lacks past e.actor ≡ Some e → RunKnown (past ++ e ∷ [])
+      kept past e known low made = record {
+        run = run_on w workers lacks [] past e known.run low made;
+        roots = roots_known-kept w (length w.posters + workers) lacks past e (holds_so past known.run) (Step-made w lacks past e made) known.roots;
+      }
+
+  module _ (past : List Entry) (e : Entry) (more : List Entry) (run : IsRunAfter w workers lacks [] (past ++ e ∷ more)) where
+    parts : Parted w workers lacks past e more
+    parts = parted w workers lacks past e more run
+
+    step : Step w lacks past e
+    step = Step-made w lacks past e parts.made
+
+    module _ (i : ℕ) (r : TaskId) (is : tells over_by (places.Arbiter i) r e ≡ true) where
+      not_fired : bit (tells fired_by (places.Arbiter i) r e) ≤ 0
+      not_fired = by (tells fired_by (places.Arbiter i) r e) refl
+        where
+          by : (b : Bool) → tells fired_by (places.Arbiter i) r e ≡ b → bit b ≤ 0
+          by false at = omega arith
+          by true at = absurd (no_both (both (same_place e.place (places.Arbiter i)) (has_task (over_by e.note) r) is).1 (ap (λ x. has_task (over_by x) r) (told_firing (places.Arbiter i) r e at).noted))
+
+      over_then : (count fired_by (places.Arbiter i) r past ≡ 1) × (count over_by (places.Arbiter i) r past ≡ 0)
+      over_then =
+          let known = (run_known past parts.run).roots in
+          let before = known.balanced i r in
+          let once = known.once i r in
+          let change = entry_may w lacks past e step i r in
+          let ends = ap bit is in
+          let none = not_fired in
+          (omega (arith, before, once, change, ends, none), omega (arith, before, once, change, ends, none))
+
+      pub root_once : EndsOnce fired_by over_by (places.Arbiter i) r past e more
+      root_once =
+          let all = (run_known (past ++ e ∷ more) run).roots in
+          let few_fired = all.once i r in
+          let sums = all.balanced i r in
+          ends_once fired_by over_by (places.Arbiter i) r past e more (run_known past parts.run).roots.own is over_then.0 over_then.1 few_fired (omega (arith, few_fired, sums))
+
+      -- the arbiter is the root's
+      its_arbiter : arbiter_of w (visible past) r ≡ i
+      its_arbiter = ap (λ o. option_map_or (λ (s : Placement). s.arbiter) o 0) (placement_by w (visible past) r named.0 named.1 ∙ ap (λ s. placement w (branch_of s)) facts.is_branch ∙ facts.is_place) ∙ same_number facts.place.arbiter i facts.passes
+        where
+          holds : Holds w (length w.posters + workers) lacks past
+          holds = holds_so past parts.run
+
+          named : (f : Firing) × (firing_named (visible past) r ≡ Some f) × (is_branch_where w (is_of i) f.spot ≡ true)
+          named = fired_by_named w (is_of i) (visible past) r (OneName-legal w (visible past) holds.legal) (ap (λ ts. has_task ts r) (sym (holds.arbiters i)) ∙ fired_at_it i r past (let one = over_then.0 in omega (arith, one)))
+
+          facts : BranchFacts w (is_of i) (named.0).spot
+          facts = BranchFacts-where w (is_of i) (named.0).spot named.2
+
+    -- only the root's domain notes it over
+    pub root_domain : (r : TaskId) → has_task (over_by e.note) r ≡ true → e.place ≡ places.Arbiter (arbiter_of w (visible past) r)
+    root_domain r has = (let found = at_arbiter w step.asking.place (notes_at past step.asking.place) step.asking.ask e.note r step.gives has in let at : e.place ≡ places.Arbiter found.0 = step.there ∙ found.1 in at ∙ ap places.Arbiter (sym (its_arbiter found.0 r (told found.0 at))))
+      where
+        told : (i : ℕ) → e.place ≡ places.Arbiter i → tells over_by (places.Arbiter i) r e ≡ true
+        told i at = (λ k. same_place (at k) (places.Arbiter i) && has k) ∙ ap (λ b. b && true) (eq-self i)
