@@ -1,11 +1,12 @@
 //! The net of all places on one thread.
 
-ghost use Rattle.std.specs.Prelude.{◌≡◌, ◌≢◌, ◌<◌, ◌≤◌, ◌+◌, ◌*◌, ◌^◌, [], ◌∷◌, ◌++◌, ℕ, true, false, length, IfOk, OnOk, OnErr, IsOk};
+ghost use Rattle.std.specs.Prelude.{◌≡◌, ◌≢◌, ◌<◌, ◌≤◌, ◌+◌, ◌*◌, ◌^◌, [], ◌∷◌, ◌++◌, ℕ, true, false, length, IfOk, OnOk, OnErr, IsOk, IsErr};
 ghost use Rattle.ccr_actor.specs.Nets.{IsProper};
 ghost use Rattle.ccr_actor.specs.Nets.{replies_of as replied_in};
 ghost use Rattle.ccr_claim.specs.Asks.{due_of, fits, is_settling};
 ghost use Rattle.ccr_net.specs.Owed.{cost, gain, most};
 ghost use Rattle.ccr_net.specs.Played.{steps_in};
+ghost use Rattle.ccr_net.specs.Served.{seats};
 ghost use Rattle.ccr_net.specs.Runs.{entry_for, replies_of, with_made, IsRun};
 ghost use Rattle.std.specs.Prelude.{vec_capacity, vec_len};
 
@@ -99,6 +100,7 @@ impl Net for PlainNet<'_> {
         ensures made { OnOk result (self.new.entries ≡ with_made self.old.entries (entry_for self.old.wiring self.old.entries actor (record { place = place; ask = ask }))) }
         ensures heard { IfOk result (λ reply. replies_of self.new.wiring self.new.entries actor ≡ replies_of self.old.wiring self.old.entries actor ++ reply ∷ []) }
         ensures kept { OnErr result (self.new.entries ≡ self.old.entries) }
+        ensures unseated { is_settling ask ≡ false → seats self.old.wiring ≤ actor → IsErr result }
     {
         make_room(
             &mut self.places,

@@ -1,4 +1,6 @@
-use Rattle.std.proofs.Common.{◌≡◌, ◌+◌, ◌-◌, List, [], ◌∷◌, ◌++◌, length, sym, ap, ◌∙◌, subst, arith, vec_capacity, vec_len}
+use Rattle.std.proofs.Common.{◌≡◌, ◌<◌, true, ◌+◌, ◌-◌, List, [], ◌∷◌, ◌++◌, length, sym, ap, ◌∙◌, subst, arith, vec_capacity, vec_len}
+use Rattle.std.specs.Prelude.{nat_lt}
+use Rattle.std.proofs.lemmas.Bool.Decides.{nat_tests}
 use Rattle.ccr_claim.specs.declared.asks.Asked.{Asked}
 use Rattle.ccr_object.specs.Objects.{reply_of}
 use Rattle.ccr_net.specs.declared.entries.Entry.{Entry}
@@ -211,3 +213,11 @@ returns-clause-heard c =
     let more = c.push_reserved.new.self.items in
     let more_so = c.push_reserved.ensures.items ∙ ap (λ (xs : List Entry). xs ++ entry ∷ []) made.items in
     subst (λ (x : Served). replies_of later.wiring more k ≡ replies_of x.wiring x.entries k ++ reply ∷ []) c.self.view_is (act_heard old es room owed count k one a later more entry reply wiring_so acts_so is_entry replied did.fits more_so)
+
+pub returns-clause-unseated : goal.returns-clause-unseated
+returns-clause-unseated c = λ free far.
+    let is : nat_lt c.args.actor c.self.inside.seats ≡ true = c.in_ok-make_room.ensures.seated free in
+    let few : c.args.actor < c.self.inside.seats = grind (arith, nat_tests, is) in
+    let count = c.self.invariant.seated in
+    let same = ap (λ (x : Served). length x.wiring.posters) c.self.view_is in
+    absurd (omega (arith, few, count, same, far))
