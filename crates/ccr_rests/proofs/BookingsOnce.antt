@@ -1,8 +1,7 @@
 -- A booking is ended once, and by whom.
 use Rattle.std.proofs.Common.{inl, inr, ◌⊎◌, ◌≡◌, ◌≤◌, ◌<◌, ℕ, zero, suc, ◌+◌, Bool, true, false, not, ◌&&◌, ◌||◌, List, [], ◌∷◌, ◌++◌, length, Option, Some, None, refl, sym, arith, ap, ◌∙◌, subst}
-use Rattle.std.specs.Prelude.{◌==◌, if◌then◌else◌}
+use Rattle.std.specs.Prelude.{if◌then◌else◌}
 use Rattle.std.specs.FinSet as set
-use Rattle.ccr_base.specs.declared.names.Place.{Place}
 use Rattle.ccr_base.specs.declared.names.Place.TheVariants as places
 use Rattle.ccr_base.specs.declared.names.TaskId.{TaskId}
 use Rattle.ccr_base.specs.declared.tasks.Task.{Task}
@@ -46,7 +45,7 @@ use Rattle.ccr_net.proofs.Pushes.{IsNextState, Step, Step-made, along_run, queue
 use Rattle.ccr_rests.specs.Ends.{EndsBooking, EndsOnce, MayPut, MayUnbook, booked_by, tells, unbooked_by}
 use Rattle.ccr_rests.specs.Keeping.{queue_in}
 use Rattle.ccr_rests.proofs.BroughtHands.{HandsBrought, IsBrought, hands_brought-kept}
-use Rattle.ccr_rests.proofs.EntryCounts.{AreOwn, Parted, count, count-append, count-first, count-push, ends_once, own-push, parted}
+use Rattle.ccr_rests.proofs.EntryCounts.{AreOwn, Parted, count, count-push, ends_once, own-push, parted}
 use Rattle.ccr_rests.proofs.NoteKinds.{kind_asked, kind_noted}
 use Rattle.ccr_rests.proofs.Rising.{IsOld, Rises, Tries, from_hand, is_claiming, rises, tries}
 

@@ -2,17 +2,14 @@
 use Rattle.std.proofs.Common.{inl, inr, ◌⊎◌, ◌≡◌, ◌≤◌, ◌<◌, ℕ, zero, suc, ◌+◌, Bool, true, false, not, ◌&&◌, ◌||◌, List, [], ◌∷◌, ◌++◌, length, Option, Some, None, refl, sym, arith, ap, ◌∙◌, subst}
 use Rattle.std.specs.Prelude.{◌==◌, if◌then◌else◌, nat_le}
 use Rattle.std.specs.Option.{option_map_or}
-use Rattle.ccr_base.specs.declared.names.Place.{Place}
 use Rattle.ccr_base.specs.declared.names.Place.TheVariants as places
 use Rattle.ccr_base.specs.declared.names.TaskId.{TaskId}
 use Rattle.ccr_base.specs.declared.patterns.Slot.{Slot}
 use Rattle.ccr_base.specs.Names.{same_task, has_task}
 use Rattle.ccr_wiring.specs.declared.parts.Parts.{Parts}
 use Rattle.ccr_wiring.specs.Valid.{IsValid}
-use Rattle.ccr_model.specs.Firings.{fired}
-use Rattle.ccr_model.proofs.Booleans.{both, no_both, not_true, eq-self, or_left}
-use Rattle.ccr_model.proofs.Members.{Among}
-use Rattle.ccr_model.proofs.SameNames.{same_task-is, same_task-self}
+use Rattle.ccr_model.proofs.Booleans.{both, no_both, not_true}
+use Rattle.ccr_model.proofs.SameNames.{same_task-is}
 use Rattle.ccr_model.proofs.TaskLists.{of_one}
 use Rattle.ccr_places.specs.declared.claims.StandingClaim.{StandingClaim}
 use Rattle.ccr_places.specs.declared.notes.ClaimNote.{ClaimNote}
@@ -25,7 +22,7 @@ use Rattle.ccr_claim.specs.declared.asks.Ask.{Ask}
 use Rattle.ccr_claim.specs.declared.asks.Ask.TheVariants as asks
 use Rattle.ccr_claim.specs.Attempts.{Phase, booking, claiming, attempt_ask}
 use Rattle.ccr_actor.specs.Plans.{plan_of}
-use Rattle.ccr_actor.specs.Actors.{State, name_at}
+use Rattle.ccr_actor.specs.Actors.{name_at}
 use Rattle.ccr_net.specs.declared.entries.Entry.{Entry}
 use Rattle.ccr_net.specs.Places.{note_of, port_note}
 use Rattle.ccr_net.specs.Runs.{IsRunAfter, Lacks, made_by, notes_at, port_at, same_place, state_of}
@@ -42,7 +39,7 @@ use Rattle.ccr_net.proofs.PlayedRuns.{run_on}
 use Rattle.ccr_net.proofs.PlayedWhole.{run_holds}
 use Rattle.ccr_net.proofs.Pushes.{Step, Step-made, along_run, port_at-push}
 use Rattle.ccr_rests.specs.Ends.{EndsClaim, EndsOnce, claimed_by, tells, unclaimed_by}
-use Rattle.ccr_rests.proofs.EntryCounts.{AreOwn, Parted, count, count-append, count-first, count-push, ends_once, low_actors, own-push, parted, some_telling}
+use Rattle.ccr_rests.proofs.EntryCounts.{AreOwn, Parted, count, count-push, ends_once, low_actors, own-push, parted, some_telling}
 use Rattle.ccr_rests.proofs.NoteKinds.{kind_asked, kind_noted}
 use Rattle.ccr_rests.proofs.Rising.{IsOld, Rises, Tries, from_hand, rises, tries}
 
@@ -143,9 +140,6 @@ claim_noted notes.Leave t has = absurd (cc)
 claim_noted (notes.Left k) t has = absurd (cc)
 
 module _ (w : Parts) (n : ℕ) (lacks : Lacks) (es : List Entry) (e : Entry) (holds : Holds w n lacks es) (step : Step w lacks es e) where
-  abbrev st : State
-  st = state_of w lacks es e.actor
-
   noted_at : (p : ℕ) → same_place e.place (places.Port p) ≡ true → port_note (port_at es p) step.asking.ask ≡ Some e.note
   noted_at p at = subst (λ pl. note_of w pl (notes_at es pl) step.asking.ask ≡ Some e.note) (sym step.there ∙ same_place-is e.place (places.Port p) at) step.gives
 

@@ -1,29 +1,24 @@
 -- What an entry's ask is when it settles something, and how the attempts of its actor rise.
-use Rattle.std.proofs.Common.{inl, inr, ◌⊎◌, ◌≡◌, ◌≢◌, ◌≤◌, ◌<◌, ℕ, ◌+◌, Bool, true, false, List, [], ◌∷◌, ◌++◌, Option, Some, None, refl, sym, arith, ap, ◌∙◌, subst}
+use Rattle.std.proofs.Common.{inl, inr, ◌⊎◌, ◌≡◌, ◌≤◌, ◌<◌, ℕ, ◌+◌, Bool, true, false, List, [], ◌∷◌, ◌++◌, Some, refl, sym, arith, ap, ◌∙◌, subst}
 use Rattle.std.specs.Prelude.{◌==◌}
 use Rattle.ccr_base.specs.declared.names.MsgId.{MsgId}
-use Rattle.ccr_base.specs.declared.names.Place.{Place}
 use Rattle.ccr_base.specs.declared.names.Place.TheVariants as places
 use Rattle.ccr_base.specs.declared.names.Spot.{Spot}
 use Rattle.ccr_base.specs.declared.names.TaskId.{TaskId}
-use Rattle.ccr_base.specs.declared.tasks.By.{By}
-use Rattle.ccr_base.specs.declared.tasks.Task.{Task}
-use Rattle.ccr_base.specs.declared.tasks.How.{How}
 use Rattle.ccr_wiring.specs.declared.parts.Parts.{Parts}
 use Rattle.ccr_model.proofs.Booleans.{same_number, eq-self, no_both}
 use Rattle.ccr_model.proofs.Members.{Among}
 use Rattle.ccr_places.specs.declared.notes.Note.TheVariants as notes
-use Rattle.ccr_claim.specs.declared.asks.Ask.{Ask}
 use Rattle.ccr_claim.specs.declared.asks.Ask.TheVariants as asks
 use Rattle.ccr_claim.specs.declared.asks.Asked.{Asked}
 use Rattle.ccr_claim.specs.Plans.{commit_place, firing_task, in_pattern, names_of}
 use Rattle.ccr_claim.specs.Attempts.{Phase, booking, claiming, at_place, attempt_ask}
 use Rattle.ccr_actor.specs.Plans.{plan_of}
-use Rattle.ccr_actor.specs.Actors.{State, Turn, settle, admit, drive, go_on, stop, turn, ask_in, spots_left, name_at, work_ask, after, after_work, shorten}
+use Rattle.ccr_actor.specs.Actors.{State, Turn, settle, admit, drive, go_on, stop, turn, ask_in, spots_left, name_at, after, after_work, shorten}
 use Rattle.ccr_net.specs.declared.entries.Entry.{Entry}
 use Rattle.ccr_net.specs.Runs.{Lacks, notes_at, reply_of, state_of}
 use Rattle.ccr_net.specs.Visible.{visible}
-use Rattle.ccr_net.proofs.Assembly.{Holds, hand_settles, differ}
+use Rattle.ccr_net.proofs.Assembly.{Holds, hand_settles}
 use Rattle.ccr_net.proofs.GoingOn.{Worked, worked}
 use Rattle.ccr_net.proofs.Invariant.{IsOwed}
 use Rattle.ccr_net.proofs.Moves.{Move, settles, drops, admits, strikes, books, claims, fires, gives_up, goes, moved, IsCommitNote, commit_notes}
@@ -46,9 +41,6 @@ attempt_quiet w spot name (claiming (slot ∷ slots) had) = refl
 pub from_hand : (w : Parts) (n : ℕ) (lacks : Lacks) (es : List Entry) (e : Entry) → Holds w n lacks es → (step : Step w lacks es e) → is_quiet step.asking.ask ≡ false → is_over_ask step.asking.ask ≡ false → (more : List Asked) × ((state_of w lacks es e.actor).hand ≡ step.asking ∷ more) × IsOwed w (visible es) e.actor (state_of w lacks es e.actor).attempt step.asking.place step.asking.ask
 from_hand w n lacks es e holds step loud other = by (turn (state_of w lacks es e.actor)) refl step.asks
   where
-    st : State
-    st = state_of w lacks es e.actor
-
     Found : Type 0
     Found = (more : List Asked) × ((state_of w lacks es e.actor).hand ≡ step.asking ∷ more) × IsOwed w (visible es) e.actor (state_of w lacks es e.actor).attempt step.asking.place step.asking.ask
 

@@ -1,17 +1,14 @@
 -- A root is noted over once, at its domain.
-use Rattle.std.proofs.Common.{inl, inr, ◌⊎◌, ◌≡◌, ◌≤◌, ◌<◌, ℕ, zero, suc, ◌+◌, Bool, true, false, not, ◌&&◌, ◌||◌, List, [], ◌∷◌, ◌++◌, drop, flat_map, length, Option, Some, None, refl, sym, arith, ap, ◌∙◌, subst, append-nil}
-use Rattle.std.specs.Prelude.{◌==◌, if◌then◌else◌, slice_get}
+use Rattle.std.proofs.Common.{◌≡◌, ◌≤◌, ◌<◌, ℕ, zero, suc, ◌+◌, Bool, true, false, not, ◌&&◌, ◌||◌, List, [], ◌∷◌, ◌++◌, length, Option, Some, None, refl, sym, arith, ap, ◌∙◌, subst, append-nil}
+use Rattle.std.specs.Prelude.{if◌then◌else◌, slice_get}
 use Rattle.std.specs.FinSet as set
 use Rattle.std.specs.Option.{option_map_or}
 use Rattle.std.proofs.lemmas.Grind.{common_steps}
-use Rattle.ccr_base.specs.declared.names.MsgId.{MsgId}
 use Rattle.ccr_base.specs.declared.names.Place.{Place}
 use Rattle.ccr_base.specs.declared.names.Place.TheVariants as places
-use Rattle.ccr_base.specs.declared.names.Spot.{Spot}
 use Rattle.ccr_base.specs.declared.names.TaskId.{TaskId}
 use Rattle.ccr_base.specs.declared.tasks.By.{By}
 use Rattle.ccr_base.specs.declared.tasks.How.{How}
-use Rattle.ccr_base.specs.declared.tasks.Task.{Task}
 use Rattle.ccr_base.specs.Names.{same_task, has_task}
 use Rattle.ccr_wiring.specs.declared.parts.ArbiterPart.{ArbiterPart}
 use Rattle.ccr_wiring.specs.declared.parts.Kind.{Kind}
@@ -25,7 +22,7 @@ use Rattle.ccr_model.proofs.Allowing.{OneName-legal}
 use Rattle.ccr_model.proofs.Booleans.{both, eq-self, no_both, or_left, same_number}
 use Rattle.ccr_model.proofs.FiringFacts.{BranchFacts, BranchFacts-where, fired_by_named}
 use Rattle.ccr_model.proofs.SameNames.{same_task-is, same_task-self}
-use Rattle.ccr_model.proofs.TaskLists.{among_left, among_right, of_one}
+use Rattle.ccr_model.proofs.TaskLists.{among_left, among_right}
 use Rattle.ccr_model.proofs.TaskPlaces.{placement_by}
 use Rattle.ccr_model.proofs.TasksLeft.{has_task-append}
 use Rattle.ccr_places.specs.declared.notes.Note.{Note}
@@ -55,7 +52,7 @@ use Rattle.ccr_net.proofs.PlayedWhole.{run_holds}
 use Rattle.ccr_net.proofs.Pushes.{Step, Step-made, along_run, notes_at-push}
 use Rattle.ccr_rests.specs.Ends.{EndsOnce, fired_by, over_by, tells}
 use Rattle.ccr_rests.proofs.BookingsOnce.{less}
-use Rattle.ccr_rests.proofs.EntryCounts.{AreOwn, Parted, count, count-append, count-first, count-push, ends_once, own-push, parted}
+use Rattle.ccr_rests.proofs.EntryCounts.{AreOwn, Parted, count, count-first, count-push, ends_once, own-push, parted}
 use Rattle.ccr_rests.proofs.Fires.{IsFiring, fired_told, firing_told, told_firing}
 use Rattle.ccr_rests.proofs.Rising.{fires_itself}
 
