@@ -1,4 +1,6 @@
 pub mod Tables
+pub mod Undone
+pub mod Lefts
 pub mod Rest
 pub mod Sizes
 pub mod Flags

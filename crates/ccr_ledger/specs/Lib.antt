@@ -3,6 +3,7 @@ pub mod Posting
 pub mod Taking
 pub mod Firing
 pub mod Events
+pub mod Refused
 pub mod Asked
 pub mod Fronts
 pub mod Kept

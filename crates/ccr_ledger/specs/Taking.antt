@@ -1,5 +1,5 @@
 -- What a firing takes out of the ports.
-use Rattle.std.specs.Prelude.{ℕ, ◌-◌, List, [], ◌∷◌, ◌++◌, length, take, drop, Option}
+use Rattle.std.specs.Prelude.{⊤, ℕ, ◌-◌, List, [], ◌∷◌, ◌++◌, length, take, drop, Option}
 use Rattle.std.specs.Option.{option_map_or}
 use Rattle.ccr_base.specs.declared.names.MsgId.{MsgId}
 use Rattle.ccr_base.specs.declared.messages.Msg.{Msg}
@@ -8,7 +8,7 @@ use Rattle.ccr_base.specs.declared.patterns.Pattern.{Pattern}
 use Rattle.ccr_base.specs.declared.patterns.Pattern.TheVariants.{Slots, Gather}
 use Rattle.ccr_base.specs.Choice.{fitting}
 use Rattle.ccr_rows.specs.Rows.{row, with_row}
-use Rattle.ccr_held.specs.Taken.{without_some, shared}
+use Rattle.ccr_held.specs.Taken.{IsLeftOf, without_some, shared}
 
 -- the messages that were taken, and the ports without them
 pub record Takes : Type 0 where
@@ -48,3 +48,10 @@ take_pattern (Gather total first second) names ports = take_gather first second 
 -- what a site takes: the oldest of the port
 abbrev pub take_site : Option ℕ → List (List Msg) → Takes
 take_site port ports = option_map_or (λ p. take_oldest p 1 ports) port (record { messages = []; ports = ports })
+
+-- each port holds what is left of what it held
+abbrev pub AreLeftOf : List (List Msg) → List (List Msg) → Type 0
+AreLeftOf [] [] = ⊤
+AreLeftOf [] (now ∷ nows) = ⊥
+AreLeftOf (was ∷ ports) [] = ⊥
+AreLeftOf (was ∷ ports) (now ∷ nows) = IsLeftOf was now × AreLeftOf ports nows

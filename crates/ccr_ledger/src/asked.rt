@@ -1,6 +1,6 @@
 //! What the tables answer.
 
-ghost use Rattle.std.specs.Prelude.{◌≡◌, IfOk, OnOk, length, map};
+ghost use Rattle.std.specs.Prelude.{◌≡◌, IfOk, length, map};
 ghost use Rattle.std.specs.List.{slice_get};
 ghost use Rattle.std.specs.Option.{option_map};
 ghost use Rattle.ccr_base.specs.declared.names.TaskId.{TaskId};
@@ -132,7 +132,7 @@ impl Ledger {
     /// Whether the ports hold enough for the spot.
     pub fn can_choose(&mut self, wiring: &Wiring, spot: Spot) -> Result<bool, OutOfMemory>
         ensures can { IfOk result (λ can. can ≡ can_choose wiring.now self.old spot) }
-        ensures kept { OnOk result (self.new ≡ self.old) }
+        ensures kept { self.new ≡ self.old }
     {
         match spot {
             Spot::Branch(branch) => match placement(wiring, branch) {
@@ -149,7 +149,7 @@ impl Ledger {
     /// The names of the choice that one thread makes at the spot, if there is one.
     pub fn choice(&mut self, wiring: &Wiring, spot: Spot) -> Result<Option<Vec<MsgId>>, OutOfMemory>
         ensures names { IfOk result (λ names. option_map (λ found. found.items) names ≡ option_map names_of (choice_at wiring.now self.old spot)) }
-        ensures kept { OnOk result (self.new ≡ self.old) }
+        ensures kept { self.new ≡ self.old }
     {
         match spot {
             Spot::Branch(branch) => match placement(wiring, branch) {
@@ -175,7 +175,7 @@ impl Ledger {
         names: &[MsgId],
     ) -> Result<bool, OutOfMemory>
         ensures are { IfOk result (λ are. are ≡ are_choice wiring.now self.old spot names.now) }
-        ensures kept { OnOk result (self.new ≡ self.old) }
+        ensures kept { self.new ≡ self.old }
     {
         match spot {
             Spot::Branch(branch) => match placement(wiring, branch) {

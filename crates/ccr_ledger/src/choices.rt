@@ -1,6 +1,6 @@
 //! What the ports hold for a pattern.
 
-ghost use Rattle.std.specs.Prelude.{◌≡◌, IfOk, OnOk, length, take};
+ghost use Rattle.std.specs.Prelude.{◌≡◌, IfOk, length, take};
 ghost use Rattle.std.specs.List.{list_all};
 ghost use Rattle.std.specs.Option.{option_map};
 ghost use Rattle.ccr_base.specs.Choice.{choice, fitting, is_choosable};
@@ -25,7 +25,7 @@ pub(crate) fn count(ports: &[HeldMessages], port: PortNo) -> usize
 /// Whether the slot's port holds enough for it.
 fn slot_has_enough(ports: &mut Vec<HeldMessages>, slot: &Slot) -> Result<bool, OutOfMemory>
     ensures enough { IfOk result (λ enough. enough ≡ is_choosable slot.now (row ports.old.items slot.now.port)) }
-    ensures kept { OnOk result (ports.new.items ≡ ports.old.items) }
+    ensures kept { ports.new.items ≡ ports.old.items }
 {
     let number = slot.port as usize;
     if number < ports.len() {
@@ -39,7 +39,7 @@ fn slot_has_enough(ports: &mut Vec<HeldMessages>, slot: &Slot) -> Result<bool, O
 /// Whether each slot's port holds enough for it.
 fn slots_have_enough(ports: &mut Vec<HeldMessages>, slots: &[Slot]) -> Result<bool, OutOfMemory>
     ensures enough { IfOk result (λ all. all ≡ list_all (λ slot. is_choosable slot (row ports.old.items slot.port)) slots.now) }
-    ensures kept { OnOk result (ports.new.items ≡ ports.old.items) }
+    ensures kept { ports.new.items ≡ ports.old.items }
 {
     for slot in slots {
         if !slot_has_enough(ports, slot)? {
@@ -55,7 +55,7 @@ pub(crate) fn has_enough(
     pattern: &Pattern,
 ) -> Result<bool, OutOfMemory>
     ensures enough { IfOk result (λ enough. enough ≡ has_enough (row ports.old.items) pattern.now) }
-    ensures kept { OnOk result (ports.new.items ≡ ports.old.items) }
+    ensures kept { ports.new.items ≡ ports.old.items }
 {
     match pattern {
         Pattern::Slots(slots) => slots_have_enough(ports, slots.as_slice()),
@@ -78,7 +78,7 @@ fn slot_names(
     slot: &Slot,
 ) -> Result<Vec<MsgId>, OutOfMemory>
     ensures names { IfOk result (λ names. names.items ≡ names_of (take slot.now.most (fitting slot.now.pred (row ports.old.items slot.now.port)))) }
-    ensures kept { OnOk result (ports.new.items ≡ ports.old.items) }
+    ensures kept { ports.new.items ≡ ports.old.items }
 {
     let number = slot.port as usize;
     if number < ports.len() {
@@ -96,7 +96,7 @@ fn choice_names(
     slot: &Slot,
 ) -> Result<Option<Vec<MsgId>>, OutOfMemory>
     ensures names { IfOk result (λ names. option_map (λ found. found.items) names ≡ option_map names_of (choice slot.now (row ports.old.items slot.now.port))) }
-    ensures kept { OnOk result (ports.new.items ≡ ports.old.items) }
+    ensures kept { ports.new.items ≡ ports.old.items }
 {
     if slot_has_enough(ports, slot)? {
         Ok(Some(slot_names(alloc, ports, slot)?))
@@ -112,7 +112,7 @@ pub(crate) fn names_of_slots(
     slots: &[Slot],
 ) -> Result<Option<Vec<MsgId>>, OutOfMemory>
     ensures names { IfOk result (λ names. option_map (λ found. found.items) names ≡ option_map names_of (choice_of_slots (row ports.old.items) slots.now)) }
-    ensures kept { OnOk result (ports.new.items ≡ ports.old.items) }
+    ensures kept { ports.new.items ≡ ports.old.items }
 {
     if !slots_have_enough(ports, slots)? {
         return Ok(None);
@@ -135,7 +135,7 @@ pub(crate) fn oldest_names(
     most: usize,
 ) -> Result<Vec<MsgId>, OutOfMemory>
     ensures names { IfOk result (λ names. names.items ≡ names_of (take most (row ports.old.items port))) }
-    ensures kept { OnOk result (ports.new.items ≡ ports.old.items) }
+    ensures kept { ports.new.items ≡ ports.old.items }
 {
     let number = port as usize;
     if number < ports.len() {
@@ -155,7 +155,7 @@ fn names_of_gather(
     second: PortNo,
 ) -> Result<Option<Vec<MsgId>>, OutOfMemory>
     ensures names { IfOk result (λ names. option_map (λ found. found.items) names ≡ option_map names_of (engine_gather total first second (row ports.old.items first) (row ports.old.items second))) }
-    ensures kept { OnOk result (ports.new.items ≡ ports.old.items) }
+    ensures kept { ports.new.items ≡ ports.old.items }
 {
     let of_first = count(ports, first);
     let of_second = count(ports, second);
@@ -180,7 +180,7 @@ pub(crate) fn names_of_choice(
     pattern: &Pattern,
 ) -> Result<Option<Vec<MsgId>>, OutOfMemory>
     ensures names { IfOk result (λ names. option_map (λ found. found.items) names ≡ option_map names_of (engine_choice_of (row ports.old.items) pattern.now)) }
-    ensures kept { OnOk result (ports.new.items ≡ ports.old.items) }
+    ensures kept { ports.new.items ≡ ports.old.items }
 {
     match pattern {
         Pattern::Slots(slots) => names_of_slots(alloc, ports, slots.as_slice()),
@@ -199,7 +199,7 @@ pub(crate) fn names_of_site(
     port: PortNo,
 ) -> Result<Option<Vec<MsgId>>, OutOfMemory>
     ensures names { IfOk result (λ names. option_map (λ found. found.items) names ≡ option_map names_of (oldest (row ports.old.items port))) }
-    ensures kept { OnOk result (ports.new.items ≡ ports.old.items) }
+    ensures kept { ports.new.items ≡ ports.old.items }
 {
     let names = oldest_names(alloc, ports, port, 1)?;
     if names.is_empty() {

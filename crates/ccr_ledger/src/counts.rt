@@ -1,6 +1,6 @@
 //! Counts and flags by number.
 
-ghost use Rattle.std.specs.Prelude.{◌≡◌, OnOk};
+ghost use Rattle.std.specs.Prelude.{◌≡◌, OnErr, OnOk};
 ghost use Rattle.ccr_ledger.specs.Books.{flag, less, more, number, raised};
 
 use ccr_base::OutOfMemory;
@@ -17,7 +17,8 @@ pub(crate) fn number(numbers: &[u32], place: usize) -> u32
 
 /// One more at the place. A count that no longer fits is a want of memory.
 pub(crate) fn add_one(numbers: &mut Vec<u32>, place: usize) -> Result<(), OutOfMemory>
-    ensures { OnOk result (numbers.new.items ≡ more place numbers.old.items) }
+    ensures ok { OnOk result (numbers.new.items ≡ more place numbers.old.items) }
+    ensures err { OnErr result (numbers.new.items ≡ numbers.old.items) }
 {
     if place < numbers.len() {
         let Some(count) = numbers[place].checked_add(1) else {

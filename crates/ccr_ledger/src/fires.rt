@@ -1,14 +1,15 @@
 //! What a firing makes of the tables.
 
-ghost use Rattle.std.specs.Prelude.{◌≡◌, OnOk, IfOk};
+ghost use Rattle.std.specs.Prelude.{◌≡◌, OnErr, OnOk, IfOk};
 ghost use Rattle.std.specs.Option.{option_map_or};
 ghost use Rattle.ccr_wiring.specs.Wirings.{site_port};
 ghost use Rattle.ccr_model.specs.TaskData.{no_load, with_messages};
 ghost use Rattle.ccr_model.specs.Views.{load_seen, placement_seen};
-ghost use Rattle.ccr_ledger.specs.Taking.{take_pattern, take_site};
-ghost use Rattle.ccr_ledger.specs.Firing.{after_choice, after_clear, after_cut, after_cuts, after_fire, after_new, after_site, after_taking, after_wait, branch_card, first_stage, load_left, resumed_card, site_card};
+ghost use Rattle.ccr_ledger.specs.Taking.{AreLeftOf, take_pattern, take_site};
+ghost use Rattle.ccr_ledger.specs.Refused.{IsFiringRefused, IsTakenFrom};
+ghost use Rattle.ccr_ledger.specs.Firing.{after_choice, after_cut, after_cuts, after_fire, after_new, after_site, after_taking, after_wait, branch_card, first_stage, load_left, resumed_card, site_card};
 
-use crate::counts::{add_one, raise};
+use crate::counts::{add_one, raise, take_one};
 use crate::ledger::arrive;
 use crate::loads::{load_left, no_load, with_messages};
 use crate::ports::{take_pattern, take_site};
@@ -35,28 +36,24 @@ fn first_stage(placement: PlacementOf<'_>) -> Stage
     }
 }
 
-/// Those that a firing of the branch cuts wait no more.
-fn clear(waiting: &mut Rows<TaskId>, placement: PlacementOf<'_>)
-    ensures { waiting.new ≡ after_clear (placement_seen placement.entry) waiting.old }
-{
-    if is_teardown(placement.branch.group) {
-        waiting.clear(placement.arbiter);
-    }
-}
-
 /// A task that a branch of the Interleave fired waits; one of a teardown branch alone, as those before it are cut.
+#[tactic(auto, using(crate::proofs::Undone::alone))]
 fn wait(
     waiting: &mut Rows<TaskId>,
     placement: PlacementOf<'_>,
     task: TaskId,
 ) -> Result<(), OutOfMemory>
-    ensures { OnOk result (waiting.new ≡ after_wait (placement_seen placement.entry) task waiting.old) }
+    ensures ok { OnOk result (waiting.new ≡ after_wait (placement_seen placement.entry) task waiting.old) }
+    ensures err { OnErr result (waiting.new ≡ waiting.old) }
 {
     if !is_interleave(placement.kind) {
         return Ok(());
     }
-    clear(waiting, placement);
-    waiting.enter(placement.arbiter, task)
+    if is_teardown(placement.branch.group) {
+        waiting.enter_alone(placement.arbiter, task)
+    } else {
+        waiting.enter(placement.arbiter, task)
+    }
 }
 
 /// The card of a task that the branch fires, which so many fired before.
@@ -130,6 +127,7 @@ fn first_card(
     messages: &[MsgId],
     number: usize,
 ) -> Result<Card, OutOfMemory>
+    ensures left { AreLeftOf ports.old.items ports.new.items }
     ensures ports { OnOk result (ports.new.items ≡ (take_pattern (placement_seen placement.entry).branch.pattern messages.now ports.old.items).ports) }
     ensures card { IfOk result (λ card. card ≡ branch_card wiring.now task branch (placement_seen placement.entry) number (with_messages no_load (take_pattern (placement_seen placement.entry).branch.pattern messages.now ports.old.items).messages)) }
 {
@@ -148,6 +146,7 @@ fn next_card(
     site: u32,
     number: usize,
 ) -> Result<Card, OutOfMemory>
+    ensures left { AreLeftOf ports.old.items ports.new.items }
     ensures ports { OnOk result (ports.new.items ≡ (take_site (site_port wiring.now branch site) ports.old.items).ports) }
     ensures card { IfOk result (λ card. card ≡ site_card wiring.now branch site before.now number (with_messages (load_left before.now) (take_site (site_port wiring.now branch site) ports.old.items).messages)) }
 {
@@ -190,18 +189,27 @@ impl Ledger {
         }
     }
 
-    /// The task of the card, which the branch fired, stands in the tables.
+    /// The task of the card, which the branch fired, stands in the tables. Room for the card is made first.
+    #[tactic(auto, using(crate::proofs::Undone::less_more))]
     fn enter(
         &mut self,
         task: TaskId,
         card: Card,
         placement: PlacementOf<'_>,
     ) -> Result<(), OutOfMemory>
-        ensures { OnOk result (self.new ≡ after_new task card (placement_seen placement.entry) self.old) }
+        ensures ok { OnOk result (self.new ≡ after_new task card (placement_seen placement.entry) self.old) }
+        ensures err { OnErr result (self.new ≡ self.old) }
     {
-        self.tasks.insert(task, card)?;
-        wait(&mut self.waiting, placement, task)?;
-        add_one(&mut self.coming, placement.branch.queue as usize)?;
+        let queue = placement.branch.queue as usize;
+        self.tasks.reserve(1)?;
+        add_one(&mut self.coming, queue)?;
+        if let Err(refused) = wait(&mut self.waiting, placement, task) {
+            take_one(&mut self.coming, queue);
+            return Err(refused);
+        }
+        let Ok(_) = self.tasks.insert(task, card) else {
+            unreachable!()
+        };
         Ok(())
     }
 
@@ -214,7 +222,8 @@ impl Ledger {
         placement: PlacementOf<'_>,
         messages: &[MsgId],
     ) -> Result<(), OutOfMemory>
-        ensures { OnOk result (self.new ≡ after_taking wiring.now task branch messages.now self.old (placement_seen placement.entry)) }
+        ensures ok { OnOk result (self.new ≡ after_taking wiring.now task branch messages.now self.old (placement_seen placement.entry)) }
+        ensures err { OnErr result (IsTakenFrom self.old self.new) }
     {
         let number = self.tasks.len();
         let ports = &mut self.ports;
@@ -234,7 +243,8 @@ impl Ledger {
         branch: BranchNo,
         site: u32,
     ) -> Result<(), OutOfMemory>
-        ensures { OnOk result (self.new ≡ option_map_or (λ card. after_site wiring.now task branch site card (take_site (site_port wiring.now branch site) self.old.ports) self.old) (resumed_card self.old branch site) self.old) }
+        ensures ok { OnOk result (self.new ≡ option_map_or (λ card. after_site wiring.now task branch site card (take_site (site_port wiring.now branch site) self.old.ports) self.old) (resumed_card self.old branch site) self.old) }
+        ensures err { OnErr result (IsTakenFrom self.old self.new) }
     {
         let Some(before) = first_suspended(&self.suspended, branch, site) else {
             return Ok(());
@@ -266,7 +276,8 @@ impl Ledger {
         messages: &[MsgId],
         cuts: &[TaskId],
     ) -> Result<(), OutOfMemory>
-        ensures { OnOk result (self.new ≡ after_fire wiring.now task spot messages.now cuts.now self.old) }
+        ensures ok { OnOk result (self.new ≡ after_fire wiring.now task spot messages.now cuts.now self.old) }
+        ensures err { OnErr result (IsFiringRefused spot cuts.now self.old self.new) }
     {
         match spot {
             Spot::Branch(branch) => {

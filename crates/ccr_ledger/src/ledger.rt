@@ -1,16 +1,19 @@
 //! The tables.
 
-ghost use Rattle.std.specs.Prelude.{◌≡◌, [], ◌∷◌, ◌++◌, OnOk, IfOk, length, replicate, false, if◌then◌else◌};
+ghost use Rattle.std.specs.Prelude.{◌≡◌, [], ◌∷◌, ◌++◌, OnErr, OnOk, IfOk, length, replicate, false, if◌then◌else◌};
 ghost use Rattle.ccr_wiring.specs.Wirings.{branch_of, is_branch, placements_from, segment_of};
 ghost use Rattle.std.specs.Option.{option_map_or};
 ghost use Rattle.ccr_rows.specs.Rows.{empty_rows};
-ghost use Rattle.ccr_ledger.specs.Books.{card_at, less, suspended_at, with_suspended};
-ghost use Rattle.ccr_ledger.specs.Posting.{after_post, counted};
-ghost use Rattle.ccr_ledger.specs.Events.{after_admit, after_discard, after_drop, after_dropped, after_end, after_enter, after_event, after_last, after_start, empty_books, is_yield};
+ghost use Rattle.ccr_ledger.specs.Books.{card_at, less, more, suspended_at, with_suspended};
+ghost use Rattle.ccr_ledger.specs.Posting.{after_post, counted, uncounted};
+ghost use Rattle.ccr_ledger.specs.Refused.{IsRefused};
+ghost use Rattle.ccr_ledger.specs.Events.{after_admit, after_discard, after_drop, after_dropped, after_end, after_enter, after_event, after_last, after_start, after_stop, empty_books, is_yield};
 
 use crate::counts::{add_one, take_one};
 use crate::ports::{empty_ports, post_to};
-use crate::tasks::{SITES_EACH, admit_root, count_post, end_root, move_to, stop, suspend};
+use crate::tasks::{
+    SITES_EACH, admit_root, count_post, end_root, move_to, stop, suspend, uncount_post,
+};
 use crate::{Card, Runner, Stage};
 use ccr_base::{ActorNo, Msg, MsgId, OutOfMemory, QueueNo, Spot, TaskId};
 use ccr_held::HeldMessages;
@@ -75,7 +78,8 @@ pub(crate) fn arrive(coming: &mut Vec<u32>, spot: Spot, queue: QueueNo)
 
 /// The task is suspended at the site behind the spot at which it fired.
 fn suspend_behind(suspended: &mut Rows<TaskId>, spot: Spot, task: TaskId) -> Result<(), OutOfMemory>
-    ensures { OnOk result (suspended.new ≡ with_suspended suspended.old (branch_of spot) (segment_of spot) (suspended_at suspended.old (branch_of spot) (segment_of spot) ++ task ∷ [])) }
+    ensures ok { OnOk result (suspended.new ≡ with_suspended suspended.old (branch_of spot) (segment_of spot) (suspended_at suspended.old (branch_of spot) (segment_of spot) ++ task ∷ [])) }
+    ensures err { OnErr result (suspended.new ≡ suspended.old) }
 {
     match spot {
         Spot::Branch(branch) => suspend(suspended, branch, 0, task),
@@ -84,6 +88,29 @@ fn suspend_behind(suspended: &mut Rows<TaskId>, spot: Spot, task: TaskId) -> Res
             None => Ok(()),
         },
     }
+}
+
+/// One more admitted root of the domain.
+#[tactic(auto, using(crate::proofs::Undone::less_more))]
+fn count_root(
+    admitted: &mut Vec<u32>,
+    alone: &mut Vec<u32>,
+    domain: usize,
+    concurrent: bool,
+) -> Result<(), OutOfMemory>
+    ensures admitted { OnOk result (admitted.new.items ≡ more domain admitted.old.items) }
+    ensures alone { OnOk result (alone.new.items ≡ (if concurrent then alone.old.items else more domain alone.old.items)) }
+    ensures err { OnErr result ((admitted.new.items ≡ admitted.old.items) × (alone.new.items ≡ alone.old.items)) }
+{
+    add_one(admitted, domain)?;
+    if concurrent {
+        return Ok(());
+    }
+    if let Err(refused) = add_one(alone, domain) {
+        take_one(admitted, domain);
+        return Err(refused);
+    }
+    Ok(())
 }
 
 fn is_yield(how: EndHow) -> bool
@@ -189,44 +216,63 @@ impl Ledger {
 
     /// One more post of the poster, or of the task.
     fn count(&mut self, name: MsgId) -> Result<(), OutOfMemory>
-        ensures { OnOk result (self.new ≡ counted name self.old) }
+        ensures ok { OnOk result (self.new ≡ counted name self.old) }
+        ensures err { OnErr result (self.new ≡ self.old) }
     {
         match name {
             MsgId::Script { actor, .. } => add_one(&mut self.script_posts, actor as usize),
             MsgId::Task { task, .. } => {
-                count_post(&mut self.tasks, task)?;
                 let Some(posts) = self.task_posts.checked_add(1) else {
                     return Err(OutOfMemory);
                 };
+                count_post(&mut self.tasks, task)?;
                 self.task_posts = posts;
                 Ok(())
             }
         }
     }
 
-    /// The message comes to its port.
-    fn post(&mut self, message: Msg) -> Result<(), OutOfMemory>
-        ensures { OnOk result (self.new ≡ after_post message self.old) }
+    /// One post less of the poster, or of the task.
+    fn uncount(&mut self, name: MsgId)
+        ensures { self.new ≡ uncounted name self.old }
     {
-        self.count(message.id)?;
-        post_to(&mut self.ports, message)
+        match name {
+            MsgId::Script { actor, .. } => take_one(&mut self.script_posts, actor as usize),
+            MsgId::Task { task, .. } => {
+                uncount_post(&mut self.tasks, task);
+                self.task_posts = self.task_posts.saturating_sub(1);
+            }
+        }
+    }
+
+    /// The message comes to its port.
+    #[tactic(auto, using(crate::proofs::Undone::uncounted_counted))]
+    fn post(&mut self, message: Msg) -> Result<(), OutOfMemory>
+        ensures ok { OnOk result (self.new ≡ after_post message self.old) }
+        ensures err { OnErr result (self.new ≡ self.old) }
+    {
+        let name = message.id;
+        self.count(name)?;
+        if let Err(refused) = post_to(&mut self.ports, message) {
+            self.uncount(name);
+            return Err(refused);
+        }
+        Ok(())
     }
 
     /// The task, which is the oldest that waits in its domain, is admitted.
     fn admit(&mut self, task: TaskId) -> Result<(), OutOfMemory>
-        ensures { OnOk result (self.new ≡ option_map_or (λ card. after_admit task card self.old) (card_at self.old.tasks task) self.old) }
+        ensures ok { OnOk result (self.new ≡ option_map_or (λ card. after_admit task card self.old) (card_at self.old.tasks task) self.old) }
+        ensures err { OnErr result (self.new ≡ self.old) }
     {
         let Some(card) = self.tasks.get(&task) else {
             return Ok(());
         };
         let domain = card.domain;
         let concurrent = card.concurrent;
+        count_root(&mut self.admitted, &mut self.alone, domain, concurrent)?;
         admit_root(&mut self.tasks, task);
         self.waiting.leave(domain);
-        add_one(&mut self.admitted, domain)?;
-        if !concurrent {
-            add_one(&mut self.alone, domain)?;
-        }
         Ok(())
     }
 
@@ -274,7 +320,8 @@ impl Ledger {
 
     /// The task is put into its queue, which may drop its oldest.
     fn put(&mut self, task: TaskId, dropped: Option<TaskId>) -> Result<(), OutOfMemory>
-        ensures { OnOk result (self.new ≡ option_map_or (λ card. after_enter task card (after_dropped dropped self.old)) (card_at self.old.tasks task) self.old) }
+        ensures ok { OnOk result (self.new ≡ option_map_or (λ card. after_enter task card (after_dropped dropped self.old)) (card_at self.old.tasks task) self.old) }
+        ensures err { OnErr result (self.new ≡ after_dropped dropped self.old) }
     {
         let Some(card) = self.tasks.get(&task) else {
             return Ok(());
@@ -283,48 +330,61 @@ impl Ledger {
         if let Some(oldest) = dropped {
             self.drop_oldest(oldest);
         }
+        self.queued.enter(queue as usize, task)?;
         move_to(&mut self.tasks, task, Stage::Queued);
-        self.queued.enter(queue as usize, task)
+        Ok(())
     }
 
     /// The task, which is the oldest of its queue, is started by the actor.
     fn start(&mut self, task: TaskId, actor: ActorNo) -> Result<(), OutOfMemory>
-        ensures { OnOk result (self.new ≡ option_map_or (λ card. after_start task actor card self.old) (card_at self.old.tasks task) self.old) }
+        ensures ok { OnOk result (self.new ≡ option_map_or (λ card. after_start task actor card self.old) (card_at self.old.tasks task) self.old) }
+        ensures err { OnErr result (self.new ≡ self.old) }
     {
         let Some(card) = self.tasks.get(&task) else {
             return Ok(());
         };
         let spot = card.spot;
         let queue = card.queue;
+        self.running.push(Runner { task, actor })?;
         move_to(&mut self.tasks, task, Stage::Running);
         self.queued.leave(queue as usize);
         arrive(&mut self.coming, spot, queue);
-        self.running.push(Runner { task, actor })?;
         Ok(())
+    }
+
+    /// The task runs no more.
+    fn stop(&mut self, task: TaskId)
+        ensures { self.new ≡ after_stop task self.old }
+    {
+        move_to(&mut self.tasks, task, Stage::Ended);
+        stop(&mut self.running, task);
     }
 
     /// The task ends. It is suspended, or its root is over.
     fn end(&mut self, task: TaskId, how: EndHow) -> Result<(), OutOfMemory>
-        ensures { OnOk result (self.new ≡ option_map_or (λ card. after_end task how card self.old) (card_at self.old.tasks task) self.old) }
+        ensures ok { OnOk result (self.new ≡ option_map_or (λ card. after_end task how card self.old) (card_at self.old.tasks task) self.old) }
+        ensures err { OnErr result (self.new ≡ self.old) }
     {
         let Some(card) = self.tasks.get(&task) else {
             return Ok(());
         };
         let spot = card.spot;
         let root = card.root;
-        move_to(&mut self.tasks, task, Stage::Ended);
-        stop(&mut self.running, task);
         if is_yield(how) {
-            suspend_behind(&mut self.suspended, spot, task)
+            suspend_behind(&mut self.suspended, spot, task)?;
+            self.stop(task);
         } else {
+            self.stop(task);
             self.last(root);
-            Ok(())
         }
+        Ok(())
     }
 
-    /// Enters the event, which is allowed after those before it.
+    /// Enters the event, which is allowed after those before it. Without memory the tables stay as they were, but for what a
+    /// firing has cut and taken, and for what a put has dropped.
     pub fn push(&mut self, wiring: &Wiring, event: &Event) -> Result<(), OutOfMemory>
-        ensures { OnOk result (self.new ≡ after_event wiring.now event.now self.old) }
+        ensures ok { OnOk result (self.new ≡ after_event wiring.now event.now self.old) }
+        ensures err { OnErr result (IsRefused event.now self.old self.new) }
     {
         match event {
             Event::Post(message) => self.post(message.copy(self.alloc)?),

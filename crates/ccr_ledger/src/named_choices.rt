@@ -1,6 +1,6 @@
 //! Whether names are those of a choice from what the ports hold.
 
-ghost use Rattle.std.specs.Prelude.{◌≡◌, ◌==◌, ◌&&◌, IfOk, OnOk, length};
+ghost use Rattle.std.specs.Prelude.{◌≡◌, ◌==◌, ◌&&◌, IfOk, length};
 ghost use Rattle.ccr_base.specs.Names.{same_lists, same_message};
 ghost use Rattle.ccr_base.specs.declared.patterns.Pattern.TheVariants.{Slots};
 ghost use Rattle.ccr_rows.specs.Rows.{row};
@@ -57,7 +57,7 @@ fn are_slots(
     names: &[MsgId],
 ) -> Result<bool, OutOfMemory>
     ensures are { IfOk result (λ are. are ≡ is_choice_of (row ports.old.items) (Slots slots.now) names.now) }
-    ensures kept { OnOk result (ports.new.items ≡ ports.old.items) }
+    ensures kept { ports.new.items ≡ ports.old.items }
 {
     match names_of_slots(alloc, ports, slots)? {
         Some(chosen) => Ok(are_same(&chosen, names)),
@@ -76,7 +76,7 @@ fn are_gather(
     names: &[MsgId],
 ) -> Result<bool, OutOfMemory>
     ensures are { IfOk result (λ are. are ≡ ((length names.now == total) && are_split (row ports.old.items first) (row ports.old.items second) names.now)) }
-    ensures kept { OnOk result (ports.new.items ≡ ports.old.items) }
+    ensures kept { ports.new.items ≡ ports.old.items }
 {
     if names.len() != total {
         return Ok(false);
@@ -94,7 +94,7 @@ pub(crate) fn are_choice_of(
     names: &[MsgId],
 ) -> Result<bool, OutOfMemory>
     ensures are { IfOk result (λ are. are ≡ is_choice_of (row ports.old.items) pattern.now names.now) }
-    ensures kept { OnOk result (ports.new.items ≡ ports.old.items) }
+    ensures kept { ports.new.items ≡ ports.old.items }
 {
     match pattern {
         Pattern::Slots(slots) => are_slots(alloc, ports, slots.as_slice(), names),
@@ -114,7 +114,7 @@ pub(crate) fn are_oldest(
     names: &[MsgId],
 ) -> Result<bool, OutOfMemory>
     ensures are { IfOk result (λ are. are ≡ are_oldest (row ports.old.items port) names.now) }
-    ensures kept { OnOk result (ports.new.items ≡ ports.old.items) }
+    ensures kept { ports.new.items ≡ ports.old.items }
 {
     if names.len() != 1 {
         return Ok(false);

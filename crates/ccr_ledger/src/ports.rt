@@ -1,10 +1,10 @@
 //! What posts and firings do with the ports.
 
-ghost use Rattle.std.specs.Prelude.{◌≡◌, ◌++◌, IfOk, OnOk};
+ghost use Rattle.std.specs.Prelude.{◌≡◌, ◌++◌, IfOk, OnErr, OnOk};
 ghost use Rattle.ccr_rows.specs.Rows.{empty_rows, row};
 ghost use Rattle.ccr_ledger.specs.Posting.{posted_to};
 ghost use Rattle.ccr_held.specs.Taken.{shared};
-ghost use Rattle.ccr_ledger.specs.Taking.{take_gather, take_oldest, take_pattern, take_site, take_slot, take_slots};
+ghost use Rattle.ccr_ledger.specs.Taking.{AreLeftOf, take_gather, take_oldest, take_pattern, take_site, take_slot, take_slots};
 
 use ccr_base::{Msg, MsgId, OutOfMemory, Pattern, PortNo, Slot};
 use ccr_held::HeldMessages;
@@ -23,7 +23,8 @@ pub(crate) fn empty_ports(alloc: Global, count: usize) -> Result<Vec<HeldMessage
 
 /// The message comes to its port.
 pub(crate) fn post_to(ports: &mut Vec<HeldMessages>, message: Msg) -> Result<(), OutOfMemory>
-    ensures { OnOk result (ports.new.items ≡ posted_to message ports.old.items) }
+    ensures ok { OnOk result (ports.new.items ≡ posted_to message ports.old.items) }
+    ensures err { OnErr result (ports.new.items ≡ ports.old.items) }
 {
     let number = message.port as usize;
     if number < ports.len() {
@@ -34,6 +35,7 @@ pub(crate) fn post_to(ports: &mut Vec<HeldMessages>, message: Msg) -> Result<(),
 }
 
 /// Takes what the slot takes out of its port.
+#[tactic(auto, using(crate::proofs::Lefts::left_all, crate::proofs::Lefts::left_set))]
 fn take_slot(
     ports: &mut Vec<HeldMessages>,
     slot: Slot,
@@ -41,6 +43,7 @@ fn take_slot(
 ) -> Result<(), OutOfMemory>
     ensures ports { OnOk result (ports.new.items ≡ (take_slot slot ports.old.items).ports) }
     ensures taken { OnOk result (taken.new.items ≡ taken.old.items ++ (take_slot slot ports.old.items).messages) }
+    ensures left { AreLeftOf ports.old.items ports.new.items }
 {
     let number = slot.port as usize;
     if number < ports.len() {
@@ -51,6 +54,7 @@ fn take_slot(
 }
 
 /// Takes what the slots take, slot by slot.
+#[tactic(auto, using(crate::proofs::Lefts::left_all, crate::proofs::Lefts::left_after))]
 fn take_slots(
     alloc: Global,
     ports: &mut Vec<HeldMessages>,
@@ -58,6 +62,7 @@ fn take_slots(
 ) -> Result<Vec<Msg>, OutOfMemory>
     ensures ports { OnOk result (ports.new.items ≡ (take_slots slots.now ports.old.items).ports) }
     ensures taken { IfOk result (λ taken. taken.items ≡ (take_slots slots.now ports.old.items).messages) }
+    ensures left { AreLeftOf ports.old.items ports.new.items }
 {
     let mut taken = Vec::new(alloc);
     for slot in slots {
@@ -67,6 +72,7 @@ fn take_slots(
 }
 
 /// Takes so many of the oldest messages of the port.
+#[tactic(auto, using(crate::proofs::Lefts::left_all, crate::proofs::Lefts::left_set))]
 fn take_oldest(
     ports: &mut Vec<HeldMessages>,
     port: PortNo,
@@ -75,6 +81,7 @@ fn take_oldest(
 ) -> Result<(), OutOfMemory>
     ensures ports { OnOk result (ports.new.items ≡ (take_oldest port count ports.old.items).ports) }
     ensures taken { OnOk result (taken.new.items ≡ taken.old.items ++ (take_oldest port count ports.old.items).messages) }
+    ensures left { AreLeftOf ports.old.items ports.new.items }
 {
     let number = port as usize;
     if number < ports.len() {
@@ -91,7 +98,7 @@ fn shared_with(
     names: &[MsgId],
 ) -> Result<usize, OutOfMemory>
     ensures shared { IfOk result (λ count. count ≡ shared (row ports.old.items port) names.now) }
-    ensures kept { OnOk result (ports.new.items ≡ ports.old.items) }
+    ensures kept { ports.new.items ≡ ports.old.items }
 {
     let number = port as usize;
     if number < ports.len() {
@@ -103,6 +110,7 @@ fn shared_with(
 }
 
 /// Takes what the gather takes by the names.
+#[tactic(auto, using(crate::proofs::Lefts::left_all, crate::proofs::Lefts::left_after))]
 fn take_gather(
     alloc: Global,
     ports: &mut Vec<HeldMessages>,
@@ -112,6 +120,7 @@ fn take_gather(
 ) -> Result<Vec<Msg>, OutOfMemory>
     ensures ports { OnOk result (ports.new.items ≡ (take_gather first second names.now ports.old.items).ports) }
     ensures taken { IfOk result (λ taken. taken.items ≡ (take_gather first second names.now ports.old.items).messages) }
+    ensures left { AreLeftOf ports.old.items ports.new.items }
 {
     let of_first = shared_with(ports, first, names)?;
     let of_second = names.len().saturating_sub(of_first);
@@ -130,6 +139,7 @@ pub(crate) fn take_pattern(
 ) -> Result<Vec<Msg>, OutOfMemory>
     ensures ports { OnOk result (ports.new.items ≡ (take_pattern pattern.now names.now ports.old.items).ports) }
     ensures taken { IfOk result (λ taken. taken.items ≡ (take_pattern pattern.now names.now ports.old.items).messages) }
+    ensures left { AreLeftOf ports.old.items ports.new.items }
 {
     match pattern {
         Pattern::Slots(slots) => take_slots(alloc, ports, slots.as_slice()),
@@ -138,6 +148,7 @@ pub(crate) fn take_pattern(
 }
 
 /// Takes the oldest message of the port that a site awaits.
+#[tactic(auto, using(crate::proofs::Lefts::left_all))]
 pub(crate) fn take_site(
     alloc: Global,
     ports: &mut Vec<HeldMessages>,
@@ -145,6 +156,7 @@ pub(crate) fn take_site(
 ) -> Result<Vec<Msg>, OutOfMemory>
     ensures ports { OnOk result (ports.new.items ≡ (take_site port ports.old.items).ports) }
     ensures taken { IfOk result (λ taken. taken.items ≡ (take_site port ports.old.items).messages) }
+    ensures left { AreLeftOf ports.old.items ports.new.items }
 {
     let mut taken = Vec::new(alloc);
     if let Some(port) = port {

@@ -1,9 +1,9 @@
 //! Changes of the cards, and of the rows of tasks.
 
-ghost use Rattle.std.specs.Prelude.{◌≡◌, ◌<◌, [], ◌∷◌, ◌++◌, OnOk, drop};
+ghost use Rattle.std.specs.Prelude.{◌≡◌, ◌<◌, [], ◌∷◌, ◌++◌, OnErr, OnOk, drop};
 ghost use Rattle.std.specs.List.{slice_get};
 ghost use Rattle.ccr_ledger.specs.Books.{changed, moved, suspended_at, with_suspended};
-ghost use Rattle.ccr_ledger.specs.Posting.{with_post};
+ghost use Rattle.ccr_ledger.specs.Posting.{with_post, without_post};
 ghost use Rattle.ccr_ledger.specs.Events.{admit_root, not_admitted, stopped};
 
 use crate::{Card, Runner, Stage};
@@ -47,7 +47,8 @@ pub(crate) fn count_post(
     tasks: &mut IndexMap<TaskId, Card>,
     task: TaskId,
 ) -> Result<(), OutOfMemory>
-    ensures { OnOk result (tasks.new.entries ≡ changed with_post task tasks.old.entries) }
+    ensures ok { OnOk result (tasks.new.entries ≡ changed with_post task tasks.old.entries) }
+    ensures err { OnErr result (tasks.new.entries ≡ tasks.old.entries) }
 {
     if let Some(card) = tasks.get_mut(&task) {
         let Some(made) = card.made.checked_add(1) else {
@@ -56,6 +57,15 @@ pub(crate) fn count_post(
         card.made = made;
     }
     Ok(())
+}
+
+/// The task has made one post less.
+pub(crate) fn uncount_post(tasks: &mut IndexMap<TaskId, Card>, task: TaskId)
+    ensures { tasks.new.entries ≡ changed without_post task tasks.old.entries }
+{
+    if let Some(card) = tasks.get_mut(&task) {
+        card.made = card.made.saturating_sub(1);
+    }
 }
 
 /// The task runs no more.
@@ -97,7 +107,8 @@ pub(crate) fn suspend(
     site: u32,
     task: TaskId,
 ) -> Result<(), OutOfMemory>
-    ensures { OnOk result (suspended.new ≡ with_suspended suspended.old branch site (suspended_at suspended.old branch site ++ task ∷ [])) }
+    ensures ok { OnOk result (suspended.new ≡ with_suspended suspended.old branch site (suspended_at suspended.old branch site ++ task ∷ [])) }
+    ensures err { OnErr result (suspended.new ≡ suspended.old) }
 {
     if site < SITES_EACH {
         suspended.enter(branch as usize * SITES_EACH as usize + site as usize, task)?;

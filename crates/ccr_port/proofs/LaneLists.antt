@@ -3,6 +3,8 @@ use Rattle.std.proofs.Common.{◌≡◌, ℕ, zero, suc, ◌+◌, ◌-◌, ◌^�
 use Rattle.std.specs.Prelude.{if◌then◌else◌, nat_lt}
 use Rattle.std.specs.List.{slice_get, list_all}
 use Rattle.std.proofs.Math.ListN.{set, get_or}
+use Rattle.std.specs.Bool.{Decides}
+use Rattle.std.proofs.lemmas.Option.{get_or_from_slice_get}
 use Rattle.std.proofs.lemmas.List.{take_more_set, drop_more}
 use Rattle.std.proofs.lemmas.Grind.{common_steps}
 use Rattle.std.proofs.lemmas.Bool.Decides.{nat_tests}
@@ -164,6 +166,18 @@ left-all es key message at (lane ∷ lanes) are = (one (holds lane.pred message.
 pub are-one_more : (es : List (ℕ × Msg)) (lanes : List LaneState) (lane : LaneState) → AreLanes es lanes → lane.keys ≡ fitting_keys lane.pred es → AreLanes es (lanes ++ lane ∷ [])
 are-one_more es [] lane are is = (is, tt)
 are-one_more es (l ∷ lanes) lane are is = (are.0, are-one_more es lanes lane are.1 is)
+
+-- the lane that was looked at isn't of the predicate, so one that is stands behind it
+pub passed_over : (lanes : List LaneState) (n k : ℕ) (here : LaneState) (pred : Pred) (b : Bool) → here ≡ get_or lanes n here → Decides b (here.pred ≡ pred) → b ≡ false → n ≤ k → HasLane lanes k pred → n + 1 ≤ k
+passed_over lanes n k here pred b read decides other low has = of_test (n == k) refl
+  where
+    of_test : (same : Bool) → (n == k) ≡ same → n + 1 ≤ k
+    of_test true is =
+        let same : n ≡ k = grind (arith, nat_tests, is) in
+        let this : here ≡ has.0 = read ∙ get_or_from_slice_get lanes n has.0 here (rw same has.1) in
+        let yes : b ≡ true = decides.1 (rw this has.2) in
+        absurd (cc)
+    of_test false is = grind (arith, nat_tests, is, low)
 
 pub last_lane : (lanes now : List LaneState) (n : ℕ) (lane : LaneState) → n ≡ length lanes → now ≡ lanes ++ lane ∷ [] → slice_get now n ≡ Some lane
 last_lane lanes now n lane long is = rw (is, long) (at lanes)

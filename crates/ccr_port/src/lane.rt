@@ -1,7 +1,7 @@
 //! The keys of the messages that satisfy one predicate.
 
 ghost use Rattle.std.specs.Prelude.{◌≡◌, ◌<◌, ◌≤◌, ◌+◌, ℕ, Some, Option, [], IsTrue, OnOk, OnErr, length, vec_len};
-ghost use Rattle.std.specs.Bool.{OnTrue};
+ghost use Rattle.std.specs.Bool.{Decides};
 ghost use Rattle.std.specs.List.{slice_get};
 ghost use Rattle.ccr_port.specs.Chains.{has_key, behind_of, before_of, mended};
 ghost use Rattle.ccr_port.specs.Lanes.{appended, can_enter, can_leave, entered, is_below, left, unlinked};
@@ -52,7 +52,7 @@ impl Lane {
 
     /// Whether the lane is of this predicate.
     pub fn is_of(&self, pred: Pred) -> bool
-        ensures { OnTrue result (self.now.pred ≡ pred) }
+        ensures { Decides result (self.now.pred ≡ pred) }
     {
         self.pred == pred
     }

@@ -1,6 +1,6 @@
 //! The lanes of a port: one for each predicate that a claim has named.
 
-ghost use Rattle.std.specs.Prelude.{◌≡◌, true, IsTrue, IfOk, OnOk, map};
+ghost use Rattle.std.specs.Prelude.{◌≡◌, ℕ, true, IsTrue, IfOk, OnOk, map};
 ghost use Rattle.std.specs.List.{list_all};
 ghost use Rattle.ccr_port.specs.Lanes.{AreLanes, AreSame, HasLane, can_enter, can_leave, entered, fitting_keys, have_room, left};
 
@@ -60,7 +60,7 @@ fn lane_of(alloc: Global, items: &Items, pred: Pred) -> Result<Lane, OutOfMemory
     Ok(lane)
 }
 
-/// The number of the lane of the predicate, which is made where there is none.
+/// The number of the lane of the predicate, which is made where there is none, and only there.
 pub(crate) fn lane_for(
     alloc: Global,
     items: &Items,
@@ -70,6 +70,7 @@ pub(crate) fn lane_for(
     requires { AreLanes items.now lanes.old.items }
     ensures lanes { AreLanes items.now lanes.new.items }
     ensures found { IfOk result (λ number. HasLane lanes.new.items number pred) }
+    ensures once { (number : ℕ) → HasLane lanes.old.items number pred → lanes.new.items ≡ lanes.old.items }
 {
     for number in 0..lanes.len() {
         if lanes[number].is_of(pred) {

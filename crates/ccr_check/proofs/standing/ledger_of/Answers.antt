@@ -8,4 +8,4 @@ loop-event-init c = keeps_start c.args.wiring.now c.args.events.now c.in_ok-ledg
 pub loop-event-preserved : goal.loop-event-preserved
 loop-event-preserved c =
     keeps_on c.args.wiring.now c.parts-valid.ensures.valid c.args.events.now c.loop-event.event-index c.event-item.result c.loop-event.ledger c.push.new.self
-    c.requires.legal (omega arith) c.event-item.is c.loop-event.invariant c.in_ok-push.ensures
+    c.requires.legal (omega arith) c.event-item.is c.loop-event.invariant c.in_ok-push.ensures.ok

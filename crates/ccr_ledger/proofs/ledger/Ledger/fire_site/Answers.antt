@@ -7,8 +7,8 @@ use Rattle.ccr_ledger.specs.Taking.{take_site}
 use Rattle.ccr_ledger.specs.Firing.{after_site, resumed_card}
 use Rattle.ccr_ledger.proofs.ledger.Ledger.fire_site.Goals as goal
 
-pub returns : goal.returns
-returns c =
+pub returns-clause-ok : goal.returns-clause-ok
+returns-clause-ok c =
     let at = c.in-Some-get.ensures.value ∙ (ap (option_and_then (card_at c.self.inside.tasks.entries)) c.in-Some.ensures ∙ ap (λ (b : Books). resumed_card b c.args.branch c.args.site) c.self.view_is) in
     let count : c.len-number.result ≡ length c.self.inside.tasks.entries = c.len-number.ensures.len in
     rw (c.in_ok-insert.ensures.entries, c.resume.ensures, c.in_ok-card.ensures.ports, c.in_ok-card.ensures.card, count)
