@@ -57,6 +57,7 @@ abbrev pub take_needs : Reply → Bool
 take_needs (replies.Taken (Some task)) = true
 take_needs _ = false
 
+-- what the work keeps of a reply
 abbrev pub work_needs : Parts → State → Work → Reply → Bool
 work_needs wiring state (lines place sents) reply = line_needs wiring sents
 work_needs wiring state round reply = false
@@ -66,6 +67,7 @@ work_needs wiring state (posting task place play sent) reply = has_any (spots_at
 work_needs wiring state (shedding task) reply = adds_arbiter wiring task.arbiter state.arbiters
 work_needs wiring state resting reply = false
 
+-- what the turn whose reply it is keeps of it
 abbrev pub turn_needs : Parts → State → Turn → Reply → Bool
 turn_needs wiring state (settle one more) reply = settling_needs wiring state reply
 turn_needs wiring state (admit arbiter more) reply = false
@@ -73,6 +75,7 @@ turn_needs wiring state (drive spot more) reply = attempt_needs reply
 turn_needs wiring state go_on reply = work_needs wiring state state.work reply
 turn_needs wiring state stop reply = false
 
+-- what the actor keeps of a reply, by what it waits for
 abbrev pub kept_needs : Acting → Asking → Reply → Bool
 kept_needs a quiet reply = false
 kept_needs a (settling due) reply = settling_needs a.wiring a.state reply
@@ -85,6 +88,7 @@ abbrev pub post_needs : List Sent → Bool
 post_needs [] = false
 post_needs (sent ∷ sents) = has_any sent.causes
 
+-- the next line of a script is such a post
 abbrev pub next_work_needs : Work → Bool
 next_work_needs (lines place sents) = post_needs sents
 next_work_needs _ = false
@@ -94,6 +98,7 @@ abbrev pub begins : Phase → Bool
 begins booking = true
 begins (claiming slots had) = false
 
+-- whether making the turn's ask ready needs memory
 abbrev pub ready_needs : State → Turn → Bool
 ready_needs state (drive spot more) = begins state.phase
 ready_needs state go_on = next_work_needs state.work
@@ -115,18 +120,22 @@ needs_memory a reply = kept_needs a a.asking reply || next_needs (state_after_re
 abbrev pub is_unnumbered : Parts → Task → Bool
 is_unnumbered wiring task = nat_le (2 ^ 32) (segment_of task.spot) || nat_le (2 ^ 32) (length (play_in wiring task).posts)
 
+-- whether a queue gave such a task
 abbrev pub take_unnumbered : Parts → Reply → Bool
 take_unnumbered wiring (replies.Taken (Some task)) = is_unnumbered wiring task
 take_unnumbered wiring _ = false
 
+-- whether a worker that takes was given such a task
 abbrev pub work_unnumbered : Parts → Work → Reply → Bool
 work_unnumbered wiring (taking left queue more) reply = take_unnumbered wiring reply
 work_unnumbered wiring _ reply = false
 
+-- whether the turn's reply is such a task
 abbrev pub turn_unnumbered : Parts → State → Turn → Reply → Bool
 turn_unnumbered wiring state go_on reply = work_unnumbered wiring state.work reply
 turn_unnumbered wiring state _ reply = false
 
+-- whether the reply that the actor waits for is such a task
 abbrev pub taken_unnumbered : Acting → Asking → Reply → Bool
 taken_unnumbered a (going due) reply = turn_unnumbered a.wiring a.state (turn a.state) reply
 taken_unnumbered a _ reply = false
