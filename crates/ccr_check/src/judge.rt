@@ -66,8 +66,7 @@ impl<'w> Judge<'w> {
         })
     }
 
-    /// Accepts the event, or answers the first rule of docs/MODEL.md that refuses it after those that were accepted. More than
-    /// 2^32 - 1 accepted events are told as want of memory.
+    /// Accepts the event, or answers the first rule of docs/MODEL.md that refuses it after those that were accepted.
     pub fn feed(&mut self, event: &Event) -> Result<Option<u8>, OutOfMemory>
         ensures rule { IfOk result (λ rule. rule ≡ refusal self.old.wiring self.old.history event.now) }
         ensures accepted { IfOk result (λ rule. IfNone rule (self.new ≡ record self.old { history = self.old.history ++ event.now ∷ [] })) }

@@ -7,20 +7,17 @@ ghost use Rattle.ccr_ledger.specs.Kept.{Keeps};
 
 use crate::refusing::refusal;
 use ccr_base::OutOfMemory;
+use ccr_bounds::valid_histories_are_short;
 use ccr_ledger::Ledger;
 use ccr_model::{Event, History};
 use ccr_wiring::Wiring;
 use std::alloc::Global;
 
-/// Adds the event at the end. One more than 2^32 - 1 events is a want of memory.
+/// Adds the event at the end.
 fn append(history: &mut History, event: Event) -> Result<(), OutOfMemory>
     ensures ok { OnOk result (history.new ≡ history.old ++ event ∷ []) }
-    ensures few { OnOk result (length history.new < 2 ^ 32) }
     ensures err { OnErr result (history.new ≡ history.old) }
 {
-    if history.events().len() >= u32::MAX as usize {
-        return Err(OutOfMemory);
-    }
     history.push(event).map_err(|(refused, _)| refused)
 }
 
@@ -84,7 +81,7 @@ pub(crate) fn ask(
     Ok(rule)
 }
 
-/// Adds the event, which is allowed, to the history and to the tables.
+/// Adds the event, which is allowed, to the history and to the tables. A legal history is short, so no bound is tested.
 pub(crate) fn enter(
     alloc: Global,
     wiring: &Wiring,
@@ -103,6 +100,7 @@ pub(crate) fn enter(
     ensures tables { current.new ≡ true → Keeps wiring.now history.new ledger.new }
 {
     let _valid = wiring.parts();
+    valid_histories_are_short();
     let kept = event.copy(alloc)?;
     *current = false;
     ledger.push(wiring, event)?;

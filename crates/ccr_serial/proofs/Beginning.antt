@@ -17,8 +17,8 @@ use Rattle.ccr_model.specs.Posts.{held}
 use Rattle.ccr_model.specs.Live.{is_live_in, has_room_in}
 use Rattle.ccr_model.specs.Enough.{can_fire, has_enough}
 use Rattle.ccr_model.proofs.Booleans.{and_false}
-use Rattle.ccr_serial.specs.Potential.{takes_some}
-use Rattle.ccr_serial.proofs.Valid.{TakesSome-valid}
+use Rattle.ccr_bounds.specs.Potential.{takes_some}
+use Rattle.ccr_bounds.proofs.Valid.{TakesSome-valid}
 
 -- a slot that takes something finds nothing
 slots_empty : (slots : List Slot) → list_any (λ (slot : Slot). nat_le 1 slot.least && nat_le 1 slot.most) slots ≡ true → list_all (λ (slot : Slot). is_choosable slot []) slots ≡ false

@@ -2,17 +2,11 @@
 use Rattle.std.proofs.Common.{◌≡◌, ℕ, zero, suc, ◌<◌, ◌≤◌, List, [], ◌∷◌, ◌++◌, length, Option, Some, None, refl, sym, arith, ap, ◌∙◌, subst, append_assoc, append-nil}
 use Rattle.std.specs.Prelude.{IfSome}
 use Rattle.ccr_wiring.specs.declared.parts.Parts.{Parts}
-use Rattle.ccr_wiring.specs.Valid.{IsValid}
 use Rattle.ccr_model.specs.declared.history.Event.{Event}
 use Rattle.ccr_model.specs.Legal.{IsLegal}
 use Rattle.ccr_model.specs.Order.{first, IsOrderedAfter, IsFinished}
-use Rattle.ccr_serial.specs.Potential.{TakesSome, potential}
-use Rattle.ccr_serial.proofs.Ending.{few_events}
-use Rattle.ccr_serial.proofs.Valid.{TakesSome-valid, most_events-valid}
+use Rattle.ccr_bounds.specs.Potential.{TakesSome, potential}
 use Rattle.ccr_serial.proofs.Runs.{IsLegal-first, potential-push}
-
-pub few_events-valid : (w : Parts) → IsValid w → (h : List Event) → IsLegal w h → length h ≤ 120000
-few_events-valid w valid h legal = omega (arith, few_events w (TakesSome-valid w valid) h legal, most_events-valid w valid)
 
 if_some : (P : Event → Type 0) (o : Option Event) → ((e : Event) → o ≡ Some e → P e) → IfSome o P
 if_some P None each = tt

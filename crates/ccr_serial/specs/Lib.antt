@@ -1,4 +1,3 @@
-pub mod Potential
 pub mod Engine
 pub mod Steps
 pub mod Touched

@@ -6,17 +6,7 @@ ghost use Rattle.ccr_wiring.specs.Valid.{IsValid};
 ghost use Rattle.ccr_model.specs.declared.history.Event.{Event};
 ghost use Rattle.ccr_model.specs.Legal.{IsLegal, IsQuiet, is_complete};
 ghost use Rattle.ccr_model.specs.Order.{first, IsFinished};
-ghost use Rattle.ccr_serial.specs.Potential.{TakesSome, most_events, potential};
-
-/// A legal history has at most six events for each message that may be posted.
-pub fn histories_are_short()
-    ensures { (wiring : Parts) → TakesSome wiring → (history : List Event) → IsLegal wiring history → length history ≤ most_events wiring }
-{}
-
-/// A legal history of a valid wiring has at most 120,000 events.
-pub fn valid_histories_are_short()
-    ensures { (wiring : Parts) → IsValid wiring → (history : List Event) → IsLegal wiring history → length history ≤ 120000 }
-{}
+ghost use Rattle.ccr_bounds.specs.Potential.{TakesSome, potential};
 
 /// After each event that one thread puts first fewer events are to come.
 pub fn the_end_comes_nearer()

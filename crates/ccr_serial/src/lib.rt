@@ -15,6 +15,7 @@ mod serial;
 mod standing;
 mod touched;
 
+pub use ccr_bounds::{histories_are_short, valid_histories_are_short};
 pub use cursor_laws::{
     domains_stay_closed, done_posters_stay_done, posts_go_on, queues_stay_empty, spots_stay_still,
     the_search_goes_on, touched_spots_are_kept,
@@ -25,8 +26,8 @@ pub use desk_laws::{
     the_order_is_told, the_tables_tell, touched_spots_are_told,
 };
 pub use laws::{
-    finished_is_legal, histories_are_short, one_history_is_finished, quiet_is_complete,
-    the_end_comes_nearer, the_order_ends, valid_histories_are_short,
+    finished_is_legal, one_history_is_finished, quiet_is_complete, the_end_comes_nearer,
+    the_order_ends,
 };
 pub use ready_laws::{
     admissions_keep_numbers, admitted_tasks_are_ready, firings_keep_numbers,

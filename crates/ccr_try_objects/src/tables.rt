@@ -114,6 +114,9 @@ fn step(rows: &mut Rows<u32>, word: &str, numbers: &[u32], out: &mut List<u8>) {
         "enter" => {
             let _ = rows.enter(row, place);
         }
+        "alone" => {
+            let _ = rows.enter_alone(row, place);
+        }
         "len" => put_number(out, rows.len(row) as u64),
         "first" => put_item(out, rows.first(row).copied()),
         "at" => put_item(out, rows.at(row, place as usize).copied()),

@@ -1,7 +1,7 @@
 use Rattle.std.proofs.Common.{◌≡◌, subst, arith}
 use Rattle.ccr_wiring.specs.declared.parts.Parts.{Parts}
 use Rattle.ccr_serial.specs.Desk.{IsAhead, first_in}
-use Rattle.ccr_serial.proofs.Valid.{HasFewParts-valid}
+use Rattle.ccr_bounds.proofs.Valid.{HasFewParts-valid}
 use Rattle.ccr_serial.proofs.Along.{idle_by, first_by, ahead_by}
 use Rattle.ccr_serial.proofs.Runs.{IsSound-attempts}
 use Rattle.ccr_serial.proofs.standing.next_of.Goals as goal

@@ -1,5 +1,5 @@
 -- What valid wirings have.
-use Rattle.std.proofs.Common.{◌≡◌, ◌≤◌, true, [], ◌∷◌, length, refl, arith}
+use Rattle.std.proofs.Common.{◌≡◌, ◌≤◌, true, List, [], ◌∷◌, length, refl, arith}
 use Rattle.std.specs.Prelude.{nat_le}
 use Rattle.std.proofs.lemmas.Bool.Decides.{nat_tests}
 use Rattle.ccr_base.specs.declared.patterns.Pattern.{Pattern}
@@ -8,7 +8,10 @@ use Rattle.ccr_wiring.specs.declared.parts.Parts.{Parts}
 use Rattle.ccr_wiring.specs.Limits.{posts_in_all}
 use Rattle.ccr_wiring.specs.Valid.{IsValid, HasQueues, IsPatternFilled}
 use Rattle.ccr_wiring.proofs.Soundness.{sound}
-use Rattle.ccr_serial.specs.Potential.{takes_some, TakesSome, most_events}
+use Rattle.ccr_model.specs.declared.history.Event.{Event}
+use Rattle.ccr_model.specs.Legal.{IsLegal}
+use Rattle.ccr_bounds.specs.Potential.{takes_some, TakesSome, most_events}
+use Rattle.ccr_bounds.proofs.Ending.{few_events}
 
 pattern_takes_some : (p : Pattern) → IsPatternFilled p → takes_some p ≡ true
 pattern_takes_some (Slots []) filled = absurd (omega (arith, filled.0))
@@ -53,3 +56,6 @@ HasFewParts-valid w valid =
 pub most_events-valid : (w : Parts) → IsValid w → most_events w ≤ 120000
 unfolding most_events
 most_events-valid w valid = let few = HasFewParts-valid w valid in omega (arith, few.lines, few.budget)
+
+pub few_events-valid : (w : Parts) → IsValid w → (h : List Event) → IsLegal w h → length h ≤ 120000
+few_events-valid w valid h legal = omega (arith, few_events w (TakesSome-valid w valid) h legal, most_events-valid w valid)

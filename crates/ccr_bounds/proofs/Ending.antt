@@ -27,10 +27,10 @@ use Rattle.ccr_model.proofs.Options.{some_of, some_map, head_rest}
 use Rattle.ccr_model.proofs.TasksLeft.{of_without, out_left}
 use Rattle.ccr_model.proofs.Booleans.{both}
 use Rattle.ccr_model.proofs.FiredTasks.{fired_has, placement_fired}
-use Rattle.ccr_serial.specs.Potential.{TakesSome, most_events}
-use Rattle.ccr_serial.proofs.Counting.{Fits, Fits-came, Fits-gone, head_member}
-use Rattle.ccr_serial.proofs.Taking.{untaken_post, untaken_fire}
-use Rattle.ccr_serial.proofs.Lines.{few_posts}
+use Rattle.ccr_bounds.specs.Potential.{TakesSome, most_events}
+use Rattle.ccr_bounds.proofs.Counting.{Fits, Fits-came, Fits-gone, head_member}
+use Rattle.ccr_bounds.proofs.Taking.{untaken_post, untaken_fire}
+use Rattle.ccr_bounds.proofs.Lines.{few_posts}
 
 -- what is known of the numbers of events of each kind
 pub record AreFew (h : List Event) : Type 0 where
