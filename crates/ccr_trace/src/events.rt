@@ -10,7 +10,7 @@ ghost use Rattle.ccr_trace.specs.HistoryText.{behind, cut_words, dropped_words, 
 
 use crate::names::cause_name;
 use crate::plain::{
-    put_drop_line, put_end_line, put_plain_fire, put_plain_post, put_start, put_task_line,
+    fire_line, put_drop_line, put_end_line, put_plain_post, put_start, put_task_line,
 };
 use crate::words::{put_message, put_spot, put_task, put_value, put_word};
 use ccr_base::{CauseNo, List, Msg, MsgId, Name, OutOfMemory, Spot, TaskId, Value};
@@ -102,12 +102,12 @@ fn put_fire(
 {
     if let Spot::Branch(branch) = spot
         && cuts.is_empty()
-        && let Some((message, others)) = messages.as_slice().split_first()
-        && others.is_empty()
     {
         let name = name_at(branches, branch);
-        if name.len() <= MAX_NAME_BYTES {
-            return put_plain_fire(out, task, name, *message);
+        if name.len() <= MAX_NAME_BYTES
+            && let Some(line) = fire_line(task, name, messages.as_slice())
+        {
+            return put_bytes(out, line.as_slice());
         }
     }
     put_full_fire(out, branches, task, spot, messages, cuts)

@@ -1,14 +1,22 @@
 //! The plain lines of events: each is built from its end, and added at once.
 
-ghost use Rattle.std.specs.Prelude.{◌≡◌, ◌≤◌, ◌<◌, ◌+◌, ◌^◌, ◌++◌, ◌∷◌, [], OnOk, length, codes, decimal};
+ghost use Rattle.std.specs.Prelude.{◌≡◌, ◌≤◌, ◌<◌, ◌+◌, ◌^◌, ◌++◌, ◌∷◌, [], OnOk, IfSome, IsTrue, length, map, codes, decimal};
+ghost use Rattle.std.specs.List.{All};
 ghost use Rattle.ccr_text.specs.Spelling.{line_text};
 ghost use Rattle.ccr_text.specs.Room.{Fits};
 ghost use Rattle.ccr_trace.specs.Words.{task_word, message_word};
 ghost use Rattle.ccr_trace.specs.Said.{IsTask, IsMessage};
+ghost use Rattle.ccr_trace.specs.HistoryText.{behind};
 
 use crate::prepending::{prepend_message, prepend_task};
 use ccr_base::{List, MsgId, OutOfMemory, TaskId};
 use ccr_text::{LineBuffer, put_bytes};
+
+/// How many bytes may stand behind a message, which has at most 34.
+const BEHIND_A_MESSAGE: usize = 62;
+
+/// How many bytes may stand behind a firing's task and branch, which have at most 44 with the word `fire`.
+const BEHIND_A_BRANCH: usize = 52;
 
 /// A buffer that has the end of a line.
 #[inline(always)]
@@ -50,23 +58,39 @@ pub(crate) fn put_plain_post(
     put_bytes(out, line.as_slice())
 }
 
-/// A firing of the branch of this name with one message.
-pub(crate) fn put_plain_fire(
-    out: &mut List<u8>,
-    task: TaskId,
-    branch: &[u8],
-    message: MsgId,
-) -> Result<(), OutOfMemory>
+/// Puts the messages in front, from the last, as long as each fits: whether all do.
+#[inline(always)]
+fn prepend_messages(line: &mut LineBuffer, messages: &[MsgId]) -> bool
+    ensures text { IsTrue result → line.new ≡ behind (map message_word messages.now) ++ line.old }
+    ensures numbers { IsTrue result → All IsMessage messages.now }
+{
+    let mut left = messages.len();
+    while left > 0 {
+        if line.as_slice().len() > BEHIND_A_MESSAGE {
+            return false;
+        }
+        left -= 1;
+        prepend_message(line, messages[left]);
+    }
+    true
+}
+
+/// A firing of the branch of this name, without cuts; none where its messages don't fit.
+#[inline(always)]
+pub(crate) fn fire_line(task: TaskId, branch: &[u8], messages: &[MsgId]) -> Option<LineBuffer>
     requires { length branch.now ≤ 16 }
-    ensures text { OnOk result (out.new ≡ out.old ++ line_text (codes "fire" ∷ task_word task ∷ branch.now ∷ message_word message ∷ [])) }
-    ensures numbers { IsTask task × IsMessage message }
+    ensures text { IfSome result (λ line. line ≡ line_text (codes "fire" ∷ task_word task ∷ branch.now ∷ map message_word messages.now)) }
+    ensures numbers { IfSome result (λ _. IsTask task × All IsMessage messages.now) }
 {
     let mut line = line_end();
-    prepend_message(&mut line, message);
+    let all = prepend_messages(&mut line, messages);
+    if !all || line.as_slice().len() > BEHIND_A_BRANCH {
+        return None;
+    }
     prepend_word(&mut line, branch);
     prepend_task(&mut line, task);
     line.prepend_bytes(b"fire");
-    put_bytes(out, line.as_slice())
+    Some(line)
 }
 
 /// A word and a task.

@@ -1,4 +1,3 @@
-use Rattle.std.proofs.Common.{◌≡◌, ◌++◌}
 use Rattle.std.proofs.lemmas.Result.{IfOk-equal}
 use Rattle.ccr_trace.proofs.Lines.{fire_line}
 use Rattle.ccr_trace.proofs.events.put_full_fire.Goals as goal
