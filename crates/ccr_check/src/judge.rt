@@ -25,7 +25,7 @@ pub struct Judge<'w> {
     history: History,
     /// The tables of the history, where they are current.
     ledger: Ledger,
-    /// Whether they are: want of memory may leave them behind.
+    /// Whether they are: an event for which there was no memory may leave them behind.
     current: bool,
     /// Whether a task was shed.
     shed: bool,
@@ -125,7 +125,7 @@ impl<'w> Judge<'w> {
         is_still(self.wiring, &mut ledger)
     }
 
-    /// The same of the judge's own tables. A question may change what they keep, so the next event finds them made anew.
+    /// The same of the judge's own tables, which stay as they are.
     pub(crate) fn is_quiet(&mut self) -> Result<bool, OutOfMemory>
         ensures { IfOk result (MeansQuiet self.old.wiring self.old.history) }
     {
@@ -137,7 +137,7 @@ impl<'w> Judge<'w> {
             &mut self.ledger,
             self.current,
         )?;
-        self.current = false;
+        self.current = true;
         is_still(self.wiring, &mut self.ledger)
     }
 }

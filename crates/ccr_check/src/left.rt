@@ -1,6 +1,6 @@
 //! What is left to do, by the tables.
 
-ghost use Rattle.std.specs.Prelude.{◌≡◌, IfOk, OnOk};
+ghost use Rattle.std.specs.Prelude.{◌≡◌, IfOk};
 ghost use Rattle.std.specs.List.{list_any};
 ghost use Rattle.ccr_wiring.specs.Wirings.{spots};
 ghost use Rattle.ccr_check.specs.LeftInTables.{can_admit_in, can_fire_in, has_admission_in, has_line_left_in, has_queued_in, has_ready, is_ready_at, is_still_in};
@@ -26,7 +26,7 @@ fn has_line_left(wiring: &Wiring, ledger: &Ledger) -> bool
 /// Whether the spot can fire. The tables stay as they are.
 fn can_fire(wiring: &Wiring, ledger: &mut Ledger, spot: Spot) -> Result<bool, OutOfMemory>
     ensures can { IfOk result (λ can. can ≡ can_fire_in wiring.now ledger.old spot) }
-    ensures kept { OnOk result (ledger.new ≡ ledger.old) }
+    ensures kept { ledger.new ≡ ledger.old }
 {
     if ledger.lives(wiring, spot) && ledger.room(wiring, spot) {
         ledger.can_choose(wiring, spot)
@@ -38,7 +38,7 @@ fn can_fire(wiring: &Wiring, ledger: &mut Ledger, spot: Spot) -> Result<bool, Ou
 /// Whether some spot can fire. The tables stay as they are.
 fn has_firing(wiring: &Wiring, ledger: &mut Ledger) -> Result<bool, OutOfMemory>
     ensures has { IfOk result (λ has. has ≡ list_any (can_fire_in wiring.now ledger.old) (spots wiring.now)) }
-    ensures kept { OnOk result (ledger.new ≡ ledger.old) }
+    ensures kept { ledger.new ≡ ledger.old }
 {
     for spot in wiring.spots() {
         if can_fire(wiring, ledger, *spot)? {
@@ -111,7 +111,8 @@ fn has_queued(wiring: &Wiring, ledger: &Ledger) -> bool
 /// Whether nothing is left to do.
 #[tactic(auto, unfolding(crate::specs::LeftInTables::is_still_in))]
 pub(crate) fn is_still(wiring: &Wiring, ledger: &mut Ledger) -> Result<bool, OutOfMemory>
-    ensures { IfOk result (λ still. still ≡ is_still_in wiring.now ledger.old) }
+    ensures still { IfOk result (λ still. still ≡ is_still_in wiring.now ledger.old) }
+    ensures kept { ledger.new ≡ ledger.old }
 {
     if has_firing(wiring, ledger)? {
         return Ok(false);

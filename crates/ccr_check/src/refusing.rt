@@ -1,6 +1,6 @@
 //! The first rule that refuses an event, by the tables.
 
-ghost use Rattle.std.specs.Prelude.{◌≡◌, IfOk, OnOk};
+ghost use Rattle.std.specs.Prelude.{◌≡◌, IfOk};
 ghost use Rattle.ccr_check.specs.Judging.{is_ending, is_idle, is_next_line, is_next_post, is_unused, refusal_in, refusal_of_post_in, sheds};
 
 use crate::alike::{are_same_tasks, ends_so, is_post, is_same_drop};
@@ -115,7 +115,7 @@ fn refusal_of_fire(
     cuts: &[TaskId],
 ) -> Result<Option<u8>, OutOfMemory>
     ensures rule { IfOk result (λ rule. rule ≡ refusal_in wiring.now ledger.old (Event.Fire task spot messages.now cuts.now)) }
-    ensures kept { OnOk result (ledger.new ≡ ledger.old) }
+    ensures kept { ledger.new ≡ ledger.old }
 {
     if !is_unused(ledger, task) {
         return Ok(Some(4));
@@ -196,7 +196,7 @@ pub(crate) fn refusal(
     event: &Event,
 ) -> Result<Option<u8>, OutOfMemory>
     ensures rule { IfOk result (λ rule. rule ≡ refusal_in wiring.now ledger.old event.now) }
-    ensures kept { OnOk result (ledger.new ≡ ledger.old) }
+    ensures kept { ledger.new ≡ ledger.old }
 {
     Ok(match event {
         Event::Post(message) => refusal_of_post(wiring, ledger, message),

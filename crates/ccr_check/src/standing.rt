@@ -58,7 +58,7 @@ pub(crate) fn make_current(
     Ok(())
 }
 
-/// The first rule that refuses the event. Want of memory may leave the tables behind, which are then made anew at the next call.
+/// The first rule that refuses the event. The tables are made anew where they were left behind; a question leaves them as they are.
 pub(crate) fn ask(
     alloc: Global,
     wiring: &Wiring,
@@ -75,9 +75,8 @@ pub(crate) fn ask(
 {
     let _valid = wiring.parts();
     make_current(alloc, wiring, history, ledger, *current)?;
-    *current = false;
-    let rule = refusal(wiring, ledger, event)?;
     *current = true;
+    let rule = refusal(wiring, ledger, event)?;
     Ok(rule)
 }
 

@@ -11,4 +11,4 @@ returns c =
     let h = c.self.inside.history in
     let known = c.self.invariant in
     subst (λ (j : Judged). IfOk c.is_still.result (MeansQuiet j.wiring j.history)) c.self.view_is
-    (quiet_told w known.valid h known.legal c.make_current.new.ledger c.in_ok-make_current.ensures.tables c.is_still.result c.is_still.ensures (c.still_is_quiet.ensures.still w h known.valid) (c.still_is_quiet.ensures.left w h known.valid known.legal))
+    (quiet_told w known.valid h known.legal c.make_current.new.ledger c.in_ok-make_current.ensures.tables c.is_still.result c.is_still.ensures.still (c.still_is_quiet.ensures.still w h known.valid) (c.still_is_quiet.ensures.left w h known.valid known.legal))

@@ -13,4 +13,4 @@ returns c =
     let known = c.self.invariant in
     let keeps = subst (λ g. Keeps w g c.in_ok-ledger.ledger) c.events.ensures c.in_ok-ledger.ensures in
     subst (λ (j : Judged). IfOk c.is_still.result (MeansQuiet j.wiring j.history)) c.self.view_is
-    (quiet_told w known.valid h known.legal c.in_ok-ledger.ledger keeps c.is_still.result c.is_still.ensures (c.still_is_quiet.ensures.still w h known.valid) (c.still_is_quiet.ensures.left w h known.valid known.legal))
+    (quiet_told w known.valid h known.legal c.in_ok-ledger.ledger keeps c.is_still.result c.is_still.ensures.still (c.still_is_quiet.ensures.still w h known.valid) (c.still_is_quiet.ensures.left w h known.valid known.legal))
