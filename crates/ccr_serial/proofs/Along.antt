@@ -10,7 +10,6 @@ use Rattle.ccr_wiring.specs.Wirings.{spots}
 use Rattle.ccr_wiring.specs.Valid.{IsValid}
 use Rattle.ccr_model.specs.declared.history.Event.{Event}
 use Rattle.ccr_model.specs.Firings.{Firing, firings, fired}
-use Rattle.ccr_model.specs.Enough.{can_fire}
 use Rattle.ccr_model.specs.Legal.{IsAllowed, IsLegal}
 use Rattle.ccr_model.specs.Order.{next_attempt}
 use Rattle.ccr_model.proofs.LegalParts.{Parted-legal}
@@ -19,11 +18,13 @@ use Rattle.ccr_model.proofs.Stable.{firings-append}
 use Rattle.ccr_ledger.proofs.Keeping.{keeps-none, keeps-event}
 use Rattle.ccr_serial.specs.Desk.{Desk, Stands, TablesTell, Follows, IsAhead, IsIdle, after_attempt, empty_desk, first_in}
 use Rattle.ccr_serial.specs.Engine.{next_event}
+use Rattle.ccr_serial.specs.Cursor.{could_fire}
 use Rattle.ccr_serial.proofs.DeskSteps.{attempt_kept, stands-event}
 use Rattle.ccr_serial.proofs.Firsts.{first_told, idle_stands, stands_ahead}
 use Rattle.ccr_serial.proofs.Telling.{TablesTell-keeps}
 use Rattle.ccr_serial.proofs.Gaining.{passes-never}
 use Rattle.ccr_serial.proofs.Beginning.{nothing_fires}
+use Rattle.ccr_serial.proofs.Blocking.{AreBlocked-none}
 
 told_by : (w : Parts) → IsValid w → (c : ℕ) (h : List Event) (d : Desk) → IsLegal w h → Stands w c h d → TablesTell w h d.books
 told_by w valid c h d legal stands = TablesTell-keeps w valid h legal d.books stands.books
@@ -32,7 +33,7 @@ pub stands_next : (w : Parts) → IsValid w → (c : ℕ) (h : List Event) (e : 
 stands_next w valid c h e old new legal allowed stands follows = stands-event w c h e old new legal allowed (told_by w valid c h old legal stands) (keeps-event w valid h e old.books legal allowed stands.books) stands follows
 
 pub stands_none : (w : Parts) → IsValid w → (c : ℕ) → Stands w c [] (empty_desk w)
-stands_none w valid c = record { books = keeps-none w; attempt = refl; poster = done w.posters; touched = λ n out. passes-never (can_fire w []) (spots w) (nothing_fires w valid) n; lowest = λ n at. absurd (cc); domains = λ n out low. refl; lowest_domain = λ n at. absurd (cc); ready = λ n. refl; least = λ n at. absurd (cc); queues = λ n out low. refl; lowest_queue = λ n at. absurd (cc) }
+stands_none w valid c = record { books = keeps-none w; attempt = refl; poster = done w.posters; touched = λ n out free. passes-never (could_fire w []) (spots w) (nothing_fires w valid) n; lowest = λ n at. absurd (cc); blocked = AreBlocked-none w; domains = λ n out low. refl; lowest_domain = λ n at. absurd (cc); ready = λ n. refl; least = λ n at. absurd (cc); queues = λ n out low. refl; lowest_queue = λ n at. absurd (cc) }
   where
     done : {X : Type 0} (ps : List X) → true ≡ true
     done ps = refl

@@ -1,24 +1,24 @@
 -- The event that comes first, by the desk.
-use Rattle.std.proofs.Common.{◌≡◌, ◌∙◌, ℕ, zero, suc, ◌+◌, ◌≤◌, List, [], ◌∷◌, length, take, refl, ap, sym, arith, subst, true}
-use Rattle.std.specs.Prelude.{is_some, option_and_then}
+use Rattle.std.proofs.Common.{◌≡◌, ◌∙◌, ℕ, zero, suc, ◌+◌, ◌≤◌, List, [], ◌∷◌, length, take, refl, sym, arith, subst, true}
+use Rattle.std.specs.Prelude.{option_and_then}
 use Rattle.std.specs.List.{slice_get}
 use Rattle.ccr_wiring.specs.declared.parts.Parts.{Parts}
 use Rattle.ccr_wiring.specs.declared.parts.PosterPart.{PosterPart}
 use Rattle.ccr_wiring.specs.Wirings.{spots}
 use Rattle.ccr_model.specs.declared.history.Event.{Event}
 use Rattle.ccr_model.specs.Firings.{fired}
-use Rattle.ccr_model.specs.Enough.{can_fire}
 use Rattle.ccr_model.specs.Order.{first, fire_from, next_attempt, put_first}
-use Rattle.ccr_model.proofs.CanFire.{some_fire_at}
 use Rattle.ccr_ledger.specs.Books.{Books}
-use Rattle.ccr_serial.specs.Cursor.{admission, start_at, are_done}
+use Rattle.ccr_serial.specs.Cursor.{could_fire, admission, start_at, are_done}
 use Rattle.ccr_serial.specs.Ready.{AreReady, IsLeastFirst}
-use Rattle.ccr_serial.specs.Parts.{admission_in, start_at_in, first_fire_in, put_in, are_done_in, fires_in, IsStillIn}
+use Rattle.ccr_serial.specs.Parts.{admission_in, start_at_in, first_fire_in, put_in, are_done_in, could_fire_in}
+use Rattle.ccr_serial.specs.Candidates.{AreCandidates}
 use Rattle.ccr_serial.specs.Numbered.{IsNoneBut, passes_at}
 use Rattle.ccr_serial.specs.Desk.{Desk, Stands, TablesTell, IsIdle, IsAhead, first_in}
+use Rattle.ccr_serial.proofs.Choosing.{could_choose}
 use Rattle.ccr_serial.proofs.Gaining.{passes-same}
 use Rattle.ccr_serial.proofs.Asking.{none_but-same}
-use Rattle.ccr_serial.proofs.Told.{post_told, fire_told, first_fire_told, admission_told, first_admit_told, put_told, none_put_told, first_run_told, start_at_told, start_told}
+use Rattle.ccr_serial.proofs.Told.{post_told, first_fire_told, admission_told, first_admit_told, put_told, none_put_told, first_run_told, start_at_told, start_told}
 
 length-take : {X : Type 0} (n : ℕ) (xs : List X) → length (take n xs) ≤ length xs
 length-take zero [] = omega arith
@@ -34,14 +34,13 @@ module _ (w : Parts) (c : ℕ) (h : List Event) (d : Desk) (told : TablesTell w 
   done_so : (k : ℕ) → are_done_in d.books 0 (take k w.posters) ≡ are_done h 0 (take k w.posters)
   done_so k = done_told 0 (take k w.posters) (omega (arith, length-take k w.posters))
 
-  fires_so : d.attempt ≡ next_attempt c (fired h) → (n : ℕ) → passes_at (fires_in w (record { actor = c; attempt = d.attempt }) d.books) (spots w) n ≡ passes_at (can_fire w h) (spots w) n
-  fires_so same n = passes-same (fires_in w (record { actor = c; attempt = d.attempt }) d.books) (can_fire w h) (spots w) (λ s. rw same (ap is_some (fire_told w c h d.books told s) ∙ some_fire_at w c h s)) n
+  could_so : (k : ℕ) → passes_at (could_fire_in w d.books) (spots w) k ≡ passes_at (could_fire w h) (spots w) k
+  could_so k = passes-same (could_fire_in w d.books) (could_fire w h) (spots w) (λ s. rw (told.lives_so s, told.choice_so s) (could_choose w h s)) k
 
   pub idle_stands : Stands w c h d → IsIdle w c d
   idle_stands stands = record {
     posters = done_so d.poster ∙ stands.poster;
-    spots = λ n out. fires_so stands.attempt n ∙ stands.touched n out;
-    lowest = stands.lowest;
+    spots = record { still = λ k out free. could_so k ∙ stands.touched k out free; lowest = stands.lowest; by_queue = stands.blocked };
     domains = none_but-same (admission_in d.books) (admission w h) (length w.arbiters) d.domains (admission_told w c h d.books told) stands.domains;
     lowest_domain = stands.lowest_domain;
     queues = none_but-same (start_at_in c d.books) (start_at w c h) (length w.queues) d.queues (start_at_told w c h d.books told) stands.queues;
@@ -65,8 +64,9 @@ stands_ahead w c h old new told stands ahead =
       books = rw ahead.books stands.books;
       attempt = attempt;
       poster = sym (done_so w c h new told_now new.poster) ∙ ahead.idle.posters;
-      touched = λ n out. sym (fires_so w c h new told_now attempt n) ∙ ahead.idle.spots n out;
-      lowest = ahead.idle.lowest;
+      touched = λ k out free. sym (could_so w c h new told_now k) ∙ ahead.idle.spots.still k out free;
+      lowest = ahead.idle.spots.lowest;
+      blocked = ahead.idle.spots.by_queue;
       domains = none_but-same (admission w h) (admission_in new.books) (length w.arbiters) new.domains (λ domain low. sym (admission_told w c h new.books told_now domain low)) ahead.idle.domains;
       lowest_domain = ahead.idle.lowest_domain;
       queues = none_but-same (start_at w c h) (start_at_in c new.books) (length w.queues) new.queues (λ queue low. sym (start_at_told w c h new.books told_now queue low)) ahead.idle.queues;
@@ -76,19 +76,18 @@ stands_ahead w c h old new told stands ahead =
     }
 
 -- the desk once posters, spots and domains were asked
-pub ahead_so : (w : Parts) (c : ℕ) (inside old : Desk) → inside ≡ old → IsIdle w c old → (books : Books) (poster : ℕ) (touched domains : List ℕ) → books ≡ inside.books → are_done_in inside.books 0 (take poster w.posters) ≡ true → IsStillIn w (record { actor = c; attempt = inside.attempt }) inside.books touched → IsLeastFirst touched
-    → IsNoneBut (admission_in books) (length w.arbiters) domains → IsLeastFirst domains → IsAhead w c old (record { books = books; attempt = inside.attempt; poster = poster; touched = touched; domains = domains; ready = inside.ready; queues = inside.queues })
-ahead_so w c inside old view idle books poster touched domains same done still lowest others least =
+pub ahead_so : (w : Parts) (c : ℕ) (inside old : Desk) → inside ≡ old → IsIdle w c old → (books : Books) (poster : ℕ) (touched : List ℕ) (blocked : List (List ℕ)) (domains : List ℕ) → books ≡ inside.books → are_done_in inside.books 0 (take poster w.posters) ≡ true → AreCandidates w inside.books touched blocked
+    → IsNoneBut (admission_in books) (length w.arbiters) domains → IsLeastFirst domains → IsAhead w c old (record { books = books; attempt = inside.attempt; poster = poster; touched = touched; blocked = blocked; domains = domains; ready = inside.ready; queues = inside.queues })
+ahead_so w c inside old view idle books poster touched blocked domains same done candidates others least =
     let seen : IsIdle w c inside = subst (IsIdle w c) (sym view) idle in
-    let next : Desk = record { books = books; attempt = inside.attempt; poster = poster; touched = touched; domains = domains; ready = inside.ready; queues = inside.queues } in
+    let next : Desk = record { books = books; attempt = inside.attempt; poster = poster; touched = touched; blocked = blocked; domains = domains; ready = inside.ready; queues = inside.queues } in
     subst (λ (d : Desk). IsAhead w c d next) view (record {
       books = same;
       attempt = refl;
       ready = refl;
       idle = record {
         posters = subst (λ (b : Books). are_done_in b 0 (take poster w.posters) ≡ true) (sym same) done;
-        spots = subst (λ (b : Books). IsStillIn w (record { actor = c; attempt = inside.attempt }) b touched) (sym same) still;
-        lowest = lowest;
+        spots = subst (λ (b : Books). AreCandidates w b touched blocked) (sym same) candidates;
         domains = others;
         lowest_domain = least;
         queues = subst (λ (b : Books). IsNoneBut (start_at_in c b) (length w.queues) inside.queues) (sym same) seen.queues;

@@ -2,9 +2,10 @@ pub mod Complete
 pub mod Attempts
 pub mod Runs
 pub mod Finished
-pub mod Rooms
+pub mod Lives
 pub mod Takes
 pub mod Touching
+pub mod Choosing
 pub mod Gaining
 pub mod Stillness
 pub mod ClosedDomains
@@ -20,6 +21,8 @@ pub mod Telling
 pub mod Firsts
 pub mod Asking
 pub mod PartSteps
+pub mod Blocking
+pub mod Searching
 pub mod Along
 pub mod Reading
 pub mod FirstPlaces

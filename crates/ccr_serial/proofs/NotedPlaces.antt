@@ -15,7 +15,7 @@ use Rattle.ccr_model.proofs.ListParts.{take_more}
 use Rattle.ccr_model.proofs.Options.{none-above, some-below}
 use Rattle.ccr_serial.specs.Ready.{has_number}
 use Rattle.ccr_serial.specs.Numbered.{ArePlaces}
-use Rattle.ccr_serial.specs.Places.{takes_from, is_held_by, list_at, IsNoted, AreListed, branch_places, AreKeyed}
+use Rattle.ccr_serial.specs.Places.{takes_from, list_at, IsNoted, AreListed, branch_places, AreKeyed}
 use Rattle.ccr_serial.proofs.Gaining.{has-more, read}
 use Rattle.ccr_serial.proofs.FirstPlaces.{never_at, passes-more}
 
@@ -110,13 +110,12 @@ places_next ss i x at =
     rw (take_more ss i x at, places_append (take i ss) (x ∷ []) 0, count) refl
 
 -- all the lists, when one more spot is noted
-pub keyed_next : (w : Parts) (rs ss : List Spot) (i : ℕ) (d : Spot) (ports ports_now queues queues_now : List (Vec ℕ Global)) (branches branches_now : List ℕ) → rs ≡ ss → i < length rs → AreKeyed w (take i ss) ports queues branches → IsNoted (λ port. takes_from w port (get_or rs i d)) i ports ports_now → IsNoted (λ queue. is_held_by w queue (get_or rs i d)) i queues queues_now → branches_now ≡ branches ++ branch_places i (get_or rs i d ∷ []) → AreKeyed w (take (i + 1) ss) ports_now queues_now branches_now
-keyed_next w rs ss i d ports ports_now queues queues_now branches branches_now same low keyed by_port by_queue by_branch =
+pub keyed_next : (w : Parts) (rs ss : List Spot) (i : ℕ) (d : Spot) (ports ports_now : List (Vec ℕ Global)) (branches branches_now : List ℕ) → rs ≡ ss → i < length rs → AreKeyed w (take i ss) ports branches → IsNoted (λ port. takes_from w port (get_or rs i d)) i ports ports_now → branches_now ≡ branches ++ branch_places i (get_or rs i d ∷ []) → AreKeyed w (take (i + 1) ss) ports_now branches_now
+keyed_next w rs ss i d ports ports_now branches branches_now same low keyed by_port by_branch =
     let at = read rs ss i d same low in
     let x = get_or rs i d in
     record {
       valid = keyed.valid;
       by_port = listed_next (takes_from w) (length w.ports) ss i x ports ports_now at keyed.by_port by_port;
-      by_queue = listed_next (is_held_by w) (length w.queues) ss i x queues queues_now at keyed.by_queue by_queue;
       by_branch = rw (places_next ss i x at, ← keyed.by_branch) by_branch;
     }

@@ -4,24 +4,22 @@ use Rattle.std.specs.Prelude.{nat_le, nat_lt, is_some, if◌then◌else◌}
 use Rattle.std.proofs.Math.ListN.{get_or}
 use Rattle.std.proofs.lemmas.Option.{slice_get_past}
 use Rattle.std.proofs.lemmas.Bool.Decides.{nat_tests}
-use Rattle.std.specs.Prelude.{option_and_then}
 use Rattle.std.specs.List.{slice_get, list_any}
 use Rattle.ccr_base.specs.declared.names.TaskId.{TaskId}
 use Rattle.ccr_base.specs.declared.names.Spot.{Spot}
 use Rattle.ccr_wiring.specs.declared.parts.Parts.{Parts}
-use Rattle.ccr_wiring.specs.Wirings.{spots}
 use Rattle.ccr_wiring.specs.declared.parts.PosterPart.{PosterPart}
 use Rattle.ccr_wiring.specs.declared.parts.ArbiterPart.{ArbiterPart}
 use Rattle.ccr_wiring.specs.declared.parts.QueuePart.{QueuePart}
 use Rattle.ccr_model.specs.declared.history.Event.{Event}
 use Rattle.ccr_model.specs.Order.{script_post}
 use Rattle.ccr_model.proofs.Booleans.{both, neither}
-use Rattle.ccr_model.proofs.Options.{none-above, no_head, none_map, some_then}
+use Rattle.ccr_model.proofs.Options.{none-above, none_map}
 use Rattle.ccr_ledger.specs.Books.{Books, number}
-use Rattle.ccr_serial.specs.Parts.{admission_in, are_done_in, fire_in, first_admit_in, first_fire_in, line_in, post_in, fires_in, IsStillIn, start_at_in, start_in}
+use Rattle.ccr_serial.specs.Parts.{admission_in, are_done_in, fire_in, first_admit_in, first_fire_in, line_in, post_in, fires_in, start_at_in, start_in}
 use Rattle.ccr_serial.specs.Ready.{IsLeast}
 use Rattle.ccr_serial.specs.Numbered.{IsNoneBut}
-use Rattle.ccr_serial.proofs.Gaining.{read, none_before}
+use Rattle.ccr_serial.proofs.Gaining.{read}
 use Rattle.ccr_serial.proofs.Asking.{first_of, asked_stops, asked_ends}
 
 -- a poster is done where it has no next line
@@ -87,7 +85,7 @@ pub post_ends : (b : Books) (xs : List PosterPart) (i : ℕ) → are_done_in b 0
 post_ends b xs i done all = sym (post_none b 0 i xs done all)
 
 -- the spot there is the first that can fire
-fire_at_place : (w : Parts) (t : TaskId) (b : Books) (k : ℕ) (xs : List Spot) (x : Spot) (e : Event) → list_any (fires_in w t b) (take k xs) ≡ false → slice_get xs k ≡ Some x → fire_in w t b x ≡ Some e → first_fire_in w t b xs ≡ Some e
+pub fire_at_place : (w : Parts) (t : TaskId) (b : Books) (k : ℕ) (xs : List Spot) (x : Spot) (e : Event) → list_any (fires_in w t b) (take k xs) ≡ false → slice_get xs k ≡ Some x → fire_in w t b x ≡ Some e → first_fire_in w t b xs ≡ Some e
 fire_at_place w t b k [] x e none at fires = absurd (cc)
 fire_at_place w t b zero (y ∷ xs) x e none at fires =
     let one : y ≡ x = cc in
@@ -96,23 +94,12 @@ fire_at_place w t b (suc k) (y ∷ xs) x e none at fires =
     let outs = neither (fires_in w t b y) (list_any (fires_in w t b) (take k xs)) none in
     rw (not_some (fire_in w t b y) outs.0) (fire_at_place w t b k xs x e outs.1 at fires)
 
-fire_none : (w : Parts) (t : TaskId) (b : Books) (k : ℕ) (xs : List Spot) → list_any (fires_in w t b) (take k xs) ≡ false → length xs ≤ k → first_fire_in w t b xs ≡ None
+pub fire_none : (w : Parts) (t : TaskId) (b : Books) (k : ℕ) (xs : List Spot) → list_any (fires_in w t b) (take k xs) ≡ false → length xs ≤ k → first_fire_in w t b xs ≡ None
 fire_none w t b k [] none all = refl
 fire_none w t b zero (y ∷ xs) none all = absurd (omega (arith, all))
 fire_none w t b (suc k) (y ∷ xs) none all =
     let outs = neither (fires_in w t b y) (list_any (fires_in w t b) (take k xs)) none in
     rw (not_some (fire_in w t b y) outs.0) (fire_none w t b k xs outs.1 (omega (arith, all)))
-
-pub fire_stops : (w : Parts) (t : TaskId) (b now : Books) (touched : List ℕ) (i : ℕ) (r : Option Event) (e : Event) → now ≡ b → IsStillIn w t now touched → IsLeast touched i → r ≡ option_and_then (fire_in w t now) (slice_get (spots w) i) → r ≡ Some e → Some e ≡ first_fire_in w t b (spots w)
-fire_stops w t b now touched i r e kept known least asked is =
-    let there = some_then (fire_in w t now) (slice_get (spots w) i) e (sym asked ∙ is) in
-    rw (← kept) (sym (fire_at_place w t now i (spots w) there.0 e (none_before (fires_in w t now) (spots w) i (λ place low. known place (least.low place low))) there.1 there.2))
-
--- nothing is touched
-pub fire_ends : (w : Parts) (t : TaskId) (b now : Books) (touched : List ℕ) → now ≡ b → IsStillIn w t now touched → slice_get touched 0 ≡ None → None ≡ first_fire_in w t b (spots w)
-fire_ends w t b now touched kept known none =
-    let empty = no_head touched none in
-    rw (← kept) (sym (fire_none w t now (length (spots w)) (spots w) (none_before (fires_in w t now) (spots w) (length (spots w)) (λ place low. known place (rw empty refl))) (omega arith)))
 
 -- the domains as numbers that are asked
 first_admission : (b : Books) (n : ℕ) (xs : List ArbiterPart) → first_of (admission_in b) n xs ≡ first_admit_in b n xs

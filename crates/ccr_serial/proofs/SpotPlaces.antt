@@ -15,15 +15,15 @@ use Rattle.ccr_base.specs.declared.patterns.Pattern.{Pattern}
 use Rattle.ccr_base.specs.declared.patterns.Pattern.TheVariants.{Slots, Gather}
 use Rattle.ccr_base.specs.Names.{same_spot}
 use Rattle.ccr_wiring.specs.declared.parts.Parts.{Parts}
-use Rattle.ccr_wiring.specs.Wirings.{Placement, placement, placements, policy_of, site_port, branch_of, awaited, actions_of, sites_from, spots, spots_from}
+use Rattle.ccr_wiring.specs.Wirings.{Placement, placement, placements, site_port, branch_of, awaited, actions_of, sites_from, spots, spots_from}
 use Rattle.ccr_wiring.specs.Repeats.{slot_ports}
 use Rattle.ccr_wiring.specs.Spots.{pattern_ports}
 use Rattle.ccr_wiring.specs.Valid.{IsValid}
 use Rattle.ccr_wiring.proofs.Soundness.{sound}
 use Rattle.ccr_model.proofs.Booleans.{and_false, eq-self}
-use Rattle.ccr_serial.specs.Touched.{names_any, is_throttle}
+use Rattle.ccr_serial.specs.Touched.{names_any}
 use Rattle.ccr_serial.specs.Numbered.{ArePlaces}
-use Rattle.ccr_serial.specs.Places.{first_place, takes_from, is_held_by, list_at, branch_places, AreKeyed}
+use Rattle.ccr_serial.specs.Places.{first_place, takes_from, list_at, branch_places, AreKeyed}
 use Rattle.ccr_serial.proofs.FirstPlaces.{IsOnce, first_never, first_behind, first_within, once_never, once_later, once_here, once_behind}
 use Rattle.ccr_serial.proofs.NotedPlaces.{listed_all, places_append}
 
@@ -59,14 +59,6 @@ no_port w valid n past (Site b k) = of_port (site_port w b k) refl
     of_port : (o : Option ℕ) → site_port w b k ≡ o → option_map_or (λ port. n == port) o false ≡ false
     of_port None at = refl
     of_port (Some port) at = other n port (omega (arith, past, (sound w valid).site_ports b k port at))
-
-no_queue : (w : Parts) → IsValid w → (n : ℕ) → length w.queues ≤ n → (s : Spot) → is_held_by w n s ≡ false
-no_queue w valid n past (Site b k) = refl
-no_queue w valid n past (Branch b) = of_placement (placement w b) refl
-  where
-    of_placement : (o : Option Placement) → placement w b ≡ o → option_map_or (λ (s : Placement). is_throttle (policy_of w s.branch.queue) && (n == s.branch.queue)) o false ≡ false
-    of_placement None at = refl
-    of_placement (Some s) at = rw (other n s.branch.queue (omega (arith, past, (sound w valid).queues b s at))) (and_false (is_throttle (policy_of w s.branch.queue)))
 
 -- among the sites of a branch none passes that passes at no site of it
 sites_never : (test : Spot → Bool) (b j : ℕ) (ports : List ℕ) → ((k : ℕ) → test (Site b k) ≡ false) → list_any test (sites_from b j ports) ≡ false
@@ -159,12 +151,9 @@ no_site w valid n k far = site_place w n k ∙ rw (of_placement (placement w n))
     of_placement None = refl
     of_placement (Some s) = slice_get_past (awaited (actions_of w s.branch.handler)) k (omega (arith, far, few_awaited (actions_of w s.branch.handler), (sound w valid).few_actions s.branch.handler))
 
--- what the lists say of a port and of a queue
-pub at_port : (w : Parts) (ports queues : List (Vec ℕ Global)) (branches : List ℕ) (port : ℕ) → AreKeyed w (spots w) ports queues branches → ArePlaces (takes_from w port) (spots w) (list_at ports port)
-at_port w ports queues branches port keyed = listed_all (takes_from w) (length w.ports) (spots w) ports port keyed.by_port (λ past. nowhere (takes_from w port) (spots w) (no_port w keyed.valid port past))
-
-pub on_queue : (w : Parts) (ports queues : List (Vec ℕ Global)) (branches : List ℕ) (queue : ℕ) → AreKeyed w (spots w) ports queues branches → ArePlaces (is_held_by w queue) (spots w) (list_at queues queue)
-on_queue w ports queues branches queue keyed = listed_all (is_held_by w) (length w.queues) (spots w) queues queue keyed.by_queue (λ past. nowhere (is_held_by w queue) (spots w) (no_queue w keyed.valid queue past))
+-- what the lists say of a port
+pub at_port : (w : Parts) (ports : List (Vec ℕ Global)) (branches : List ℕ) (port : ℕ) → AreKeyed w (spots w) ports branches → ArePlaces (takes_from w port) (spots w) (list_at ports port)
+at_port w ports branches port keyed = listed_all (takes_from w) (length w.ports) (spots w) ports port keyed.by_port (λ past. nowhere (takes_from w port) (spots w) (no_port w keyed.valid port past))
 
 -- a branch's place, by its number
 sites_placed : (b j p : ℕ) (ports : List ℕ) → branch_places p (sites_from b j ports) ≡ []

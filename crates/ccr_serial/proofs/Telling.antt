@@ -7,36 +7,28 @@ use Rattle.std.proofs.lemmas.Option.{slice_get-map}
 use Rattle.std.proofs.Common.{sym}
 use Rattle.ccr_base.specs.declared.names.TaskId.{TaskId}
 use Rattle.ccr_base.specs.declared.names.Spot.{Spot}
-use Rattle.ccr_base.specs.Names.{same_spot, has_task}
+use Rattle.ccr_base.specs.Names.{same_spot}
 use Rattle.ccr_wiring.specs.declared.parts.Parts.{Parts}
 use Rattle.ccr_wiring.specs.Wirings.{Placement, next_site}
 use Rattle.ccr_wiring.specs.Valid.{IsValid}
 use Rattle.ccr_model.specs.declared.history.Event.{Event}
 use Rattle.ccr_model.specs.Firings.{Firing, firing_named}
-use Rattle.ccr_model.specs.Tasks.{fired_by, is_in_arbiter, is_for_queue}
+use Rattle.ccr_model.specs.Tasks.{is_in_arbiter, is_for_queue}
 use Rattle.ccr_model.specs.Sites.{yields_at}
 use Rattle.ccr_model.specs.TaskData.{placement_of}
 use Rattle.ccr_model.specs.Legal.{IsLegal}
-use Rattle.ccr_model.proofs.Allowing.{OneName-legal}
 use Rattle.ccr_model.proofs.Booleans.{same_number, eq-self}
 use Rattle.ccr_model.proofs.FiredTasks.{placement_fired}
-use Rattle.ccr_model.proofs.FiringFacts.{fired_by_named, BranchFacts-where}
 use Rattle.ccr_model.proofs.Options.{some_of}
 use Rattle.ccr_ledger.specs.declared.cards.Card.{Card}
 use Rattle.ccr_ledger.specs.Books.{Books}
 use Rattle.ccr_ledger.specs.Kept.{Keeps, card_of}
 use Rattle.ccr_ledger.proofs.TaskCards.{CardFacts-fired}
 use Rattle.ccr_ledger.proofs.Telling.{lives_told, room_told, choice_told, cuts_told, may_admit_task_told, drops_told, play_told, made_told, budget_told}
-use Rattle.ccr_serial.specs.Parts.{comes_to, is_in_domain, is_for_queue_in, yields_in}
+use Rattle.ccr_serial.specs.Parts.{is_in_domain, is_for_queue_in, yields_in}
 use Rattle.ccr_serial.specs.Desk.{TablesTell}
 
 module _ (w : Parts) (valid : IsValid w) (h : List Event) (legal : IsLegal w h) (b : Books) (keeps : Keeps w h b) where
-  comes_told : (q : ℕ) (t : TaskId) → has_task (fired_by w (λ s. s.branch.queue == q) h) t ≡ true → comes_to b q t ≡ true
-  comes_told q t among =
-      let found = fired_by_named w (λ s. s.branch.queue == q) h t (OneName-legal w h legal) among in
-      let branch = BranchFacts-where w (λ s. s.branch.queue == q) found.0.spot found.2 in
-      rw (keeps.tasks.cards t, found.1, branch.is_branch, branch.is_place) branch.passes
-
   yields_told : (site : Spot) (t : TaskId) → yields_in b site t ≡ yields_at h site t
   yields_told site t = rw (keeps.tasks.cards t) (of_firing (firing_named h t) refl)
     where
@@ -74,7 +66,6 @@ module _ (w : Parts) (valid : IsValid w) (h : List Event) (legal : IsLegal w h) 
     made_so = made_told w valid h legal b keeps;
     budget_so = budget_told w valid h legal b keeps;
     queued_so = keeps.places.queued;
-    comes_so = comes_told;
     yields_so = yields_told;
     domain_so = domain_told;
     for_queue_so = for_queue_told;

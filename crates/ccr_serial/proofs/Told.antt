@@ -13,26 +13,25 @@ use Rattle.ccr_wiring.specs.declared.parts.Parts.{Parts}
 use Rattle.ccr_wiring.specs.declared.parts.PosterPart.{PosterPart}
 use Rattle.ccr_wiring.specs.declared.parts.ArbiterPart.{ArbiterPart}
 use Rattle.ccr_wiring.specs.declared.parts.QueuePart.{QueuePart}
-use Rattle.ccr_wiring.specs.Wirings.{Placement, placement, spots, policy_of, site_port}
+use Rattle.ccr_wiring.specs.Wirings.{spots, site_port}
 use Rattle.ccr_model.specs.declared.history.Event.{Event}
 use Rattle.ccr_model.specs.declared.history.Event.TheVariants.{Put}
 use Rattle.ccr_model.specs.Firings.{fired, yielded_by, last_by, put_by}
 use Rattle.ccr_model.specs.Sites.{yields_at}
 use Rattle.ccr_model.specs.TaskData.{play_of}
 use Rattle.ccr_model.specs.Posts.{posts_of_task}
-use Rattle.ccr_model.specs.Enough.{can_fire}
 use Rattle.ccr_model.specs.Legal.{IsAllowed, IsLegal}
 use Rattle.ccr_model.specs.Rules.{drop_at}
-use Rattle.ccr_model.specs.Tasks.{waiting, running, fired_by, is_in_arbiter, is_for_queue}
+use Rattle.ccr_model.specs.Tasks.{waiting, running, is_in_arbiter, is_for_queue}
 use Rattle.ccr_model.specs.Order.{post_from, next_attempt, fire_at, fire_from, admit_first, admit_from, put_first, run_task, run_with, start_from}
 use Rattle.ccr_model.proofs.Booleans.{neither, refuted, no_both, or_left}
 use Rattle.ccr_model.proofs.SameNames.{same_task-self}
 use Rattle.ccr_ledger.specs.Books.{Books}
 use Rattle.ccr_ledger.specs.Asked.{drops, made_in}
-use Rattle.ccr_serial.specs.Touched.{posts_to, freed_by, names_any, frees, is_throttle, touches_branch, touches, fires_for, touches_domain}
-use Rattle.ccr_serial.specs.Cursor.{IsStill, admission, start_at}
+use Rattle.ccr_serial.specs.Touched.{posts_to, touches, fires_for, touches_domain}
+use Rattle.ccr_serial.specs.Cursor.{IsStill, could_fire, admission, start_at}
 use Rattle.ccr_serial.specs.Ready.{AreReady, IsLeast}
-use Rattle.ccr_serial.specs.Parts.{post_in, fire_in, first_fire_in, admit_in, admission_in, first_admit_in, put_in, run_in, run_with_in, start_at_in, start_in, comes_to, yields_in, is_in_domain, is_for_queue_in, touches_branch_in, touches_in, touches_domain_in, touches_queue_in}
+use Rattle.ccr_serial.specs.Parts.{post_in, fire_in, first_fire_in, admit_in, admission_in, first_admit_in, put_in, run_in, run_with_in, start_at_in, start_in, yields_in, is_in_domain, is_for_queue_in, touches_in, touches_domain_in, touches_queue_in}
 use Rattle.ccr_serial.specs.Numbered.{Gains, IsNoneBut, passes_at}
 use Rattle.ccr_serial.specs.Desk.{TablesTell}
 use Rattle.ccr_serial.proofs.Touching.{still}
@@ -105,27 +104,14 @@ module _ (w : Parts) (c : ℕ) (h : List Event) (b : Books) (told : TablesTell w
   start_told n (q ∷ qs) low = rw (told.queued_so n (omega (arith, low)), start_told (n + 1) qs (omega (arith, low))) refl
 
   -- what does not touch by the tables doesn't by the model
-  untouched_branch : (e : Event) (s : Placement) → touches_branch_in w b e s ≡ false → touches_branch w h e s ≡ false
-  untouched_branch e s none =
-      let outs = neither (names_any (posts_to e) s.branch.pattern) (is_throttle (policy_of w s.branch.queue) && list_any (comes_to b s.branch.queue) (freed_by e)) none in
-      rw outs.0 (of_test (is_throttle (policy_of w s.branch.queue)) outs.1)
-    where
-      of_test : (t : Bool) → t && list_any (comes_to b s.branch.queue) (freed_by e) ≡ false → t && frees w h e s.branch.queue ≡ false
-      of_test false out = refl
-      of_test true out = none_narrower (has_task (fired_by w (λ r. r.branch.queue == s.branch.queue) h)) (comes_to b s.branch.queue) (freed_by e) (told.comes_so s.branch.queue) out
-
   pub untouched : (e : Event) (s : Spot) → touches_in w b e s ≡ false → touches w h e s ≡ false
-  untouched e (Branch n) none = of_placement (placement w n) none
-    where
-      of_placement : (o : Option Placement) → option_map_or (touches_branch_in w b e) o false ≡ false → option_map_or (touches_branch w h e) o false ≡ false
-      of_placement None out = refl
-      of_placement (Some s) out = untouched_branch e s out
+  untouched e (Branch n) none = none
   untouched e (Site n k) none =
       let outs = neither (option_map_or (posts_to e) (site_port w n k) false) (list_any (yields_in b (Site n k)) (yielded_by e)) none in
       rw outs.0 (none_narrower (yields_at h (Site n k)) (yields_in b (Site n k)) (yielded_by e) (λ t is. told.yields_so (Site n k) t ∙ is) outs.1)
 
-  pub touched_kept : (e : Event) (old new : List ℕ) → IsLegal w h → IsStill w h old → Gains (passes_at (touches_in w b e) (spots w)) old new → IsStill w (h ++ e ∷ []) new
-  touched_kept e old new legal known gains = still-gains (can_fire w h) (can_fire w (h ++ e ∷ [])) (touches_in w b e) (spots w) old new (λ s none was. still w h e s legal (untouched e s none) was) known gains
+  pub touched_kept : (e : Event) (old new : List ℕ) (blocked : List (List ℕ)) → IsLegal w h → IsStill w h old blocked → Gains (passes_at (touches_in w b e) (spots w)) old new → IsStill w (h ++ e ∷ []) new blocked
+  touched_kept e old new blocked legal known gains = λ place out unblocked. still-gains (could_fire w h) (could_fire w (h ++ e ∷ [])) (touches_in w b e) (spots w) old new (λ s none was. still w h e s legal (untouched e s none) was) place (λ free. known place free unblocked) gains out
 
   -- the domains and the queues that the event does not touch by the tables it doesn't by the model
   pub untouched_domain : (e : Event) (domain : ℕ) → touches_domain_in w b e domain ≡ false → touches_domain w h e domain ≡ false

@@ -1,4 +1,4 @@
--- A spot that can fire after an event that does not touch it could before.
+-- A spot that can fire, room aside, after an event that does not touch it could before.
 use Rattle.std.proofs.Common.{◌≡◌, ℕ, zero, suc, ◌<◌, Bool, true, false, not, ◌&&◌, List, [], ◌∷◌, ◌++◌, length, filter, drop, Option, Some, None, refl, ap, ◌∙◌, arith, append-nil, length-append}
 use Rattle.std.specs.Prelude.{nat_lt}
 use Rattle.std.specs.List.{list_any}
@@ -9,14 +9,14 @@ use Rattle.ccr_base.specs.declared.names.Spot.{Spot}
 use Rattle.ccr_base.specs.declared.names.Spot.TheVariants.{Branch, Site}
 use Rattle.ccr_base.specs.Names.{has_task, same_spot}
 use Rattle.ccr_wiring.specs.declared.parts.Parts.{Parts}
-use Rattle.ccr_wiring.specs.Wirings.{Placement, placement, policy_of, site_port}
+use Rattle.ccr_wiring.specs.Wirings.{Placement, placement, site_port}
 use Rattle.ccr_model.specs.declared.history.Event.{Event}
 use Rattle.ccr_model.specs.declared.history.Event.TheVariants.{Post, Fire, Admit, Put, Start, End}
 use Rattle.ccr_model.specs.Firings.{firings, firing_of, fired_at, yielded, yielded_by}
 use Rattle.ccr_model.specs.Sites.{yields_at, yielded_at, suspended}
 use Rattle.ccr_model.specs.Posts.{held}
-use Rattle.ccr_model.specs.Live.{is_none_of, is_live, is_live_in, has_room_in}
-use Rattle.ccr_model.specs.Enough.{has_enough, can_take, can_fire}
+use Rattle.ccr_model.specs.Live.{is_none_of, is_live, is_live_in}
+use Rattle.ccr_model.specs.Enough.{has_enough, can_take}
 use Rattle.ccr_model.specs.Legal.{IsLegal}
 use Rattle.ccr_model.proofs.Stable.{firing_named-append}
 use Rattle.ccr_model.proofs.Pushes.{yielded-push, firings-push}
@@ -26,20 +26,19 @@ use Rattle.ccr_model.proofs.Booleans.{both, neither, refuted, no_both}
 use Rattle.ccr_model.proofs.TaskLists.{filter_append}
 use Rattle.ccr_model.proofs.TaskPlaces.{ArePlaced-legal}
 use Rattle.ccr_model.proofs.Ending.{AreEnded-legal}
-use Rattle.ccr_serial.specs.Touched.{posts_to, names_any, frees, is_throttle, touches_branch, touches}
-use Rattle.ccr_serial.proofs.Rooms.{live_before, room_before, fired_where-append}
+use Rattle.ccr_serial.specs.Touched.{posts_to, touches_branch, touches}
+use Rattle.ccr_serial.specs.Cursor.{could_fire}
+use Rattle.ccr_serial.proofs.Lives.{live_before, fired_where-append}
 use Rattle.ccr_serial.proofs.Takes.{less_before, enough_before, some_before}
 
 -- a branch
-placement_before : (w : Parts) (h : List Event) (e : Event) (n : ℕ) (o : Option Placement) → option_map_or (touches_branch w h e) o false ≡ false
-    → option_map_or (λ (s : Placement). is_live_in w (h ++ e ∷ []) n s.arbiter s.branch.group) o false && option_map_or (λ (s : Placement). has_room_in w (h ++ e ∷ []) s.branch.queue (policy_of w s.branch.queue)) o true && option_map_or (λ (s : Placement). has_enough (held (h ++ e ∷ [])) s.branch.pattern) o false ≡ true
-    → option_map_or (λ (s : Placement). is_live_in w h n s.arbiter s.branch.group) o false && option_map_or (λ (s : Placement). has_room_in w h s.branch.queue (policy_of w s.branch.queue)) o true && option_map_or (λ (s : Placement). has_enough (held h) s.branch.pattern) o false ≡ true
+placement_before : (w : Parts) (h : List Event) (e : Event) (n : ℕ) (o : Option Placement) → option_map_or (touches_branch e) o false ≡ false
+    → option_map_or (λ (s : Placement). is_live_in w (h ++ e ∷ []) n s.arbiter s.branch.group) o false && option_map_or (λ (s : Placement). has_enough (held (h ++ e ∷ [])) s.branch.pattern) o false ≡ true
+    → option_map_or (λ (s : Placement). is_live_in w h n s.arbiter s.branch.group) o false && option_map_or (λ (s : Placement). has_enough (held h) s.branch.pattern) o false ≡ true
 placement_before w h e n None none is = absurd (cc)
 placement_before w h e n (Some s) none is =
-    let outs = neither (names_any (posts_to e) s.branch.pattern) (is_throttle (policy_of w s.branch.queue) && frees w h e s.branch.queue) none in
-    let first = both (is_live_in w (h ++ e ∷ []) n s.arbiter s.branch.group && has_room_in w (h ++ e ∷ []) s.branch.queue (policy_of w s.branch.queue)) (has_enough (held (h ++ e ∷ [])) s.branch.pattern) is in
-    let second = both (is_live_in w (h ++ e ∷ []) n s.arbiter s.branch.group) (has_room_in w (h ++ e ∷ []) s.branch.queue (policy_of w s.branch.queue)) first.0 in
-    rw (live_before w h e n s.arbiter s.branch.group second.0, room_before w h e s.branch.queue (policy_of w s.branch.queue) outs.1 second.1) (enough_before (held (h ++ e ∷ [])) (held h) (posts_to e) s.branch.pattern (less_before h e) outs.0 first.1)
+    let parts = both (is_live_in w (h ++ e ∷ []) n s.arbiter s.branch.group) (has_enough (held (h ++ e ∷ [])) s.branch.pattern) is in
+    rw (live_before w h e n s.arbiter s.branch.group parts.0) (enough_before (held (h ++ e ∷ [])) (held h) (posts_to e) s.branch.pattern (less_before h e) none parts.1)
 
 -- a site
 some_left : (n : ℕ) (ts : List TaskId) → not (is_none_of (drop n ts)) ≡ true → n < length ts
@@ -100,13 +99,12 @@ port_before h e None none is = absurd (cc)
 port_before h e (Some p) none is = some_before (held (h ++ e ∷ []) p) (held h p) (less_before h e p none) is
 
 -- the law of the cursor
-pub could_fire : (w : Parts) (h : List Event) (e : Event) (s : Spot) → IsLegal w h → touches w h e s ≡ false → can_fire w (h ++ e ∷ []) s ≡ true → can_fire w h s ≡ true
-could_fire w h e (Branch n) legal none is = placement_before w h e n (placement w n) none is
-could_fire w h e (Site n k) legal none is =
+pub could_before : (w : Parts) (h : List Event) (e : Event) (s : Spot) → IsLegal w h → touches w h e s ≡ false → could_fire w (h ++ e ∷ []) s ≡ true → could_fire w h s ≡ true
+could_before w h e (Branch n) legal none is = placement_before w h e n (placement w n) none is
+could_before w h e (Site n k) legal none is =
     let outs = neither (option_map_or (posts_to e) (site_port w n k) false) (list_any (yields_at h (Site n k)) (yielded_by e)) none in
-    let first = both (is_live w (h ++ e ∷ []) (Site n k) && true) (can_take w (h ++ e ∷ []) (Site n k)) is in
-    let second = both (is_live w (h ++ e ∷ []) (Site n k)) true first.0 in
-    rw (site_live_before w h e (Site n k) legal outs.1 second.0) (port_before h e (site_port w n k) outs.0 first.1)
+    let parts = both (is_live w (h ++ e ∷ []) (Site n k)) (can_take w (h ++ e ∷ []) (Site n k)) is in
+    rw (site_live_before w h e (Site n k) legal outs.1 parts.0) (port_before h e (site_port w n k) outs.0 parts.1)
 
-pub still : (w : Parts) (h : List Event) (e : Event) (s : Spot) → IsLegal w h → touches w h e s ≡ false → can_fire w h s ≡ false → can_fire w (h ++ e ∷ []) s ≡ false
-still w h e s legal none was = refuted (can_fire w (h ++ e ∷ []) s) (λ is. no_both (could_fire w h e s legal none is) was)
+pub still : (w : Parts) (h : List Event) (e : Event) (s : Spot) → IsLegal w h → touches w h e s ≡ false → could_fire w h s ≡ false → could_fire w (h ++ e ∷ []) s ≡ false
+still w h e s legal none was = refuted (could_fire w (h ++ e ∷ []) s) (λ is. no_both (could_before w h e s legal none is) was)

@@ -1,21 +1,28 @@
 -- Which spots, posters, domains and queues are to be asked.
 use Rattle.std.specs.Prelude.{◌≡◌, ℕ, ◌+◌, ◌&&◌, Bool, true, false, nat_le, List, [], ◌∷◌, length, Option, option_map}
+use Rattle.ccr_base.specs.declared.names.Spot.{Spot}
 use Rattle.ccr_wiring.specs.declared.parts.Parts.{Parts}
 use Rattle.ccr_wiring.specs.declared.parts.PosterPart.{PosterPart}
 use Rattle.ccr_wiring.specs.Wirings.{spots}
 use Rattle.std.specs.List.{slice_get}
 use Rattle.ccr_model.specs.declared.history.Event.{Event}
 use Rattle.ccr_model.specs.declared.history.Event.TheVariants.{Start}
-use Rattle.ccr_model.specs.Enough.{can_fire}
+use Rattle.ccr_model.specs.Enough.{can_take}
+use Rattle.ccr_model.specs.Live.{is_live}
 use Rattle.ccr_model.specs.Order.{admit_first}
 use Rattle.ccr_model.specs.Posts.{posts_of_poster}
 use Rattle.ccr_model.specs.Tasks.{waiting, queued}
 use Rattle.ccr_serial.specs.Ready.{has_number}
 use Rattle.ccr_serial.specs.Numbered.{passes_at}
+use Rattle.ccr_serial.specs.Blocked.{is_blocked}
 
--- no spot can fire but those of these numbers
-abbrev pub IsStill : Parts → List Event → List ℕ → Type 0
-IsStill wiring history touched = (number : ℕ) → has_number touched number ≡ false → passes_at (can_fire wiring history) (spots wiring) number ≡ false
+-- whether the spot can fire, room aside
+abbrev pub could_fire : Parts → List Event → Spot → Bool
+could_fire wiring history spot = is_live wiring history spot && can_take wiring history spot
+
+-- no spot can fire, room aside, but those at the touched places and those at the blocked ones
+abbrev pub IsStill : Parts → List Event → List ℕ → List (List ℕ) → Type 0
+IsStill wiring history touched blocked = (place : ℕ) → has_number touched place ≡ false → is_blocked blocked place ≡ false → passes_at (could_fire wiring history) (spots wiring) place ≡ false
 
 -- of the posters, of which the first has this number, none has a line left
 abbrev pub are_done : List Event → ℕ → List PosterPart → Bool

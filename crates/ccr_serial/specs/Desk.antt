@@ -13,12 +13,12 @@ use Rattle.ccr_model.specs.Firings.{fired}
 use Rattle.ccr_model.specs.Posts.{posts_of_poster, posts_of_task}
 use Rattle.ccr_model.specs.Sites.{yields_at}
 use Rattle.ccr_model.specs.TaskData.{play_of}
-use Rattle.ccr_model.specs.Tasks.{fired_by, waiting, queued, running, is_in_arbiter, is_for_queue}
+use Rattle.ccr_model.specs.Tasks.{waiting, queued, running, is_in_arbiter, is_for_queue}
 use Rattle.ccr_model.specs.Live.{is_live, has_room}
 use Rattle.ccr_model.specs.Choice.{engine_choice}
 use Rattle.ccr_model.specs.Rules.{cuts_at, may_admit, drop_at, has_budget, needs_no_admission}
 use Rattle.ccr_model.specs.Order.{next_attempt}
-use Rattle.ccr_rows.specs.Rows.{row}
+use Rattle.ccr_rows.specs.Rows.{row, empty_rows}
 use Rattle.ccr_ledger.specs.Books.{Books, number, card_at, runners}
 use Rattle.ccr_ledger.specs.Asked.{lives, room, choice_at, cuts, may_admit_task, drops, play_in, made_in, budget_lasts}
 use Rattle.ccr_ledger.specs.declared.cards.Card.{Card}
@@ -27,30 +27,34 @@ use Rattle.ccr_ledger.specs.Kept.{Keeps}
 use Rattle.ccr_serial.specs.Ready.{has_number, AreReady, IsLeastFirst}
 use Rattle.ccr_serial.specs.Numbered.{Gains, IsNoneBut, passes_at}
 use Rattle.ccr_serial.specs.Cursor.{IsStill, admission, start_at, are_done}
+use Rattle.ccr_serial.specs.Blocked.{AreBlocked}
+use Rattle.ccr_serial.specs.Candidates.{AreCandidates}
 use Rattle.ccr_serial.specs.Engine.{Engine, IsSound}
-use Rattle.ccr_serial.specs.Parts.{post_in, first_fire_in, first_admit_in, put_in, run_in, start_in, are_done_in, IsStillIn, admission_in, start_at_in, touches_in, touches_domain_in, touches_queue_in, comes_to, is_in_domain, is_for_queue_in, yields_in}
+use Rattle.ccr_serial.specs.Parts.{post_in, first_fire_in, first_admit_in, put_in, run_in, start_in, are_done_in, admission_in, start_at_in, touches_in, touches_domain_in, touches_queue_in, is_in_domain, is_for_queue_in, yields_in}
 
--- the tables; the closer's next attempt; no poster before this one has a line left; no spots can fire but those of the numbers touched; no domains can admit a task but these; the numbers of the tasks that may be put; no queues have a task but these
+-- the tables; the closer's next attempt; no poster before this one has a line left; no spots can fire, room aside, but the touched ones and those blocked at their queues; no domains can admit a task but these; the numbers of the tasks that may be put; no queues have a task but these
 pub record Desk : Type 0 where
   pub books : Books
   pub attempt : ℕ
   pub poster : ℕ
   pub touched : List ℕ
+  pub blocked : List (List ℕ)
   pub domains : List ℕ
   pub ready : List ℕ
   pub queues : List ℕ
 
 -- the desk of the empty history
 abbrev pub empty_desk : Parts → Desk
-empty_desk wiring = record { books = empty_books wiring; attempt = 0; poster = 0; touched = []; domains = []; ready = []; queues = [] }
+empty_desk wiring = record { books = empty_books wiring; attempt = 0; poster = 0; touched = []; blocked = empty_rows (length wiring.queues); domains = []; ready = []; queues = [] }
 
 -- each says what the model says
 pub record Stands (wiring : Parts) (closer : ℕ) (history : List Event) (desk : Desk) : Type 0 where
   pub books : Keeps wiring history desk.books
   pub attempt : desk.attempt ≡ next_attempt closer (fired history)
   pub poster : are_done history 0 (take desk.poster wiring.posters) ≡ true
-  pub touched : IsStill wiring history desk.touched
+  pub touched : IsStill wiring history desk.touched desk.blocked
   pub lowest : IsLeastFirst desk.touched
+  pub blocked : AreBlocked wiring desk.blocked
   pub domains : IsNoneBut (admission wiring history) (length wiring.arbiters) desk.domains
   pub lowest_domain : IsLeastFirst desk.domains
   pub ready : AreReady wiring history desk.ready
@@ -63,11 +67,10 @@ pub record IsRead (engine : Engine) (desk : Desk) (current : Bool) : Type 0 wher
   pub sound : IsSound engine
   pub stands : current ≡ true → Stands engine.wiring engine.closer engine.history desk
 
--- no poster before the desk's has a line left, no spot can fire but those that it holds as touched, no domain but its own can admit a task, and no queue but its own has one, by the tables
+-- no poster before the desk's has a line left, no spot can fire, room aside, but those that it holds as touched or blocked, no domain but its own can admit a task, and no queue but its own has one, by the tables
 pub record IsIdle (wiring : Parts) (closer : ℕ) (desk : Desk) : Type 0 where
   pub posters : are_done_in desk.books 0 (take desk.poster wiring.posters) ≡ true
-  pub spots : IsStillIn wiring (record { actor = closer; attempt = desk.attempt }) desk.books desk.touched
-  pub lowest : IsLeastFirst desk.touched
+  pub spots : AreCandidates wiring desk.books desk.touched desk.blocked
   pub domains : IsNoneBut (admission_in desk.books) (length wiring.arbiters) desk.domains
   pub lowest_domain : IsLeastFirst desk.domains
   pub queues : IsNoneBut (start_at_in closer desk.books) (length wiring.queues) desk.queues
@@ -106,7 +109,6 @@ pub record TablesTell (wiring : Parts) (history : List Event) (books : Books) : 
   pub made_so : (task : TaskId) → has_task (running history) task ≡ true → made_in books task ≡ posts_of_task history task
   pub budget_so : budget_lasts wiring books ≡ has_budget wiring history
   pub queued_so : (queue : ℕ) → queue < length wiring.queues → row books.queued queue ≡ queued wiring history queue
-  pub comes_so : (queue : ℕ) (task : TaskId) → has_task (fired_by wiring (λ s. s.branch.queue == queue) history) task ≡ true → comes_to books queue task ≡ true
   pub yields_so : (site : Spot) (task : TaskId) → yields_in books site task ≡ yields_at history site task
   pub domain_so : (domain : ℕ) (task : TaskId) → is_in_arbiter wiring history domain task ≡ true → is_in_domain books domain task ≡ true
   pub for_queue_so : (queue : ℕ) (task : TaskId) → is_for_queue wiring history queue task ≡ true → is_for_queue_in books queue task ≡ true
@@ -133,6 +135,7 @@ pub record Follows (wiring : Parts) (closer : ℕ) (event : Event) (old new : De
   pub attempt : new.attempt ≡ after_attempt closer event old.attempt
   pub poster : new.poster ≡ old.poster
   pub touched : Gains (passes_at (touches_in wiring old.books event) (spots_of wiring)) old.touched new.touched
+  pub blocked : new.blocked ≡ old.blocked
   pub domains : Gains (touches_domain_in wiring old.books event) old.domains new.domains
   pub ready : (number : ℕ) → has_number new.ready number ≡ after_ready wiring old.books event old.ready number
   pub least : IsLeastFirst old.ready → IsLeastFirst new.ready

@@ -4,6 +4,8 @@ pub mod Touched
 pub mod Places
 pub mod Ready
 pub mod Numbered
+pub mod Blocked
 pub mod Cursor
 pub mod Parts
+pub mod Candidates
 pub mod Desk

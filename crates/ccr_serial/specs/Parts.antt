@@ -13,7 +13,7 @@ use Rattle.ccr_wiring.specs.declared.parts.Parts.{Parts}
 use Rattle.ccr_wiring.specs.declared.parts.PosterPart.{PosterPart}
 use Rattle.ccr_wiring.specs.declared.parts.ArbiterPart.{ArbiterPart}
 use Rattle.ccr_wiring.specs.declared.parts.QueuePart.{QueuePart}
-use Rattle.ccr_wiring.specs.Wirings.{Placement, placement, policy_of, site_port, is_branch, next_site, spots}
+use Rattle.ccr_wiring.specs.Wirings.{placement, site_port, next_site, spots}
 use Rattle.ccr_model.specs.declared.history.Event.{Event}
 use Rattle.ccr_model.specs.declared.history.Event.TheVariants.{Fire, Admit, Put, Start, End}
 use Rattle.ccr_model.specs.declared.history.EndHow.TheVariants as ends
@@ -24,9 +24,10 @@ use Rattle.ccr_rows.specs.Rows.{row}
 use Rattle.ccr_ledger.specs.declared.cards.Card.{Card}
 use Rattle.ccr_ledger.specs.Books.{Books, number, card_at}
 use Rattle.ccr_ledger.specs.Asked.{lives, room, choice_at, cuts, may_admit_task, drops, play_in, made_in, budget_lasts}
-use Rattle.ccr_serial.specs.Touched.{posts_to, freed_by, names_any, is_throttle, fires_for}
+use Rattle.ccr_serial.specs.Touched.{posts_to, touches_branch, fires_for}
 use Rattle.ccr_serial.specs.Ready.{has_number}
 use Rattle.ccr_serial.specs.Numbered.{passes_at}
+use Rattle.ccr_serial.specs.Blocked.{is_blocked}
 
 -- the next line of the poster of this number
 abbrev pub line_in : Books → ℕ → PosterPart → Option Event
@@ -37,12 +38,13 @@ abbrev pub post_in : Books → ℕ → List PosterPart → Option Event
 post_in books actor [] = None
 post_in books actor (poster ∷ posters) = option_or (line_in books actor poster) (post_in books (actor + 1) posters)
 
+-- the firing of the task at the spot, where it has a choice
+abbrev pub choose_in : Parts → TaskId → Books → Spot → Option Event
+choose_in wiring task books spot = option_map (λ messages. Fire task spot (names_of messages) (cuts wiring books spot)) (choice_at wiring books spot)
+
 -- the firing of the task at the spot, where it is live, has room and has a choice
 abbrev pub fire_in : Parts → TaskId → Books → Spot → Option Event
-fire_in wiring task books spot =
-    if lives wiring books spot && room wiring books spot
-    then option_map (λ messages. Fire task spot (names_of messages) (cuts wiring books spot)) (choice_at wiring books spot)
-    else None
+fire_in wiring task books spot = if lives wiring books spot && room wiring books spot then choose_in wiring task books spot else None
 
 -- at the first of the spots that can fire
 abbrev pub first_fire_in : Parts → TaskId → Books → List Spot → Option Event
@@ -85,26 +87,13 @@ abbrev pub start_in : ℕ → Books → ℕ → List QueuePart → Option Event
 start_in closer books queue [] = None
 start_in closer books queue (part ∷ parts) = option_or (option_map (λ task. Start task closer) (slice_get (row books.queued queue) 0)) (start_in closer books (queue + 1) parts)
 
--- whether a branch on the queue fired the task
-abbrev pub comes_to : Books → ℕ → TaskId → Bool
-comes_to books queue task = option_map_or (λ (card : Card). is_branch card.spot && (card.queue == queue)) (card_at books.tasks task) false
-
 -- whether a yield of the task suspends it at the site
 abbrev pub yields_in : Books → Spot → TaskId → Bool
 yields_in books site task = option_map_or (λ (card : Card). same_spot (next_site card.spot) site) (card_at books.tasks task) false
 
--- whether the spot is a branch on a throttle queue for which a branch fired the task
-abbrev pub frees_in : Parts → Books → TaskId → Spot → Bool
-frees_in wiring books task (Branch branch) = option_map_or (λ (s : Placement). is_throttle (policy_of wiring s.branch.queue) && comes_to books s.branch.queue task) (placement wiring branch) false
-frees_in wiring books task (Site branch site) = false
-
--- a branch: a post to a port that it names, or a place that becomes free in its throttle queue
-abbrev pub touches_branch_in : Parts → Books → Event → Placement → Bool
-touches_branch_in wiring books event s = names_any (posts_to event) s.branch.pattern || (is_throttle (policy_of wiring s.branch.queue) && list_any (comes_to books s.branch.queue) (freed_by event))
-
--- whether the event may let the spot fire
+-- whether the event may let the spot fire, room aside
 abbrev pub touches_in : Parts → Books → Event → Spot → Bool
-touches_in wiring books event (Branch branch) = option_map_or (touches_branch_in wiring books event) (placement wiring branch) false
+touches_in wiring books event (Branch branch) = option_map_or (touches_branch event) (placement wiring branch) false
 touches_in wiring books event (Site branch site) = option_map_or (posts_to event) (site_port wiring branch site) false || list_any (yields_in books (Site branch site)) (yielded_by event)
 
 -- whether the task is of the domain
@@ -132,6 +121,10 @@ are_done_in books actor (poster ∷ posters) = nat_le (length poster.posts) (num
 abbrev pub fires_in : Parts → TaskId → Books → Spot → Bool
 fires_in wiring task books spot = is_some (fire_in wiring task books spot)
 
--- no spot can fire but those of these numbers
-abbrev pub IsStillIn : Parts → TaskId → Books → List ℕ → Type 0
-IsStillIn wiring task books touched = (number : ℕ) → has_number touched number ≡ false → passes_at (fires_in wiring task books) (spots wiring) number ≡ false
+-- whether the spot can fire, room aside
+abbrev pub could_fire_in : Parts → Books → Spot → Bool
+could_fire_in wiring books spot = lives wiring books spot && is_some (choice_at wiring books spot)
+
+-- no spot can fire, room aside, but those at the touched places and those at the blocked ones
+abbrev pub IsStillIn : Parts → Books → List ℕ → List (List ℕ) → Type 0
+IsStillIn wiring books touched blocked = (place : ℕ) → has_number touched place ≡ false → is_blocked blocked place ≡ false → passes_at (could_fire_in wiring books) (spots wiring) place ≡ false

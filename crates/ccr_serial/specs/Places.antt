@@ -1,4 +1,4 @@
--- The places of the spots that take from a port, of the branches on a throttle queue, and of a branch.
+-- The places of the spots that take from a port, and of a branch.
 use Rattle.std.specs.Prelude.{◌≡◌, ℕ, zero, suc, ◌+◌, ◌<◌, ◌==◌, ◌&&◌, ◌||◌, Bool, false, List, [], ◌∷◌, length, Option, None, Some, option_map, if◌then◌else◌, Vec}
 use Rattle.std.specs.Global.{Global}
 use Rattle.std.specs.List.{slice_get}
@@ -6,9 +6,9 @@ use Rattle.std.specs.Option.{option_map_or}
 use Rattle.ccr_base.specs.declared.names.Spot.{Spot}
 use Rattle.ccr_base.specs.declared.names.Spot.TheVariants.{Branch, Site}
 use Rattle.ccr_wiring.specs.declared.parts.Parts.{Parts}
-use Rattle.ccr_wiring.specs.Wirings.{Placement, placement, policy_of, site_port}
+use Rattle.ccr_wiring.specs.Wirings.{Placement, placement, site_port}
 use Rattle.ccr_wiring.specs.Valid.{IsValid}
-use Rattle.ccr_serial.specs.Touched.{names_any, is_throttle}
+use Rattle.ccr_serial.specs.Touched.{names_any}
 use Rattle.ccr_serial.specs.Ready.{has_number}
 use Rattle.ccr_serial.specs.Numbered.{ArePlaces}
 
@@ -21,11 +21,6 @@ first_place test (item ∷ items) = if test item then Some zero else option_map 
 abbrev pub takes_from : Parts → ℕ → Spot → Bool
 takes_from wiring port (Branch branch) = option_map_or (λ (s : Placement). names_any (λ other. port == other) s.branch.pattern) (placement wiring branch) false
 takes_from wiring port (Site branch site) = option_map_or (λ other. port == other) (site_port wiring branch site) false
-
--- whether the spot is a branch on the queue and held back by it
-abbrev pub is_held_by : Parts → ℕ → Spot → Bool
-is_held_by wiring queue (Branch branch) = option_map_or (λ (s : Placement). is_throttle (policy_of wiring s.branch.queue) && (queue == s.branch.queue)) (placement wiring branch) false
-is_held_by wiring queue (Site branch site) = false
 
 -- the places in the list of this number, none where there is no such list
 abbrev pub list_at : List (Vec ℕ Global) → ℕ → List ℕ
@@ -47,9 +42,8 @@ branch_places place [] = []
 branch_places place (Branch branch ∷ seen) = place ∷ branch_places (place + 1) seen
 branch_places place (Site branch site ∷ seen) = branch_places (place + 1) seen
 
--- a valid wiring, with all the places of these spots by their ports and by their queues, and those of the branches among them
-pub record AreKeyed (wiring : Parts) (seen : List Spot) (ports queues : List (Vec ℕ Global)) (branches : List ℕ) : Type 0 where
+-- a valid wiring, with all the places of these spots by their ports, and those of the branches among them
+pub record AreKeyed (wiring : Parts) (seen : List Spot) (ports : List (Vec ℕ Global)) (branches : List ℕ) : Type 0 where
   pub valid : IsValid wiring
   pub by_port : AreListed (takes_from wiring) (length wiring.ports) seen ports
-  pub by_queue : AreListed (is_held_by wiring) (length wiring.queues) seen queues
   pub by_branch : branches ≡ branch_places 0 seen

@@ -1,32 +1,33 @@
 //! Laws of the spots, posters, domains and queues that are to be asked. Each is the contract of a function that does nothing.
 
-ghost use Rattle.std.specs.Prelude.{◌≡◌, ◌++◌, ◌∷◌, [], ℕ, List, None, false, true, take, drop, ◌+◌};
+ghost use Rattle.std.specs.Prelude.{◌≡◌, ◌++◌, ◌∷◌, [], ℕ, List, None, false, true, take, drop, ◌+◌, ◌<◌};
 ghost use Rattle.ccr_base.specs.declared.names.Spot.{Spot};
 ghost use Rattle.ccr_wiring.specs.declared.parts.Parts.{Parts};
 ghost use Rattle.ccr_wiring.specs.declared.parts.PosterPart.{PosterPart};
 ghost use Rattle.ccr_wiring.specs.Wirings.{spots};
 ghost use Rattle.ccr_model.specs.declared.history.Event.{Event};
-ghost use Rattle.ccr_model.specs.Enough.{can_fire};
+ghost use Rattle.ccr_model.specs.Live.{has_room};
 ghost use Rattle.ccr_model.specs.Legal.{IsAllowed, IsLegal};
 ghost use Rattle.ccr_model.specs.Order.{fire_from, post_from};
 ghost use Rattle.ccr_serial.specs.Touched.{touches, touches_domain, touches_queue};
-ghost use Rattle.ccr_serial.specs.Ready.{IsLeast};
+ghost use Rattle.ccr_serial.specs.Ready.{has_number};
 ghost use Rattle.ccr_serial.specs.Numbered.{Gains, passes_at};
-ghost use Rattle.ccr_serial.specs.Cursor.{IsStill, admission, are_done, start_at};
+ghost use Rattle.ccr_serial.specs.Blocked.{is_blocked};
+ghost use Rattle.ccr_serial.specs.Cursor.{IsStill, admission, are_done, could_fire, start_at};
 
-/// A spot that cannot fire cannot after an event that does not touch it.
+/// A spot that cannot fire, room aside, cannot after an event that does not touch it.
 pub fn spots_stay_still()
-    ensures { (wiring : Parts) (history : List Event) (event : Event) (spot : Spot) → IsLegal wiring history → IsAllowed wiring history event → touches wiring history event spot ≡ false → can_fire wiring history spot ≡ false → can_fire wiring (history ++ event ∷ []) spot ≡ false }
+    ensures { (wiring : Parts) (history : List Event) (event : Event) (spot : Spot) → IsLegal wiring history → IsAllowed wiring history event → touches wiring history event spot ≡ false → could_fire wiring history spot ≡ false → could_fire wiring (history ++ event ∷ []) spot ≡ false }
 {}
 
-/// Each event keeps it that no spots can fire but the touched ones, where those that it touches come in.
+/// Each event keeps it that no spots can fire, room aside, but the touched ones and the blocked ones, where those that it touches come in.
 pub fn touched_spots_are_kept()
-    ensures { (wiring : Parts) (history : List Event) (event : Event) (old new : List ℕ) → IsLegal wiring history → IsStill wiring history old → Gains (passes_at (touches wiring history event) (spots wiring)) old new → IsStill wiring (history ++ event ∷ []) new }
+    ensures { (wiring : Parts) (history : List Event) (event : Event) (old new : List ℕ) (blocked : List (List ℕ)) → IsLegal wiring history → IsStill wiring history old blocked → Gains (passes_at (touches wiring history event) (spots wiring)) old new → IsStill wiring (history ++ event ∷ []) new blocked }
 {}
 
-/// The first firing is at the least of the touched spots or behind it.
+/// The first firing is at no place before which no spot is touched and no blocked one has room.
 pub fn the_search_goes_on()
-    ensures { (wiring : Parts) (closer : ℕ) (history : List Event) (touched : List ℕ) (place : ℕ) → IsStill wiring history touched → IsLeast touched place → fire_from wiring closer history (spots wiring) ≡ fire_from wiring closer history (drop place (spots wiring)) }
+    ensures { (wiring : Parts) (closer : ℕ) (history : List Event) (touched : List ℕ) (blocked : List (List ℕ)) (place : ℕ) → IsStill wiring history touched blocked → ((other : ℕ) → other < place → has_number touched other ≡ false) → ((other : ℕ) → other < place → is_blocked blocked other ≡ true → passes_at (has_room wiring history) (spots wiring) other ≡ false) → fire_from wiring closer history (spots wiring) ≡ fire_from wiring closer history (drop place (spots wiring)) }
 {}
 
 /// A poster that has no line left never has one again.

@@ -5,11 +5,13 @@ ghost use Rattle.ccr_model.specs.Rules.{needs_no_admission};
 ghost use Rattle.ccr_serial.specs.Ready.{has_number, IsLeastFirst};
 ghost use Rattle.ccr_serial.specs.Desk.{Follows, IsAhead, IsIdle, after_attempt, after_ready, empty_desk, first_in};
 
+use crate::blocked::Blocked;
 use crate::domains::note_domains;
 use crate::numbers::Numbers;
-use crate::parts::{first_admit, first_fire, first_post, first_put, first_run, first_start};
+use crate::parts::{first_admit, first_post, first_put, first_run, first_start};
 use crate::places::Places;
 use crate::queues::note_queue;
+use crate::search::first_fire;
 use crate::touched::note_touched;
 use ccr_base::{ActorNo, OutOfMemory, Spot, TaskId};
 use ccr_ledger::Ledger;
@@ -27,8 +29,10 @@ pub(crate) struct Desk {
     attempt: u32,
     /// No poster before it has a line left.
     poster: usize,
-    /// The places of the spots that may fire: no other can.
+    /// The places of the spots that may fire: no other can, room aside, but the blocked ones.
     touched: Numbers,
+    /// The places of the branches that lacked room when they were asked, by their queues.
+    blocked: Blocked,
     /// The domains that may have a task to admit: no other has one.
     domains: Numbers,
     /// The numbers of the firings whose tasks may be put.
@@ -101,7 +105,7 @@ impl Model for Desk {
 
     ghost Value = { Seen };
 
-    ghost view = { λ d. record { books = d.ledger; attempt = d.attempt; poster = d.poster; touched = d.touched; domains = d.domains; ready = d.ready; queues = d.queues } };
+    ghost view = { λ d. record { books = d.ledger; attempt = d.attempt; poster = d.poster; touched = d.touched; blocked = d.blocked; domains = d.domains; ready = d.ready; queues = d.queues } };
 }
 
 impl Desk {
@@ -114,6 +118,7 @@ impl Desk {
             attempt: 0,
             poster: 0,
             touched: Numbers::new(alloc),
+            blocked: Blocked::new(alloc, wiring.parts().queues.as_slice().len())?,
             domains: Numbers::new(alloc),
             ready: Numbers::new(alloc),
             queues: Numbers::new(alloc),
@@ -141,7 +146,13 @@ impl Desk {
             actor: closer,
             attempt: self.attempt,
         };
-        if let Some(event) = first_fire(wiring, &mut self.ledger, task, &mut self.touched)? {
+        if let Some(event) = first_fire(
+            wiring,
+            &mut self.ledger,
+            task,
+            &mut self.touched,
+            &mut self.blocked,
+        )? {
             return Ok(Some(event));
         }
         if let Some(event) = first_admit(wiring, &self.ledger, &mut self.domains) {

@@ -51,7 +51,7 @@ pub fn starts_are_told()
 
 /// It is enough that the spots come in that an event touches by the tables.
 pub fn touched_spots_are_told()
-    ensures { (wiring : Parts) (history : List Event) (books : Books) (event : Event) (old new : List ℕ) → IsLegal wiring history → TablesTell wiring history books → IsStill wiring history old → Gains (passes_at (touches_in wiring books event) (spots wiring)) old new → IsStill wiring (history ++ event ∷ []) new }
+    ensures { (wiring : Parts) (history : List Event) (books : Books) (event : Event) (old new : List ℕ) (blocked : List (List ℕ)) → IsLegal wiring history → TablesTell wiring history books → IsStill wiring history old blocked → Gains (passes_at (touches_in wiring books event) (spots wiring)) old new → IsStill wiring (history ++ event ∷ []) new blocked }
 {}
 
 /// After each allowed event the desk still says what the model says.
@@ -74,7 +74,7 @@ pub fn the_desk_goes_ahead()
     ensures { (wiring : Parts) (closer : ℕ) (history : List Event) (old new : Desk) → TablesTell wiring history old.books → Stands wiring closer history old → IsAhead wiring closer old new → Stands wiring closer history new }
 {}
 
-/// Before the desk's poster and but for its touched spots nothing is left by the tables too.
+/// Before the desk's poster, and but for its touched spots and its blocked ones, nothing is left by the tables too.
 pub fn the_desk_is_idle_behind()
     ensures { (wiring : Parts) (closer : ℕ) (history : List Event) (desk : Desk) → TablesTell wiring history desk.books → Stands wiring closer history desk → IsIdle wiring closer desk }
 {}

@@ -1,6 +1,7 @@
 //! The engine on one thread.
 #![tactic(auto)]
 
+mod blocked;
 mod cursor_laws;
 mod desk;
 mod desk_laws;
@@ -11,6 +12,7 @@ mod parts;
 mod places;
 mod queues;
 mod ready_laws;
+mod search;
 mod serial;
 mod standing;
 mod touched;

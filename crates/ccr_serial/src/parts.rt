@@ -3,12 +3,11 @@
 ghost use Rattle.std.specs.Prelude.{◌≡◌, ◌<◌, ◌≤◌, ◌^◌, IfOk, OnOk, None, true, nat_lt, length, take, if◌then◌else◌};
 ghost use Rattle.std.specs.List.{slice_get};
 ghost use Rattle.std.specs.Option.{option_map, option_and_then};
-ghost use Rattle.ccr_wiring.specs.Wirings.{spots};
 ghost use Rattle.ccr_model.specs.Order.{how_of};
 ghost use Rattle.ccr_ledger.specs.Books.{runners};
 ghost use Rattle.ccr_serial.specs.Ready.{IsLeastFirst};
 ghost use Rattle.ccr_serial.specs.Numbered.{IsNoneBut};
-ghost use Rattle.ccr_serial.specs.Parts.{IsStillIn, admission_in, are_done_in, fire_in, first_admit_in, first_fire_in, line_in, post_in, put_in, run_in, start_at_in, start_in};
+ghost use Rattle.ccr_serial.specs.Parts.{admission_in, are_done_in, choose_in, fire_in, first_admit_in, line_in, post_in, put_in, run_in, start_at_in, start_in};
 
 use crate::numbers::Numbers;
 use ccr_base::{ActorNo, List, Msg, MsgId, OutOfMemory, QueueNo, Sent, Spot, TaskId};
@@ -72,19 +71,16 @@ pub(crate) fn first_post(
     Ok(None)
 }
 
-/// The firing of the task at the spot, where it can fire.
-fn fire_at(
+/// The firing of the task at the spot, where it has a choice.
+pub(crate) fn choose_at(
     wiring: &Wiring,
     ledger: &mut Ledger,
     task: TaskId,
     spot: Spot,
 ) -> Result<Option<Event>, OutOfMemory>
-    ensures event { IfOk result (λ event. event ≡ fire_in wiring.now task ledger.old spot) }
+    ensures event { IfOk result (λ event. event ≡ choose_in wiring.now task ledger.old spot) }
     ensures kept { OnOk result (ledger.new ≡ ledger.old) }
 {
-    if !ledger.lives(wiring, spot) || !ledger.room(wiring, spot) {
-        return Ok(None);
-    }
     let Some(messages) = ledger.choice(wiring, spot)? else {
         return Ok(None);
     };
@@ -97,43 +93,20 @@ fn fire_at(
     }))
 }
 
-/// The firing of the task at the spot of this number, where there is one and it can fire.
-fn fire_number(
+/// The firing of the task at the spot, where it can fire.
+pub(crate) fn fire_at(
     wiring: &Wiring,
     ledger: &mut Ledger,
     task: TaskId,
-    number: usize,
+    spot: Spot,
 ) -> Result<Option<Event>, OutOfMemory>
-    ensures event { IfOk result (λ event. event ≡ option_and_then (fire_in wiring.now task ledger.old) (slice_get (spots wiring.now) number)) }
+    ensures event { IfOk result (λ event. event ≡ fire_in wiring.now task ledger.old spot) }
     ensures kept { OnOk result (ledger.new ≡ ledger.old) }
 {
-    match wiring.spots().get(number) {
-        Some(spot) => fire_at(wiring, ledger, task, *spot),
-        None => Ok(None),
+    if !ledger.lives(wiring, spot) || !ledger.room(wiring, spot) {
+        return Ok(None);
     }
-}
-
-/// The firing of the task at the first spot that can fire, which is a touched one. Those that are asked in vain are touched no longer.
-pub(crate) fn first_fire(
-    wiring: &Wiring,
-    ledger: &mut Ledger,
-    task: TaskId,
-    touched: &mut Numbers,
-) -> Result<Option<Event>, OutOfMemory>
-    requires still { IsStillIn wiring.now task ledger.old touched.old }
-    requires least { IsLeastFirst touched.old }
-    ensures event { IfOk result (λ event. event ≡ first_fire_in wiring.now task ledger.old (spots wiring.now)) }
-    ensures kept { OnOk result (ledger.new ≡ ledger.old) }
-    ensures still { IsStillIn wiring.now task ledger.old touched.new }
-    ensures least { IsLeastFirst touched.new }
-{
-    'asking: while let Some(number) = touched.first() {
-        if let Some(event) = fire_number(wiring, ledger, task, number)? {
-            return Ok(Some(event));
-        }
-        touched.leave_first();
-    }
-    Ok(None)
+    choose_at(wiring, ledger, task, spot)
 }
 
 /// The admission of the domain's oldest waiting task, where it may enter.

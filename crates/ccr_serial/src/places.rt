@@ -7,12 +7,12 @@ ghost use Rattle.ccr_base.specs.declared.patterns.Slot.{Slot};
 ghost use Rattle.ccr_base.specs.Names.{same_spot};
 ghost use Rattle.ccr_wiring.specs.Wirings.{next_site, spots};
 ghost use Rattle.ccr_wiring.specs.Valid.{IsValid};
-ghost use Rattle.ccr_serial.specs.Touched.{is_throttle, names_any};
+ghost use Rattle.ccr_serial.specs.Touched.{names_any};
 ghost use Rattle.ccr_serial.specs.Numbered.{ArePlaces};
-ghost use Rattle.ccr_serial.specs.Places.{AreKeyed, IsNoted, branch_places, first_place, is_held_by, list_at, takes_from};
+ghost use Rattle.ccr_serial.specs.Places.{AreKeyed, IsNoted, branch_places, first_place, list_at, takes_from};
 
-use ccr_base::{OutOfMemory, Pattern, Policy, PortNo, QueueNo, Slot, Spot};
-use ccr_model::placements::{placement, policy_of, site_port};
+use ccr_base::{OutOfMemory, Pattern, PortNo, Slot, Spot};
+use ccr_model::placements::{placement, site_port};
 use ccr_wiring::{Parts, Wiring};
 use std::alloc::Global;
 use std::marker::Model;
@@ -88,38 +88,6 @@ fn note_ports(
     }
 }
 
-/// Whether the queue holds firings back.
-fn is_throttle(policy: Policy) -> bool
-    ensures { result ≡ is_throttle policy }
-{
-    match policy {
-        Policy::Throttle(_) => true,
-        _ => false,
-    }
-}
-
-/// The place comes into the list of the queue that holds the spot back, where one does.
-fn note_queue(
-    wiring: &Wiring,
-    spot: Spot,
-    place: usize,
-    queues: &mut [Vec<usize>],
-) -> Result<(), OutOfMemory>
-    ensures { OnOk result (IsNoted (λ queue. is_held_by wiring.now queue spot) place queues.old queues.new) }
-{
-    let Spot::Branch(branch) = spot else {
-        return Ok(());
-    };
-    let Some(placement) = placement(wiring, branch) else {
-        return Ok(());
-    };
-    let queue = placement.branch.queue;
-    if is_throttle(policy_of(wiring, queue)) {
-        note(queue, place, queues)?;
-    }
-    Ok(())
-}
-
 /// The place comes in, where the spot is a branch.
 fn note_branch(spot: Spot, place: usize, branches: &mut Vec<usize>) -> Result<(), OutOfMemory>
     ensures { OnOk result (branches.new.items ≡ branches.old.items ++ branch_places place (spot ∷ [])) }
@@ -134,17 +102,15 @@ fn note_branch(spot: Spot, place: usize, branches: &mut Vec<usize>) -> Result<()
 fn note_spots(
     wiring: &Wiring,
     ports: &mut [Vec<usize>],
-    queues: &mut [Vec<usize>],
     branches: &mut Vec<usize>,
 ) -> Result<(), OutOfMemory>
-    requires { AreKeyed wiring.now [] ports.old queues.old branches.old.items }
-    ensures { OnOk result (AreKeyed wiring.now (spots wiring.now) ports.new queues.new branches.new.items) }
+    requires { AreKeyed wiring.now [] ports.old branches.old.items }
+    ensures { OnOk result (AreKeyed wiring.now (spots wiring.now) ports.new branches.new.items) }
 {
     let spots = wiring.spots();
     for place in 0..spots.len() {
         let spot = spots[place];
         note_ports(wiring, spot, place, ports)?;
-        note_queue(wiring, spot, place, queues)?;
         note_branch(spot, place, branches)?;
     }
     Ok(())
@@ -167,12 +133,11 @@ fn place_of(places: &[usize], number: u32) -> Option<usize>
     places.get(number as usize).copied()
 }
 
-/// A wiring, of each port and queue all the places of its spots, and of each branch its place.
+/// A wiring, of each port all the places of its spots, and of each branch its place.
 #[derive(Drop)]
 pub(crate) struct Places<'w> {
     wiring: &'w Wiring,
     ports: Vec<Vec<usize>>,
-    queues: Vec<Vec<usize>>,
     branches: Vec<usize>,
 }
 
@@ -185,7 +150,7 @@ impl<'w> Model for Places<'w> {
 
     ghost view = { λ p. p.wiring.now };
 
-    ghost invariant = { λ p. AreKeyed p.wiring.now (spots p.wiring.now) p.ports.items p.queues.items p.branches.items };
+    ghost invariant = { λ p. AreKeyed p.wiring.now (spots p.wiring.now) p.ports.items p.branches.items };
 }
 
 impl<'w> Places<'w> {
@@ -195,13 +160,11 @@ impl<'w> Places<'w> {
     {
         let parts = wiring.parts();
         let mut ports = empty_lists(alloc, parts.ports.as_slice().len())?;
-        let mut queues = empty_lists(alloc, parts.queues.as_slice().len())?;
         let mut branches = Vec::new(alloc);
-        note_spots(wiring, &mut ports, &mut queues, &mut branches)?;
+        note_spots(wiring, &mut ports, &mut branches)?;
         Ok(Places {
             wiring,
             ports,
-            queues,
             branches,
         })
     }
@@ -226,13 +189,6 @@ impl<'w> Places<'w> {
         ensures { ArePlaces (takes_from self.now port) (spots self.now) result.now }
     {
         list_of(&self.ports, port)
-    }
-
-    /// The places of the branches that the queue holds back.
-    pub(crate) fn on_queue(&self, queue: QueueNo) -> &[usize]
-        ensures { ArePlaces (is_held_by self.now queue) (spots self.now) result.now }
-    {
-        list_of(&self.queues, queue)
     }
 
     /// The place of the branch.

@@ -4,4 +4,4 @@ use Rattle.ccr_serial.specs.Places.{AreKeyed}
 use Rattle.ccr_serial.proofs.places.note_spots.Given as goal
 
 abbrev pub invariant-loop-place : goal.invariant-loop-place
-invariant-loop-place l = AreKeyed l.wiring (take l.place (spots l.wiring)) l.ports l.queues l.branches.items
+invariant-loop-place l = AreKeyed l.wiring (take l.place (spots l.wiring)) l.ports l.branches.items
