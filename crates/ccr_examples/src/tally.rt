@@ -1,10 +1,10 @@
 //! An object of one's own under locks that keep its history: a sum that threads add to.
 
-ghost use Rattle.std.specs.Prelude.{◌≡◌, ◌+◌, ◌<◌};
+ghost use Rattle.std.specs.Prelude.{◌≡◌, ◌+◌, ◌<◌, true};
 ghost use Rattle.ccr_turns.specs.Locks.{place_count, IsSeatOf};
 
 use ccr_base::{List, OutOfMemory};
-use ccr_turns::{Kept, Seat, Turns};
+use ccr_turns::{Keep, Kept, Seat, Turns};
 use std::sync::Wait;
 use std::thread::{self, Threads};
 
@@ -29,6 +29,12 @@ impl Kept for Tally {
     ghost may = { λ sum ask reply note. (reply ≡ sum + ask.0) × (note ≡ sum + ask.0) };
 
     ghost after = { λ sum note. note };
+
+    ghost seen = { λ _. true };
+
+    fn is_seen(_note: &u64) -> bool {
+        true
+    }
 
     fn act(&mut self, ask: Add) -> Result<(u64, u64), OutOfMemory> {
         let Some(sum) = self.0.checked_add(ask.0) else {
@@ -59,7 +65,7 @@ pub fn raise_by_two<R: AllocGlobal + Threads + Wait + Sync>(
     let alloc = rt.alloc();
     let mut tallies = Vec::new(alloc);
     tallies.push(Tally(0))?;
-    let (turns, seats) = Turns::make(alloc, List::from_vec(tallies), 2)?;
+    let (turns, seats) = Turns::make(alloc, List::from_vec(tallies), 2, Keep::Every)?;
     let seats = thread::map_vec(
         rt,
         seats.into_vec(),

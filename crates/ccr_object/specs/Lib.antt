@@ -8,3 +8,4 @@ pub mod Meters
 pub mod Numbers
 pub mod Objects
 pub mod Starts
+pub mod Events

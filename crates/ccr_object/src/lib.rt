@@ -2,6 +2,7 @@
 #![tactic(auto)]
 
 mod deed;
+mod events;
 mod making;
 mod numbers;
 mod object;

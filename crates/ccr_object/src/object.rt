@@ -2,9 +2,11 @@
 
 ghost use Rattle.std.specs.Prelude.{◌≡◌, IfOk, OnErr, IsOk, true};
 ghost use Rattle.ccr_claim.specs.Asks.{is_settling};
+ghost use Rattle.ccr_object.specs.Events.{has_event};
 ghost use Rattle.ccr_object.specs.Objects.{answer, after, answered, noted, after_at, after_deed, is_due, placed, reply_of, note_of, IsGiven};
 
 use crate::deed::{Answer, Deed};
+use crate::events::has_event;
 use crate::numbers::Numbers;
 use ccr_arbiter::ArbiterObject;
 use ccr_await::SiteObject;
@@ -91,6 +93,13 @@ impl Kept for PlaceObject {
     ghost may = { IsGiven };
 
     ghost after = { after_deed };
+
+    ghost seen = { has_event };
+
+    #[inline(always)]
+    fn is_seen(deed: &Deed) -> bool {
+        has_event(deed)
+    }
 
     fn act(&mut self, ask: Ask) -> Result<(Answer, Deed), OutOfMemory> {
         self.answer(ask)

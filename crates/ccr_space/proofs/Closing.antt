@@ -10,10 +10,13 @@ use Rattle.std.specs.Prelude.{All, slice_get}
 use Rattle.std.specs.List.{AllZip, count_by}
 use Rattle.std.specs.Option.{option_map_or}
 use Rattle.ccr_wiring.specs.declared.parts.Parts.{Parts}
-use Rattle.ccr_turns.specs.Histories.{Given, history_stamps}
+use Rattle.ccr_turns.specs.Histories.{Given, history_stamps, keeps}
 use Rattle.ccr_turns.specs.Logs.{at_place, told}
 use Rattle.ccr_turns.specs.Lists.{Rises, Each, total}
-use Rattle.ccr_turns.specs.Locks.{IsLeft, Agrees, full_log, log_of, number_of, starts}
+use Rattle.ccr_turns.specs.Locks.{IsLeft, Agrees, full_log, keep_of, log_of, number_of, sifted_of, starts}
+use Rattle.ccr_turns.specs.declared.kept.Keep.{Keep}
+use Rattle.ccr_turns.specs.declared.kept.Keep.TheVariants.{Every}
+use Rattle.ccr_turns.proofs.Ends.{sifts_nothing}
 use Rattle.ccr_turns.specs.declared.turns.Seat.{Seat}
 use Rattle.ccr_turns.specs.declared.history.Held.{Held}
 use Rattle.ccr_turns.specs.declared.history.Mark.{Mark}
@@ -30,13 +33,14 @@ use Rattle.ccr_object.specs.contracts.object.PlaceObjectKept.TheImpl.{ghosts}
 use Rattle.ccr_object.specs.declared.deed.Deed.{Deed}
 use Rattle.ccr_object.specs.declared.object.Placed.{Placed}
 use Rattle.ccr_object.specs.declared.object.PlaceObject.{PlaceObject}
+use Rattle.ccr_object.specs.Events.{has_event}
 use Rattle.ccr_object.specs.Objects.{IsGiven, after_deed, note_of, nothing, placed}
 use Rattle.ccr_object.specs.Starts.{placed_at, places_of}
 use Rattle.ccr_net.specs.declared.entries.Entry.{Entry}
 use Rattle.ccr_net.specs.Played.{entries_of, rules, scene}
 use Rattle.ccr_net.specs.Runs.{never}
-use Rattle.ccr_space.specs.Spaces.{HasSeat, IsPassOf, IsSpace, Pass, Space, actor_count, log, number, wiring_of}
-use Rattle.ccr_space.specs.Closes.{IsClosed, IsOfLocks}
+use Rattle.ccr_space.specs.Spaces.{HasPlaces, HasSeat, IsPassOf, Pass, Space, actor_count, log, number, wiring_of}
+use Rattle.ccr_space.specs.Closes.{IsClosed, IsKeptOf, IsOfLocks, Kept}
 
 by_side : {C : Type 0} (p n : ℕ) → (p < n → C) → (n ≤ p → C) → C
 by_side {C = C} p n f g = side (cases_lt p n)
@@ -187,9 +191,13 @@ all_rising n [] (k ∷ ks) all = absurd all
 all_rising n (o ∷ os) [] all = absurd all
 all_rising n (o ∷ os) (k ∷ ks) all = All-cons (λ (left : PlaceObject × List (Held Deed)). Rises 0 (history_stamps left.1)) k ks all.0.rising (all_rising n os ks all.1)
 
+-- what locks kept that keep every entry is the whole histories
+pub is_whole : (space : Space) (seats : List (Seat PlaceObject Ask Answer Deed Placed ghosts)) (kept : List Kept) (its : IsKeptOf space seats kept) → keep_of space.turns ≡ Every → its.whole ≡ kept
+is_whole space seats kept its every = sym (its.part ∙ (ap (λ (k : Keep). map (sifted_of (keeps k has_event)) its.whole) every ∙ sifts_nothing has_event its.whole))
+
 -- so the entries of the closed locks are those of a run
 pub closed_by : (space : Space) (passes : List Pass) (seats : List (Seat PlaceObject Ask Answer Deed Placed ghosts)) (acts : List (Act Deed)) (entries : List Entry)
-    → IsSpace space → All (λ (pass : Pass). IsPassOf space pass) passes → seats ≡ map (λ (pass : Pass). pass.seat) passes
+    → HasPlaces space → All (λ (pass : Pass). IsPassOf space pass) passes → seats ≡ map (λ (pass : Pass). pass.seat) passes
     → IsOfLocks space seats acts → ((actor : ℕ) → actor < actor_count space → HasSeat seats actor) → entries ≡ entries_of (wiring_of space) acts → IsClosed space passes entries
 closed_by space passes seats acts entries stands passed these locks numbers told =
     let w = wiring_of space in

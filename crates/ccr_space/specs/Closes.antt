@@ -1,5 +1,5 @@
 -- What the closed locks tell.
-use Rattle.std.specs.Prelude.{◌≡◌, ◌⊎◌, ℕ, ◌<◌, ◌==◌, true, All, List, length, map, None, Some, slice_get}
+use Rattle.std.specs.Prelude.{◌≡◌, ◌⊎◌, ℕ, ◌+◌, ◌<◌, ◌^◌, ◌==◌, true, All, List, [], length, map, None, Some, slice_get}
 use Rattle.std.specs.List.{AllZip, list_any}
 use Rattle.ccr_wiring.specs.declared.parts.Parts.{Parts}
 use Rattle.ccr_claim.specs.declared.asks.Ask.{Ask}
@@ -8,8 +8,11 @@ use Rattle.ccr_object.specs.declared.deed.Deed.{Deed}
 use Rattle.ccr_object.specs.declared.object.Placed.{Placed}
 use Rattle.ccr_object.specs.declared.object.PlaceObject.{PlaceObject}
 use Rattle.ccr_object.specs.contracts.object.PlaceObjectKept.TheImpl.{ghosts}
+use Rattle.ccr_object.specs.Events.{has_event}
 use Rattle.ccr_object.specs.Objects.{IsGiven, after_deed, placed}
-use Rattle.ccr_turns.specs.Locks.{Agrees, IsLeft, full_log, starts}
+use Rattle.ccr_turns.specs.Histories.{history_stamps, keeps}
+use Rattle.ccr_turns.specs.Lists.{Rises}
+use Rattle.ccr_turns.specs.Locks.{Agrees, IsLeft, full_log, keep_of, sifted_of, starts}
 use Rattle.ccr_turns.specs.declared.history.Held.{Held}
 use Rattle.ccr_turns.specs.declared.turns.Seat.{Seat}
 use Rattle.ccr_runs.specs.declared.acts.Act.{Act}
@@ -20,8 +23,10 @@ use Rattle.ccr_runs.specs.Stories.{story}
 use Rattle.ccr_actor.specs.Actors.{next}
 use Rattle.ccr_net.specs.declared.entries.Entry.{Entry}
 use Rattle.ccr_net.specs.Played.{rules, scene, given_in, entries_of}
-use Rattle.ccr_net.specs.Runs.{never, replies_of}
-use Rattle.ccr_space.specs.Spaces.{HasPass, IsAtRest, IsPassOf, IsSpace, Pass, Space, actor_count, log, number, stopped_of, wiring_of}
+use Rattle.ccr_net.specs.Runs.{IsRunAfter, never, replies_of}
+use Rattle.ccr_net.specs.Visible.{visible}
+use Rattle.ccr_model.specs.declared.history.Event.{Event}
+use Rattle.ccr_space.specs.Spaces.{HasPass, HasPlaces, IsAtRest, IsPassOf, Pass, Space, actor_count, log, number, stopped_of, wiring_of}
 
 -- the acts are a run of so many actors, in which none lacks memory
 abbrev pub IsPlayed : Parts → ℕ → List (Act Deed) → Type 0
@@ -50,6 +55,14 @@ pub record IsOfLocks (space : Space) (seats : List (Seat PlaceObject Ask Answer 
   -- each seat's log has at each place its entries of that lock's history, each with what those before it there left
   pub agrees : All (λ seat. Agrees placed after_deed (starts space.turns) kept (full_log seat)) seats
 
+-- what was kept is a part of the whole histories of the locks: of each the entries that are kept in memory
+pub record IsKeptOf (space : Space) (seats : List (Seat PlaceObject Ask Answer Deed Placed ghosts)) (kept : List Kept) : Type 0 where
+  pub whole : List Kept
+  pub part : kept ≡ map (sifted_of (keeps (keep_of space.turns) has_event)) whole
+  pub few : length whole < 2 ^ 32
+  pub rising : All (λ (left : Kept). Rises 0 (history_stamps left.1)) whole
+  pub locks : IsOfLocks space seats (merged whole)
+
 -- the entries are those of a run, in which each place's part is its lock's history, and each pass's part is its log, once and in order
 pub record IsClosed (space : Space) (passes : List Pass) (entries : List Entry) : Type 0 where
   pub acts : List (Act Deed)
@@ -59,9 +72,15 @@ pub record IsClosed (space : Space) (passes : List Pass) (entries : List Entry) 
   pub logs : All (λ (pass : Pass). story after_deed (number pass) (scene (wiring_of space)) acts ≡ log pass) passes
   pub actors : (actor : ℕ) → actor < actor_count space → HasPass passes actor
 
+-- the history is what the entries of the closed locks show, which are made nowhere
+pub record IsShownOf (space : Space) (passes : List Pass) (history : List Event) : Type 0 where
+  pub entries : List Entry
+  pub closed : IsClosed space passes entries
+  pub shown : history ≡ visible entries
+
 -- a space for the wiring with so many actors, and all its passes, at rest
 pub record IsRested (wiring : Parts) (count : ℕ) (space : Space) (passes : List Pass) : Type 0 where
-  pub is_space : IsSpace space
+  pub has_places : HasPlaces space
   pub serves : wiring_of space ≡ wiring
   pub count_is : actor_count space ≡ count
   pub all : length passes ≡ actor_count space
@@ -75,6 +94,12 @@ pub record IsBroughtToRest (wiring : Parts) (count : ℕ) (entries : List Entry)
   pub rested : IsRested wiring count space passes
   pub closed : IsClosed space passes entries
   pub short_are : short ≡ stopped_of passes count
+
+-- the history is what the entries of some passes show that came to rest
+pub record IsShownAtRest (wiring : Parts) (count : ℕ) (history : List Event) (short : List ℕ) : Type 0 where
+  pub entries : List Entry
+  pub brought : IsBroughtToRest wiring count entries short
+  pub shown : history ≡ visible entries
 
 -- the actor is among the short, or asks nothing more after its part of the acts
 abbrev pub IsThrough : Parts → List (Act Deed) → List ℕ → ℕ → Type 0
@@ -90,3 +115,12 @@ pub record IsDone (wiring : Parts) (count : ℕ) (entries : List Entry) (short :
 -- the actor is among the short, or has no next step after the entries
 abbrev pub IsAtEnd : Parts → List Entry → List ℕ → ℕ → Type 0
 IsAtEnd wiring entries short actor = (list_any (λ n. n == actor) short ≡ true) ⊎ (next wiring actor None (replies_of wiring entries actor) ≡ None)
+
+-- The history is what a run of all posters and so many workers shows, whose entries are made nowhere: each step was its actor's next one, after
+-- it each actor that isn't short has no next step, and it is what the closed locks of a space tell, whose passes all came to rest.
+pub record IsOfRunToRest (wiring : Parts) (workers : ℕ) (history : List Event) (short : List ℕ) : Type 0 where
+  pub entries : List Entry
+  pub run : IsRunAfter wiring workers never [] entries
+  pub rest : (actor : ℕ) → actor < length wiring.posters + workers → IsAtEnd wiring entries short actor
+  pub threads : IsBroughtToRest wiring (length wiring.posters + workers) entries short
+  pub shown : history ≡ visible entries

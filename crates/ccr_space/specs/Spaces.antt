@@ -15,8 +15,9 @@ use Rattle.ccr_object.specs.declared.object.PlaceObject.{PlaceObject}
 use Rattle.ccr_object.specs.contracts.object.PlaceObjectKept.TheImpl.{ghosts}
 use Rattle.ccr_object.specs.Objects.{note_of, placed}
 use Rattle.ccr_object.specs.Starts.{placed_at, places_of}
-use Rattle.ccr_turns.specs.Locks.{starts, seat_count, place_count, IsSeatOf, number_of, log_of}
+use Rattle.ccr_turns.specs.Locks.{starts, seat_count, place_count, keep_of, IsSeatOf, number_of, log_of}
 use Rattle.ccr_turns.specs.declared.history.Mark.{Mark}
+use Rattle.ccr_turns.specs.declared.kept.Keep.TheVariants.{Every}
 use Rattle.ccr_turns.specs.declared.turns.Seat.{Seat}
 use Rattle.ccr_turns.specs.declared.turns.Turns.{Turns}
 use Rattle.ccr_runs.specs.Runs.{IsProper, state_after}
@@ -48,12 +49,17 @@ abbrev pub actor_count : Space → ℕ
 actor_count space = seat_count space.turns
 
 -- each place of the wiring is there, with its object before all notes
-pub record IsSpace (space : Space) : Type 0 where
+pub record HasPlaces (space : Space) : Type 0 where
   pub objects : map placed (starts space.turns) ≡ map (placed_at space.wiring.now) (places_of space.wiring.now)
   pub numbers : space.directory ≡ places_of space.wiring.now
   pub places : place_count space.turns ≡ length (places_of space.wiring.now)
   pub few : length (places_of space.wiring.now) ≤ 8192
   pub seats : seat_count space.turns ≤ 32
+
+-- and its locks keep every entry
+pub record IsSpace (space : Space) : Type 0 where
+  pub has_places : HasPlaces space
+  pub every : keep_of space.turns ≡ Every
 
 -- ---- passes
 

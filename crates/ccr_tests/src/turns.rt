@@ -5,7 +5,7 @@ ghost use Rattle.ccr_turns.specs.Locks.{place_count, IsSeatOf};
 
 use crate::compare::same;
 use ccr_base::List;
-use ccr_turns::{Held, Seat, Turns};
+use ccr_turns::{Held, Keep, Seat, Turns};
 use std::alloc::Global;
 use std::sync::Wait;
 use std::test::*;
@@ -42,7 +42,7 @@ fn entries_of(history: &[Held<u64>], seat: u32) -> usize {
 #[test]
 fn two_threads_raise_one_counter(rt: HostRuntime) -> Result<(), Fail> {
     let counters = counters(rt.alloc(), 1)?;
-    let (turns, seats) = Turns::make(rt.alloc(), counters, 2)?;
+    let (turns, seats) = Turns::make(rt.alloc(), counters, 2, Keep::Every)?;
     let seats = thread::map_vec(
         &rt,
         seats.into_vec(),
@@ -64,5 +64,31 @@ fn two_threads_raise_one_counter(rt: HostRuntime) -> Result<(), Fail> {
     }
     same(&rt, entries_of(history, 0), 1000);
     same(&rt, entries_of(history, 1), 1000);
+    Ok(())
+}
+
+#[test]
+fn a_lock_keeps_what_is_seen(rt: HostRuntime) -> Result<(), Fail> {
+    let counters = counters(rt.alloc(), 1)?;
+    let (turns, seats) = Turns::make(rt.alloc(), counters, 2, Keep::Seen)?;
+    let seats = thread::map_vec(
+        &rt,
+        seats.into_vec(),
+        &|seat: Seat<Counter>| -> Seat<Counter>
+            requires { IsSeatOf turns seat × (0 < place_count turns) }
+            ensures { IsSeatOf turns result }
+        { raise(&rt, &turns, seat, 600) },
+    )?;
+    let kept = turns
+        .close(rt.alloc(), List::from_vec(seats))
+        .ok()
+        .ok_or("memory")?;
+    let (counter, history) = kept.as_slice().first().ok_or("no place")?;
+    let history = history.as_slice();
+    same(&rt, counter.raised(), 1200);
+    same(&rt, history.len(), 400);
+    for entry in history {
+        same(&rt, entry.note % 3, 0);
+    }
     Ok(())
 }

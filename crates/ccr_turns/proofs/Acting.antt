@@ -1,11 +1,11 @@
 -- What the steps of one act come to.
-use Rattle.std.proofs.Common.{subst, length, false, eqb, eq-eqb, ne_eqb, ◌≡◌, ℕ, ◌<◌, List, [], ◌∷◌, ◌++◌, Option, Some, None, sym, refl, ap, ◌∙◌, arith}
+use Rattle.std.proofs.Common.{Bool, subst, length, false, eqb, eq-eqb, ne_eqb, ◌≡◌, ℕ, ◌<◌, List, [], ◌∷◌, ◌++◌, Option, Some, None, sym, refl, ap, ◌∙◌, arith}
 use Rattle.std.proofs.lemmas.List.{map-append}
 use Rattle.ccr_turns.specs.Steps.{won}
 use Rattle.ccr_turns.specs.Views.{Sat, view, hold}
 use Rattle.ccr_turns.specs.Logs.{numbers_of, log, mark, noted, log_stamps, marks_of}
 use Rattle.ccr_turns.specs.Lists.{last_of}
-use Rattle.ccr_turns.specs.Histories.{history_stamps}
+use Rattle.ccr_turns.specs.Histories.{history_stamps, past}
 use Rattle.ccr_turns.specs.Seated.{IsAtRest, Ready, Won, HasTurn, Entered}
 use Rattle.std.proofs.lemmas.List.{nil_from_length}
 use Rattle.std.specs.Option.{is_some}
@@ -19,37 +19,41 @@ use Rattle.ccr_turns.specs.declared.history.Held.{Held}
 use Rattle.ccr_turns.specs.declared.history.Cell.{Cell}
 use Rattle.ccr_turns.specs.declared.history.Mark.{Mark}
 use Rattle.ccr_turns.specs.declared.history.Log.{Log}
+use Rattle.ccr_turns.specs.declared.kept.Keep.{Keep}
 use Rattle.ccr_turns.proofs.Rows.{last_more}
 
 module _ {N X : Type 0} where
   pub last_mark : (marks : List (Mark N X)) (m : Mark N X) → last_of 0 (log_stamps (marks ++ m ∷ [])) ≡ m.stamp
   last_mark marks m = ap (last_of 0) (map-append (λ (d : Mark N X). d.stamp) marks (m ∷ [])) ∙ last_more 0 (log_stamps marks) m.stamp
 
-module _ {O N X : Type 0} where
-  pub turn_of : (number : ℕ) (marks : List (Mark N X)) (place : ℕ) (before : List (Held N)) (now : X) (m₀ m : Sat O N X) → m₀ ≡ (view (log number marks ∷ []) None, [])
-      → HasTurn place m before now → m.0.logs ≡ m₀.0.logs → m ≡ (view (log number marks ∷ []) (Some (hold place before now)), (place, None) ∷ [])
-  turn_of number marks place before now m₀ m is turn logs =
-      let a : m.0.logs ≡ log number marks ∷ [] = logs ∙ ap (λ (y : Sat O N X). y.0.logs) is in
-      turn ∙ (λ d. (view (a d) (Some (hold place before now)), (place, None) ∷ []))
+pub last_stamp : {N : Type 0} (es : List (Held N)) (e : Held N) → last_of 0 (history_stamps (es ++ e ∷ [])) ≡ e.stamp
+last_stamp es e = ap (last_of 0) (map-append (λ (d : Held _). d.stamp) es (e ∷ [])) ∙ last_more 0 (history_stamps es) e.stamp
 
-  pub after_entry : (number : ℕ) (marks : List (Mark N X)) (place : ℕ) (before : List (Held N)) (now : X) (e : Held N) (m n : Sat O N X) (c : Cell O N)
-      → m ≡ (view (log number marks ∷ []) (Some (hold place before now)), (place, None) ∷ []) → c.history.items ≡ before ++ e ∷ [] → Entered place m c n
+module _ {O N X : Type 0} where
+  pub turn_of : (number : ℕ) (marks : List (Mark N X)) (place : ℕ) (before : List (Held N)) (now : X) (keep : Keep) (m₀ m : Sat O N X) → m₀ ≡ (view (log number marks ∷ []) None, [])
+      → HasTurn place m before now keep → m.0.logs ≡ m₀.0.logs → m ≡ (view (log number marks ∷ []) (Some (hold place before now keep)), (place, None) ∷ [])
+  turn_of number marks place before now keep m₀ m is turn logs =
+      let a : m.0.logs ≡ log number marks ∷ [] = logs ∙ ap (λ (y : Sat O N X). y.0.logs) is in
+      turn ∙ (λ d. (view (a d) (Some (hold place before now keep)), (place, None) ∷ []))
+
+  pub after_entry : (number : ℕ) (marks : List (Mark N X)) (place : ℕ) (before : List (Held N)) (now : X) (keep : Keep) (e : Held N) (m n : Sat O N X) (c : Cell O N)
+      → m ≡ (view (log number marks ∷ []) (Some (hold place before now keep)), (place, None) ∷ []) → past c ≡ before ++ e ∷ [] → Entered place m c n
       → n ≡ (view (log number (marks ++ mark place e.stamp e.note now (last_of 0 (history_stamps before)) ∷ []) ∷ []) None, [])
-  after_entry number marks place before now e m n c is more told =
-      let first = told.1 e (hold place before now) (ap (λ (y : Sat O N X). y.0.hold) is) more ∙ ap (λ (y : Sat O N X). view (noted y.0.logs (mark place e.stamp e.note now (last_of 0 (history_stamps before)))) None) is in
+  after_entry number marks place before now keep e m n c is more told =
+      let first = told.1 e (hold place before now keep) (ap (λ (y : Sat O N X). y.0.hold) is) more ∙ ap (λ (y : Sat O N X). view (noted y.0.logs (mark place e.stamp e.note now (last_of 0 (history_stamps before)))) None) is in
       let second = told.0 in λ d. (first d, second d)
 
   -- a seat that took a lock
-  pub won_lock : (value : O → X) (slots place x y : ℕ) (m n : Sat O N X) (r : ℕ) → m.1 ≡ [] → r ≡ 0 → won value (step slots place x y none) m r n → Won value slots place m n
-  won_lock value slots place x y m n r empty hit told =
+  pub won_lock : (value : O → X) (seen : N → Bool) (slots place x y : ℕ) (m n : Sat O N X) (r : ℕ) → m.1 ≡ [] → r ≡ 0 → won value seen (step slots place x y none) m r n → Won value seen slots place m n
+  won_lock value seen slots place x y m n r empty hit told =
       let t = told.0 hit in
-      (t.0, t.1 ∙ ap (λ (l : List (ℕ × Option (Cell O N))). (view m.0.logs (Some (hold place t.0.history.items (value t.0.object))), (place, Some t.0) ∷ l)) empty, t.2, t.3)
+      (t.0, t.1 ∙ ap (λ (l : List (ℕ × Option (Cell O N))). (view m.0.logs (Some (hold place (past t.0) (value t.0.object) t.0.keep)), (place, Some t.0) ∷ l)) empty, t.2, t.3, t.4)
 
   -- an exchange tells whether the lock was free
-  pub tried : (value : O → X) (slots place x y : ℕ) (m n : Sat O N X) (r : ℕ) → m.1 ≡ [] → won value (step slots place x y none) m r n → MatchBool (eqb r 0) (Won value slots place m n) (n ≡ m)
-  tried value slots place x y m n r empty told = dite (ℕ_discrete r 0)
-      (λ hit. subst (λ b. MatchBool b (Won value slots place m n) (n ≡ m)) (sym (eq-eqb r 0 hit)) (won_lock value slots place x y m n r empty hit told))
-      (λ miss. subst (λ b. MatchBool b (Won value slots place m n) (n ≡ m)) (sym (ne_eqb r 0 miss)) (told.1 miss))
+  pub tried : (value : O → X) (seen : N → Bool) (slots place x y : ℕ) (m n : Sat O N X) (r : ℕ) → m.1 ≡ [] → won value seen (step slots place x y none) m r n → MatchBool (eqb r 0) (Won value seen slots place m n) (n ≡ m)
+  tried value seen slots place x y m n r empty told = dite (ℕ_discrete r 0)
+      (λ hit. subst (λ b. MatchBool b (Won value seen slots place m n) (n ≡ m)) (sym (eq-eqb r 0 hit)) (won_lock value seen slots place x y m n r empty hit told))
+      (λ miss. subst (λ b. MatchBool b (Won value seen slots place m n) (n ≡ m)) (sym (ne_eqb r 0 miss)) (told.1 miss))
 
   pub ready_again : (m n : Sat O N X) → n ≡ m → Ready m → Ready n
   ready_again m n same ready = subst Ready (sym same) ready

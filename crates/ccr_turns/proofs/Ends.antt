@@ -1,6 +1,7 @@
 -- Seats are made and joined, and the table is opened and closed.
-use Rattle.std.proofs.Common.{replicate, ◌≡◌, ◌≢◌, ℕ, zero, suc, ◌+◌, ◌<◌, List, [], ◌∷◌, ◌++◌, map, length, get_or, set, sym, refl, ap, ◌∙◌, subst, ⊎_elim, arith, Option, Some, None}
+use Rattle.std.proofs.Common.{Bool, replicate, ◌≡◌, ◌≢◌, ℕ, zero, suc, ◌+◌, ◌<◌, List, [], ◌∷◌, ◌++◌, map, length, get_or, set, sym, refl, ap, ◌∙◌, subst, ⊎_elim, arith, Option, Some, None}
 use Rattle.std.specs.List.{AllZip}
+use Rattle.std.specs.Prelude.{All}
 use Rattle.std.proofs.lemmas.List.{length-map, length-replicate}
 use mathlib.Core.Logic.{dite}
 use mathlib.Core.Option.{some, some-injective, some-ne-none}
@@ -8,12 +9,12 @@ use native.Mathlib.Decide.{ℕ_discrete}
 use lib.ListN.{get_elem?}
 use Rattle.atomic_table.specs.Table.{State, Splits, Joins, opening, Final, Seen}
 use Rattle.atomic_table.proofs.Lists.{at_set, set_else, at_longer, at_snoc, at_map}
-use Rattle.ccr_turns.specs.Locks.{IsLeft, Agrees}
+use Rattle.ccr_turns.specs.Locks.{IsLeft, Agrees, sifted_of, HasWhole}
 use Rattle.ccr_turns.specs.Seated.{IsLaid, HasCells, Lifted}
-use Rattle.ccr_turns.specs.Lists.{total, below, Each}
+use Rattle.ccr_turns.specs.Lists.{total, below, last_of, Each}
 use Rattle.ccr_turns.specs.Logs.{log, fresh, told, FitsLog}
 use Rattle.ccr_turns.specs.Views.{Sat, view, weight, opening_view, first_logs, later_logs, cut_left, cut_right, joined, spent}
-use Rattle.ccr_turns.specs.Histories.{left_by, Place, entries, IsRight}
+use Rattle.ccr_turns.specs.Histories.{left_by, Place, entries, history_stamps, keeps, sifted, past, IsRight}
 use Rattle.ccr_turns.specs.Rule.{Orderly, Settled}
 use Rattle.ccr_turns.specs.declared.history.Held.{Held}
 use Rattle.ccr_turns.specs.declared.history.Cell.{Cell}
@@ -21,7 +22,9 @@ use Rattle.ccr_turns.specs.declared.history.Mark.{Mark}
 use Rattle.ccr_turns.specs.declared.history.Log.{Log}
 use Rattle.ccr_turns.specs.declared.history.Hold.{Hold}
 use Rattle.ccr_turns.specs.declared.history.View.{View}
-use Rattle.ccr_turns.proofs.Rows.{there_by_slice, stamps_rise, zip_from, zip_at, zip_length, all_from_each, below-only-one, only, total-set, total-append, total-one, below-one, there, within, none-some, Some-at, terms_le, at_append, one-counts, no-total, only-one}
+use Rattle.ccr_turns.specs.declared.kept.Keep.{Keep}
+use Rattle.ccr_turns.specs.declared.kept.Keep.TheVariants.{Every}
+use Rattle.ccr_turns.proofs.Rows.{all_from, there_by_slice, stamps_rise, zip_from, zip_at, zip_length, all_from_each, below-only-one, only, total-set, total-append, total-one, below-one, there, within, none-some, Some-at, terms_le, at_append, one-counts, no-total, only-one}
 
 module _ {N X : Type 0} where
   cut-total : (f : Log N X → ℕ) (ls : List (Log N X)) → total f (later_logs ls) + total f (first_logs ls) ≡ total f ls
@@ -67,7 +70,31 @@ at-map f [] i b e = absurd (some-ne-none b (sym e))
 at-map f (x ∷ xs) zero b e = (x, refl, some-injective (f x) b e)
 at-map f (x ∷ xs) (suc i) b e = at-map f xs i b e
 
-module _ {O N X A R : Type 0} (value : O → X) (after : X → N → X) (may : X → A → R → N → Type 0) (objects : List O) (seats : ℕ) where
+-- the closed objects, each with the history of its place
+abbrev histories_of : {O N X : Type 0} → List (Place N X) → List (O × List (Held N)) → List (O × List (Held N))
+histories_of [] ks = []
+histories_of (p ∷ ps) [] = []
+histories_of (p ∷ ps) (k ∷ ks) = (k.0, p.1) ∷ histories_of ps ks
+
+module _ {O N X : Type 0} where
+  histories_count : (ps : List (Place N X)) (ks : List (O × List (Held N))) → length ps ≡ length ks → length (histories_of ps ks) ≡ length ps
+  histories_count [] ks same = refl
+  histories_count (p ∷ ps) [] same = absurd (omega arith)
+  histories_count (p ∷ ps) (k ∷ ks) same = ap suc (histories_count ps ks (omega arith))
+
+  history_here : (ps : List (Place N X)) (ks : List (O × List (Held N))) (i : ℕ) (p : Place N X) (k : O × List (Held N)) → get_elem? ps i ≡ some p → get_elem? ks i ≡ some k → get_elem? (histories_of ps ks) i ≡ some (k.0, p.1)
+  history_here [] ks i p k at at' = absurd (some-ne-none p (sym at))
+  history_here (q ∷ ps) [] i p k at at' = absurd (some-ne-none k (sym at'))
+  history_here (q ∷ ps) (j ∷ ks) zero p k at at' = let a = some-injective q p at in let b = some-injective j k at' in λ d. some ((b d).0, (a d).1)
+  history_here (q ∷ ps) (j ∷ ks) (suc i) p k at at' = history_here ps ks i p k at at'
+
+same_lists : {A : Type 0} (xs ys : List A) → length xs ≡ length ys → ((i : ℕ) (a : A) → get_elem? xs i ≡ some a → get_elem? ys i ≡ some a) → xs ≡ ys
+same_lists [] [] long h = refl
+same_lists [] (y ∷ ys) long h = absurd (omega arith)
+same_lists (x ∷ xs) [] long h = absurd (omega arith)
+same_lists (x ∷ xs) (y ∷ ys) long h = let first = some-injective y x (h 0 x refl) in let others = same_lists xs ys (omega arith) (λ i a at. h (suc i) a at) in λ d. sym first d ∷ others d
+
+module _ {O N X A R : Type 0} (value : O → X) (after : X → N → X) (may : X → A → R → N → Type 0) (seen : N → Bool) (keep : Keep) (objects : List O) (seats : ℕ) where
   abbrev S : Type 0
   S = Option (Cell O N)
 
@@ -78,7 +105,10 @@ module _ {O N X A R : Type 0} (value : O → X) (after : X → N → X) (may : X
   St = State S V
 
   abbrev Rule : St → Type 0
-  Rule = Orderly value after may objects seats
+  Rule = Orderly value after may seen keep objects seats
+
+  abbrev sees : N → Bool
+  sees = keeps keep seen
 
   -- only views that hold no turn change
   reseated : (s : St) (o : Rule s) (vs : List V)
@@ -141,7 +171,7 @@ module _ {O N X A R : Type 0} (value : O → X) (after : X → N → X) (may : X
       (at_set vs other j spent u at))
       (λ f. let a = total-set (weight f) s.views id v b me in let d = total-set (weight f) vs other w spent them in let e = total-append (λ (l : Log N X). f l.number) w.logs v.logs in omega arith)
 
-  pub closes : (id : ℕ) (v : V) (ws : List ℕ) (xs : List S) → v.hold ≡ None → length v.logs ≡ seats → Final (Seen Rule id v) ws xs → Settled value after may objects seats xs v.logs
+  pub closes : (id : ℕ) (v : V) (ws : List ℕ) (xs : List S) → v.hold ≡ None → length v.logs ≡ seats → Final (Seen Rule id v) ws xs → Settled value after may sees objects seats xs v.logs
   closes id v ws xs free all t = let s : St = t.0 in let o : Rule s = t.1.0 in let me : get_elem? s.views id ≡ some v = t.1.1 in
       let mine : weight (λ _. 1) v ≡ seats = total-one v.logs ∙ all in
       let whole : total (weight (λ _. 1)) s.views ≡ seats = o.numbers (λ _. 1) ∙ below-one seats in
@@ -155,14 +185,14 @@ module _ {O N X A R : Type 0} (value : O → X) (after : X → N → X) (may : X
         most = entries o.places;
         many = o.many ∙ t.3;
         begun = o.begun;
-        cells = λ i p at. let inside = within o.places i p at in let long = o.many in let home = o.free i p at (idle i (omega arith)) in (home.cell, t.4 i (Some home.cell) home.at, home.history, home.now);
+        cells = λ i p at. let inside = within o.places i p at in let long = o.many in let home = o.free i p at (idle i (omega arith)) in (home.cell, t.4 i (Some home.cell) home.at, home.sifted.0 ∙ (λ d. sifted (keeps (home.kept d) seen) (home.history d)), home.now);
         right = o.right;
         fits = λ k l at. o.logs id v k l me at;
         numbers = λ f. sym (one-counts (weight f) s.views id v me (λ j u ne at. no-total (λ (l : Log N X). f l.number) u.logs (alone j u ne at))) ∙ o.numbers f;
       }
 
   pub starts : (ws : List ℕ) (xs : List S) → length ws ≡ length xs → ((i : ℕ) → get_or ws i 0 ≡ 0) → length objects ≡ length xs
-      → ((i : ℕ) (x : O) → get_elem? objects i ≡ some x → (c : Cell O N) × (get_elem? xs i ≡ some (Some c)) × (c.object ≡ x) × (c.history.items ≡ []))
+      → ((i : ℕ) (x : O) → get_elem? objects i ≡ some x → (c : Cell O N) × (get_elem? xs i ≡ some (Some c)) × (c.object ≡ x) × (past c ≡ []) × (c.seen.items ≡ []) × (c.last ≡ 0) × (c.count ≡ 0) × (c.keep ≡ keep))
       → Rule (opening ws xs (opening_view seats))
   starts ws xs wide quiet long each = let places : List (Place N X) = map (λ x. (value x, [])) objects in
       let wide' : length (map some xs) ≡ length xs = length-map xs some in
@@ -174,11 +204,13 @@ module _ {O N X A R : Type 0} (value : O → X) (after : X → N → X) (may : X
         same = wide ∙ sym wide';
         many = many ∙ sym wide';
         begun = map-pair N value objects;
-        free = λ i p e z. let t = at i p e in let c = each i t.0 t.1 in record {
+        free = λ i p e z. let t = at i p e in let c = each i t.0 t.1 in let none-past : past c.0 ≡ [] = c.3 in record {
           cell = c.0;
           at = at_map (λ (y : S). some y) xs i (Some c.0) c.1;
-          history = c.3 ∙ ap (λ (y : Place N X). y.1) t.2;
+          history = none-past ∙ ap (λ (y : Place N X). y.1) t.2;
           now = ap value c.2 ∙ ap (λ (y : Place N X). left_by after y.0 y.1) t.2;
+          kept = c.7;
+          sifted = (c.4 ∙ sym (ap (sifted (keeps c.0.keep seen)) none-past), c.5 ∙ sym (ap (λ (l : List (Held N)). last_of 0 (history_stamps l)) none-past), ap length none-past ∙ sym c.6);
         };
         held = λ i inside busy. absurd (busy (quiet i));
         holds = λ j u h e is. absurd (none-some None h refl (ap (λ (y : V). y.hold) (only-one (opening_view seats) j u e) ∙ is));
@@ -200,51 +232,85 @@ module _ {O N X A R : Type 0} (value : O → X) (after : X → N → X) (may : X
   zero_reads (suc n) (suc i) = zero_reads n i
 
   -- the table with the objects, each under a free lock
-  pub starts_free : (n : ℕ) (ws : List ℕ) (xs : List S) → ws ≡ replicate n zero → n ≡ length objects → AllZip IsLaid objects xs → Rule (opening ws xs (opening_view seats))
+  pub starts_free : (n : ℕ) (ws : List ℕ) (xs : List S) → ws ≡ replicate n zero → n ≡ length objects → AllZip (IsLaid keep) objects xs → Rule (opening ws xs (opening_view seats))
   starts_free n ws xs zeros count laid =
-      let long = zip_length (IsLaid {O = O} {N = N}) objects xs laid in
+      let long = zip_length (IsLaid {O = O} {N = N} keep) objects xs laid in
       starts ws xs (ap length zeros ∙ (length-replicate n zero ∙ (count ∙ long))) (λ i. ap (λ (l : List ℕ). get_or l i 0) zeros ∙ zero_reads n i) long
-      (λ i x at. let t = zip_at (IsLaid {O = O} {N = N}) objects xs i x laid at in let c = t.2.0 in (c, t.1 ∙ ap some t.2.1, t.2.2, t.2.3))
+      (λ i x at. let t = zip_at (IsLaid {O = O} {N = N} keep) objects xs i x laid at in let c = t.2.0 in (c, t.1 ∙ ap some t.2.1, t.2.2, t.2.3, t.2.4, t.2.5, t.2.6, t.2.7))
 
   -- what the closed places and logs come to
-  module _ (slots : List S) (logs : List (Log N X)) (kept : List (O × List (Held N))) (t : Settled value after may objects seats slots logs) (lifted : Lifted slots kept) where
+  module _ (slots : List S) (logs : List (Log N X)) (kept : List (O × List (Held N))) (t : Settled value after may sees objects seats slots logs) (lifted : Lifted slots kept) where
     as_many : length objects ≡ length t.places
     as_many = sym (length-map objects value) ∙ (sym (ap length t.begun) ∙ length-map t.places (λ (p : Place N X). p.0))
 
+    -- each closed object, with the whole history of its place
+    abbrev whole : List (O × List (Held N))
+    whole = histories_of t.places kept
+
+    as_whole : length t.places ≡ length kept
+    as_whole = t.many ∙ sym lifted.0
+
     -- the place of an object, and what was lifted out there
-    left_at : (i : ℕ) (x : O) → get_elem? objects i ≡ some x → (p : Place N X) × (c : Cell O N) × (get_elem? t.places i ≡ some p) × (p ≡ (value x, c.history.items)) × (value c.object ≡ left_by after p.0 p.1) × (get_elem? kept i ≡ some (c.object, c.history.items))
+    left_at : (i : ℕ) (x : O) → get_elem? objects i ≡ some x → (p : Place N X) × (c : Cell O N) × (get_elem? t.places i ≡ some p) × (p.0 ≡ value x) × (value c.object ≡ left_by after p.0 p.1) × (get_elem? kept i ≡ some (c.object, sifted sees p.1)) × (get_elem? whole i ≡ some (c.object, p.1))
     left_at i x at =
         let found = at-map (λ (p : Place N X). p.0) t.places i (value x) (ap (λ (l : List X). get_elem? l i) t.begun ∙ at_map value objects i x at) in
         let p = found.0 in
         let cell = t.cells i p found.1 in
         let c = cell.0 in
-        let history = cell.2 in
-        let start = found.2 in
-        (p, c, found.1, (λ d. (start d, sym history d)), cell.3, lifted.1 i c cell.1)
+        let there-now : get_elem? kept i ≡ some (c.object, sifted sees p.1) = lifted.1 i c cell.1 ∙ ap (λ (l : List (Held N)). some (c.object, l)) cell.2 in
+        (p, c, found.1, found.2, cell.3, there-now, history_here t.places kept i p (c.object, sifted sees p.1) found.1 there-now)
 
-    pub left_over : AllZip (IsLeft value after may seats) objects kept
-    left_over = zip_from (IsLeft value after may seats) objects kept (as_many ∙ (t.many ∙ sym lifted.0))
-        (λ i x k at at'. let l = left_at i x at in let p = l.0 in let c = l.1 in let right = subst (IsRight after may seats t.most) l.3 (t.right i p l.2) in
-        subst (IsLeft value after may seats x) (some-injective (c.object, c.history.items) k (sym l.5 ∙ at')) record {
-          object = l.4 ∙ ap (λ (q : Place N X). left_by after q.0 q.1) l.3;
+    left_over : AllZip (IsLeft value after may seats) objects whole
+    left_over = zip_from (IsLeft value after may seats) objects whole (as_many ∙ sym (histories_count t.places kept as_whole))
+        (λ i x k at at'. let l = left_at i x at in let p = l.0 in let c = l.1 in let start = l.3 in let right = subst (λ (y : X). IsRight after may seats t.most (y, p.1)) start (t.right i p l.2) in
+        subst (IsLeft value after may seats x) (some-injective (c.object, p.1) k (sym l.6 ∙ at')) record {
+          object = l.4 ∙ ap (λ (y : X). left_by after y p.1) start;
           rising = right.rising;
           given = right.given;
-          seated = all_from_each (λ (e : Held N). e.seat < seats) c.history.items right.known;
+          seated = all_from_each (λ (e : Held N). e.seat < seats) p.1 right.known;
         })
 
-    pub agrees : (j : ℕ) (l : Log N X) → get_elem? logs j ≡ some l → Agrees value after objects kept l
+    agrees : (j : ℕ) (l : Log N X) → get_elem? logs j ≡ some l → Agrees value after objects whole l
     agrees j l at = let fits = t.fits j l at in record {
       rising = stamps_rise 0 l.marks fits.stamped;
       stamped = fits.stamped;
-      same = λ i x k at-x at-k. let here = left_at i x (there_by_slice objects i x at-x) in let c = here.1 in
-          let same-k : (c.object, c.history.items) ≡ k = some-injective (c.object, c.history.items) k (sym here.5 ∙ there_by_slice kept i k at-k) in
-          fits.same i here.0 here.2 ∙ (ap (λ (q : Place N X). told after i l.number q.0 0 q.1) here.3 ∙ ap (λ (q : O × List (Held N)). told after i l.number (value x) 0 q.1) same-k);
+      same = λ i x k at-x at-k. let here = left_at i x (there_by_slice objects i x at-x) in let p = here.0 in let c = here.1 in
+          let same-k : (c.object, p.1) ≡ k = some-injective (c.object, p.1) k (sym here.6 ∙ there_by_slice whole i k at-k) in
+          fits.same i p here.2 ∙ (ap (λ (y : X). told after i l.number y 0 p.1) here.3 ∙ ap (λ (q : O × List (Held N)). told after i l.number (value x) 0 q.1) same-k);
       inside = all_from_each (λ (m : Mark N X). m.place < length objects) l.marks (subst (λ n. Each (λ (m : Mark N X). m.place < n) l.marks) (sym as_many) fits.inside);
     }
 
-  module _ (slots : List S) (logs : List (Log N X)) (t : Settled value after may objects seats slots logs) where
+    -- what was lifted out is of each history what is kept
+    kept_whole : kept ≡ map (sifted_of sees) whole
+    kept_whole = same_lists kept (map (sifted_of sees) whole) (sym (length-map whole (sifted_of sees) ∙ (histories_count t.places kept as_whole ∙ as_whole)))
+        (λ i k at. let inside = within kept i k at in let few = as_many in let wide = as_whole in let x = there objects i (omega arith) in let l = left_at i x.0 x.1 in
+        at_map (sifted_of sees) whole i (l.1.object, l.0.1) l.6 ∙ (sym l.5 ∙ at))
+
+    pub has_whole : HasWhole value after may sees seats objects logs kept
+    has_whole = record { whole = whole; objects = left_over; agree = all_from (Agrees value after objects whole) logs agrees; part = kept_whole }
+
+  module _ (slots : List S) (logs : List (Log N X)) (t : Settled value after may sees objects seats slots logs) where
     pub has_cells : HasCells slots
     has_cells i inside = let p = there t.places i (subst (λ n. i < n) (sym t.many) inside) in let cell = t.cells i p.0 p.1 in (cell.0, cell.1)
 
     pub borne : (n : ℕ) → n < seats → total (λ (l : Log N X). only n l.number) logs ≡ 1
     borne n few = t.numbers (only n) ∙ below-only-one n seats few
+
+-- a lock that keeps each entry has the whole history
+all_sifted : {N : Type 0} (seen : N → Bool) (es : List (Held N)) → sifted (keeps Every seen) es ≡ es
+all_sifted seen [] = refl
+all_sifted seen (e ∷ es) = ap (λ (l : List (Held _)). e ∷ l) (all_sifted seen es)
+
+pub sifts_nothing : {O N : Type 0} (seen : N → Bool) (whole : List (O × List (Held N))) → map (sifted_of (keeps Every seen)) whole ≡ whole
+sifts_nothing seen [] = refl
+sifts_nothing seen (k ∷ ks) = λ d. (k.0, all_sifted seen k.1 d) ∷ sifts_nothing seen ks d
+
+module _ {O N X A R : Type 0} (value : O → X) (after : X → N → X) (may : X → A → R → N → Type 0) (seen : N → Bool) (keep : Keep) (seats : ℕ) (starts : List O) (logs : List (Log N X)) (kept : List (O × List (Held N))) (h : HasWhole value after may (keeps keep seen) seats starts logs kept) (every : keep ≡ Every) where
+  nothing_lost : h.whole ≡ kept
+  nothing_lost = sym (h.part ∙ (ap (λ k. map (sifted_of (keeps k seen)) h.whole) every ∙ sifts_nothing seen h.whole))
+
+  pub every_left : AllZip (IsLeft value after may seats) starts kept
+  every_left = subst (AllZip (IsLeft value after may seats) starts) nothing_lost h.objects
+
+  pub every_agrees : All (Agrees value after starts kept) logs
+  every_agrees = subst (λ (l : List (O × List (Held N))). All (Agrees value after starts l) logs) nothing_lost h.agree

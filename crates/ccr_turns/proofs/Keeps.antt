@@ -1,5 +1,5 @@
 -- Each step keeps the rule.
-use Rattle.std.proofs.Common.{◌≡◌, ◌≢◌, ℕ, ◌+◌, ◌*◌, ◌^◌, ◌<◌, ◌≤◌, max, eqb, List, [], ◌∷◌, ◌++◌, map, length, length-append, get_or, set, sym, refl, ap, ◌∙◌, subst, ⊎_elim, arith, length-set, get_or-set_other, get_or-set_same, Option, Some, None}
+use Rattle.std.proofs.Common.{Bool, ◌≡◌, ◌≢◌, ℕ, ◌+◌, ◌*◌, ◌^◌, ◌<◌, ◌≤◌, max, eqb, List, [], ◌∷◌, ◌++◌, map, length, length-append, get_or, set, sym, refl, ap, ◌∙◌, subst, ⊎_elim, arith, length-set, get_or-set_other, get_or-set_same, Option, Some, None}
 use mathlib.Core.Logic.{dite}
 use mathlib.Core.Option.{some, none}
 use native.Mathlib.Decide.{ℕ_discrete, dec_le}
@@ -11,7 +11,7 @@ use Rattle.atomic_table.specs.Table.{State, step, Act, keeps, takes, gives, Vali
 use Rattle.atomic_table.proofs.Lists.{at_set, set_here, set_else, set_again, at_map, exchanged}
 use Rattle.ccr_turns.specs.Lists.{Rises, last_of, Each}
 use Rattle.ccr_turns.specs.Logs.{at_place, told, log_stamps, mark, log, FitsLog}
-use Rattle.ccr_turns.specs.Histories.{history_stamps, left_by, Place, entries, IsRight}
+use Rattle.ccr_turns.specs.Histories.{history_stamps, left_by, Place, entries, past, IsSifted, IsRight}
 use Rattle.ccr_turns.specs.Views.{view, hold, weight, Sat}
 use Rattle.ccr_turns.specs.Rule.{Holds, Orderly}
 use Rattle.ccr_turns.specs.Steps.{won, left, entered}
@@ -21,9 +21,10 @@ use Rattle.ccr_turns.specs.declared.history.Mark.{Mark}
 use Rattle.ccr_turns.specs.declared.history.Log.{Log}
 use Rattle.ccr_turns.specs.declared.history.Hold.{Hold}
 use Rattle.ccr_turns.specs.declared.history.View.{View}
+use Rattle.ccr_turns.specs.declared.kept.Keep.{Keep}
 use Rattle.ccr_turns.proofs.Rows.{total-set, there, within, few_entries, none-some, Some-injective, Some-at, term_le, terms_le, only, only-same, below-only, rises_more, last_more, each_more, stamped_more, at_place_here, at_place_else, left_by_more, told_here, told_else, given_more, only-one, first_of, last_same}
 
-module _ {O N X A R : Type 0} (value : O → X) (after : X → N → X) (may : X → A → R → N → Type 0) (objects : List O) (seats : ℕ) where
+module _ {O N X A R : Type 0} (value : O → X) (after : X → N → X) (may : X → A → R → N → Type 0) (seen : N → Bool) (keep : Keep) (objects : List O) (seats : ℕ) where
   abbrev S : Type 0
   S = Option (Cell O N)
 
@@ -37,7 +38,7 @@ module _ {O N X A R : Type 0} (value : O → X) (after : X → N → X) (may : X
   M = Sat O N X
 
   abbrev Rule : St → Type 0
-  Rule = Orderly value after may objects seats
+  Rule = Orderly value after may seen keep objects seats
 
   abbrev Goes : St → ℕ → ℕ → M → (ℕ → M → Type 0) → ℕ → Type 0
   Goes s i id m then k = (w : V) × (a : Act S) × Valid s.homes m.1 a × Rule (stepped s i k id m.1 w a) × then (get_or s.words i 0) (w, carried_after m.1 a)
@@ -61,7 +62,7 @@ module _ {O N X A R : Type 0} (value : O → X) (after : X → N → X) (may : X
         begun = o.begun;
         free = λ i p at z. o.free i p at (quiet i z);
         held = λ i inside z. o.held i inside (busy i z);
-        holds = λ j v h at is. let old = o.holds j v h at is in record { place = old.place; at = old.at; locked = λ z. old.locked (quiet h.place z); history = old.history; now = old.now; seated = old.seated };
+        holds = λ j v h at is. let old = o.holds j v h at is in record { place = old.place; at = old.at; locked = λ z. old.locked (quiet h.place z); history = old.history; now = old.now; kept = old.kept; seated = old.seated };
         one = o.one;
         right = o.right;
         logs = o.logs;
@@ -74,12 +75,12 @@ module _ {O N X A R : Type 0} (value : O → X) (after : X → N → X) (may : X
 
   -- a free lock is taken, and the place's cell goes out with the seat
   taken : (slots id : ℕ) (m : M) (place b x y : ℕ) → b ≢ 0 → place < slots → m.0.hold ≡ None → 0 < length m.0.logs
-      → (s : St) → Rule s → length s.homes ≡ slots → get_elem? s.views id ≡ some m.0 → get_or s.words place 0 ≡ 0 → Goes s place id m (won value (step slots place x y none) m) b
+      → (s : St) → Rule s → length s.homes ≡ slots → get_elem? s.views id ≡ some m.0 → get_or s.words place 0 ≡ 0 → Goes s place id m (won value seen (step slots place x y none) m) b
   taken slots id m place b x' y' some-word inside free seated s o wide me hit =
       let near : place < length o.places = let a = o.many in omega arith in
       let here : place < length s.words = let a = o.same in omega arith in
       let t = there o.places place near in let home = o.free place t.0 t.1 hit in let c = home.cell in
-      let h : Hold N X = hold place c.history.items (value c.object) in
+      let h : Hold N X = hold place (past c) (value c.object) c.keep in
       let w : V = view m.0.logs (Some h) in
       let low = low_stamps s o slots wide in
       let right = o.right place t.0 t.1 in
@@ -96,23 +97,24 @@ module _ {O N X A R : Type 0} (value : O → X) (after : X → N → X) (may : X
           free = λ i p at z. dite (ℕ_discrete i place)
               (λ e. absurd (some-word (sym one ∙ (ap (λ k. get_or (set s.words place b) k 0) (sym e) ∙ z))))
               (λ ne. let old = o.free i p at (sym (get_or-set_other s.words place i b 0 ne) ∙ z) in
-              record { cell = old.cell; at = set_else s.homes place i none ne ∙ old.at; history = old.history; now = old.now });
+              record { cell = old.cell; at = set_else s.homes place i none ne ∙ old.at; history = old.history; now = old.now; kept = old.kept; sifted = old.sifted });
           held = λ i inside-i busy. dite (ℕ_discrete i place)
               (λ e. (id, w, h, set_here s.views id w (within s.views id m.0 me), refl, sym e))
               (λ ne. let x = o.held i (let l = length-set s.homes place none in omega arith) (λ z. busy (get_or-set_other s.words place i b 0 ne ∙ z)) in
               (x.0, x.1, x.2, set_else s.views id x.0 w (λ same. none-some m.0.hold x.2 free (ap (λ (v : V). v.hold) (Some-at s.views id x.0 m.0 x.1 me same x.3) ∙ x.4)) ∙ x.3, x.4, x.5));
           holds = λ j v g at is. ⊎_elim
               (λ (q : (j ≡ id) × (w ≡ v)). let e : h ≡ g = Some-injective h g (ap (λ (u : V). u.hold) q.1 ∙ is) in
-              subst (λ (z : V × Hold N X). Holds after o.places (set s.words place b) z.0 z.1) (λ k. (q.1 k, e k)) record {
+              subst (λ (z : V × Hold N X). Holds after keep o.places (set s.words place b) z.0 z.1) (λ k. (q.1 k, e k)) record {
                 place = t.0;
                 at = t.1;
                 locked = λ z. some-word (sym one ∙ z);
                 history = home.history;
                 now = home.now;
+                kept = home.kept;
                 seated = seated;
               })
               (λ (q : (j ≢ id) × (get_elem? s.views j ≡ some v)). let old = o.holds j v g q.1 is in
-              record { place = old.place; at = old.at; locked = λ z. old.locked (sym (get_or-set_other s.words place g.place b 0 (λ e. theirs j v g q.1 is e)) ∙ z); history = old.history; now = old.now; seated = old.seated })
+              record { place = old.place; at = old.at; locked = λ z. old.locked (sym (get_or-set_other s.words place g.place b 0 (λ e. theirs j v g q.1 is e)) ∙ z); history = old.history; now = old.now; kept = old.kept; seated = old.seated })
               (at_set s.views id j w v at);
           one = λ j k v u g f at1 at2 is1 is2 e. ⊎_elim
               (λ (q : (j ≡ id) × (w ≡ v)). let mine : h ≡ g = Some-injective h g (ap (λ (u : V). u.hold) q.1 ∙ is1) in ⊎_elim
@@ -137,6 +139,7 @@ module _ {O N X A R : Type 0} (value : O → X) (after : X → N → X) (may : X
             refl,
             subst (λ (es : List (Held N)). last_of 0 (history_stamps es) ≤ slots * 2 ^ 64) (sym home.history) (let a = right.low in omega arith),
             λ k l at. let a = (o.logs id m.0 k l me at).low in omega arith,
+            home.sifted,
           )),
           λ miss. absurd (miss hit),
         ),
@@ -144,16 +147,16 @@ module _ {O N X A R : Type 0} (value : O → X) (after : X → N → X) (may : X
 
   -- the free lock is taken, and a held one stays as it is
   pub wins : (slots id : ℕ) (m : M) (place : ℕ) → place < slots → m.0.hold ≡ None → 0 < length m.0.logs
-      → Allows Rule slots id m place (λ n. either (eqb n 0) 1 n) (won value (step slots place 0 1 none) m)
+      → Allows Rule slots id m place (λ n. either (eqb n 0) 1 n) (won value seen (step slots place 0 1 none) m)
   wins slots id m place inside free seated s o wide me _ =
       let here : place < length s.words = let a = o.same in omega arith in
-      exchanged (get_or s.words place 0) 0 1 (Goes s place id m (won value (step slots place 0 1 none) m))
+      exchanged (get_or s.words place 0) 0 1 (Goes s place id m (won value seen (step slots place 0 1 none) m))
       (λ hit. taken slots id m place 1 0 1 (λ z. omega arith) inside free seated s o wide me hit)
       (λ miss. (m.0, keeps, tt, stays id m place (get_or s.words place 0) miss s o here me miss, ((λ hit. absurd (miss hit)), λ _. refl)))
 
   -- the free lock is taken, and a held one stays held
   pub waits : (slots id : ℕ) (m : M) (place : ℕ) → place < slots → m.0.hold ≡ None → 0 < length m.0.logs
-      → Allows Rule slots id m place (λ _. 2) (won value (step slots place 2 0 none) m)
+      → Allows Rule slots id m place (λ _. 2) (won value seen (step slots place 2 0 none) m)
   waits slots id m place inside free seated s o wide me _ =
       let here : place < length s.words = let a = o.same in omega arith in
       dite (ℕ_discrete (get_or s.words place 0) 0)
@@ -165,12 +168,12 @@ module _ {O N X A R : Type 0} (value : O → X) (after : X → N → X) (may : X
       → get_elem? s.views id ≡ some v → v.hold ≡ Some h → h.place ≡ place → w.hold ≡ None → ((f : ℕ → ℕ) → weight f w ≡ weight f v)
       → get_elem? places place ≡ some p → ((i : ℕ) → i ≢ place → get_elem? places i ≡ get_elem? o.places i) → length places ≡ length o.places
       → map (λ (q : Place N X). q.0) places ≡ map (λ (q : Place N X). q.0) o.places
-      → c.history.items ≡ p.1 → value c.object ≡ left_by after p.0 p.1
+      → past c ≡ p.1 → value c.object ≡ left_by after p.0 p.1 → c.keep ≡ keep → IsSifted seen c
       → ((i : ℕ) (q : Place N X) → get_elem? places i ≡ some q → IsRight after may seats (entries places) q)
       → ((k : ℕ) (l : Log N X) → get_elem? w.logs k ≡ some l → FitsLog after places (entries places) l)
       → ((j : ℕ) (u : V) (k : ℕ) (l : Log N X) → j ≢ id → get_elem? s.views j ≡ some u → get_elem? u.logs k ≡ some l → FitsLog after places (entries places) l)
       → Rule (stepped s place 0 id ((place, Some c) ∷ []) w gives)
-  released s o id place v w h c places p me mine is over weigh at others long begun history now right logs logs' =
+  released s o id place v w h c places p me mine is over weigh at others long begun history now kept sifted right logs logs' =
       let near : place < length s.homes = let a = within places place p at in let b = o.many in omega arith in
       let here : place < length s.words = let a = o.same in omega arith in
       let zero-now : get_or (set s.words place 0) place 0 ≡ 0 = get_or-set_same s.words place 0 0 here in
@@ -185,15 +188,15 @@ module _ {O N X A R : Type 0} (value : O → X) (after : X → N → X) (may : X
         begun = begun ∙ o.begun;
         free = λ i q at-i z. dite (ℕ_discrete i place)
             (λ e. let same-p : p ≡ q = Some-at places place i p q at e at-i in
-            record { cell = c; at = ap (get_elem? (set s.homes place (some (Some c)))) e ∙ set_here s.homes place (some (Some c)) near; history = history ∙ ap (λ (y : Place N X). y.1) same-p; now = now ∙ ap (λ (y : Place N X). left_by after y.0 y.1) same-p })
+            record { cell = c; at = ap (get_elem? (set s.homes place (some (Some c)))) e ∙ set_here s.homes place (some (Some c)) near; history = history ∙ ap (λ (y : Place N X). y.1) same-p; now = now ∙ ap (λ (y : Place N X). left_by after y.0 y.1) same-p; kept = kept; sifted = sifted })
             (λ ne. let old = o.free i q (sym (others i ne) ∙ at-i) (sym (get_or-set_other s.words place i 0 0 ne) ∙ z) in
-            record { cell = old.cell; at = set_else s.homes place i (some (Some c)) ne ∙ old.at; history = old.history; now = old.now });
+            record { cell = old.cell; at = set_else s.homes place i (some (Some c)) ne ∙ old.at; history = old.history; now = old.now; kept = old.kept; sifted = old.sifted });
         held = λ i inside-i busy. dite (ℕ_discrete i place)
             (λ e. absurd (busy (ap (λ k. get_or (set s.words place 0) k 0) e ∙ zero-now)))
             (λ ne. let x = o.held i (let l = length-set s.homes place (some (Some c)) in omega arith) (λ z. busy (get_or-set_other s.words place i 0 0 ne ∙ z)) in
             (x.0, x.1, x.2, set_else s.views id x.0 w (λ same. ne (sym x.5 ∙ (ap (λ (y : Hold N X). y.place) (Some-injective x.2 h (sym x.4 ∙ (sym (ap (λ (u : V). u.hold) (Some-at s.views id x.0 v x.1 me same x.3)) ∙ mine))) ∙ is))) ∙ x.3, x.4, x.5));
         holds = λ j u g at' is'. let t = idle j u g at' is' in let old = o.holds j u g t.1 is' in
-            record { place = old.place; at = others g.place t.2 ∙ old.at; locked = λ z. old.locked (sym (get_or-set_other s.words place g.place 0 0 t.2) ∙ z); history = old.history; now = old.now; seated = old.seated };
+            record { place = old.place; at = others g.place t.2 ∙ old.at; locked = λ z. old.locked (sym (get_or-set_other s.words place g.place 0 0 t.2) ∙ z); history = old.history; now = old.now; kept = old.kept; seated = old.seated };
         one = λ j k u x g f at1 at2 is1 is2 e. o.one j k u x g f (idle j u g at1 is1).1 (idle k x f at2 is2).1 is1 is2 e;
         right = right;
         logs = λ j u k l at' in-log. ⊎_elim
@@ -203,28 +206,28 @@ module _ {O N X A R : Type 0} (value : O → X) (after : X → N → X) (may : X
         numbers = λ f. let a = total-set (weight f) s.views id v w me in let b = o.numbers f in let d = weigh f in omega arith;
       }
 
-  abbrev holding : List (Log N X) → ℕ → List (Held N) → X → S → M
-  holding ls place es x c = (view ls (Some (hold place es x)), (place, c) ∷ [])
+  abbrev holding : List (Log N X) → ℕ → List (Held N) → X → Keep → S → M
+  holding ls place es x k c = (view ls (Some (hold place es x k)), (place, c) ∷ [])
 
-  pub leaves : (slots id : ℕ) (ls : List (Log N X)) (place : ℕ) (es : List (Held N)) (x : X) (c : Cell O N) → c.history.items ≡ es → value c.object ≡ x
-      → Allows Rule slots id (holding ls place es x (Some c)) place (λ _. 0) (λ _. left (step slots place 0 0 none) (holding ls place es x (Some c)) 0)
-  leaves slots id ls place es x c is now s o wide me _ =
-      let h : Hold N X = hold place es x in let v : V = view ls (Some h) in let w : V = view ls None in
+  pub leaves : (slots id : ℕ) (ls : List (Log N X)) (place : ℕ) (es : List (Held N)) (x : X) (c : Cell O N) → past c ≡ es → value c.object ≡ x → IsSifted seen c
+      → Allows Rule slots id (holding ls place es x c.keep (Some c)) place (λ _. 0) (λ _. left (step slots place 0 0 none) (holding ls place es x c.keep (Some c)) 0)
+  leaves slots id ls place es x c is now sifted s o wide me _ =
+      let h : Hold N X = hold place es x c.keep in let v : V = view ls (Some h) in let w : V = view ls None in
       let t = o.holds id v h me refl in (
         w,
         gives,
         tt,
-        released s o id place v w h c o.places t.place me refl refl refl (λ f. refl) t.at (λ i ne. refl) refl refl (is ∙ t.history) (now ∙ t.now) o.right
+        released s o id place v w h c o.places t.place me refl refl refl (λ f. refl) t.at (λ i ne. refl) refl refl (is ∙ t.history) (now ∙ t.now) t.kept sifted o.right
             (λ k l at. o.logs id v k l me at) (λ j u k l ne at in-log. o.logs j u k l at in-log),
         refl,
       )
 
   pub leaves_at : (slots id : ℕ) (m old : M) (ls : List (Log N X)) (place : ℕ) (c : Cell O N)
-      → old ≡ holding ls place c.history.items (value c.object) None → m ≡ (old.0, (place, Some c) ∷ rest old.1)
+      → old ≡ holding ls place (past c) (value c.object) c.keep None → m ≡ (old.0, (place, Some c) ∷ rest old.1) → IsSifted seen c
       → Allows Rule slots id m place (λ _. 0) (λ _. left (step slots place 0 0 none) m 0)
-  leaves_at slots id m old ls place c was is =
-      let e : holding ls place c.history.items (value c.object) (Some c) ≡ m = sym (is ∙ ap (λ (y : M). (y.0, (place, Some c) ∷ rest y.1)) was) in
-      subst (λ (y : M). Allows Rule slots id y place (λ _. 0) (λ _. left (step slots place 0 0 none) y 0)) e (leaves slots id ls place c.history.items (value c.object) c refl refl)
+  leaves_at slots id m old ls place c was is sifted =
+      let e : holding ls place (past c) (value c.object) c.keep (Some c) ≡ m = sym (is ∙ ap (λ (y : M). (y.0, (place, Some c) ∷ rest y.1)) was) in
+      subst (λ (y : M). Allows Rule slots id y place (λ _. 0) (λ _. left (step slots place 0 0 none) y 0)) e (leaves slots id ls place (past c) (value c.object) c refl refl sifted)
 
   -- the numbers of a view are below the count of seats, and no other view has one of them
   known_number : (s : St) (o : Rule s) (id k : ℕ) (v : V) → get_elem? s.views id ≡ some v → 0 < weight (only k) v → k < seats
@@ -236,11 +239,11 @@ module _ {O N X A R : Type 0} (value : O → X) (after : X → N → X) (may : X
   other_number s o id j k v u apart me them has has' =
       let a = (below-only k seats).0 in let b = o.numbers (only k) in let d = terms_le (weight (only k)) s.views id j v u apart me them in omega arith
 
-  pub enters : (slots id number : ℕ) (marks : List (Mark N X)) (place : ℕ) (es : List (Held N)) (x : X) (c : Cell O N) (e : Held N) → c.history.items ≡ es ++ e ∷ [] → value c.object ≡ after x e.note
-      → ((ask : A) × (reply : R) × may x ask reply e.note) → e.seat ≡ number → e.stamp ≡ max (last_of 0 (history_stamps es)) (last_of 0 (log_stamps marks)) + 1 → length c.history.items < 2 ^ 64
-      → Allows Rule slots id (holding (log number marks ∷ []) place es x (Some c)) place (λ _. 0) (λ _. entered (step slots place 0 0 none) (holding (log number marks ∷ []) place es x (Some c)) 0)
-  enters slots id number marks place es x c e is now given mine stamp small s o wide me _ =
-      let h : Hold N X = hold place es x in
+  pub enters : (slots id number : ℕ) (marks : List (Mark N X)) (place : ℕ) (es : List (Held N)) (x : X) (c : Cell O N) (e : Held N) → past c ≡ es ++ e ∷ [] → value c.object ≡ after x e.note → IsSifted seen c
+      → ((ask : A) × (reply : R) × may x ask reply e.note) → e.seat ≡ number → e.stamp ≡ max (last_of 0 (history_stamps es)) (last_of 0 (log_stamps marks)) + 1 → length (past c) < 2 ^ 64
+      → Allows Rule slots id (holding (log number marks ∷ []) place es x c.keep (Some c)) place (λ _. 0) (λ _. entered (step slots place 0 0 none) (holding (log number marks ∷ []) place es x c.keep (Some c)) 0)
+  enters slots id number marks place es x c e is now sifted given mine stamp small s o wide me _ =
+      let h : Hold N X = hold place es x c.keep in
       let v : V = view (log number marks ∷ []) (Some h) in
       let m : Mark N X = mark place e.stamp e.note x (last_of 0 (history_stamps es)) in
       let w : V = view (log number (marks ++ m ∷ []) ∷ []) None in
@@ -258,7 +261,7 @@ module _ {O N X A R : Type 0} (value : O → X) (after : X → N → X) (may : X
       let low-es = right.low in
       let low-ms = my-log.low in
       let low : e.stamp ≤ entries places = omega arith in
-      let whole : c.history.items ≡ p.1 ++ e ∷ [] = is ∙ ap (λ (l : List (Held N)). l ++ e ∷ []) t.history in
+      let whole : past c ≡ p.1 ++ e ∷ [] = is ∙ ap (λ (l : List (Held N)). l ++ e ∷ []) t.history in
       let has : 0 < weight (only number) v = let a = only-same number number refl in omega arith in
       let stamps-more : history_stamps (p.1 ++ e ∷ []) ≡ history_stamps p.1 ++ e.stamp ∷ [] = map-append (λ (d : Held N). d.stamp) p.1 (e ∷ []) in
       let marks-more : log_stamps (marks ++ m ∷ []) ≡ log_stamps marks ++ e.stamp ∷ [] = map-append (λ (d : Mark N X). d.stamp) marks (m ∷ []) in
@@ -271,7 +274,7 @@ module _ {O N X A R : Type 0} (value : O → X) (after : X → N → X) (may : X
         tt,
         released s o id place v w h c places p' me refl refl refl (λ f. refl) (set_here o.places place p' near) (λ i ne. set_else o.places place i p' ne) long
             (map-set (λ (q : Place N X). q.0) o.places place p' ∙ set_again (map (λ (q : Place N X). q.0) o.places) place p.0 (at_map (λ (q : Place N X). q.0) o.places place p t.at))
-            whole after-e
+            whole after-e t.kept sifted
             (λ i q at. ⊎_elim
             (λ (y : (i ≡ place) × (p' ≡ q)). subst (IsRight after may seats (entries places)) y.1 record {
               rising = subst (Rises 0) (sym stamps-more) (rises_more 0 (history_stamps p.1) e.stamp right.rising (omega arith));
@@ -310,15 +313,15 @@ module _ {O N X A R : Type 0} (value : O → X) (after : X → N → X) (may : X
           λ c' e' h' is-h is-c is-e.
               let same-h : h ≡ h' = Some-injective h h' is-h in
               let same-c : c ≡ c' = Some-injective c c' (ap (λ (l : List (ℕ × S)). (first_of (Some c) l)) is-c) in
-              let same-e : e ≡ e' = last_same es e e' (sym is ∙ (ap (λ (y : Cell O N). y.history.items) same-c ∙ (is-e ∙ ap (λ (y : Hold N X). y.history ++ e' ∷ []) (sym same-h)))) in
+              let same-e : e ≡ e' = last_same es e e' (sym is ∙ (ap (λ (y : Cell O N). past y) same-c ∙ (is-e ∙ ap (λ (y : Hold N X). y.history ++ e' ∷ []) (sym same-h)))) in
               λ d. view (log number (marks ++ mark ((same-h d).place) ((same-e d).stamp) ((same-e d).note) ((same-h d).now) (last_of 0 (history_stamps ((same-h d).history))) ∷ []) ∷ []) None,
         ),
       )
 
   pub enters_at : (slots id : ℕ) (m old : M) (number : ℕ) (marks : List (Mark N X)) (place : ℕ) (es : List (Held N)) (x : X) (c : Cell O N) (e : Held N)
-      → old ≡ holding (log number marks ∷ []) place es x None → m ≡ (old.0, (place, Some c) ∷ rest old.1) → c.history.items ≡ es ++ e ∷ [] → value c.object ≡ after x e.note
-      → ((ask : A) × (reply : R) × may x ask reply e.note) → e.seat ≡ number → e.stamp ≡ max (last_of 0 (history_stamps es)) (last_of 0 (log_stamps marks)) + 1 → length c.history.items < 2 ^ 64
+      → old ≡ holding (log number marks ∷ []) place es x c.keep None → m ≡ (old.0, (place, Some c) ∷ rest old.1) → past c ≡ es ++ e ∷ [] → value c.object ≡ after x e.note → IsSifted seen c
+      → ((ask : A) × (reply : R) × may x ask reply e.note) → e.seat ≡ number → e.stamp ≡ max (last_of 0 (history_stamps es)) (last_of 0 (log_stamps marks)) + 1 → length (past c) < 2 ^ 64
       → Allows Rule slots id m place (λ _. 0) (λ _. entered (step slots place 0 0 none) m 0)
-  enters_at slots id m old number marks place es x c e was is-m is now given mine stamp small =
-      let path : holding (log number marks ∷ []) place es x (Some c) ≡ m = sym (is-m ∙ ap (λ (y : M). (y.0, (place, Some c) ∷ rest y.1)) was) in
-      subst (λ (y : M). Allows Rule slots id y place (λ _. 0) (λ _. entered (step slots place 0 0 none) y 0)) path (enters slots id number marks place es x c e is now given mine stamp small)
+  enters_at slots id m old number marks place es x c e was is-m is now sifted given mine stamp small =
+      let path : holding (log number marks ∷ []) place es x c.keep (Some c) ≡ m = sym (is-m ∙ ap (λ (y : M). (y.0, (place, Some c) ∷ rest y.1)) was) in
+      subst (λ (y : M). Allows Rule slots id y place (λ _. 0) (λ _. entered (step slots place 0 0 none) y 0)) path (enters slots id number marks place es x c e is now sifted given mine stamp small)

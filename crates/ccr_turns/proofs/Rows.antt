@@ -141,17 +141,6 @@ last_or-more d (x ∷ xs) y = last_or-more x xs y
 pub last_same : {A : Type 0} (xs : List A) (x y : A) → xs ++ x ∷ [] ≡ xs ++ y ∷ [] → x ≡ y
 last_same xs x y e = sym (last_or-more x xs x) ∙ (ap (last_or x) e ∙ last_or-more x xs y)
 
-last_at : {N : Type 0} (n : ℕ) (es : List (Held N)) (a : ℕ) (e : Held N) → length es ≡ suc n → slice_get es n ≡ Some e → e.stamp ≡ last_of a (history_stamps es)
-last_at n [] a e long at = absurd (omega arith)
-last_at zero (x ∷ []) a e long at = ap (λ (d : Held _). d.stamp) (sym (Some-injective x e at))
-last_at (suc n) (x ∷ []) a e long at = absurd (omega arith)
-last_at zero (x ∷ y ∷ ys) a e long at = absurd (omega arith)
-last_at (suc n) (x ∷ y ∷ ys) a e long at = last_at n (y ∷ ys) x.stamp e (omega arith) at
-
-pub last_entry : {N : Type 0} (es : List (Held N)) (e : Held N) → slice_get es (length es - 1) ≡ Some e → e.stamp ≡ last_of 0 (history_stamps es)
-last_entry [] e at = absurd (none-some None e refl at)
-last_entry (x ∷ xs) e at = let n : length (x ∷ xs) - 1 ≡ length xs = omega arith in last_at (length xs) (x ∷ xs) 0 e refl (subst (λ k. slice_get (x ∷ xs) k ≡ Some e) n at)
-
 pub at_append : {A : Type 0} (xs ys : List A) (k : ℕ) (a : A) → get_elem? (xs ++ ys) k ≡ some a → (get_elem? xs k ≡ some a) ⊎ ((i : ℕ) × (get_elem? ys i ≡ some a))
 at_append [] ys k a e = inr (k, e)
 at_append (x ∷ xs) ys zero a e = inl e

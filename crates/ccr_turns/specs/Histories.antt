@@ -1,7 +1,10 @@
 -- The history of a place.
-use Rattle.std.specs.Prelude.{ℕ, ◌^◌, ◌<◌, ◌≤◌, List, [], ◌∷◌, map, length}
+use Rattle.std.specs.Prelude.{◌≡◌, Bool, true, ℕ, ◌^◌, ◌<◌, ◌≤◌, List, [], ◌∷◌, map, filter, length}
 use Rattle.ccr_turns.specs.Lists.{total, Rises, last_of, Each}
 use Rattle.ccr_turns.specs.declared.history.Held.{Held}
+use Rattle.ccr_turns.specs.declared.history.Cell.{Cell}
+use Rattle.ccr_turns.specs.declared.kept.Keep.{Keep}
+use Rattle.ccr_turns.specs.declared.kept.Keep.TheVariants.{Every, Seen}
 
 -- the stamps of a history, in its order
 abbrev pub history_stamps : {N : Type 0} → List (Held N) → List ℕ
@@ -16,6 +19,27 @@ left_by after x (e ∷ es) = left_by after (after x e.note) es
 abbrev pub Given : {N X A R : Type 0} → (X → N → X) → (X → A → R → N → Type 0) → X → List (Held N) → Type 0
 Given after may x [] = Unit {0}
 Given {N} {X} {A} {R} after may x (e ∷ es) = ((ask : A) × (reply : R) × may x ask reply e.note) × Given after may (after x e.note) es
+
+-- ---- what is kept in memory
+
+-- whether a lock that keeps so much keeps the note, where these are to be seen
+abbrev pub keeps : {N : Type 0} → Keep → (N → Bool) → N → Bool
+keeps Every seen note = true
+keeps Seen seen note = seen note
+
+-- of a history, the entries that are kept
+abbrev pub sifted : {N : Type 0} → (N → Bool) → List (Held N) → List (Held N)
+sifted sees entries = filter (λ entry. sees entry.note) entries
+
+-- the history of a cell
+abbrev pub past : {O N : Type 0} → Cell O N → List (Held N)
+past cell = cell.history.entries
+
+-- the cell has of its history the entries that it keeps, the last stamp and the count
+abbrev pub IsSifted : {O N : Type 0} → (N → Bool) → Cell O N → Type 0
+IsSifted seen cell = (cell.seen.items ≡ sifted (keeps cell.keep seen) (past cell)) × (cell.last ≡ last_of 0 (history_stamps (past cell))) × (length (past cell) ≡ cell.count)
+
+-- ---- places
 
 -- a place: its object's value at the start, and its history
 abbrev pub Place : Type 0 → Type 0 → Type 0

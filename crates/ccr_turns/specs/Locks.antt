@@ -1,12 +1,13 @@
 -- What a caller sees of the locks and their seats.
-use Rattle.std.specs.Prelude.{◌≡◌, ℕ, ◌+◌, ◌<◌, max, All, List, [], ◌∷◌, ◌++◌, length, Some}
-use Rattle.std.specs.List.{slice_get}
+use Rattle.std.specs.Prelude.{◌≡◌, Bool, ℕ, ◌+◌, ◌<◌, max, All, List, [], ◌∷◌, ◌++◌, map, length, Some}
+use Rattle.std.specs.List.{slice_get, AllZip}
 use Rattle.ccr_turns.specs.Lists.{Rises, last_of}
-use Rattle.ccr_turns.specs.Histories.{history_stamps, left_by, Given}
+use Rattle.ccr_turns.specs.Histories.{history_stamps, left_by, sifted, Given}
 use Rattle.ccr_turns.specs.Logs.{mark, log, log_stamps, Stamped, at_place, marks_of, told}
 use Rattle.ccr_turns.specs.declared.history.Held.{Held}
 use Rattle.ccr_turns.specs.declared.history.Mark.{Mark}
 use Rattle.ccr_turns.specs.declared.history.Log.{Log}
+use Rattle.ccr_turns.specs.declared.kept.Keep.{Keep}
 use Rattle.ccr_turns.specs.declared.kept.Kept.{Ghosts}
 use Rattle.ccr_turns.specs.declared.turns.Turns.{Turns}
 use Rattle.ccr_turns.specs.declared.turns.Seat.{Seat}
@@ -19,6 +20,10 @@ module _ {O A R N X : Type 0} where
   -- how many seats there are
   abbrev pub seat_count : Turns O A R N X → ℕ
   seat_count turns = turns.table.shared.key.seats
+
+  -- which entries are kept in memory
+  abbrev pub keep_of : Turns O A R N X → Keep
+  keep_of turns = turns.table.shared.key.keep
 
   -- how many places there are
   abbrev pub place_count : Turns O A R N X → ℕ
@@ -63,3 +68,14 @@ pub record Agrees {O N X : Type 0} (value : O → X) (after : X → N → X) (st
   -- at each place the log has the seat's entries of that history, and no others
   pub same : (place : ℕ) (start : O) (left : O × List (Held N)) → slice_get starts place ≡ Some start → slice_get kept place ≡ Some left → at_place place l.marks ≡ told after place l.number (value start) 0 left.1
   pub inside : All (λ (m : Mark N X). m.place < length starts) l.marks
+
+-- of an object and its history, the object and the entries that are kept
+abbrev pub sifted_of : {O N : Type 0} → (N → Bool) → O × List (Held N) → O × List (Held N)
+sifted_of sees left = (left.0, sifted sees left.1)
+
+-- what was kept at the close is a part of the objects with their whole histories, with which the logs agree
+pub record HasWhole {O N X A R : Type 0} (value : O → X) (after : X → N → X) (may : X → A → R → N → Type 0) (sees : N → Bool) (seats : ℕ) (starts : List O) (logs : List (Log N X)) (kept : List (O × List (Held N))) : Type 0 where
+  pub whole : List (O × List (Held N))
+  pub objects : AllZip (IsLeft value after may seats) starts whole
+  pub agree : All (Agrees value after starts whole) logs
+  pub part : kept ≡ map (sifted_of sees) whole

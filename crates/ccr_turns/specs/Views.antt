@@ -8,6 +8,7 @@ use Rattle.ccr_turns.specs.declared.history.Cell.{Cell}
 use Rattle.ccr_turns.specs.declared.history.Log.{Log}
 use Rattle.ccr_turns.specs.declared.history.Hold.{Hold}
 use Rattle.ccr_turns.specs.declared.history.View.{View}
+use Rattle.ccr_turns.specs.declared.kept.Keep.{Keep}
 
 -- a view, and the slots that are out with the seat
 abbrev pub Sat : Type 0 → Type 0 → Type 0 → Type 0
@@ -17,8 +18,8 @@ module _ {N X : Type 0} where
   abbrev pub view : List (Log N X) → Option (Hold N X) → View N X
   view logs hold = record { logs = logs; hold = hold }
 
-  abbrev pub hold : ℕ → List (Held N) → X → Hold N X
-  hold place history now = record { place = place; history = history; now = now }
+  abbrev pub hold : ℕ → List (Held N) → X → Keep → Hold N X
+  hold place history now keep = record { place = place; history = history; now = now; keep = keep }
 
   -- the sum of a weight over the numbers of a view's logs
   abbrev pub weight : (ℕ → ℕ) → View N X → ℕ

@@ -5,7 +5,7 @@ ghost use Rattle.ccr_turns.specs.Views.{opening_view, cut_left, cut_right, joine
 ghost use Rattle.ccr_turns.specs.Steps.{won, left, entered};
 
 use crate::history::{Cell, View};
-use crate::kept::Kept;
+use crate::kept::{Keep, Kept};
 use atomic_table::{Join, Play, Split, TableRule};
 use ccr_base::List;
 use std::marker::PhantomData;
@@ -15,11 +15,12 @@ pub type Slot<O> = Option<Cell<O, <O as Kept>::Note>>;
 
 pub type ViewOf<O> = View<<O as Kept>::Note, <O as Kept>::Value>;
 
-/// What the table is told when it is made: the objects as they are then, and how many seats there are.
+/// What the table is told when it is made: the objects as they are then, and how many seats there are, and what is kept.
 #[derive(Drop)]
 pub struct Plan<O> {
     pub objects: Snapshot<List<O>>,
     pub seats: u32,
+    pub keep: Keep,
 }
 
 pub struct Order<O> {
@@ -27,7 +28,7 @@ pub struct Order<O> {
 }
 
 impl<O: Kept> TableRule<Slot<O>, ViewOf<O>, Plan<O>> for Order<O> {
-    ghost holds = { λ key. Orderly O.value O.after O.may key.objects.value key.seats };
+    ghost holds = { λ key. Orderly O.value O.after O.may O.seen key.keep key.objects.value key.seats };
 
     ghost first = { λ key. opening_view key.seats };
 }
@@ -38,7 +39,7 @@ pub struct Win<O> {
 }
 
 impl<O: Kept> Play<Slot<O>, ViewOf<O>> for Win<O> {
-    ghost then = { won O.value };
+    ghost then = { won O.value O.seen };
 }
 
 /// Ends a turn without an entry.

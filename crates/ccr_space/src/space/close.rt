@@ -1,13 +1,10 @@
 //! Closing the space.
 
-ghost use Rattle.std.specs.Prelude.{◌≡◌, ◌≤◌, ℕ, ◌<◌, ◌^◌, ◌++◌, ◌∷◌, [], if◌then◌else◌, length, map, All, IfOk, OnOk, vec_capacity};
-ghost use Rattle.ccr_turns.specs.Histories.{history_stamps};
-ghost use Rattle.ccr_turns.specs.Lists.{Rises};
+ghost use Rattle.std.specs.Prelude.{◌≡◌, ◌≤◌, ℕ, ◌<◌, ◌++◌, ◌∷◌, [], if◌then◌else◌, length, map, All, IfOk, OnOk, vec_capacity};
 ghost use Rattle.ccr_turns.specs.Locks.{IsSeatOf};
-ghost use Rattle.ccr_runs.specs.Orders.{merged};
 ghost use Rattle.ccr_net.specs.Visible.{visible as shown};
-ghost use Rattle.ccr_space.specs.Spaces.{IsPassOf, IsSpace, actor_count, is_stopped_in, stopped_of, HasSeat};
-ghost use Rattle.ccr_space.specs.Closes.{IsClosed, IsOfLocks};
+ghost use Rattle.ccr_space.specs.Spaces.{HasPlaces, HasSeat, IsPassOf, IsSpace, actor_count, is_stopped_in, stopped_of};
+ghost use Rattle.ccr_space.specs.Closes.{IsClosed, IsKeptOf};
 
 use super::{Pass, PassOf, Space, SpaceOf};
 use ccr_base::{ActorNo, List, OutOfMemory};
@@ -18,7 +15,7 @@ use ccr_runs::merge;
 use ccr_turns::{Held, Seat};
 use std::alloc::Global;
 
-/// What a lock kept: its object and its history.
+/// What a lock kept: its object, and of its history the entries that have a place in memory.
 pub type Left = (PlaceObject, List<Held<Deed>>);
 
 /// The entries of all places, the history that they show, and the actors whose passes are stopped.
@@ -62,12 +59,10 @@ impl<'w> Space<'w> {
         alloc: Global,
         seats: List<Seat<PlaceObject>>,
     ) -> Result<List<Left>, OutOfMemory>
-        requires space { IsSpace self }
+        requires space { HasPlaces self }
         requires seats { All (λ seat. IsSeatOf self.turns seat) seats }
         requires all { length seats ≡ actor_count self }
-        ensures few { IfOk result (λ kept. length kept < 2 ^ 32) }
-        ensures rising { IfOk result (λ kept. All (λ left. Rises 0 (history_stamps left.1)) kept) }
-        ensures locks { IfOk result (λ kept. IsOfLocks self.entry seats (merged kept)) }
+        ensures locks { IfOk result (λ kept. IsKeptOf self.entry seats kept) }
         ensures numbers { IfOk result (λ _. (actor : ℕ) → actor < actor_count self.entry → HasSeat seats actor) }
     {
         let SpaceOf {

@@ -2,16 +2,16 @@
 
 ghost use Rattle.std.specs.Prelude.{◌≡◌, ◌+◌, ◌≤◌, [], length, map, All, IfOk};
 ghost use Rattle.std.specs.List.{range_with_len};
-ghost use Rattle.ccr_turns.specs.Locks.{IsSeatOf, number_of, log_of};
+ghost use Rattle.ccr_turns.specs.Locks.{IsSeatOf, keep_of, number_of, log_of};
 ghost use Rattle.ccr_actor.specs.Acting.{started};
-ghost use Rattle.ccr_space.specs.Spaces.{IsPassOf, IsSpace, actor_count, log, number, wiring_of};
+ghost use Rattle.ccr_space.specs.Spaces.{HasPlaces, IsPassOf, IsSpace, actor_count, log, number, wiring_of};
 
 use super::{Pass, PassOf, Space, SpaceOf};
 use ccr_actor::Actor;
 use ccr_base::{ActorNo, List, OutOfMemory};
 use ccr_net::Directory;
 use ccr_object::{PlaceObject, place_objects};
-use ccr_turns::{Seat, Turns};
+use ccr_turns::{Keep, Seat, Turns};
 use ccr_wiring::{Wiring, valid_wirings_are_sound};
 use std::alloc::Global;
 
@@ -26,7 +26,8 @@ fn actors_with(wiring: &Wiring, workers: u32) -> u32
 }
 
 impl<'w> Space<'w> {
-    /// The places of the wiring under their locks, and one pass for each poster and worker, in the order of the actors.
+    /// The places of the wiring under their locks, which keep every entry, and one pass for each poster and worker, in the order of the
+    /// actors.
     pub fn make(
         alloc: Global,
         wiring: &'w Wiring,
@@ -41,9 +42,29 @@ impl<'w> Space<'w> {
         ensures numbers { IfOk result (λ made. map number made.1 ≡ range_with_len 0 (length wiring.now.posters + workers)) }
         ensures logs { IfOk result (λ made. All (λ pass. log pass ≡ []) made.1) }
     {
+        Space::make_with(alloc, wiring, workers, Keep::Every)
+    }
+
+    /// The same, with locks that keep so much of their histories in memory.
+    pub fn make_with(
+        alloc: Global,
+        wiring: &'w Wiring,
+        workers: u32,
+        keep: Keep,
+    ) -> Result<(Space<'w>, List<Pass<'w>>), OutOfMemory>
+        requires workers { workers ≤ 16 }
+        requires actors { 1 ≤ length wiring.now.posters + workers }
+        ensures space { IfOk result (λ made. HasPlaces made.0) }
+        ensures keep { IfOk result (λ made. keep_of made.0.turns ≡ keep) }
+        ensures wiring { IfOk result (λ made. wiring_of made.0 ≡ wiring.now) }
+        ensures count { IfOk result (λ made. actor_count made.0 ≡ length wiring.now.posters + workers) }
+        ensures passes { IfOk result (λ made. All (λ pass. IsPassOf made.0 pass) made.1) }
+        ensures numbers { IfOk result (λ made. map number made.1 ≡ range_with_len 0 (length wiring.now.posters + workers)) }
+        ensures logs { IfOk result (λ made. All (λ pass. log pass ≡ []) made.1) }
+    {
         let directory = Directory::of(alloc, wiring)?;
         let objects = place_objects(alloc, wiring)?;
-        let (turns, seats) = Turns::make(alloc, objects, actors_with(wiring, workers))?;
+        let (turns, seats) = Turns::make(alloc, objects, actors_with(wiring, workers), keep)?;
         let space = SpaceOf {
             turns,
             directory,

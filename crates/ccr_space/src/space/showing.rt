@@ -1,10 +1,8 @@
 //! Closing the space for the history alone: what shows nothing is left out before the entries are put in order.
 
 ghost use Rattle.std.specs.Prelude.{◌≡◌, ◌++◌, ◌∷◌, [], length, map, flat_map, All, IfOk, OnOk, option_to_list};
-ghost use Rattle.ccr_runs.specs.Orders.{in_order};
-ghost use Rattle.ccr_net.specs.Visible.{visible as shown};
-ghost use Rattle.ccr_space.specs.Spaces.{IsPassOf, IsSpace, actor_count, stopped_of, wiring_of};
-ghost use Rattle.ccr_space.specs.Closes.{IsClosed, told};
+ghost use Rattle.ccr_space.specs.Spaces.{HasPlaces, IsPassOf, actor_count, stopped_of};
+ghost use Rattle.ccr_space.specs.Closes.{IsShownOf};
 ghost use Rattle.ccr_space.specs.Shows.{held_shown, kept_shown, note_shown};
 
 use super::close::{Left, seats_of, short_of};
@@ -16,24 +14,21 @@ use ccr_object::Deed;
 use ccr_runs::{Stamped, in_order};
 use ccr_turns::Held;
 use std::alloc::Global;
-use std::snapshot::Snapshot;
 
-/// The history that the closed locks show, and the actors whose passes are stopped. Contracts alone see what the locks kept.
+/// The history that the closed locks show, and the actors whose passes are stopped.
 #[derive(Drop)]
 pub struct Seen {
-    pub kept: Snapshot<List<Left>>,
     pub history: History,
     pub short: List<ActorNo>,
 }
 
 impl<'w> Space<'w> {
-    /// Closes the locks as `close` does, and makes the history alone.
+    /// Closes the locks as `close` does, and makes the history alone. What the locks keep in memory is enough for it.
     pub fn show(self, alloc: Global, passes: List<Pass<'w>>) -> Result<Seen, OutOfMemory>
-        requires space { IsSpace self }
+        requires space { HasPlaces self }
         requires passes { All (λ pass. IsPassOf self pass) passes }
         requires all { length passes ≡ actor_count self }
-        ensures run { IfOk result (λ seen. IsClosed self.entry passes.entry (told (wiring_of self.entry) seen.kept.value)) }
-        ensures history { IfOk result (λ seen. seen.history ≡ shown (told (wiring_of self.entry) seen.kept.value)) }
+        ensures run { IfOk result (λ seen. IsShownOf self.entry passes.entry seen.history) }
         ensures short { IfOk result (λ seen. seen.short ≡ stopped_of passes.entry (actor_count self.entry)) }
     {
         let passes = passes.into_vec();
@@ -41,15 +36,10 @@ impl<'w> Space<'w> {
         let seats = Vec::with_capacity(alloc, passes.len())?;
         let seats = seats_of(passes, seats);
         let kept = self.unlock(alloc, List::from_vec(seats))?;
-        let before = Snapshot::of(&kept);
         let events = all_shown(alloc, kept.into_vec())?;
         let events = in_order(events)?;
         let history = history_of(alloc, events)?;
-        Ok(Seen {
-            kept: before,
-            history,
-            short,
-        })
+        Ok(Seen { history, short })
     }
 }
 

@@ -3,7 +3,7 @@
 ghost use Rattle.std.specs.Prelude.{◌≡◌, ◌≢◌, true, false, Ok};
 ghost use Rattle.ccr_claim.specs.Asks.{fits};
 ghost use Rattle.ccr_actor.specs.Acting.{due_in, IsAfter};
-ghost use Rattle.ccr_space.specs.Spaces.{IsPassOf, IsSpace, IsAtRest, IsHeard, IsLonger, IsMore, is_short, log, number};
+ghost use Rattle.ccr_space.specs.Spaces.{HasPlaces, IsPassOf, IsAtRest, IsHeard, IsLonger, IsMore, is_short, log, number};
 
 use super::{Pass, Space};
 use ccr_actor::Actor;
@@ -28,7 +28,7 @@ impl Space<'_> {
     /// Does the next step of the pass's actor, under one lock. It waits while another pass has that lock. The pass is stopped
     /// where the actor is short of memory then, and where the condition of its ask wasn't met.
     pub fn step<R: Wait>(&self, rt: &R, pass: &mut Pass<'_>) -> Step
-        requires space { IsSpace self.now }
+        requires space { HasPlaces self.now }
         requires pass { IsPassOf self.now pass.old }
         ensures pass { IsPassOf self.now pass.new }
         ensures number { number pass.new ≡ number pass.old }
@@ -45,7 +45,7 @@ impl Space<'_> {
 
     /// A step that asks the gate at its points.
     fn advance<R: Wait, G: Gate>(&self, rt: &R, gate: &G, pass: &mut Pass<'_>) -> Step
-        requires space { IsSpace self.now }
+        requires space { HasPlaces self.now }
         requires pass { IsPassOf self.now pass.old }
         ensures pass { IsPassOf self.now pass.new }
         ensures number { number pass.new ≡ number pass.old }
@@ -88,7 +88,7 @@ impl Space<'_> {
     /// Steps until the pass is at rest, and asks the gate. It answers how many entries its log has more, or 2^64 - 1 where there
     /// are more. A step that found no memory is none.
     pub fn run<R: Wait, G: Gate>(&self, rt: &R, gate: &G, pass: &mut Pass<'_>) -> u64
-        requires space { IsSpace self.now }
+        requires space { HasPlaces self.now }
         requires pass { IsPassOf self.now pass.old }
         ensures pass { IsPassOf self.now pass.new }
         ensures number { number pass.new ≡ number pass.old }

@@ -1,6 +1,6 @@
 //! An object that counts.
 
-ghost use Rattle.std.specs.Prelude.{◌≡◌, ◌+◌, IfOk, length};
+ghost use Rattle.std.specs.Prelude.{◌≡◌, ◌+◌, ◌%◌, ◌==◌, IfOk, length};
 
 use ccr_base::{List, OutOfMemory};
 use ccr_turns::Kept;
@@ -29,6 +29,13 @@ impl Kept for Counter {
     ghost may = { λ number ask reply note. (reply ≡ number + 1) × (note ≡ number + 1) };
 
     ghost after = { λ number note. note };
+
+    ghost seen = { λ note. note % 3 == 0 };
+
+    // Each third number.
+    fn is_seen(note: &u64) -> bool {
+        *note % 3 == 0
+    }
 
     fn act(&mut self, ask: Ask) -> Result<(u64, u64), OutOfMemory> {
         if ask == Ask::Refuse || self.0 == u64::MAX {

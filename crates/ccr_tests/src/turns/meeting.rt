@@ -1,11 +1,11 @@
 //! Two places whose objects meet: one act returns only once the other has begun.
 
-ghost use Rattle.std.specs.Prelude.{◌≡◌};
+ghost use Rattle.std.specs.Prelude.{◌≡◌, true};
 ghost use Rattle.ccr_turns.specs.Locks.{place_count, IsSeatOf};
 
 use crate::compare::same;
 use ccr_base::{List, OutOfMemory};
-use ccr_turns::{Kept, Seat, Turns};
+use ccr_turns::{Keep, Kept, Seat, Turns};
 use std::alloc::Global;
 use std::sync::atomic::{AtomicU64, Ordering};
 use std::sync::{Arc, Wait};
@@ -35,6 +35,12 @@ impl Kept for Meeting {
     ghost may = { λ _ _ _ _. Unit {0} };
 
     ghost after = { λ value _. value };
+
+    ghost seen = { λ _. true };
+
+    fn is_seen(_note: &()) -> bool {
+        true
+    }
 
     // Whether the act at the second place was seen to begin.
     fn act(&mut self, _ask: ()) -> Result<(bool, ()), OutOfMemory> {
@@ -71,7 +77,7 @@ fn two_places_at_once(rt: HostRuntime) -> Result<(), Fail> {
     let mut places = Vec::new(rt.alloc());
     places.push(Meeting::Waits(Arc::try_clone(&flag)?))?;
     places.push(Meeting::Begins(flag))?;
-    let (turns, seats) = Turns::make(rt.alloc(), List::from_vec(places), 2)?;
+    let (turns, seats) = Turns::make(rt.alloc(), List::from_vec(places), 2, Keep::Every)?;
     let met = thread::map_vec(
         &rt,
         seats.into_vec(),

@@ -7,7 +7,7 @@ use super::counter::{Ask, Counter, counters};
 use super::entries_of;
 use crate::compare::same;
 use ccr_base::List;
-use ccr_turns::{Held, Seat, Turns};
+use ccr_turns::{Held, Keep, Seat, Turns};
 use std::sync::Wait;
 use std::test::*;
 use std::thread;
@@ -68,7 +68,7 @@ fn is_in_order(history: &[Held<u64>]) -> bool {
 #[test]
 fn sixteen_seats_over_many_places(rt: HostRuntime) -> Result<(), Fail> {
     let counters = counters(rt.alloc(), PLACES as usize)?;
-    let (turns, seats) = Turns::make(rt.alloc(), counters, SEATS)?;
+    let (turns, seats) = Turns::make(rt.alloc(), counters, SEATS, Keep::Every)?;
     let seats = thread::map_vec(
         &rt,
         seats.into_vec(),

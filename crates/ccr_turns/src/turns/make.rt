@@ -5,12 +5,13 @@ ghost use Rattle.std.specs.List.{AllZip, range_with_len};
 ghost use Rattle.ccr_turns.specs.Logs.{fresh};
 ghost use Rattle.ccr_turns.specs.Views.{view};
 ghost use Rattle.ccr_turns.specs.Seated.{IsLaid};
-ghost use Rattle.ccr_turns.specs.Locks.{starts, seat_count, place_count, IsSeatOf, number_of, log_of};
+ghost use Rattle.ccr_turns.specs.Locks.{starts, seat_count, place_count, keep_of, IsSeatOf, number_of, log_of};
 
 use super::{Seat, Token, Turns};
 use crate::history::Cell;
-use crate::kept::Kept;
+use crate::kept::{Keep, Kept};
 use crate::rule::{Plan, Slot};
+use crate::trace::Trace;
 use atomic_table::{Refused, Table};
 use ccr_base::{List, OutOfMemory};
 use std::alloc::{AllocError, Global};
@@ -28,25 +29,31 @@ fn zeros(alloc: Global, count: usize) -> Result<Vec<u64>, AllocError>
 }
 
 // Each object with an empty history.
-fn cells<O: Kept>(alloc: Global, objects: Vec<O>) -> Result<Vec<Slot<O>>, AllocError>
-    ensures { IfOk result (λ v. AllZip IsLaid objects.items v.items) }
+fn cells<O: Kept>(alloc: Global, objects: Vec<O>, keep: Keep) -> Result<Vec<Slot<O>>, AllocError>
+    ensures { IfOk result (λ v. AllZip (IsLaid keep) objects.items v.items) }
 {
     let mut slots = Vec::with_capacity(alloc, objects.len())?;
     for object in objects {
         slots.push_reserved(Some(Cell {
+            keep,
             object,
-            history: Vec::new(alloc),
+            seen: Vec::new(alloc),
+            last: 0,
+            count: 0,
+            history: Trace::none(),
         }));
     }
     Ok(slots)
 }
 
 impl<O: Kept> Turns<O> {
-    /// Locks for these objects, in the order of their places, and the seats of all who may ask, numbered from 0.
+    /// Locks for these objects, in the order of their places, which keep so much of their histories, and the seats of all who
+    /// may ask, numbered from 0.
     pub fn make(
         alloc: Global,
         objects: List<O>,
         seats: u32,
+        keep: Keep,
     ) -> Result<(Turns<O>, List<Seat<O>>), OutOfMemory>
         requires seats { (1 ≤ seats) × (seats ≤ 33) }
         requires places { (1 ≤ length objects) × (length objects ≤ 8192) }
@@ -54,6 +61,7 @@ impl<O: Kept> Turns<O> {
         ensures objects { IfOk result (λ made. starts made.0 ≡ objects) }
         ensures places { IfOk result (λ made. place_count made.0 ≡ length objects) }
         ensures count { IfOk result (λ made. seat_count made.0 ≡ seats) }
+        ensures keep { IfOk result (λ made. keep_of made.0 ≡ keep) }
 
         ensures seats { IfOk result (λ made. All (λ seat. IsSeatOf made.0 seat) made.1) }
         ensures numbers { IfOk result (λ made. map number_of made.1 ≡ range_with_len 0 seats) }
@@ -62,11 +70,12 @@ impl<O: Kept> Turns<O> {
         let plan = Plan {
             objects: Snapshot::of(&objects),
             seats,
+            keep,
         };
         let objects = objects.into_vec();
         let words = zeros(alloc, objects.len())?;
         let dealt = Vec::with_capacity(alloc, seats as usize)?;
-        let slots = cells(alloc, objects)?;
+        let slots = cells(alloc, objects, keep)?;
         let (table, token) = match Table::new(alloc, words.as_slice(), slots, &plan) {
             Ok(made) => made,
             Err(Refused { slots: _ }) => return Err(OutOfMemory),

@@ -32,7 +32,7 @@ impl<O: Kept> Turns<O> {
     ) -> Cell<O, O::Note>
         requires { (token.old.table_id ≡ self.now.table.shared.table_id) × (place < self.now.table.shared.table_id.slots) × Ready token.old.me }
         ensures tied { token.new.table_id ≡ token.old.table_id }
-        ensures took { Took O.value self.now.table.shared.table_id.slots place token.old.me result token.new.me }
+        ensures took { Took O.value O.seen self.now.table.shared.table_id.slots place token.old.me result token.new.me }
     {
         self.lock(rt, token, place);
         self.table.shared.exchange(token, place, None).unwrap()
@@ -42,7 +42,7 @@ impl<O: Kept> Turns<O> {
     fn lock<R: Wait>(&self, rt: &R, token: &mut Token<O>, place: usize)
         requires { (token.old.table_id ≡ self.now.table.shared.table_id) × (place < self.now.table.shared.table_id.slots) × Ready token.old.me }
         ensures tied { token.new.table_id ≡ token.old.table_id }
-        ensures won { Won O.value self.now.table.shared.table_id.slots place token.old.me token.new.me }
+        ensures won { Won O.value O.seen self.now.table.shared.table_id.slots place token.old.me token.new.me }
     {
         if self.try_lock(token, place) {
             return;
@@ -57,7 +57,7 @@ impl<O: Kept> Turns<O> {
     fn try_lock(&self, token: &mut Token<O>, place: usize) -> bool
         requires { (token.old.table_id ≡ self.now.table.shared.table_id) × (place < self.now.table.shared.table_id.slots) × Ready token.old.me }
         ensures tied { token.new.table_id ≡ token.old.table_id }
-        ensures won { MatchBool result (Won O.value self.now.table.shared.table_id.slots place token.old.me token.new.me) (token.new.me ≡ token.old.me) }
+        ensures won { MatchBool result (Won O.value O.seen self.now.table.shared.table_id.slots place token.old.me token.new.me) (token.new.me ≡ token.old.me) }
     {
         let found = self
             .table
@@ -70,7 +70,7 @@ impl<O: Kept> Turns<O> {
     fn look(&self, token: &mut Token<O>, place: usize) -> bool
         requires { (token.old.table_id ≡ self.now.table.shared.table_id) × (place < self.now.table.shared.table_id.slots) × Ready token.old.me }
         ensures tied { token.new.table_id ≡ token.old.table_id }
-        ensures won { MatchBool result (Won O.value self.now.table.shared.table_id.slots place token.old.me token.new.me) (token.new.me ≡ token.old.me) }
+        ensures won { MatchBool result (Won O.value O.seen self.now.table.shared.table_id.slots place token.old.me token.new.me) (token.new.me ≡ token.old.me) }
     {
         for _ in 0..LOOKS {
             if self.table.shared.peek(place) != FREE {
@@ -88,7 +88,7 @@ impl<O: Kept> Turns<O> {
     fn sleep<R: Wait>(&self, rt: &R, token: &mut Token<O>, place: usize)
         requires { (token.old.table_id ≡ self.now.table.shared.table_id) × (place < self.now.table.shared.table_id.slots) × Ready token.old.me }
         ensures tied { token.new.table_id ≡ token.old.table_id }
-        ensures won { Won O.value self.now.table.shared.table_id.slots place token.old.me token.new.me }
+        ensures won { Won O.value O.seen self.now.table.shared.table_id.slots place token.old.me token.new.me }
     {
         let shared = &self.table.shared;
         for _ in rt.forever() {

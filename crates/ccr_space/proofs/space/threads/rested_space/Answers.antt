@@ -4,12 +4,12 @@ use Rattle.ccr_space.specs.Spaces.{IsAtRest, IsPassOf, number}
 use Rattle.ccr_space.proofs.Dealing.{length_by_number}
 use Rattle.ccr_space.proofs.space.threads.rested_space.Goals as goal
 
-pub returns : goal.returns
-returns g c =
+pub returns-clause-rested : goal.returns-clause-rested
+returns-clause-rested g c =
     let made = c.in_ok-space.ensures in
     let passes = c.from_vec.ensures in
     record {
-      is_space = made.space;
+      has_places = made.space;
       serves = made.wiring;
       count_is = made.count;
       all = ap length passes ∙ (c.in_ok-passes.ensures.len ∙ (ap length c.into_vec.ensures ∙ (length_by_number number _ _ made.numbers ∙ sym made.count)));

@@ -5,33 +5,39 @@ use Rattle.ccr_model.specs.Legal.{IsLegal, is_covered}
 use Rattle.ccr_actor.specs.Actors.{next}
 use Rattle.ccr_net.specs.declared.entries.Entry.{Entry}
 use Rattle.ccr_net.specs.Runs.{IsRun, IsRunAfter, never}
-use Rattle.ccr_space.specs.Closes.{told, IsAtEnd}
+use Rattle.ccr_space.specs.Closes.{IsAtEnd}
+use Rattle.ccr_space.proofs.Through.{brought_is_done}
 use Rattle.ccr_space.proofs.space.threads.run_threads.Goals as goal
 
 pub returns-clause-run : goal.returns-clause-run
 returns-clause-run g c =
-    let done = c.in_ok-seen.ensures.done in
     let w = c.args.wiring.now in
-    subst (λ (es : List Entry). IsRunAfter w c.args.workers never [] es) (sym done.entries_are) (c.played_runs_are_runs.ensures.run w c.args.workers never done.acts c.parts-valid.ensures.valid c.requires.workers done.played)
-
-pub returns-clause-rest : goal.returns-clause-rest
-returns-clause-rest g c = λ actor low.
-    let done = c.in_ok-seen.ensures.done in
-    let w = c.args.wiring.now in
-    let same = c.played_runs_are_runs.ensures.replies w c.args.workers never done.acts c.parts-valid.ensures.valid c.requires.workers done.played actor in
-    subst (λ (es : List Entry). IsAtEnd w es c.in_ok-seen.seen.short actor) (sym done.entries_are)
-    (subst (λ given. (list_any (λ n. n == actor) c.in_ok-seen.seen.short ≡ true) ⊎ (next w actor None given ≡ None)) same (done.through actor low))
+    let its = c.in_ok-seen.ensures in
+    let short = c.in_ok-seen.seen.short in
+    let done = brought_is_done w _ its.entries short its.brought in
+    record {
+      entries = its.entries;
+      run = subst (λ (es : List Entry). IsRunAfter w c.args.workers never [] es) (sym done.entries_are) (c.played_runs_are_runs.ensures.run w c.args.workers never done.acts c.parts-valid.ensures.valid c.requires.workers done.played);
+      rest = λ actor low.
+          let same = c.played_runs_are_runs.ensures.replies w c.args.workers never done.acts c.parts-valid.ensures.valid c.requires.workers done.played actor in
+          subst (λ (es : List Entry). IsAtEnd w es short actor) (sym done.entries_are)
+          (subst (λ given. (list_any (λ n. n == actor) short ≡ true) ⊎ (next w actor None given ≡ None)) same (done.through actor low));
+      threads = its.brought;
+      shown = its.shown;
+    }
 
 pub returns-clause-legal : goal.returns-clause-legal
 returns-clause-legal g c =
-    let done = c.in_ok-seen.ensures.done in
     let w = c.args.wiring.now in
-    let run : IsRun w c.args.workers (told c.args.wiring.now c.in_ok-seen.seen.kept.value) = record { lacks = never; steps = subst (λ (es : List Entry). IsRunAfter w c.args.workers never [] es) (sym done.entries_are) (c.played_runs_are_runs.ensures.run w c.args.workers never done.acts c.parts-valid.ensures.valid c.requires.workers done.played) } in
-    subst (IsLegal w) (sym c.in_ok-seen.ensures.history) (c.visible_runs_are_legal_and_covered.ensures.legal w c.args.workers (told c.args.wiring.now c.in_ok-seen.seen.kept.value) c.parts-valid.ensures.valid c.requires.workers run)
+    let its = c.in_ok-seen.ensures in
+    let done = brought_is_done w _ its.entries c.in_ok-seen.seen.short its.brought in
+    let run : IsRun w c.args.workers its.entries = record { lacks = never; steps = subst (λ (es : List Entry). IsRunAfter w c.args.workers never [] es) (sym done.entries_are) (c.played_runs_are_runs.ensures.run w c.args.workers never done.acts c.parts-valid.ensures.valid c.requires.workers done.played) } in
+    subst (IsLegal w) (sym its.shown) (c.visible_runs_are_legal_and_covered.ensures.legal w c.args.workers its.entries c.parts-valid.ensures.valid c.requires.workers run)
 
 pub returns-clause-covered : goal.returns-clause-covered
 returns-clause-covered g c =
-    let done = c.in_ok-seen.ensures.done in
     let w = c.args.wiring.now in
-    let run : IsRun w c.args.workers (told c.args.wiring.now c.in_ok-seen.seen.kept.value) = record { lacks = never; steps = subst (λ (es : List Entry). IsRunAfter w c.args.workers never [] es) (sym done.entries_are) (c.played_runs_are_runs.ensures.run w c.args.workers never done.acts c.parts-valid.ensures.valid c.requires.workers done.played) } in
-    subst (λ h. is_covered w h ≡ true) (sym c.in_ok-seen.ensures.history) (c.visible_runs_are_legal_and_covered.ensures.covered w c.args.workers (told c.args.wiring.now c.in_ok-seen.seen.kept.value) c.parts-valid.ensures.valid c.requires.workers run)
+    let its = c.in_ok-seen.ensures in
+    let done = brought_is_done w _ its.entries c.in_ok-seen.seen.short its.brought in
+    let run : IsRun w c.args.workers its.entries = record { lacks = never; steps = subst (λ (es : List Entry). IsRunAfter w c.args.workers never [] es) (sym done.entries_are) (c.played_runs_are_runs.ensures.run w c.args.workers never done.acts c.parts-valid.ensures.valid c.requires.workers done.played) } in
+    subst (λ h. is_covered w h ≡ true) (sym its.shown) (c.visible_runs_are_legal_and_covered.ensures.covered w c.args.workers its.entries c.parts-valid.ensures.valid c.requires.workers run)

@@ -1,8 +1,9 @@
-use Rattle.std.proofs.Common.{◌+◌, max, [], ◌∷◌, ◌++◌, ◌∙◌, sym, ap, arith}
+use Rattle.std.proofs.Common.{◌+◌, max, [], ◌∷◌, ◌++◌, ◌∙◌, sym, ap, arith, Some, None}
 use lib.ListN.{get_elem?}
 use Rattle.ccr_turns.specs.Logs.{log, mark, marks_of}
 use Rattle.ccr_turns.specs.Lists.{last_of}
-use Rattle.ccr_turns.specs.Histories.{history_stamps}
+use Rattle.ccr_turns.specs.Views.{view, hold}
+use Rattle.ccr_turns.specs.Histories.{history_stamps, past}
 use Rattle.ccr_turns.specs.Locks.{log_of}
 use Rattle.ccr_turns.proofs.Acting.{at_rest, rests, ready, turn_of, after_entry, last_mark}
 use Rattle.ccr_turns.proofs.turns.Turns.act.Goals as goal
@@ -28,15 +29,16 @@ enter-requires-clause-entry g c =
     record {
       number = seat.number;
       marks = log_of seat;
-      before = c.win-cell.result.history.items;
+      before = past c.win-cell.result;
       now = g.O.Kept.value c.win-cell.result.object;
       entry = acted.1.0;
-      me = turn_of _ (log_of seat) _ _ _ _ _ is took.0 took.1;
+      me = turn_of _ (log_of seat) _ _ _ _ _ _ is took.0 took.1 ∙ (λ d. (view (log seat.number (log_of seat) ∷ []) (Some (hold c.args.place (past c.win-cell.result) (g.O.Kept.value c.win-cell.result.object) (sym c.play.ensures.keep d))), (c.args.place, None) ∷ []));
+      sifted = c.play.ensures.sifted;
       history = acted.1.1;
       object = acted.1.2;
       given = (c.args.ask, c.in-Ok.reply, acted.1.3);
       seat = acted.1.4;
-      stamp = acted.1.5 ∙ (acted.0 ∙ ap (λ n. max (last_of 0 (history_stamps c.win-cell.result.history.items)) n + 1) (sym seat.rests.3));
+      stamp = acted.1.5 ∙ (acted.0 ∙ ap (λ n. max (last_of 0 (history_stamps (past c.win-cell.result))) n + 1) (sym seat.rests.3));
     }
 
 pub invariant_of-seat : goal.invariant_of-seat
@@ -46,10 +48,10 @@ invariant_of-seat g c =
     let took = c.win-cell.ensures.took in
     let acted = c.in-Ok.ensures.acted in
     let e = acted.1.0 in
-    let more = mark c.args.place e.stamp e.note (g.O.Kept.value c.win-cell.result.object) (last_of 0 (history_stamps c.win-cell.result.history.items)) in
+    let more = mark c.args.place e.stamp e.note (g.O.Kept.value c.win-cell.result.object) (last_of 0 (history_stamps (past c.win-cell.result))) in
     record {
       rests = rests _ _ (log_of seat ++ more ∷ []) _
-          (after_entry _ _ _ _ _ e _ _ c.play.new.cell (turn_of _ (log_of seat) _ _ _ _ _ is took.0 took.1) acted.1.1 c.enter.ensures.entered)
+          (after_entry _ _ _ _ _ _ e _ _ c.play.new.cell (turn_of _ (log_of seat) _ _ _ _ _ _ is took.0 took.1) acted.1.1 c.enter.ensures.entered)
           (last_mark (log_of seat) more ∙ acted.1.5);
     }
 
@@ -63,8 +65,8 @@ returns-in-Ok-clause-ok g c =
       e.stamp,
       e.note,
       g.O.Kept.value c.win-cell.result.object,
-      last_of 0 (history_stamps c.win-cell.result.history.items),
-      ap (λ m. marks_of m.0.logs) (after_entry _ _ _ _ _ e _ _ c.play.new.cell (turn_of _ (log_of seat) _ _ _ _ _ is took.0 took.1) acted.1.1 c.enter.ensures.entered),
-      acted.1.5 ∙ (acted.0 ∙ ap (λ n. max (last_of 0 (history_stamps c.win-cell.result.history.items)) n + 1) (sym seat.rests.3)),
+      last_of 0 (history_stamps (past c.win-cell.result)),
+      ap (λ m. marks_of m.0.logs) (after_entry _ _ _ _ _ _ e _ _ c.play.new.cell (turn_of _ (log_of seat) _ _ _ _ _ _ is took.0 took.1) acted.1.1 c.enter.ensures.entered),
+      acted.1.5 ∙ (acted.0 ∙ ap (λ n. max (last_of 0 (history_stamps (past c.win-cell.result))) n + 1) (sym seat.rests.3)),
       acted.1.3,
     )

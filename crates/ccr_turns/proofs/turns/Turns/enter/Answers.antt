@@ -13,7 +13,7 @@ swap-found-requires g c =
     let t = c.requires.entry in (
       c.exchange-out.ensures.0 ∙ c.requires.tied.0,
       rw c.args.self.now.places.0 c.requires.tied.1,
-      enters_at g.O.Kept.value g.O.Kept.after g.O.Kept.may key.objects.value key.seats _ _ _ _ t.number t.marks _ t.before t.now c.args.cell t.entry t.me c.exchange-out.ensures.3 t.history t.object t.given t.seat t.stamp (let a = c.len-count.ensures in let b = c.len-count.type_inv in omega arith),
+      enters_at g.O.Kept.value g.O.Kept.after g.O.Kept.may g.O.Kept.seen key.keep key.objects.value key.seats _ _ _ _ t.number t.marks _ t.before t.now c.args.cell t.entry t.me c.exchange-out.ensures.3 t.history t.object t.sifted t.given t.seat t.stamp (let a = t.sifted.2 in let b = c.entry_count-count.ensures in let d = c.entry_count-count.type_inv in omega arith),
     )
 
 pub returns-clause-entered : goal.returns-clause-entered

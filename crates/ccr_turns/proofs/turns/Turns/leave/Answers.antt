@@ -7,5 +7,5 @@ swap-found-requires g c =
     let key = c.args.self.now.table.shared.key in (
       c.exchange-out.ensures.0 ∙ c.requires.tied.0,
       rw c.args.self.now.places.0 c.requires.tied.1,
-      leaves_at g.O.Kept.value g.O.Kept.after g.O.Kept.may key.objects.value key.seats _ _ _ _ _ _ c.args.cell c.requires.holding c.exchange-out.ensures.3,
+      leaves_at g.O.Kept.value g.O.Kept.after g.O.Kept.may g.O.Kept.seen key.keep key.objects.value key.seats _ _ _ _ _ _ c.args.cell c.requires.holding c.exchange-out.ensures.3 c.requires.sifted,
     )

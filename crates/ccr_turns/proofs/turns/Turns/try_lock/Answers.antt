@@ -9,8 +9,8 @@ compare_exchange-found-requires g c =
     let ready = c.requires.2 in (
       c.requires.0,
       subst (λ n. c.args.place < n) (sym c.args.self.now.places.0) c.requires.1,
-      wins g.O.Kept.value g.O.Kept.after g.O.Kept.may key.objects.value key.seats _ _ _ _ c.requires.1 ready.0 ready.2,
+      wins g.O.Kept.value g.O.Kept.after g.O.Kept.may g.O.Kept.seen key.keep key.objects.value key.seats _ _ _ _ c.requires.1 ready.0 ready.2,
     )
 
 pub returns-clause-won : goal.returns-clause-won
-returns-clause-won g c = tried g.O.Kept.value _ _ 0 1 _ _ _ c.requires.2.1 c.compare_exchange-found.ensures.2
+returns-clause-won g c = tried g.O.Kept.value g.O.Kept.seen _ _ 0 1 _ _ _ c.requires.2.1 c.compare_exchange-found.ensures.2

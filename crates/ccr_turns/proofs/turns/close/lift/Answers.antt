@@ -37,9 +37,9 @@ loop-place-preserved g c =
       others.2 ∙ inv.3,
       c.push_reserved.ensures.len ∙ ap (λ n. n + 1) inv.4,
       subst (λ n. c.slot_count-place-end.result ≤ n) (sym c.push_reserved.ensures.capacity) inv.5,
-      (λ i cell below there. subst (λ (l : List _). get_elem? l i ≡ some (cell.object, cell.history.items)) (sym c.push_reserved.ensures.items) (dite (ℕ_discrete i at)
+      (λ i cell below there. subst (λ (l : List _). get_elem? l i ≡ some (cell.object, cell.seen.items)) (sym c.push_reserved.ensures.items) (dite (ℕ_discrete i at)
           (λ e. let is : here ≡ cell = Some-injective here cell (sym c.in-Some.is ∙ some-injective c.take-slot.result (Some cell) (sym found ∙ (ap (get_elem? (slots_items c.args.closed.slots)) (sym e) ∙ there))) in
-          at_last c.loop-place.kept.items _ i (long ∙ sym e) ∙ (ap (λ (h : List _). some (here.object, h)) c.from_vec.ensures ∙ (λ d. some ((is d).object, (is d).history.items))))
+          at_last c.loop-place.kept.items _ i (long ∙ sym e) ∙ (ap (λ (h : List _). some (here.object, h)) c.from_vec.ensures ∙ (λ d. some ((is d).object, (is d).seen.items))))
           (λ ne. at_longer c.loop-place.kept.items _ i _ (inv.6 i cell (omega arith) there)))),
     )
 

@@ -14,4 +14,4 @@ invariant-loop-place g l =
     × (slots_len l.closed.slots ≡ l.place-end)
     × (vec_len l.kept ≡ l.place)
     × (l.place-end ≤ vec_capacity l.kept)
-    × ((i : ℕ) (c : Cell _ _) → i < l.place → get_elem? (slots_items l.initial.closed.slots) i ≡ some (Some c) → get_elem? l.kept.items i ≡ some (c.object, c.history.items))
+    × ((i : ℕ) (c : Cell _ _) → i < l.place → get_elem? (slots_items l.initial.closed.slots) i ≡ some (Some c) → get_elem? l.kept.items i ≡ some (c.object, c.seen.items))

@@ -8,4 +8,4 @@ invariant-loop-object g l =
     (l.fn.objects.items ≡ l.yielded ++ l.object-iterator.rest.items)
     × (vec_len l.slots ≡ length l.yielded)
     × (length l.fn.objects.items ≤ vec_capacity l.slots)
-    × AllZip IsLaid l.yielded l.slots.items
+    × AllZip (IsLaid l.fn.keep) l.yielded l.slots.items
