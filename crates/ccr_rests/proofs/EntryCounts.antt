@@ -1,5 +1,5 @@
 -- How many entries tell something of a task at a place, and when one of them ends what one other began.
-use Rattle.std.proofs.Common.{inl, inr, ◌⊎◌, ◌≡◌, ◌≤◌, ◌<◌, ℕ, ◌+◌, Bool, true, false, List, [], ◌∷◌, ◌++◌, length, Some, refl, sym, arith, ap, ◌∙◌, subst, append_assoc, append-nil, length-append}
+use Rattle.std.proofs.Common.{inl, inr, ◌⊎◌, ◌≡◌, ◌≤◌, ◌<◌, ℕ, ◌+◌, ◌&&◌, Bool, true, false, List, [], ◌∷◌, ◌++◌, length, Some, refl, sym, arith, ap, ◌∙◌, subst, append_assoc, append-nil, length-append}
 use Rattle.std.specs.Prelude.{filter, if◌then◌else◌}
 use Rattle.std.proofs.lemmas.List.Elements.{filter-append}
 use Rattle.ccr_base.specs.declared.names.Place.{Place}
@@ -13,7 +13,7 @@ use Rattle.ccr_net.specs.declared.entries.Entry.{Entry}
 use Rattle.ccr_net.specs.Runs.{Lacks, IsRunAfter, made_by, same_place}
 use Rattle.ccr_net.proofs.MeterPart.{bit}
 use Rattle.ccr_net.proofs.Noted.{filter_among}
-use Rattle.ccr_rests.specs.Ends.{EndsOnce, tells, telling}
+use Rattle.ccr_rests.specs.Ends.{EndsOnce, tells, telling, telling_of}
 
 abbrev pub count : (Note → List TaskId) → Place → TaskId → List Entry → ℕ
 count names pl t es = length (telling names pl t es)
@@ -85,6 +85,15 @@ ends_once begins ends pl t past e more own is one none few few_ends = record {
 
     among : Among found.0 (telling begins pl t past)
     among = subst (Among found.0) (sym found.1) (inl refl)
+
+-- where none tells it at the place, and whoever tells it is there, none tells it
+pub none_else : (names : Note → List TaskId) (pl : Place) (t : TaskId) (es : List Entry) → telling names pl t es ≡ [] → ((x : Entry) → Among x es → has_task (names x.note) t ≡ true → same_place x.place pl ≡ true) → telling_of names t es ≡ []
+none_else names pl t [] none there = refl
+none_else names pl t (e ∷ es) none there = by (has_task (names e.note) t) refl (none_else names pl t es (none_of (telling names pl t es) (let all = ap length none in let first = count-first names pl t e es in omega (arith, all, first))) (λ x is. there x (inr is)))
+  where
+    by : (b : Bool) → has_task (names e.note) t ≡ b → telling_of names t es ≡ [] → (if b then e ∷ telling_of names t es else telling_of names t es) ≡ []
+    by false at rest = rest
+    by true at rest = absurd (let all = ap length none in let first = count-first names pl t e es in let one : bit (tells names pl t e) ≡ 1 = (λ i. bit (there e (inl refl) at i && at i)) in omega (arith, all, first, one))
 
 -- ---- a run in parts
 

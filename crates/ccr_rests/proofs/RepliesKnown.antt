@@ -23,7 +23,7 @@ use Rattle.ccr_wiring.specs.Valid.{IsValid}
 use Rattle.ccr_wiring.proofs.Soundness.{sound}
 use Rattle.ccr_model.specs.declared.history.Event.{Event}
 use Rattle.ccr_model.specs.declared.history.Event.TheVariants as events
-use Rattle.ccr_model.specs.Firings.{cut, dropped, fired, started}
+use Rattle.ccr_model.specs.Firings.{cut, dropped, started}
 use Rattle.ccr_model.specs.Legal.{IsAllowed, IsLegal}
 use Rattle.ccr_model.specs.Posts.{posted, posts}
 use Rattle.ccr_model.proofs.Allowing.{OneName-legal}

@@ -1,5 +1,5 @@
 -- A root is noted over once, at its domain.
-use Rattle.std.proofs.Common.{◌≡◌, ◌≤◌, ◌<◌, ℕ, zero, suc, ◌+◌, Bool, true, false, not, ◌&&◌, ◌||◌, List, [], ◌∷◌, ◌++◌, length, Option, Some, None, refl, sym, arith, ap, ◌∙◌, subst, append-nil}
+use Rattle.std.proofs.Common.{◌⊎◌, inr, inl, ◌≡◌, ◌≤◌, ◌<◌, ℕ, zero, suc, ◌+◌, Bool, true, false, not, ◌&&◌, ◌||◌, List, [], ◌∷◌, ◌++◌, length, Option, Some, None, refl, sym, arith, ap, ◌∙◌, subst, append-nil}
 use Rattle.std.specs.Prelude.{if◌then◌else◌, slice_get}
 use Rattle.std.specs.FinSet as set
 use Rattle.std.specs.Option.{option_map_or}
@@ -21,6 +21,8 @@ use Rattle.ccr_model.specs.Tasks.{is_branch_where}
 use Rattle.ccr_model.proofs.Allowing.{OneName-legal}
 use Rattle.ccr_model.proofs.Booleans.{both, eq-self, no_both, or_left, same_number}
 use Rattle.ccr_model.proofs.FiringFacts.{BranchFacts, BranchFacts-where, fired_by_named}
+use Rattle.ccr_model.proofs.FiredTasks.{IsFired, IsFired-append, placement_stays}
+use Rattle.ccr_model.proofs.Members.{Among, Among-either, Among-left, Among-right}
 use Rattle.ccr_model.proofs.SameNames.{same_task-is, same_task-self}
 use Rattle.ccr_model.proofs.TaskLists.{among_left, among_right}
 use Rattle.ccr_model.proofs.TaskPlaces.{placement_by}
@@ -38,7 +40,7 @@ use Rattle.ccr_net.specs.declared.entries.Entry.{Entry}
 use Rattle.ccr_net.specs.Places.{arbiter_after, arbiter_note, commit_note, first_branch, interleave_after, interleave_note, note_at_arbiter, note_by_kind, note_of}
 use Rattle.ccr_net.specs.Runs.{IsRunAfter, Lacks, made_by, notes_at, port_at, same_place, state_of}
 use Rattle.ccr_net.specs.Views.{arbiter_of}
-use Rattle.ccr_net.specs.Visible.{visible}
+use Rattle.ccr_net.specs.Visible.{event_of, visible}
 use Rattle.ccr_net.proofs.ActorSteps.{unfired}
 use Rattle.ccr_net.proofs.ArbiterPart.{fired_note, fired_there, is_of, none_at_first}
 use Rattle.ccr_net.proofs.Assembly.{Holds}
@@ -49,10 +51,10 @@ use Rattle.ccr_net.proofs.NotedOvers.{is_over_ask, noted_other, noted_over}
 use Rattle.ccr_net.proofs.PlayedPlaces.{same_place-is}
 use Rattle.ccr_net.proofs.PlayedRuns.{run_on}
 use Rattle.ccr_net.proofs.PlayedWhole.{run_holds}
-use Rattle.ccr_net.proofs.Pushes.{Step, Step-made, along_run, notes_at-push}
-use Rattle.ccr_rests.specs.Ends.{EndsOnce, fired_by, over_by, tells}
+use Rattle.ccr_net.proofs.Pushes.{Step, Step-made, along_run, notes_at-push, visible-push}
+use Rattle.ccr_rests.specs.Ends.{EndsOnce, fired_by, over_by, tells, telling_of}
 use Rattle.ccr_rests.proofs.BookingsOnce.{less}
-use Rattle.ccr_rests.proofs.EntryCounts.{AreOwn, Parted, count, count-first, count-push, ends_once, own-push, parted}
+use Rattle.ccr_rests.proofs.EntryCounts.{AreOwn, Parted, count, count-first, count-push, ends_once, none_else, own-push, parted}
 use Rattle.ccr_rests.proofs.Fires.{IsFiring, fired_told, firing_told, told_firing}
 use Rattle.ccr_rests.proofs.Rising.{fires_itself}
 
@@ -385,22 +387,73 @@ module _ (w : Parts) (workers : ℕ) (lacks : Lacks) (valid : IsValid w) (few : 
           let sums = all.balanced i r in
           ends_once fired_by over_by (places.Arbiter i) r past e more (run_known past parts.run).roots.own is over_then.0 over_then.1 few_fired (omega (arith, few_fired, sums))
 
-      -- the arbiter is the root's
+      -- the root fired at a branch of this arbiter
+      named : (f : Firing) × (firing_named (visible past) r ≡ Some f) × (is_branch_where w (is_of i) f.spot ≡ true)
+      named =
+          let holds = holds_so past parts.run in
+          fired_by_named w (is_of i) (visible past) r (OneName-legal w (visible past) holds.legal) (ap (λ ts. has_task ts r) (sym (holds.arbiters i)) ∙ fired_at_it i r past (let one = over_then.0 in omega (arith, one)))
+
       its_arbiter : arbiter_of w (visible past) r ≡ i
       its_arbiter = ap (λ o. option_map_or (λ (s : Placement). s.arbiter) o 0) (placement_by w (visible past) r named.0 named.1 ∙ ap (λ s. placement w (branch_of s)) facts.is_branch ∙ facts.is_place) ∙ same_number facts.place.arbiter i facts.passes
         where
-          holds : Holds w (length w.posters + workers) lacks past
-          holds = holds_so past parts.run
-
-          named : (f : Firing) × (firing_named (visible past) r ≡ Some f) × (is_branch_where w (is_of i) f.spot ≡ true)
-          named = fired_by_named w (is_of i) (visible past) r (OneName-legal w (visible past) holds.legal) (ap (λ ts. has_task ts r) (sym (holds.arbiters i)) ∙ fired_at_it i r past (let one = over_then.0 in omega (arith, one)))
-
           facts : BranchFacts w (is_of i) (named.0).spot
           facts = BranchFacts-where w (is_of i) (named.0).spot named.2
 
-    -- only the root's domain notes it over
-    pub root_domain : (r : TaskId) → has_task (over_by e.note) r ≡ true → e.place ≡ places.Arbiter (arbiter_of w (visible past) r)
-    root_domain r has = (let found = at_arbiter w step.asking.place (notes_at past step.asking.place) step.asking.ask e.note r step.gives has in let at : e.place ≡ places.Arbiter found.0 = step.there ∙ found.1 in at ∙ ap places.Arbiter (sym (its_arbiter found.0 r (told found.0 at))))
+      its_firing : IsFired (visible past) r
+      its_firing = (named.0, named.1)
+
+    -- only the root's domain notes it over, and it has fired
+    root_placed : (r : TaskId) → has_task (over_by e.note) r ≡ true → (e.place ≡ places.Arbiter (arbiter_of w (visible past) r)) × IsFired (visible past) r
+    root_placed r has = (at ∙ ap places.Arbiter (sym (its_arbiter found.0 r told)), its_firing found.0 r told)
       where
-        told : (i : ℕ) → e.place ≡ places.Arbiter i → tells over_by (places.Arbiter i) r e ≡ true
-        told i at = (λ k. same_place (at k) (places.Arbiter i) && has k) ∙ ap (λ b. b && true) (eq-self i)
+        found : (i : ℕ) × (step.asking.place ≡ places.Arbiter i)
+        found = at_arbiter w step.asking.place (notes_at past step.asking.place) step.asking.ask e.note r step.gives has
+
+        at : e.place ≡ places.Arbiter found.0
+        at = step.there ∙ found.1
+
+        told : tells over_by (places.Arbiter found.0) r e ≡ true
+        told = (λ k. same_place (at k) (places.Arbiter found.0) && has k) ∙ ap (λ b. b && true) (eq-self found.0)
+
+    pub root_domain : (r : TaskId) → has_task (over_by e.note) r ≡ true → e.place ≡ places.Arbiter (arbiter_of w (visible past) r)
+    root_domain r has = (root_placed r has).0
+
+  -- ---- nowhere else
+
+  -- each entry that notes a root over is at the domain of the root, as the whole run has it
+  record OversPlaced (es : List Entry) : Type 0 where
+    run : IsRunAfter w workers lacks [] es
+    placed : (x : Entry) → Among x es → (r : TaskId) → has_task (over_by x.note) r ≡ true → (x.place ≡ places.Arbiter (arbiter_of w (visible es) r)) × IsFired (visible es) r
+
+  overs_placed : (es : List Entry) → IsRunAfter w workers lacks [] es → OversPlaced es
+  overs_placed es run = along_run w workers lacks OversPlaced kept (record { run = tt; placed = λ x is r has. absurd is }) es run
+    where
+      kept : (past : List Entry) (e : Entry) → OversPlaced past → e.actor < length w.posters + workers → made_by w lacks past e.actor ≡ Some e → OversPlaced (past ++ e ∷ [])
+      kept past e known low made = record { run = on; placed = λ x is r has. of x r has (Among-either x past (e ∷ []) is) }
+        where
+          on : IsRunAfter w workers lacks [] (past ++ e ∷ [])
+          on = run_on w workers lacks [] past e known.run low made
+
+          later : (x : Entry) (r : TaskId) → (x.place ≡ places.Arbiter (arbiter_of w (visible past) r)) × IsFired (visible past) r → (x.place ≡ places.Arbiter (arbiter_of w (visible (past ++ e ∷ [])) r)) × IsFired (visible (past ++ e ∷ [])) r
+          later x r is = subst (λ g. (x.place ≡ places.Arbiter (arbiter_of w g r)) × IsFired g r) (sym (visible-push past e)) (is.0 ∙ ap (λ o. places.Arbiter (option_map_or (λ (s : Placement). s.arbiter) o 0)) (sym (placement_stays w (visible past) (event_of e) r is.1)), IsFired-append (visible past) (event_of e) r is.1)
+
+          of : (x : Entry) (r : TaskId) → has_task (over_by x.note) r ≡ true → Among x past ⊎ Among x (e ∷ []) → (x.place ≡ places.Arbiter (arbiter_of w (visible (past ++ e ∷ [])) r)) × IsFired (visible (past ++ e ∷ [])) r
+          of x r has (inl old) = later x r (known.placed x old r has)
+          of x r has (inr (inl same)) = subst (λ (y : Entry). (y.place ≡ places.Arbiter (arbiter_of w (visible (past ++ e ∷ [])) r)) × IsFired (visible (past ++ e ∷ [])) r) (sym same) (later e r (root_placed past e [] on r (subst (λ (y : Entry). has_task (over_by y.note) r ≡ true) same has)))
+          of x r has (inr (inr none)) = absurd none
+
+  module _ (past : List Entry) (e : Entry) (more : List Entry) (run : IsRunAfter w workers lacks [] (past ++ e ∷ more)) (r : TaskId) (has : has_task (over_by e.note) r ≡ true) where
+    abbrev its_domain : ℕ
+    its_domain = arbiter_of w (visible (past ++ e ∷ more)) r
+
+    placed_there : (x : Entry) → Among x (past ++ e ∷ more) → has_task (over_by x.note) r ≡ true → same_place x.place (places.Arbiter its_domain) ≡ true
+    placed_there x is also = ap (λ pl. same_place pl (places.Arbiter its_domain)) ((overs_placed (past ++ e ∷ more) run).placed x is r also).0 ∙ eq-self its_domain
+
+    ends_there : EndsOnce fired_by over_by (places.Arbiter its_domain) r past e more
+    ends_there = root_once past e more run its_domain r (λ i. placed_there e (Among-right e past (e ∷ more) (inl refl)) has i && has i)
+
+    pub root_before : telling_of over_by r past ≡ []
+    root_before = none_else over_by (places.Arbiter its_domain) r past ends_there.not_ended_before (λ x is also. placed_there x (Among-left x past (e ∷ more) is) also)
+
+    pub root_later : telling_of over_by r more ≡ []
+    root_later = none_else over_by (places.Arbiter its_domain) r more ends_there.not_ended_later (λ x is also. placed_there x (Among-right x past (e ∷ more) (inr is)) also)

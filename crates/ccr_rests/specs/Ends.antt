@@ -66,6 +66,10 @@ tells names place task entry = same_place entry.place place && has_task (names e
 abbrev pub telling : (Note → List TaskId) → Place → TaskId → List Entry → List Entry
 telling names place task entries = filter (tells names place task) entries
 
+-- those that tell it of the task, wherever they are
+abbrev pub telling_of : (Note → List TaskId) → TaskId → List Entry → List Entry
+telling_of names task entries = filter (λ (entry : Entry). has_task (names entry.note) task) entries
+
 -- whether some entry of the actor tells it of the task, wherever it is
 abbrev pub has_told : (Note → List TaskId) → ℕ → TaskId → List Entry → Bool
 has_told names actor task entries = list_any (λ (entry : Entry). (entry.actor == actor) && has_task (names entry.note) task) entries

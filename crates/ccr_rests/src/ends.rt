@@ -13,7 +13,7 @@ ghost use Rattle.ccr_net.specs.declared.entries.Entry.{Entry};
 ghost use Rattle.ccr_net.specs.Runs.{Lacks, IsRunAfter, port_at};
 ghost use Rattle.ccr_net.specs.Views.{arbiter_of};
 ghost use Rattle.ccr_net.specs.Visible.{visible};
-ghost use Rattle.ccr_rests.specs.Ends.{EndsBooking, EndsClaim, EndsOnce, booked_by, claimed_by, fired_by, over_by, tells, unbooked_by, unclaimed_by};
+ghost use Rattle.ccr_rests.specs.Ends.{EndsBooking, EndsClaim, EndsOnce, booked_by, claimed_by, fired_by, over_by, telling_of, tells, unbooked_by, unclaimed_by};
 ghost use Rattle.ccr_rests.specs.Keeping.{queue_in};
 
 /// A claim is consumed or freed by its own attempt alone, and once. The claim that an entry ends is the one that stands at the port;
@@ -36,8 +36,10 @@ pub fn bookings_are_ended_once()
 {}
 
 /// A root is noted over once, at its domain: only the domain at whose branch it fired notes it over, one entry before fired it, and
-/// no other entry notes it over there, before or after.
+/// no other entry notes it over, before or after, wherever it is.
 pub fn roots_are_noted_over_once()
     ensures domain { (wiring : Parts) (workers : ℕ) (lacks : Lacks) (past more : List Entry) (entry : Entry) (root : TaskId) → IsValid wiring → workers ≤ 16 → IsRunAfter wiring workers lacks [] (past ++ entry ∷ more) → has_task (over_by entry.note) root ≡ true → entry.place ≡ places.Arbiter (arbiter_of wiring (visible past) root) }
     ensures once { (wiring : Parts) (workers : ℕ) (lacks : Lacks) (past more : List Entry) (entry : Entry) (domain : ℕ) (root : TaskId) → IsValid wiring → workers ≤ 16 → IsRunAfter wiring workers lacks [] (past ++ entry ∷ more) → tells over_by (places.Arbiter domain) root entry ≡ true → EndsOnce fired_by over_by (places.Arbiter domain) root past entry more }
+    ensures before { (wiring : Parts) (workers : ℕ) (lacks : Lacks) (past more : List Entry) (entry : Entry) (root : TaskId) → IsValid wiring → workers ≤ 16 → IsRunAfter wiring workers lacks [] (past ++ entry ∷ more) → has_task (over_by entry.note) root ≡ true → telling_of over_by root past ≡ [] }
+    ensures later { (wiring : Parts) (workers : ℕ) (lacks : Lacks) (past more : List Entry) (entry : Entry) (root : TaskId) → IsValid wiring → workers ≤ 16 → IsRunAfter wiring workers lacks [] (past ++ entry ∷ more) → has_task (over_by entry.note) root ≡ true → telling_of over_by root more ≡ [] }
 {}

@@ -1,4 +1,4 @@
-use Rattle.ccr_rests.proofs.EntryCounts.{Parted, parted}
+use Rattle.ccr_rests.proofs.EntryCounts.{parted}
 use Rattle.ccr_rests.proofs.RepliesKnown.{reply_known}
 use Rattle.ccr_rests.proofs.replies.replies_name_what_the_wiring_has.Goals as goal
 
