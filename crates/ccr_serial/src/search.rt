@@ -92,6 +92,7 @@ fn nearer(
 }
 
 /// The first blocked branch that has room, if any: one look at each queue.
+#[inline(always)]
 fn first_open(wiring: &Wiring, ledger: &Ledger, blocked: &Blocked) -> Option<Found>
     requires { AreBlocked wiring.now blocked.now }
     ensures { IsFirstOpen wiring.now ledger.now blocked.now (length blocked.now) result }
@@ -154,6 +155,7 @@ fn ask(
 }
 
 /// The firing at the first touched spot before the limit that can fire. Those that are asked in vain are touched no longer.
+#[inline(always)]
 fn first_touched(
     wiring: &Wiring,
     ledger: &mut Ledger,
@@ -221,6 +223,7 @@ fn first_blocked(
 }
 
 /// The firing at the first blocked branch that can fire, or at a touched spot before it.
+#[inline(never)]
 fn first_of_both(
     wiring: &Wiring,
     ledger: &mut Ledger,
@@ -244,6 +247,7 @@ fn first_of_both(
 
 /// The firing of the task at the first spot that can fire. It is a touched one, or a blocked one whose queue has room: where the
 /// touched ones before the first such branch have no firing, that branch is asked, and then those behind it.
+#[inline(always)]
 pub(crate) fn first_fire(
     wiring: &Wiring,
     ledger: &mut Ledger,
