@@ -23,7 +23,7 @@ impl From<TryReserveError> for AllocError {
 }
 
 pub mod prelude {
-    pub use super::{ToTextIn, Vec};
+    pub use super::{Box, ToTextIn, Vec};
 }
 
 #[derive(Debug, PartialEq, Eq, Hash)]
@@ -137,6 +137,25 @@ impl<'a, T> IntoIterator for &'a Vec<T> {
     type IntoIter = std::slice::Iter<'a, T>;
     fn into_iter(self) -> Self::IntoIter {
         self.0.iter()
+    }
+}
+
+pub struct Box<T>(std::boxed::Box<T>);
+
+impl<T> Box<T> {
+    pub fn new(_: Global, item: T) -> Result<Self, AllocError> {
+        Ok(Box(std::boxed::Box::new(item)))
+    }
+
+    pub fn into_inner(boxed: Self) -> T {
+        *boxed.0
+    }
+}
+
+impl<T> Deref for Box<T> {
+    type Target = T;
+    fn deref(&self) -> &T {
+        &self.0
     }
 }
 
@@ -323,6 +342,13 @@ impl<K: Eq + Hash, V> IndexMap<K, V> {
         self.keys.iter().zip(self.values.iter())
     }
 
+    pub fn reserve(&mut self, count: usize) -> Result<(), AllocError> {
+        self.keys.try_reserve(count)?;
+        self.values.try_reserve(count)?;
+        self.hashes.try_reserve(count)?;
+        Ok(())
+    }
+
     pub fn insert(&mut self, key: K, value: V) -> Result<Option<V>, AllocError> {
         if let Some(place) = self.get_index_of(&key) {
             return Ok(Some(std::mem::replace(&mut self.values[place], value)));
@@ -394,6 +420,21 @@ pub type HashSet<K> = IndexSet<K>;
 /// What contracts see of a value. It has nothing here.
 pub struct Snapshot<T>(std::marker::PhantomData<T>);
 
+/// Writes a number's digits so that they end before this place, and answers where they begin.
+pub fn write_digits(number: u64, bytes: &mut [u8], end: usize) -> usize {
+    let (mut left, mut at) = (number, end);
+    while left >= 10 {
+        at -= 2;
+        bytes[at..at + 2].copy_from_slice(&PAIRS[(left % 100) as usize]);
+        left /= 100;
+    }
+    if left > 0 || number == 0 {
+        at -= 1;
+        bytes[at] = b'0' + left as u8;
+    }
+    at
+}
+
 /// A number's digits.
 pub struct Buffer([u8; 20]);
 
@@ -403,18 +444,9 @@ impl Buffer {
     }
 
     pub fn format(&mut self, number: u64) -> &str {
-        let (mut left, mut at) = (number, self.0.len());
-        while left >= 10 {
-            at -= 2;
-            self.0[at..at + 2].copy_from_slice(&PAIRS[(left % 100) as usize]);
-            left /= 100;
-        }
-        if left > 0 || number == 0 {
-            at -= 1;
-            self.0[at] = b'0' + left as u8;
-        }
+        let begin = write_digits(number, &mut self.0, 20);
         // (they are digits)
-        unsafe { std::str::from_utf8_unchecked(&self.0[at..]) }
+        unsafe { std::str::from_utf8_unchecked(&self.0[begin..]) }
     }
 }
 
