@@ -1,11 +1,11 @@
 -- What one word of a line says. Each number, name and spot has one word.
-use Rattle.std.specs.Prelude.{ℕ, ◌^◌, List, [], ◌∷◌, length, ◌==◌, nat_lt, nat_le, decimal, Option, Some, None, if◌then◌else◌}
+use Rattle.std.specs.Prelude.{ℕ, ◌^◌, List, [], ◌∷◌, length, ◌==◌, nat_lt, nat_le, Option, Some, None, if◌then◌else◌}
 use Rattle.std.specs.Option.{option_and_then}
-use Rattle.std.specs.Str.{bytes_eq}
 use Rattle.ccr_base.specs.declared.names.TaskId.{TaskId}
 use Rattle.ccr_base.specs.declared.names.MsgId.{MsgId}
 use Rattle.ccr_base.specs.declared.names.MsgId.TheVariants as ids
 use Rattle.ccr_text.specs.Words.{number_of, is_name_of}
+pub use Rattle.ccr_text.specs.Exact.{where_spelled}
 use Rattle.ccr_trace.specs.Pieces.{pieces}
 use Rattle.ccr_trace.specs.Said.{SpotName, most_numbers}
 
@@ -14,10 +14,6 @@ infixl 10 ◌>>=◌
 -- the second reads on where the first found something
 abbrev pub ◌>>=◌ : {A B : Type 0} → Option A → (A → Option B) → Option B
 found >>= next = option_and_then next found
-
--- the number where the word is its digits, which have no leading zero
-abbrev pub where_spelled : List ℕ → ℕ → Option ℕ
-where_spelled word n = if bytes_eq word (decimal n) then Some n else None
 
 -- a number below 2 ^ 64
 unfoldable pub exact_number : List ℕ → Option ℕ
@@ -43,9 +39,13 @@ each read (first ∷ words) = do
 abbrev pub where_few : ℕ → List ℕ → Option (List ℕ)
 where_few most numbers = if nat_le (length numbers) most then Some numbers else None
 
--- a value in a wiring of this version: numbers joined by commas, no more than it lets them be
+-- numbers joined by commas, so many at most
+abbrev pub values_in : ℕ → List ℕ → Option (List ℕ)
+values_in most word = each exact_number (pieces 44 word) >>= where_few most
+
+-- a value in a wiring of this version
 unfoldable pub value_of : ℕ → List ℕ → Option (List ℕ)
-value_of version word = each exact_number (pieces 44 word) >>= where_few (most_numbers version)
+value_of version word = values_in (most_numbers version) word
 
 -- a word of the form of a name
 abbrev pub name_of : List ℕ → Option (List ℕ)

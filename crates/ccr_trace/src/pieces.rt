@@ -1,8 +1,11 @@
 //! What stands between separators, from left to right: lines of a text, words of a line, numbers of a word.
 
-ghost use Rattle.std.specs.Prelude.{◌≡◌, ◌==◌, [], ◌∷◌, IfSome, IfNone, length};
+ghost use Rattle.std.specs.Prelude.{◌≡◌, ◌==◌, [], ◌∷◌, Some, None, IfSome, IfNone, length};
 ghost use Rattle.ccr_trace.specs.Pieces.{pieces};
+ghost use Rattle.ccr_trace.specs.Places.{exact_number};
+ghost use Rattle.ccr_trace.specs.Forms.{place};
 
+use ccr_text::number_before;
 use std::marker::Model;
 
 /// What stands before the first separator, and what stands behind it.
@@ -69,5 +72,16 @@ impl<'a> Pieces<'a> {
         let (piece, rest) = cut(self.separator, self.rest?);
         self.rest = rest;
         Some(piece)
+    }
+
+    /// Takes the first piece, where it is a number in its one spelling.
+    #[tactic(auto, using(crate::proofs::Firsts::number_place))]
+    pub fn number(&mut self) -> Option<u64>
+        ensures some { IfSome result (λ n. place exact_number self.old ≡ Some (n, self.new)) }
+        ensures none { IfNone result (place exact_number self.old ≡ None) }
+    {
+        let (number, rest) = number_before(self.separator, self.rest?)?;
+        self.rest = rest;
+        Some(number)
     }
 }

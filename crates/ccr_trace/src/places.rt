@@ -1,14 +1,15 @@
 //! What one word of a line says. Each number, name and spot has one word.
 
-ghost use Rattle.std.specs.Prelude.{◌≡◌, ◌≤◌};
+ghost use Rattle.std.specs.Prelude.{◌≡◌, Some, None, IfSome, IfNone};
 ghost use Rattle.std.specs.Str.{bytes_eq};
 ghost use Rattle.std.specs.Option.{option_map};
-ghost use Rattle.ccr_trace.specs.Said.{SpotName, most_numbers};
-ghost use Rattle.ccr_trace.specs.Places.{exact_number, short_number, value_of, task_in, task_of, script_in, answer_in, message_of, spot_with, spot_of};
+ghost use Rattle.ccr_trace.specs.Said.{SpotName};
+ghost use Rattle.ccr_trace.specs.Forms.{place};
+ghost use Rattle.ccr_trace.specs.Places.{exact_number, short_number, values_in, value_of, task_in, task_of, script_in, answer_in, message_of, spot_with, spot_of};
 
 use crate::pieces::Pieces;
 use ccr_base::{MAX_VALUE_NUMBERS, MsgId, TaskId, Value};
-use ccr_text::{is_name, read_number};
+use ccr_text::{is_name, read_exact_number};
 
 /// Whether the word is that text.
 pub fn is_text(word: &[u8], text: &str) -> bool
@@ -22,12 +23,7 @@ pub fn is_text(word: &[u8], text: &str) -> bool
 pub fn exact_number(word: &[u8]) -> Option<u64>
     ensures { result ≡ exact_number word.now }
 {
-    let number = read_number(word)?;
-    let mut buffer = itoa::Buffer::new();
-    if !is_text(word, buffer.format(number)) {
-        return None;
-    }
-    Some(number)
+    read_exact_number(word)
 }
 
 /// The same below 2^32.
@@ -42,45 +38,71 @@ pub fn short_number(word: &[u8]) -> Option<u32>
     Some(number as u32)
 }
 
-/// How many numbers a value has at most.
-fn most_numbers(version: u32) -> usize
-    ensures most { result ≡ most_numbers version }
-    ensures few { result ≤ 8 }
+/// One number.
+fn single_of(word: &[u8]) -> Option<Value>
+    ensures { result ≡ values_in 1 word.now }
 {
-    if version == 2 { MAX_VALUE_NUMBERS } else { 1 }
+    let mut parts = Pieces::new(b',', word);
+    let number = parts.number()?;
+    if !parts.is_empty() {
+        return None;
+    }
+    Some(Value::one(number))
 }
 
-/// Numbers joined by commas: 1 to 8 in version 2, else one.
-pub fn value_of(version: u32, word: &[u8]) -> Option<Value>
-    ensures { result ≡ value_of version word.now }
+/// 1 to 8 numbers joined by commas.
+fn several_of(word: &[u8]) -> Option<Value>
+    ensures { result ≡ values_in 8 word.now }
 {
-    let most = most_numbers(version);
     let mut numbers = [0; MAX_VALUE_NUMBERS];
     let mut count = 0;
     let mut parts = Pieces::new(b',', word);
-    'parts: while let Some(part) = parts.take() {
-        if count == most {
+    'parts: while !parts.is_empty() {
+        if count == MAX_VALUE_NUMBERS {
             return None;
         }
-        numbers[count] = exact_number(part)?;
+        numbers[count] = parts.number()?;
         count += 1;
     }
     Value::of(&numbers[..count])
 }
 
+/// Numbers joined by commas: 1 to 8 in version 2, else one.
+#[tactic(auto, unfolding(crate::specs::Places::value_of))]
+pub fn value_of(version: u32, word: &[u8]) -> Option<Value>
+    ensures { result ≡ value_of version word.now }
+{
+    if version == 2 {
+        several_of(word)
+    } else {
+        single_of(word)
+    }
+}
+
+/// Takes the first number, which is below 2^32.
+#[tactic(auto, using(crate::proofs::Firsts::short_none))]
+fn short_in(numbers: &mut Pieces<'_>) -> Option<u32>
+    ensures some { IfSome result (λ n. place short_number numbers.old ≡ Some (n, numbers.new)) }
+    ensures none { IfNone result (place short_number numbers.old ≡ None) }
+{
+    let number = numbers.number()?;
+    if number > u64::from(u32::MAX) {
+        return None;
+    }
+    Some(number as u32)
+}
+
 /// A.K
+#[tactic(auto, using(crate::proofs::Firsts::task_steps))]
 fn task_in(mut numbers: Pieces<'_>) -> Option<TaskId>
     ensures { result ≡ task_in numbers.entry }
 {
-    let actor = numbers.take()?;
-    let attempt = numbers.take()?;
+    let actor = short_in(&mut numbers)?;
+    let attempt = short_in(&mut numbers)?;
     if !numbers.is_empty() {
         return None;
     }
-    Some(TaskId {
-        actor: short_number(actor)?,
-        attempt: short_number(attempt)?,
-    })
+    Some(TaskId { actor, attempt })
 }
 
 /// tA.K
@@ -96,37 +118,32 @@ pub fn task_of(word: &[u8]) -> Option<TaskId>
 }
 
 /// A.K of a script.
+#[tactic(auto, using(crate::proofs::Firsts::script_steps))]
 fn script_in(mut numbers: Pieces<'_>) -> Option<MsgId>
     ensures { result ≡ script_in numbers.entry }
 {
-    let actor = numbers.take()?;
-    let place = numbers.take()?;
+    let actor = short_in(&mut numbers)?;
+    let place = short_in(&mut numbers)?;
     if !numbers.is_empty() {
         return None;
     }
-    Some(MsgId::Script {
-        actor: short_number(actor)?,
-        place: short_number(place)?,
-    })
+    Some(MsgId::Script { actor, place })
 }
 
 /// A.K.I
+#[tactic(auto, using(crate::proofs::Firsts::answer_steps))]
 fn answer_in(mut numbers: Pieces<'_>) -> Option<MsgId>
     ensures { result ≡ answer_in numbers.entry }
 {
-    let actor = numbers.take()?;
-    let attempt = numbers.take()?;
-    let place = numbers.take()?;
+    let actor = short_in(&mut numbers)?;
+    let attempt = short_in(&mut numbers)?;
+    let place = short_in(&mut numbers)?;
     if !numbers.is_empty() {
         return None;
     }
-    let task = TaskId {
-        actor: short_number(actor)?,
-        attempt: short_number(attempt)?,
-    };
     Some(MsgId::Task {
-        task,
-        place: short_number(place)?,
+        task: TaskId { actor, attempt },
+        place,
     })
 }
 
