@@ -12,3 +12,5 @@ pub mod Exclusion
 pub mod AfterTeardown
 pub mod ScriptLines
 pub mod TasksOnce
+pub mod HeldTaken
+pub mod FewCut

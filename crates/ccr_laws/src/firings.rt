@@ -1,6 +1,6 @@
 //! What every firing of a legal history takes, and how often branches fire. Each law is the contract of a function that does nothing.
 
-ghost use Rattle.std.specs.Prelude.{◌≡◌, ◌≤◌, ℕ, List, Some, true};
+ghost use Rattle.std.specs.Prelude.{◌≡◌, ◌≤◌, ◌+◌, ℕ, List, Some, true};
 ghost use Rattle.std.specs.List.{slice_get};
 ghost use Rattle.ccr_base.specs.declared.names.MsgId.{MsgId};
 ghost use Rattle.ccr_base.specs.declared.names.TaskId.{TaskId};
@@ -16,6 +16,7 @@ ghost use Rattle.ccr_model.specs.declared.history.Event.{Event};
 ghost use Rattle.ccr_model.specs.declared.history.Event.TheVariants.{Post, Fire};
 ghost use Rattle.ccr_base.specs.Names.{has_message};
 ghost use Rattle.ccr_model.specs.Firings.{fired};
+ghost use Rattle.ccr_model.specs.Counts.{totals};
 ghost use Rattle.ccr_model.specs.Consequences.{are_distinct_tasks};
 ghost use Rattle.ccr_model.specs.Legal.{IsLegal};
 ghost use Rattle.ccr_model.specs.Laws.{times_taken};
@@ -43,6 +44,11 @@ pub fn messages_have_one_fate()
     ensures fate { (wiring : Parts) → IsValid wiring → (history : List Event) → IsLegal wiring history → (past : List Event) (message : Msg) → Stands history past (Post message) → HasOneFate wiring history message.id }
     ensures once { (wiring : Parts) → IsValid wiring → (history : List Event) → IsLegal wiring history → (name : MsgId) → times_taken history name ≤ 1 }
     ensures held_before { (wiring : Parts) → IsValid wiring → (history : List Event) → IsLegal wiring history → (past : List Event) (task : TaskId) (spot : Spot) (messages : List MsgId) (cuts : List TaskId) → Stands history past (Fire task spot messages cuts) → (name : MsgId) → has_message messages name ≡ true → IsHeld past name }
+{}
+
+/// In all, as many messages were posted as are held and were taken.
+pub fn messages_are_held_or_taken()
+    ensures { (wiring : Parts) → IsValid wiring → (history : List Event) → IsLegal wiring history → (totals history).posted ≡ (totals history).held + (totals history).taken }
 {}
 
 /// No two firings have one task name.

@@ -11,7 +11,8 @@ mod scripts;
 pub use drops::drops_are_by_policy_alone;
 pub use fates::fate;
 pub use firings::{
-    firings_take_whole_patterns, messages_have_one_fate, single_firings_come_once, tasks_fire_once,
+    firings_take_whole_patterns, messages_are_held_or_taken, messages_have_one_fate,
+    single_firings_come_once, tasks_fire_once,
 };
 pub use interleaves::{
     cut_tasks_never_start, exclusive_roots_stay_alone, exclusive_roots_work_alone,

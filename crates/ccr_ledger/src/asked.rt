@@ -15,7 +15,9 @@ use crate::counts::{flag, number};
 use crate::named_choices::{are_choice_of, are_oldest};
 use crate::tasks::first_suspended;
 use crate::{Card, Ledger, Runner, Stage};
-use ccr_base::{ActorNo, BranchNo, Group, MsgId, OutOfMemory, Policy, QueueNo, Spot, TaskId};
+use ccr_base::{
+    ActorNo, BranchNo, Group, MsgId, OutOfMemory, Policy, PortNo, QueueNo, Spot, TaskId,
+};
 use ccr_model::placements::{is_teardown, placement, policy_of, site_port};
 use ccr_rows::Rows;
 use ccr_wiring::Wiring;
@@ -72,6 +74,13 @@ impl Ledger {
         ensures { result ≡ has_fired self.now task }
     {
         self.card(task).is_some()
+    }
+
+    /// How many messages the port holds.
+    pub fn count_held(&self, port: PortNo) -> usize
+        ensures { result ≡ length (row self.now.ports port) }
+    {
+        count(&self.ports, port)
     }
 
     /// Whether a branch of the group may fire once more.

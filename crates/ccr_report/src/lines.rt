@@ -1,12 +1,15 @@
 //! The lines of a report.
 
-ghost use Rattle.std.specs.Prelude.{◌≡◌, ◌++◌, ◌∷◌, [], IfOk, OnOk, OnErr, map, codes, decimal};
+ghost use Rattle.std.specs.Prelude.{◌≡◌, ◌<◌, ℕ, ◌++◌, ◌∷◌, [], IfOk, OnOk, OnErr, map, length, slice_index, codes, decimal};
+ghost use Rattle.ccr_wiring.specs.Wirings.{spots as spots_of};
+ghost use Rattle.ccr_model.specs.Posts.{posted as posted_to, held as held_by};
+ghost use Rattle.ccr_model.specs.Firings.{fired_at};
 ghost use Rattle.ccr_text.specs.Spelling.{line_text, text_of};
+ghost use Rattle.ccr_report.specs.Counting.{put_at, dropped_at};
+ghost use Rattle.ccr_report.specs.Counted.{IsCounted};
 ghost use Rattle.ccr_report.specs.Report.{port_lines, spot_words, queue_lines, amount_text, total_words, report_text};
 
-use crate::counts::totals;
-use crate::spots::{count_at, firings_at};
-use crate::tables::{port_counts, queue_counts};
+use crate::counted::{Counts, counts_of};
 use ccr_base::{List, Name, OutOfMemory, Spot};
 use ccr_model::{Event, History, Totals};
 use ccr_spots::{branch_names, spot_text};
@@ -22,15 +25,28 @@ pub fn report_text(
 ) -> Result<List<u8>, OutOfMemory>
     ensures { IfOk result (λ text. text ≡ report_text wiring.now history.now) }
 {
+    let counts = counts_of(alloc, wiring, history)?;
+    counted_text(alloc, wiring, history, &counts)
+}
+
+/// The same from the history's counts. The events aren't looked at.
+pub fn counted_text(
+    alloc: Global,
+    wiring: &Wiring,
+    history: &History,
+    counts: &Counts,
+) -> Result<List<u8>, OutOfMemory>
+    requires { IsCounted wiring.now history.now counts.now }
+    ensures { IfOk result (λ text. text ≡ report_text wiring.now history.now) }
+{
     let branches = branch_names(alloc, wiring.parts())?;
-    let totals = totals(alloc, wiring, history)?;
     let text = text_of(
         alloc,
         wiring.parts(),
         &branches,
         wiring.spots(),
         history.events(),
-        &totals,
+        counts,
     )?;
     Ok(text)
 }
@@ -41,16 +57,18 @@ fn text_of(
     branches: &List<Name>,
     spots: &[Spot],
     events: &[Event],
-    totals: &Totals,
+    counts: &Counts,
 ) -> Result<List<u8>, OutOfMemory>
-    ensures { IfOk result (λ text. text ≡ text_of ((codes "report" ∷ codes "1" ∷ []) ∷ (port_lines events.now 0 parts.now.ports ++ map (spot_words branches.now events.now) spots.now ++ queue_lines parts.now events.now 0 parts.now.queues ++ total_words totals.now ∷ []))) }
+    requires counted { IsCounted parts.now events.now counts.now }
+    requires spots { spots.now ≡ spots_of parts.now }
+    ensures { IfOk result (λ text. text ≡ text_of ((codes "report" ∷ codes "1" ∷ []) ∷ (port_lines events.now 0 parts.now.ports ++ map (spot_words branches.now events.now) spots.now ++ queue_lines parts.now events.now 0 parts.now.queues ++ total_words counts.now.totals ∷ []))) }
 {
     let mut out = List::new(alloc);
     put_line(&mut out, &[b"report", b"1"])?;
-    put_ports(alloc, &mut out, events, parts)?;
-    put_spots(alloc, &mut out, events, branches, spots)?;
-    put_queues(alloc, &mut out, events, parts)?;
-    put_total(alloc, &mut out, totals)?;
+    put_ports(alloc, &mut out, events, parts, &counts.posted, &counts.held)?;
+    put_spots(alloc, &mut out, events, branches, spots, &counts.fired)?;
+    put_queues(alloc, &mut out, events, parts, &counts.put, &counts.dropped)?;
+    put_total(alloc, &mut out, &counts.totals)?;
     Ok(out)
 }
 
@@ -59,14 +77,19 @@ fn put_ports(
     out: &mut List<u8>,
     events: &[Event],
     parts: &Parts,
+    posted: &[u64],
+    held: &[u64],
 ) -> Result<(), OutOfMemory>
+    requires posted_len { length posted.now ≡ length parts.now.ports }
+    requires held_len { length held.now ≡ length parts.now.ports }
+    requires posted { (k : ℕ) → k < length parts.now.ports → slice_index posted.now k ≡ length (posted_to events.now k) }
+    requires held { (k : ℕ) → k < length parts.now.ports → slice_index held.now k ≡ length (held_by events.now k) }
     ensures { OnOk result (out.new ≡ out.old ++ text_of (port_lines events.now 0 parts.now.ports)) }
 {
     let ports = parts.ports.as_slice();
-    let counts = port_counts(alloc, events, ports.len())?;
     for (port, name) in ports.iter().enumerate() {
-        let posted = counts.posted[port];
-        let held = counts.held[port];
+        let posted = posted[port];
+        let held = held[port];
         put_port(
             alloc,
             out,
@@ -113,13 +136,14 @@ fn put_spots(
     events: &[Event],
     branches: &List<Name>,
     spots: &[Spot],
+    counts: &[u64],
 ) -> Result<(), OutOfMemory>
+    requires { counts.now ≡ map (λ spot. length (fired_at events.now spot)) spots.now }
     ensures { OnOk result (out.new ≡ out.old ++ text_of (map (spot_words branches.now events.now) spots.now)) }
 {
-    let counts = firings_at(alloc, events)?;
-    for spot in spots {
+    for (place, spot) in spots.iter().enumerate() {
         let word = spot_text(alloc, branches.as_slice(), *spot)?;
-        let fired = count_at(&counts, *spot).to_string(alloc)?;
+        let fired = counts[place].to_string(alloc)?;
         put_line(
             out,
             &[b"branch", word.as_slice(), b"fired", fired.as_bytes()],
@@ -133,19 +157,18 @@ fn put_queues(
     out: &mut List<u8>,
     events: &[Event],
     parts: &Parts,
+    put: &[u64],
+    dropped: &[u64],
 ) -> Result<(), OutOfMemory>
+    requires put_len { length put.now ≡ length parts.now.queues }
+    requires dropped_len { length dropped.now ≡ length parts.now.queues }
+    requires put { (k : ℕ) → k < length parts.now.queues → slice_index put.now k ≡ length (put_at parts.now events.now k) }
+    requires dropped { (k : ℕ) → k < length parts.now.queues → slice_index dropped.now k ≡ length (dropped_at parts.now events.now k) }
     ensures { OnOk result (out.new ≡ out.old ++ text_of (queue_lines parts.now events.now 0 parts.now.queues)) }
 {
-    let counts = queue_counts(alloc, events, parts)?;
     let queues = parts.queues.as_slice();
     for (queue, part) in queues.iter().enumerate() {
-        put_queue(
-            alloc,
-            out,
-            part.name.as_slice(),
-            counts.put[queue],
-            counts.dropped[queue],
-        )?;
+        put_queue(alloc, out, part.name.as_slice(), put[queue], dropped[queue])?;
     }
     Ok(())
 }

@@ -1,6 +1,6 @@
 //! How often each spot fired.
 
-ghost use Rattle.std.specs.Prelude.{◌≡◌, ◌+◌, ◌-◌, ◌<◌, ◌^◌, [], ◌∷◌, IfOk, OnOk, length, unwrap_or, if◌then◌else◌};
+ghost use Rattle.std.specs.Prelude.{◌≡◌, ◌+◌, ◌-◌, ◌<◌, ◌^◌, [], ◌∷◌, IfOk, OnOk, length, map, unwrap_or, if◌then◌else◌};
 ghost use Rattle.std.specs.HashMap.{get};
 ghost use Rattle.ccr_base.specs.declared.names.Spot.{Spot as Place};
 ghost use Rattle.ccr_base.specs.Names.{same_spot};
@@ -11,8 +11,20 @@ use ccr_model::Event;
 use std::alloc::Global;
 use std::collections::HashMap;
 
+/// How often each spot fired, in their order.
+pub fn spot_counts(alloc: Global, events: &[Event], spots: &[Spot]) -> Result<Vec<u64>, OutOfMemory>
+    ensures { IfOk result (λ counts. counts.items ≡ map (λ spot. length (fired_at events.now spot)) spots.now) }
+{
+    let fired = firings_at(alloc, events)?;
+    let mut counts = Vec::new(alloc);
+    for spot in spots {
+        counts.push(count_at(&fired, *spot))?;
+    }
+    Ok(counts)
+}
+
 /// How often each spot fired.
-pub fn firings_at(alloc: Global, events: &[Event]) -> Result<HashMap<Spot, u64>, OutOfMemory>
+fn firings_at(alloc: Global, events: &[Event]) -> Result<HashMap<Spot, u64>, OutOfMemory>
     ensures { IfOk result (λ counts. (spot : Place) → unwrap_or (get same_spot counts spot) 0 ≡ length (fired_at events.now spot)) }
 {
     let mut counts = HashMap::new(alloc);
@@ -42,7 +54,7 @@ fn count_spot(counts: &mut HashMap<Spot, u64>, spot: Spot) -> Result<(), OutOfMe
 }
 
 /// How often the spot fired.
-pub fn count_at(counts: &HashMap<Spot, u64>, spot: Spot) -> u64
+fn count_at(counts: &HashMap<Spot, u64>, spot: Spot) -> u64
     ensures { result ≡ unwrap_or (get same_spot counts.now spot) 0 }
 {
     counts.get(&spot).copied().unwrap_or(0)

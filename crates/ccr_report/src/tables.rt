@@ -21,19 +21,23 @@ use std::collections::HashMap;
 
 /// How many messages were posted at each port, and how many it holds.
 #[derive(Drop)]
-pub struct PortCounts {
+pub(crate) struct PortCounts {
     pub posted: Vec<u64>,
     pub held: Vec<u64>,
 }
 
 /// How many tasks each queue was given, and how many it dropped.
 #[derive(Drop)]
-pub struct QueueCounts {
+pub(crate) struct QueueCounts {
     pub put: Vec<u64>,
     pub dropped: Vec<u64>,
 }
 
-pub fn port_counts(alloc: Global, events: &[Event], ports: usize) -> Result<PortCounts, OutOfMemory>
+pub(crate) fn port_counts(
+    alloc: Global,
+    events: &[Event],
+    ports: usize,
+) -> Result<PortCounts, OutOfMemory>
     ensures posted_len { IfOk result (λ counts. length counts.posted.items ≡ ports) }
     ensures held_len { IfOk result (λ counts. length counts.held.items ≡ ports) }
     ensures posted { IfOk result (λ counts. (k : ℕ) → k < ports → slice_index counts.posted.items k ≡ length (posted events.now k)) }
@@ -48,7 +52,7 @@ pub fn port_counts(alloc: Global, events: &[Event], ports: usize) -> Result<Port
     })
 }
 
-pub fn queue_counts(
+pub(crate) fn queue_counts(
     alloc: Global,
     events: &[Event],
     parts: &Parts,

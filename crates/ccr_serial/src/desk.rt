@@ -125,6 +125,14 @@ impl Desk {
         })
     }
 
+    /// The tables.
+    pub(crate) fn into_ledger(self) -> Ledger
+        ensures { result ≡ self.books }
+    {
+        let Desk { ledger, .. } = self;
+        ledger
+    }
+
     /// The event that comes first: a script's next line, a firing, an admission, a put, the next event of a running task, or a
     /// start, in this order; None where there is none.
     pub(crate) fn next_event(

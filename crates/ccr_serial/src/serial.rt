@@ -4,14 +4,16 @@ ghost use Rattle.std.specs.Prelude.{◌≡◌, ◌<◌, ◌≤◌, ◌^◌, ◌+
 ghost use Rattle.ccr_model.specs.Firings.{fired};
 ghost use Rattle.ccr_model.specs.Legal.{IsAllowed, IsLegal, IsQuiet, is_complete};
 ghost use Rattle.ccr_model.specs.Order.{next_attempt, IsFinished};
+ghost use Rattle.ccr_ledger.specs.Kept.{Keeps};
 ghost use Rattle.ccr_serial.specs.Desk.{empty_desk};
 ghost use Rattle.ccr_serial.specs.Engine.{next_event, next_engine};
 ghost use Rattle.ccr_serial.specs.Steps.{event_of};
 
 use crate::desk::Desk;
 use crate::places::Places;
-use crate::standing::{enter, next_of};
+use crate::standing::{enter, make_current, next_of};
 use ccr_base::{ActorNo, OutOfMemory};
+use ccr_ledger::Ledger;
 use ccr_model::{Event, History};
 use ccr_wiring::Wiring;
 use std::alloc::Global;
@@ -143,15 +145,35 @@ impl<'w> Serial<'w> {
     }
 
     /// Steps until no event is allowed.
-    pub fn finish(mut self) -> Result<History, OutOfMemory>
+    pub fn finish(self) -> Result<History, OutOfMemory>
         ensures finished { IfOk result (IsFinished self.entry.wiring self.entry.closer self.entry.history) }
         ensures legal { IfOk result (IsLegal self.entry.wiring) }
         ensures complete { IfOk result (λ history. is_complete self.entry.wiring history ≡ true) }
         ensures quiet { IfOk result (IsQuiet self.entry.wiring) }
     {
-        'steps: while self.advance()? {}
-        let Serial { history, .. } = self;
+        let (history, _tables) = self.finish_with_tables()?;
         Ok(history)
+    }
+
+    /// The same, and the tables of the history.
+    pub fn finish_with_tables(mut self) -> Result<(History, Ledger), OutOfMemory>
+        ensures finished { IfOk result (λ made. IsFinished self.entry.wiring self.entry.closer self.entry.history made.0) }
+        ensures legal { IfOk result (λ made. IsLegal self.entry.wiring made.0) }
+        ensures complete { IfOk result (λ made. is_complete self.entry.wiring made.0 ≡ true) }
+        ensures quiet { IfOk result (λ made. IsQuiet self.entry.wiring made.0) }
+        ensures tables { IfOk result (λ made. Keeps self.entry.wiring made.0 made.1) }
+    {
+        'steps: while self.advance()? {}
+        let Serial {
+            places,
+            closer,
+            history,
+            alloc,
+            mut desk,
+            current,
+        } = self;
+        make_current(alloc, &places, closer, &history, &mut desk, current)?;
+        Ok((history, desk.into_ledger()))
     }
 
     /// Appends the event that comes next, and answers whether there was one.

@@ -41,7 +41,7 @@ fn desk_of(
 }
 
 /// Makes the desk anew where it is not that of the history.
-fn make_current(
+pub(crate) fn make_current(
     alloc: Global,
     places: &Places<'_>,
     closer: ActorNo,

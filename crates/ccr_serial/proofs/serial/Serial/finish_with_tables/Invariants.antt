@@ -1,6 +1,6 @@
 use Rattle.ccr_bounds.specs.Potential.{potential}
 use Rattle.ccr_serial.proofs.Runs.{GoesFrom}
-use Rattle.ccr_serial.proofs.serial.Serial.finish.Given as goal
+use Rattle.ccr_serial.proofs.serial.Serial.finish_with_tables.Given as goal
 
 abbrev pub invariant-steps : goal.invariant-steps
 invariant-steps l = GoesFrom l.initial.self l.self

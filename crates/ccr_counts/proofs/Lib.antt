@@ -1,0 +1,7 @@
+pub mod Numbers
+pub mod Places
+pub mod Few
+pub mod Counting
+pub mod Along
+pub mod Spots
+pub mod Told

@@ -1,0 +1,129 @@
+//! The counts of a legal history, in one pass over its events.
+
+ghost use Rattle.std.specs.Prelude.{◌≡◌, ◌≤◌, ◌<◌, ℕ, IfOk, length, map, slice_index};
+ghost use Rattle.std.specs.Option.{option_map_or};
+ghost use Rattle.ccr_rows.specs.Rows.{row};
+ghost use Rattle.ccr_model.specs.Counts.{totals};
+ghost use Rattle.ccr_model.specs.Firings.{cut};
+ghost use Rattle.ccr_model.specs.Legal.{IsLegal};
+ghost use Rattle.ccr_model.specs.Posts.{taken};
+ghost use Rattle.ccr_ledger.specs.Books.{number};
+ghost use Rattle.ccr_ledger.specs.Kept.{Keeps};
+ghost use Rattle.ccr_report.specs.Counted.{IsCounted};
+ghost use Rattle.ccr_counts.specs.Tallies.{AreTallies, place_of};
+ghost use Rattle.ccr_counts.specs.Totals.{totals_by};
+
+use crate::tally::{ALL_PLACES, Tally};
+use ccr_base::{OutOfMemory, PortNo, Spot};
+use ccr_ledger::Ledger;
+use ccr_model::{Event, History, Totals};
+use ccr_report::Counts;
+use ccr_wiring::{Wiring, valid_wirings_are_sound};
+use std::alloc::Global;
+
+/// The numbers of the events.
+fn tally_of(
+    alloc: Global,
+    ledger: &Ledger,
+    events: &[Event],
+    ports: usize,
+    places: usize,
+    queues: usize,
+) -> Result<Tally, OutOfMemory>
+    requires taken { length (taken events.now) ≤ length events.now }
+    requires cut { length (cut events.now) ≤ length events.now }
+    ensures { IfOk result (AreTallies ports places queues ledger.now events.now) }
+{
+    let mut tally = Tally::new(alloc, ports, places, queues)?;
+    for event in events {
+        tally.enter(ledger, event);
+    }
+    Ok(tally)
+}
+
+/// How many messages each port holds.
+fn held_of(alloc: Global, ledger: &Ledger, ports: usize) -> Result<Vec<u64>, OutOfMemory>
+    requires { ports ≤ 256 }
+    ensures len { IfOk result (λ counts. length counts.items ≡ ports) }
+    ensures counts { IfOk result (λ counts. (k : ℕ) → k < ports → slice_index counts.items k ≡ length (row ledger.now.ports k)) }
+{
+    let mut counts = Vec::new(alloc);
+    for port in 0..ports {
+        counts.push(ledger.count_held(port as PortNo) as u64)?;
+    }
+    Ok(counts)
+}
+
+/// How often each spot fired, in their order.
+fn fired_of(alloc: Global, tally: &Tally, spots: &[Spot]) -> Result<Vec<u64>, OutOfMemory>
+    ensures { IfOk result (λ counts. counts.items ≡ map (λ spot. option_map_or (number tally.now.fired) (place_of spot) 0) spots.now) }
+{
+    let mut counts = Vec::new(alloc);
+    for spot in spots {
+        counts.push(tally.fired_at(*spot))?;
+    }
+    Ok(counts)
+}
+
+/// The totals. What was posted and not taken is held.
+fn totals_of(tally: &Tally) -> Totals
+    ensures { result ≡ totals_by tally.now }
+{
+    Totals {
+        posted: tally.posts,
+        taken: tally.taken,
+        held: tally.posts.saturating_sub(tally.taken),
+        fired: tally.firings,
+        done: tally.done,
+        failed: tally.failed,
+        shed: tally.shed,
+        yielded: tally.yielded,
+        cut: tally.cut,
+        dropped: tally.drops,
+        unended: tally
+            .firings
+            .saturating_sub(tally.done)
+            .saturating_sub(tally.failed)
+            .saturating_sub(tally.shed)
+            .saturating_sub(tally.yielded)
+            .saturating_sub(tally.cut)
+            .saturating_sub(tally.drops),
+    }
+}
+
+/// The counts of the legal history, by its tables.
+pub fn counts_by(
+    alloc: Global,
+    wiring: &Wiring,
+    history: &History,
+    ledger: &Ledger,
+) -> Result<Counts, OutOfMemory>
+    requires legal { IsLegal wiring.now history.now }
+    requires tables { Keeps wiring.now history.now ledger.now }
+    ensures { IfOk result (IsCounted wiring.now history.now) }
+{
+    valid_wirings_are_sound();
+    let parts = wiring.parts();
+    let events = history.events();
+    let ports = parts.ports.as_slice().len();
+    let tally = tally_of(
+        alloc,
+        ledger,
+        events,
+        ports,
+        ALL_PLACES,
+        parts.queues.as_slice().len(),
+    )?;
+    let held = held_of(alloc, ledger, ports)?;
+    let fired = fired_of(alloc, &tally, wiring.spots())?;
+    let totals = totals_of(&tally);
+    let (posted, put, dropped) = tally.into_lists();
+    Ok(Counts {
+        posted,
+        held,
+        fired,
+        put,
+        dropped,
+        totals,
+    })
+}

@@ -1,0 +1,124 @@
+-- Each message of a legal history is held or taken, and none twice.
+use Rattle.std.proofs.Common.{◌≡◌, ◌+◌, ◌<◌, ◌≤◌, Bool, true, false, not, ◌||◌, List, [], ◌∷◌, ◌++◌, length, filter, refl, sym, ap, ◌∙◌, subst, append-nil, arith}
+use Rattle.std.specs.Prelude.{if◌then◌else◌}
+use Rattle.std.proofs.lemmas.Grind.{common_steps}
+use Rattle.ccr_base.specs.declared.names.MsgId.{MsgId}
+use Rattle.ccr_base.specs.declared.names.TaskId.{TaskId}
+use Rattle.ccr_base.specs.declared.names.Spot.{Spot}
+use Rattle.ccr_base.specs.declared.messages.Msg.{Msg}
+use Rattle.ccr_base.specs.Names.{same_message, has_message}
+use Rattle.ccr_wiring.specs.declared.parts.Parts.{Parts}
+use Rattle.ccr_wiring.specs.Valid.{IsValid, HasPortsApart}
+use Rattle.ccr_wiring.proofs.Soundness.{sound}
+use Rattle.ccr_model.specs.declared.history.Event.{Event}
+use Rattle.ccr_model.specs.declared.history.Event.TheVariants as events
+use Rattle.ccr_model.specs.Posts.{posts, taken}
+use Rattle.ccr_model.specs.Counts.{totals}
+use Rattle.ccr_model.specs.Legal.{IsAllowed, IsLegal}
+use Rattle.ccr_model.proofs.PostNames.{along, times, posted_once}
+use Rattle.ccr_model.proofs.Pushes.{posts-push}
+use Rattle.ccr_model.proofs.SameNames.{same_message-is, same_message-self}
+use Rattle.ccr_model.proofs.TakenOnce.{FireFacts-allowed, named-choice, named_none, taken-push, taken_once, times-filter, times_named, untaken}
+
+-- the messages that these names leave
+abbrev left_of : List MsgId → List Msg → List Msg
+left_of names ms = filter (λ (m : Msg). not (has_message names m.id)) ms
+
+left_whole : (ms : List Msg) → length (left_of [] ms) ≡ length ms
+left_whole [] = refl
+left_whole (m ∷ ms) = grind (arith, left_whole ms)
+
+named_cons : (name n : MsgId) (names : List MsgId) → times_named name (n ∷ names) ≡ (if same_message name n then 1 else 0) + times_named name names
+named_cons name n names = grind (arith, common_steps)
+
+times_cons : (name : MsgId) (x : Msg) (ms : List Msg) → times name (x ∷ ms) ≡ (if same_message x.id name then 1 else 0) + times name ms
+times_cons name x ms = grind (arith, common_steps)
+
+times_push : (name : MsgId) (ms : List Msg) (m : Msg) → times name (ms ++ m ∷ []) ≡ times name ms + (if same_message m.id name then 1 else 0)
+times_push name ms m = grind (arith, common_steps)
+
+-- a name that stands there is counted
+named_some : (name : MsgId) (names : List MsgId) → has_message names name ≡ true → 0 < times_named name names
+named_some name [] is = absurd (cc)
+named_some name (n ∷ names) is = by (same_message name n) refl is (named_some name names)
+  where
+    by : (b : Bool) → same_message name n ≡ b → b || has_message names name ≡ true → (has_message names name ≡ true → 0 < times_named name names) → 0 < times_named name (n ∷ names)
+    by true e any rest = let sum = named_cons name n names in grind (arith, sum, e)
+    by false e any rest = let sum = named_cons name n names in let more = rest any in grind (arith, sum, e, more)
+
+-- a name that stands once stands in no rest
+not_in_rest : (n : MsgId) (names : List MsgId) → times_named n (n ∷ names) ≤ 1 → has_message names n ≡ false
+not_in_rest n names once = by names (grind (arith, named_cons n n names, same_message-self n, once))
+  where
+    by : (ns : List MsgId) → times_named n ns ≡ 0 → has_message ns n ≡ false
+    by [] none = refl
+    by (x ∷ ns) none = grind (arith, named_cons n x ns, none, by ns)
+
+-- one more name drops what bears it
+one_drops : (n : MsgId) (names : List MsgId) (ms : List Msg) → has_message names n ≡ false → length (left_of (n ∷ names) ms) + times n ms ≡ length (left_of names ms)
+one_drops n names [] new = omega arith
+one_drops n names (x ∷ ms) new = by (same_message x.id n) (has_message names x.id) refl refl (one_drops n names ms new) (times_cons n x ms)
+  where
+    by : (a b : Bool) → same_message x.id n ≡ a → has_message names x.id ≡ b → length (left_of (n ∷ names) ms) + times n ms ≡ length (left_of names ms) → times n (x ∷ ms) ≡ (if same_message x.id n then 1 else 0) + times n ms → length (left_of (n ∷ names) (x ∷ ms)) + times n (x ∷ ms) ≡ length (left_of names (x ∷ ms))
+    by true true ea eb rest sum =
+        let same : x.id ≡ n = same_message-is x.id n ea in
+        let there : has_message names n ≡ true = subst (λ (y : MsgId). has_message names y ≡ true) same eb in
+        absurd (cc)
+    by true false ea eb rest sum = rw (sum, ea, eb) (omega (arith, rest))
+    by false true ea eb rest sum = rw (sum, ea, eb) (omega (arith, rest))
+    by false false ea eb rest sum = rw (sum, ea, eb) (omega (arith, rest))
+
+-- distinct names of messages drop one each
+names_drop : (names : List MsgId) (ms : List Msg) → ((name : MsgId) → times_named name names ≤ 1) → ((name : MsgId) → has_message names name ≡ true → times name ms ≡ 1) → length (left_of names ms) + length names ≡ length ms
+names_drop [] ms once some = omega (arith, left_whole ms)
+names_drop (n ∷ names) ms once some =
+    let new = not_in_rest n names (once n) in
+    let rest = names_drop names ms (λ name. (let a = once name in let b = named_cons name n names in omega (arith, a, b))) (λ name is. some name (later name is)) in
+    let one = one_drops n names ms new in
+    let there = some n (rw (same_message-self n) refl) in
+    omega (arith, rest, one, there)
+  where
+    later : (name : MsgId) → has_message names name ≡ true → has_message (n ∷ names) name ≡ true
+    later name is = by (same_message name n)
+      where
+        by : (b : Bool) → b || has_message names name ≡ true
+        by true = refl
+        by false = is
+
+-- what was taken was posted
+abbrev ArePosted : List Event → Type 0
+ArePosted h = (name : MsgId) → has_message (taken h) name ≡ true → 0 < times name (posts h)
+
+has_message-append : (xs ys : List MsgId) (name : MsgId) → has_message (xs ++ ys) name ≡ has_message xs name || has_message ys name
+has_message-append [] ys name = refl
+has_message-append (x ∷ xs) ys name = grind (arith, has_message-append xs ys name)
+
+fire_posted : (w : Parts) → HasPortsApart w → (h : List Event) (t : TaskId) (spot : Spot) (names : List MsgId) (cs : List TaskId) → IsAllowed w h (events.Fire t spot names cs) → ArePosted h → (name : MsgId) → has_message (taken h ++ names) name ≡ true → 0 < times name (posts h)
+fire_posted w apart h t spot names cs allowed old name is = by (has_message (taken h) name) refl (sym (has_message-append (taken h) names name) ∙ is)
+  where
+    by : (a : Bool) → has_message (taken h) name ≡ a → has_message (taken h) name || has_message names name ≡ true → 0 < times name (posts h)
+    by true e any = old name e
+    by false e any =
+        let there : has_message names name ≡ true = subst (λ (b : Bool). b || has_message names name ≡ true) e any in
+        let some = named_some name names there in
+        let among = named-choice w h spot name names apart (FireFacts-allowed w h t spot names cs allowed).choice_made in
+        let all = times-filter name (λ (m : Msg). not (has_message (taken h) m.id)) (posts h) in
+        omega (arith, some, among, all)
+
+posted_kept : (w : Parts) → HasPortsApart w → (h : List Event) (e : Event) → ArePosted h → IsAllowed w h e → ArePosted (h ++ e ∷ [])
+posted_kept w apart h (events.Post m) old allowed = rw (taken-push, posts-push, append-nil) (λ name is. (let a = old name is in let b = times_push name (posts h) m in omega (arith, a, b)))
+posted_kept w apart h (events.Fire t spot names cs) old allowed = rw (taken-push, posts-push, append-nil) (fire_posted w apart h t spot names cs allowed old)
+posted_kept w apart h (events.Admit t) old allowed = rw (taken-push, posts-push, append-nil, append-nil) old
+posted_kept w apart h (events.Put t d) old allowed = rw (taken-push, posts-push, append-nil, append-nil) old
+posted_kept w apart h (events.Start t a) old allowed = rw (taken-push, posts-push, append-nil, append-nil) old
+posted_kept w apart h (events.End t how) old allowed = rw (taken-push, posts-push, append-nil, append-nil) old
+
+pub are_posted : (w : Parts) → HasPortsApart w → (h : List Event) → IsLegal w h → ArePosted h
+are_posted w apart h legal = along w ArePosted (posted_kept w apart) (λ name is. absurd (cc)) h legal
+
+-- what was posted is held or taken
+pub held_or_taken : (w : Parts) → IsValid w → (h : List Event) → IsLegal w h → length (untaken h) + length (taken h) ≡ length (posts h)
+held_or_taken w valid h legal =
+    let apart = (sound w valid).apart in
+    let posted = are_posted w apart h legal in
+    names_drop (taken h) (posts h) (taken_once w apart h legal) (λ name is. (let a = posted name is in let b = posted_once w h legal name in omega (arith, a, b)))
