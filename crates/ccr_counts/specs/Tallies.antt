@@ -80,15 +80,19 @@ abbrev pub more_if_some : Books → Option TaskId → List ℕ → List ℕ
 more_if_some books None numbers = numbers
 more_if_some books (Some task) numbers = more_for books task numbers
 
+-- one message more, at this port
 abbrev pub after_post : ℕ → Tallies → Tallies
 after_post port tallies = record tallies { posted = more port tallies.posted; posts = tallies.posts + 1 }
 
+-- one firing more at the spot, with the messages that it took and the tasks that it cut
 abbrev pub after_fire : Spot → List MsgId → List TaskId → Tallies → Tallies
 after_fire spot messages cuts tallies = record tallies { fired = more_at (place_of spot) tallies.fired; taken = tallies.taken + length messages; firings = tallies.firings + 1; cut = tallies.cut + length cuts }
 
+-- one task more at its queue, and one task more that its queue dropped, where it dropped one
 abbrev pub after_put : Books → TaskId → Option TaskId → Tallies → Tallies
 after_put books task dropped tallies = record tallies { put = more_for books task tallies.put; dropped = more_if_some books dropped tallies.dropped; drops = tallies.drops + length (option_to_list dropped) }
 
+-- one segment more that ended so
 abbrev pub after_end : EndHow → Tallies → Tallies
 after_end Done tallies = record tallies { done = tallies.done + 1 }
 after_end (Failed value) tallies = record tallies { failed = tallies.failed + 1 }

@@ -16,7 +16,7 @@ ghost use Rattle.ccr_net.specs.Visible.{visible};
 ghost use Rattle.ccr_rests.specs.Ends.{EndsBooking, EndsClaim, EndsOnce, booked_by, claimed_by, fired_by, over_by, telling_of, tells, unbooked_by, unclaimed_by};
 ghost use Rattle.ccr_rests.specs.Keeping.{queue_in};
 
-/// A claim is consumed or freed by its own attempt alone, and once. The claim that an entry ends is the one that stands at the port;
+/// Only the attempt that made a claim ends it, and does so once. The claim that an entry ends is the one that stands at the port;
 /// one entry before it made that claim, by the same attempt of the same actor, and no other entry ends it, before or after.
 pub fn claims_are_ended_by_their_own_attempts()
     ensures own { (wiring : Parts) (workers : ℕ) (lacks : Lacks) (past more : List Entry) (entry : Entry) (port : ℕ) (task : TaskId) → IsValid wiring → workers ≤ 16 → IsRunAfter wiring workers lacks [] (past ++ entry ∷ more) → tells unclaimed_by (places.Port port) task entry ≡ true → EndsClaim past entry.actor entry.note }
