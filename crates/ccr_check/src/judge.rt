@@ -3,6 +3,7 @@
 ghost use Rattle.std.specs.Prelude.{◌≡◌, ◌++◌, ◌∷◌, [], IfNone, IfOk, IfSome, OnErr, length};
 ghost use Rattle.ccr_model.specs.Legal.{IsLegal, is_complete, is_shed_end};
 ghost use Rattle.ccr_model.specs.Rules.{refusal};
+ghost use Rattle.ccr_ledger.specs.Kept.{Keeps};
 ghost use Rattle.ccr_check.specs.Verdicts.{MeansQuiet};
 
 use crate::complete::{is_complete, is_complete_in};
@@ -127,7 +128,8 @@ impl<'w> Judge<'w> {
 
     /// The same of the judge's own tables, which stay as they are.
     pub(crate) fn is_quiet(&mut self) -> Result<bool, OutOfMemory>
-        ensures { IfOk result (MeansQuiet self.old.wiring self.old.history) }
+        ensures quiet { IfOk result (MeansQuiet self.old.wiring self.old.history) }
+        ensures kept { self.new ≡ self.old }
     {
         still_is_quiet();
         make_current(
@@ -139,5 +141,21 @@ impl<'w> Judge<'w> {
         )?;
         self.current = true;
         is_still(self.wiring, &mut self.ledger)
+    }
+
+    /// The tables of the accepted events, made anew where want of memory left them behind.
+    pub fn into_tables(self) -> Result<Ledger, OutOfMemory>
+        ensures { IfOk result (Keeps self.entry.wiring self.entry.history) }
+    {
+        let Judge {
+            alloc,
+            wiring,
+            history,
+            mut ledger,
+            current,
+            ..
+        } = self;
+        make_current(alloc, wiring, &history, &mut ledger, current)?;
+        Ok(ledger)
     }
 }

@@ -1,11 +1,13 @@
 //! The verdict on a history.
 
 ghost use Rattle.std.specs.Prelude.{◌≡◌, ◌<◌, ◌^◌, [], IfNone, IfOk, length};
-ghost use Rattle.ccr_model.specs.Legal.{first_refusal};
+ghost use Rattle.ccr_model.specs.Legal.{IsLegal, first_refusal};
+ghost use Rattle.ccr_ledger.specs.Kept.{Keeps};
 ghost use Rattle.ccr_check.specs.Verdicts.{TellsLegal, TellsComplete, TellsQuiet, refusal_told};
 
 use crate::{Judge, Verdict};
 use ccr_base::OutOfMemory;
+use ccr_ledger::Ledger;
 use ccr_model::{Event, History};
 use ccr_wiring::Wiring;
 use std::alloc::Global;
@@ -33,12 +35,28 @@ pub fn verdict(alloc: Global, wiring: &Wiring, history: &History) -> Result<Verd
     ensures complete { IfOk result (TellsComplete wiring.now history.now) }
     ensures quiet { IfOk result (TellsQuiet wiring.now history.now) }
 {
+    let (verdict, _tables) = verdict_with_tables(alloc, wiring, history)?;
+    Ok(verdict)
+}
+
+/// The same, and the tables of the history where it is legal; of what was accepted where it isn't.
+pub fn verdict_with_tables(
+    alloc: Global,
+    wiring: &Wiring,
+    history: &History,
+) -> Result<(Verdict, Ledger), OutOfMemory>
+    requires { length history.now < 2 ^ 32 }
+    ensures refusal { IfOk result (λ judged. refusal_told judged.0 ≡ first_refusal wiring.now [] 0 history.now) }
+    ensures legal { IfOk result (λ judged. TellsLegal wiring.now history.now judged.0) }
+    ensures complete { IfOk result (λ judged. TellsComplete wiring.now history.now judged.0) }
+    ensures quiet { IfOk result (λ judged. TellsQuiet wiring.now history.now judged.0) }
+    ensures tables { IfOk result (λ judged. IsLegal wiring.now history.now → Keeps wiring.now history.now judged.1) }
+{
     let mut judge = Judge::new(alloc, wiring)?;
     if let Some((at, rule)) = first_refusal(&mut judge, history.events())? {
-        return Ok(Verdict::Illegal { at, rule });
+        return Ok((Verdict::Illegal { at, rule }, judge.into_tables()?));
     }
-    Ok(Verdict::Legal {
-        complete: judge.complete(),
-        quiet: judge.is_quiet()?,
-    })
+    let complete = judge.complete();
+    let quiet = judge.is_quiet()?;
+    Ok((Verdict::Legal { complete, quiet }, judge.into_tables()?))
 }

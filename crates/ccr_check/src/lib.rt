@@ -12,6 +12,6 @@ mod standing;
 mod verdicts;
 
 pub use judge::Judge;
-pub use judging::verdict;
+pub use judging::{verdict, verdict_with_tables};
 pub use laws::still_is_quiet;
 pub use verdicts::Verdict;

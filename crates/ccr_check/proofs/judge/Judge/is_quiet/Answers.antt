@@ -5,8 +5,8 @@ use Rattle.ccr_check.specs.Judges.{Judged}
 use Rattle.ccr_check.proofs.Accepting.{quiet_told}
 use Rattle.ccr_check.proofs.judge.Judge.is_quiet.Goals as goal
 
-pub returns : goal.returns
-returns c =
+pub returns-clause-quiet : goal.returns-clause-quiet
+returns-clause-quiet c =
     let w = c.self.inside.wiring.now in
     let h = c.self.inside.history in
     let known = c.self.invariant in
