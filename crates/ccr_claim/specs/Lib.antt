@@ -4,3 +4,4 @@ pub mod Attempts
 pub mod Firings
 pub mod Inside
 pub mod Settling
+pub mod Wired
