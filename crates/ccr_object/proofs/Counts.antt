@@ -4,7 +4,6 @@ use Rattle.ccr_base.specs.declared.messages.Msg.{Msg}
 use Rattle.ccr_base.specs.declared.patterns.Slot.{Slot}
 use Rattle.ccr_base.specs.Choice.{fitting, is_choosable}
 use Rattle.ccr_places.specs.declared.claims.StandingClaim.{StandingClaim}
-use Rattle.ccr_places.specs.Ports.{PortState}
 use Rattle.ccr_port.specs.Replies.{claim_reply}
 use Rattle.ccr_port.specs.declared.claims.Claimed.TheVariants.{Got, Short}
 use Rattle.ccr_object.specs.Ports.{got_count}

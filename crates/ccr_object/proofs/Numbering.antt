@@ -1,15 +1,17 @@
 -- The test by numbers is the condition on the wiring.
 use Rattle.std.proofs.Common.{Bool, true, false, ◌≡◌, ◌⊎◌, ℕ, zero, suc, ◌+◌, ◌<◌, ◌≤◌, ◌==◌, ◌&&◌, List, [], ◌∷◌, ◌++◌, map, length, sym, refl, ap, ◌∙◌, subst, arith, eq-eqb, inl, inr, None, Some}
-use Rattle.std.specs.Prelude.{nat_lt, slice_get, All, flat_map, ◌↔◌}
+use Rattle.std.specs.Prelude.{nat_lt, slice_get, All, flat_map, Option, ◌↔◌}
+use Rattle.std.specs.List.{list_all}
 use Rattle.std.specs.Option.{is_some, option_map_or}
 use Rattle.std.proofs.lemmas.Bool.{cases_lt, eqb-true, lt-ltb, le-ltb, ltb-true, ltb-false, and_parts, and_from}
 use Rattle.std.proofs.lemmas.Bool.Decides.{nat_tests}
 use Rattle.std.proofs.lemmas.List.{length-append, length-map}
 use Rattle.std.proofs.lemmas.List.Concat.{flat_map-cons}
-use Rattle.std.proofs.lemmas.List.Elements.{All-nil, All-cons, All-tail}
+use Rattle.std.proofs.lemmas.List.Elements.{All-nil, All-cons, All-head, All-tail}
 use Rattle.ccr_base.specs.declared.messages.Msg.{Msg}
 use Rattle.ccr_base.specs.declared.names.Spot.{Spot}
 use Rattle.ccr_base.specs.declared.names.Spot.TheVariants.{Branch, Site}
+use Rattle.ccr_base.specs.declared.tasks.Cut.{Cut}
 use Rattle.ccr_base.specs.declared.tasks.Task.{Task}
 use Rattle.ccr_wiring.specs.declared.parts.ArbiterPart.{ArbiterPart}
 use Rattle.ccr_wiring.specs.declared.parts.BranchPart.{BranchPart}
@@ -20,7 +22,10 @@ use Rattle.ccr_wiring.specs.Repeats.{are_apart}
 use Rattle.ccr_wiring.specs.Wirings.{Placement, placements, placements_from, in_domain, awaited, actions_of}
 use Rattle.ccr_claim.specs.declared.asks.Ask.{Ask}
 use Rattle.ccr_claim.specs.declared.asks.Ask.TheVariants as asks
-use Rattle.ccr_object.specs.Numbers.{numbers_of, domain_tests, has_domain, site_count, site_counts, arbiter_sites, has_spot, has_each, has_causes, has_message, has_task, is_known, IsSpotOf, AreCausesOf, IsDomainOf, IsMessageOf, IsTaskOf, IsKnown}
+use Rattle.ccr_claim.specs.declared.asks.Reply.{Reply}
+use Rattle.ccr_claim.specs.declared.asks.Reply.TheVariants as replies
+use Rattle.ccr_claim.specs.Wired.{IsSpotOf, AreCausesOf, IsDomainOf, IsMessageOf, IsTaskOf, HasQueueOf, IsHandedOf, IsKnown, IsReplyOf}
+use Rattle.ccr_object.specs.Numbers.{Known, numbers_of, no_numbers, domain_tests, has_domain, site_count, site_counts, arbiter_sites, has_spot, has_each, has_causes, has_message, has_task, has_handed, has_cut, is_known, names_known}
 
 module _ (wiring : Parts) where
   one_arbiter : (arbiter : ℕ) (kind : Kind) (branches : List BranchPart) (rest : List Placement)
@@ -191,3 +196,72 @@ module _ (wiring : Parts) where
 
   pub exact : (ask : Ask) → (is_known (numbers_of wiring) ask ≡ true) ↔ IsKnown wiring ask
   exact ask = (known_to ask, known_from ask)
+
+-- ---- replies
+
+all_to : {X : Type 0} (p : X → Bool) (P : X → Type 0) → ((x : X) → p x ≡ true → P x) → (xs : List X) → list_all p xs ≡ true → All P xs
+all_to p P each [] e = All-nil P
+all_to p P each (x ∷ xs) e = let parts = and_parts (p x) (list_all p xs) e in All-cons P x xs (each x parts.0) (all_to p P each xs parts.1)
+
+all_from : {X : Type 0} (p : X → Bool) (P : X → Type 0) → ((x : X) → P x → p x ≡ true) → (xs : List X) → All P xs → list_all p xs ≡ true
+all_from p P each [] all = refl
+all_from p P each (x ∷ xs) all = and_from (p x) (list_all p xs) (each x (All-head P x xs all)) (all_from p P each xs (All-tail P x xs all))
+
+-- a reply that names only numbers of which each is the wiring's
+module _ (wiring : Parts) (known : Known) (message_of : (m : Msg) → has_message known m ≡ true → IsMessageOf wiring m) (task_of : (t : Task) → has_task known t ≡ true → IsTaskOf wiring t) (cut_of : (c : Cut) → has_cut known c ≡ true → HasQueueOf wiring c) where
+  handed_of : (o : Option Task) → has_handed known o ≡ true → IsHandedOf wiring o
+  handed_of None e = tt
+  handed_of (Some t) e = task_of t e
+
+  reply_of : (reply : Reply) → names_known known reply ≡ true → IsReplyOf wiring reply
+  reply_of (replies.Got ms) e = all_to (has_message known) (IsMessageOf wiring) message_of ms e
+  reply_of (replies.Fired o cs) e = let parts = and_parts (has_handed known o) (list_all (has_cut known) cs) e in (handed_of o parts.0, all_to (has_cut known) (HasQueueOf wiring) cut_of cs parts.1)
+  reply_of (replies.Admitted o) e = handed_of o e
+  reply_of (replies.Dropped o) e = handed_of o e
+  reply_of (replies.Taken o) e = handed_of o e
+  reply_of replies.Done e = tt
+  reply_of (replies.Busy t) e = tt
+  reply_of (replies.Short n) e = tt
+  reply_of (replies.Dead by) e = tt
+  reply_of replies.Booked e = tt
+  reply_of (replies.Full n) e = tt
+  reply_of (replies.Drawn n) e = tt
+  reply_of replies.Spent e = tt
+  reply_of (replies.Left n) e = tt
+
+pub reply_to : (wiring : Parts) (reply : Reply) → names_known (numbers_of wiring) reply ≡ true → IsReplyOf wiring reply
+reply_to wiring reply e = reply_of wiring (numbers_of wiring) (message_to wiring) (task_to wiring) (λ c is. ltb-true c.queue (length wiring.queues) is) reply e
+
+-- where there are no numbers, a reply names none
+none_to : (n : ℕ) → nat_lt n 0 ≡ true → ⊥
+none_to n e = let low = ltb-true n 0 e in omega (arith, low)
+
+pub reply_none : (wiring : Parts) (reply : Reply) → names_known no_numbers reply ≡ true → IsReplyOf wiring reply
+reply_none wiring reply e = reply_of wiring no_numbers
+    (λ m is. absurd (none_to m.port (and_parts (nat_lt m.port 0) (has_causes no_numbers m.causes) is).0))
+    (λ t is. absurd (none_to t.queue (and_parts _ (nat_lt t.queue 0) (and_parts _ (has_causes no_numbers t.causes) is).0).1))
+    (λ c is. absurd (none_to c.queue is))
+    reply e
+
+handed_from : (wiring : Parts) (o : Option Task) → IsHandedOf wiring o → has_handed (numbers_of wiring) o ≡ true
+handed_from wiring None k = refl
+handed_from wiring (Some t) k = task_from wiring t k
+
+reply_from : (wiring : Parts) (reply : Reply) → IsReplyOf wiring reply → names_known (numbers_of wiring) reply ≡ true
+reply_from wiring (replies.Got ms) k = all_from (has_message (numbers_of wiring)) (IsMessageOf wiring) (message_from wiring) ms k
+reply_from wiring (replies.Fired o cs) k = and_from (has_handed (numbers_of wiring) o) (list_all (has_cut (numbers_of wiring)) cs) (handed_from wiring o k.0) (all_from (has_cut (numbers_of wiring)) (HasQueueOf wiring) (λ c low. lt-ltb c.queue (length wiring.queues) low) cs k.1)
+reply_from wiring (replies.Admitted o) k = handed_from wiring o k
+reply_from wiring (replies.Dropped o) k = handed_from wiring o k
+reply_from wiring (replies.Taken o) k = handed_from wiring o k
+reply_from wiring replies.Done k = refl
+reply_from wiring (replies.Busy t) k = refl
+reply_from wiring (replies.Short n) k = refl
+reply_from wiring (replies.Dead by) k = refl
+reply_from wiring replies.Booked k = refl
+reply_from wiring (replies.Full n) k = refl
+reply_from wiring (replies.Drawn n) k = refl
+reply_from wiring replies.Spent k = refl
+reply_from wiring (replies.Left n) k = refl
+
+pub exact_replies : (wiring : Parts) (reply : Reply) → (names_known (numbers_of wiring) reply ≡ true) ↔ IsReplyOf wiring reply
+exact_replies wiring reply = (reply_to wiring reply, reply_from wiring reply)

@@ -7,5 +7,6 @@ pub mod Queues
 pub mod Meters
 pub mod Numbers
 pub mod Objects
+pub mod Keeping
 pub mod Starts
 pub mod Events

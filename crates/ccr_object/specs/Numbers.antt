@@ -1,10 +1,11 @@
--- The numbers of a wiring, and the asks that name no others.
-use Rattle.std.specs.Prelude.{◌≡◌, ◌<◌, All, ℕ, zero, suc, Bool, true, false, nat_lt, ◌==◌, ◌&&◌, List, [], ◌∷◌, ◌++◌, map, flat_map, length, slice_get}
+-- The numbers of a wiring, and the asks and replies that name no others.
+use Rattle.std.specs.Prelude.{ℕ, zero, suc, Bool, true, false, nat_lt, ◌==◌, ◌&&◌, List, [], ◌∷◌, ◌++◌, map, flat_map, length, slice_get, Option, Some, None}
 use Rattle.std.specs.List.{list_all}
-use Rattle.std.specs.Option.{option_map_or, is_some}
+use Rattle.std.specs.Option.{option_map_or}
 use Rattle.ccr_base.specs.declared.messages.Msg.{Msg}
 use Rattle.ccr_base.specs.declared.names.Spot.{Spot}
 use Rattle.ccr_base.specs.declared.names.Spot.TheVariants.{Branch, Site}
+use Rattle.ccr_base.specs.declared.tasks.Cut.{Cut}
 use Rattle.ccr_base.specs.declared.tasks.Task.{Task}
 use Rattle.ccr_wiring.specs.declared.parts.ArbiterPart.{ArbiterPart}
 use Rattle.ccr_wiring.specs.declared.parts.BranchPart.{BranchPart}
@@ -12,9 +13,11 @@ use Rattle.ccr_wiring.specs.declared.parts.DomainPart.{DomainPart}
 use Rattle.ccr_wiring.specs.declared.parts.Parts.{Parts}
 use Rattle.ccr_wiring.specs.Domains.{domain_of}
 use Rattle.ccr_wiring.specs.Repeats.{are_apart}
-use Rattle.ccr_wiring.specs.Wirings.{actions_of, awaited, placements, site_port}
+use Rattle.ccr_wiring.specs.Wirings.{actions_of, awaited}
 use Rattle.ccr_claim.specs.declared.asks.Ask.{Ask}
 use Rattle.ccr_claim.specs.declared.asks.Ask.TheVariants as asks
+use Rattle.ccr_claim.specs.declared.asks.Reply.{Reply}
+use Rattle.ccr_claim.specs.declared.asks.Reply.TheVariants as replies
 
 -- how many ports, queues and causes there are, of each arbiter whether its number is that of its domain, and of each branch
 -- how many sites it has
@@ -90,32 +93,20 @@ is_known known (asks.Suspend task) = has_task known task
 is_known known (asks.Put task) = has_task known task
 is_known known _ = true
 
--- the branch, or the site, is one of the wiring's
-abbrev pub IsSpotOf : Parts → Spot → Type 0
-IsSpotOf wiring (Branch branch) = branch < length (placements wiring)
-IsSpotOf wiring (Site branch site) = is_some (site_port wiring branch site) ≡ true
+-- whether the task, where there is one, is one of these
+abbrev pub has_handed : Known → Option Task → Bool
+has_handed known None = true
+has_handed known (Some task) = has_task known task
 
--- each cause is one of the wiring's, and none stands twice
-abbrev pub AreCausesOf : Parts → List ℕ → Type 0
-AreCausesOf wiring causes = All (λ cause. cause < length wiring.causes) causes × (are_apart causes ≡ true)
+-- whether there is the queue that the cut task was booked at
+abbrev pub has_cut : Known → Cut → Bool
+has_cut known cut = nat_lt cut.queue known.queues
 
--- the wiring has the message's port and its causes
-abbrev pub IsMessageOf : Parts → Msg → Type 0
-IsMessageOf wiring message = (message.port < length wiring.ports) × AreCausesOf wiring message.causes
-
--- the number is that of a domain: of an arbiter that isn't combined with one of a lesser number
-abbrev pub IsDomainOf : Parts → ℕ → Type 0
-IsDomainOf wiring number = (number < length wiring.arbiters) × (domain_of wiring.domains number ≡ number)
-
--- the wiring has the task's spot, domain, queue and causes
-abbrev pub IsTaskOf : Parts → Task → Type 0
-IsTaskOf wiring task = IsSpotOf wiring task.spot × IsDomainOf wiring task.arbiter × (task.queue < length wiring.queues) × AreCausesOf wiring task.causes
-
--- all numbers in the ask are the wiring's, and no cause stands twice in its message or task
-abbrev pub IsKnown : Parts → Ask → Type 0
-IsKnown wiring (asks.Post message) = IsMessageOf wiring message
-IsKnown wiring (asks.Claim task slot) = slot.port < length wiring.ports
-IsKnown wiring (asks.Commit task messages) = IsTaskOf wiring task
-IsKnown wiring (asks.Suspend task) = IsTaskOf wiring task
-IsKnown wiring (asks.Put task) = IsTaskOf wiring task
-IsKnown wiring _ = Unit {0}
+-- whether all numbers in the reply are among these, and no cause stands twice in a message or task of it
+abbrev pub names_known : Known → Reply → Bool
+names_known known (replies.Got messages) = list_all (has_message known) messages
+names_known known (replies.Fired task cuts) = has_handed known task && list_all (has_cut known) cuts
+names_known known (replies.Admitted task) = has_handed known task
+names_known known (replies.Dropped task) = has_handed known task
+names_known known (replies.Taken task) = has_handed known task
+names_known known _ = true

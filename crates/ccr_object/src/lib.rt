@@ -3,12 +3,14 @@
 
 mod deed;
 mod events;
+mod laws;
 mod making;
 mod numbers;
 mod object;
 mod starting;
 
 pub use deed::{Answer, Deed};
+pub use laws::places_name_what_they_know;
 pub use making::place_objects;
 pub use numbers::Numbers;
 pub use object::{Object, PlaceObject, Placed};

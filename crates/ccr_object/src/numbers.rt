@@ -1,13 +1,17 @@
-//! The numbers of a wiring, and the asks that name no others.
+//! The numbers of a wiring, and the asks and replies that name no others.
 
-ghost use Rattle.std.specs.Prelude.{◌≡◌, ◌↔◌, true, ◌++◌, length, map, IfOk, OnOk};
+ghost use Rattle.std.specs.Prelude.{◌≡◌, ◌↔◌, true, ◌++◌, length, map, nat_lt, IfOk, OnOk};
+ghost use Rattle.std.specs.List.{list_all};
+ghost use Rattle.ccr_base.specs.declared.tasks.Cut.{Cut as CutOf};
 ghost use Rattle.ccr_wiring.specs.Repeats.{has_port, are_apart};
 ghost use Rattle.ccr_wiring.specs.Wirings.{actions_of, awaited};
-ghost use Rattle.ccr_object.specs.Numbers.{numbers_of, domain_tests, site_count, site_counts, has_domain, has_spot, has_each, has_causes, has_message, has_task, is_known, IsKnown};
+ghost use Rattle.ccr_object.specs.Numbers.{numbers_of, domain_tests, site_count, site_counts, has_domain, has_spot, has_each, has_causes, has_message, has_task, has_handed, is_known, names_known};
 ghost use Rattle.ccr_claim.specs.declared.asks.Ask.{Ask};
+ghost use Rattle.ccr_claim.specs.declared.asks.Reply.{Reply as Replied};
+ghost use Rattle.ccr_claim.specs.Wired.{IsKnown, IsReplyOf};
 
-use ccr_base::{Action, ArbiterNo, HandlerNo, Msg, OutOfMemory, Spot, Task};
-use ccr_claim::Ask;
+use ccr_base::{Action, ArbiterNo, Cut, HandlerNo, Msg, OutOfMemory, Spot, Task};
+use ccr_claim::{Ask, Reply};
 use ccr_wiring::{BranchPart, Parts, Wiring};
 use std::alloc::Global;
 use std::marker::Model;
@@ -36,6 +40,7 @@ impl Numbers {
     pub fn of(alloc: Global, wiring: &Wiring) -> Result<Numbers, OutOfMemory>
         ensures numbers { IfOk result (λ numbers. numbers ≡ numbers_of wiring.now) }
         ensures exact { (ask : Ask) → (is_known (numbers_of wiring.now) ask ≡ true) ↔ IsKnown wiring.now ask }
+        ensures replies { (reply : Replied) → (names_known (numbers_of wiring.now) reply ≡ true) ↔ IsReplyOf wiring.now reply }
     {
         let parts = wiring.parts();
         let domains = domain_tests(alloc, wiring)?;
@@ -60,6 +65,43 @@ impl Numbers {
             Ask::Suspend(task) => self.has_task(task),
             Ask::Put(task) => self.has_task(task),
             _ => true,
+        }
+    }
+
+    /// Whether all numbers in the reply are among these, and no cause stands twice in a message or task of it. The places of a
+    /// wiring reply nothing else; a net of other places tests its replies so.
+    pub fn names(&self, reply: &Reply) -> bool
+        ensures { result ≡ names_known self.now reply.now }
+    {
+        match reply {
+            Reply::Got(messages) => self.has_messages(messages.as_slice()),
+            Reply::Fired { task, cuts } => {
+                self.has_handed(task) && has_cuts(self.queues, cuts.as_slice())
+            }
+            Reply::Admitted(task) | Reply::Dropped(task) | Reply::Taken(task) => {
+                self.has_handed(task)
+            }
+            _ => true,
+        }
+    }
+
+    fn has_messages(&self, messages: &[Msg]) -> bool
+        ensures { result ≡ list_all (has_message self.now) messages.now }
+    {
+        for message in messages {
+            if !self.has_message(message) {
+                return false;
+            }
+        }
+        true
+    }
+
+    fn has_handed(&self, task: &Option<Task>) -> bool
+        ensures { result ≡ has_handed self.now task.now }
+    {
+        match task {
+            Some(task) => self.has_task(task),
+            None => true,
         }
     }
 
@@ -104,6 +146,17 @@ impl Numbers {
     {
         has_each(self.causes, causes) && are_apart(causes)
     }
+}
+
+fn has_cuts(count: usize, cuts: &[Cut]) -> bool
+    ensures { result ≡ list_all (λ (cut : CutOf). nat_lt cut.queue count) cuts.now }
+{
+    for cut in cuts {
+        if (cut.queue as usize) >= count {
+            return false;
+        }
+    }
+    true
 }
 
 fn has_each(count: usize, causes: &[u32]) -> bool
