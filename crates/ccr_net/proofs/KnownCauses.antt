@@ -39,7 +39,8 @@ use Rattle.ccr_model.proofs.Members.{Among, Among-either, Among-at, Among-left, 
 use Rattle.ccr_model.proofs.Options.{some_of, some_then}
 use Rattle.ccr_model.proofs.PostNames.{along, refused_not}
 use Rattle.ccr_model.proofs.Pushes.{posts-push}
-use Rattle.ccr_object.specs.Numbers.{AreCausesOf}
+use Rattle.ccr_claim.specs.Wired.{AreCausesOf}
+use Rattle.ccr_claim.proofs.Apart.{apart_snoc}
 use Rattle.ccr_net.proofs.Noted.{filter_among}
 
 -- ---- lists of causes
@@ -58,26 +59,6 @@ fine_causes w causes fine = (all_of (λ c. c < length w.causes) causes fine.belo
 
 none_fine : (n : ℕ) → AreFine n []
 none_fine n = record { below = λ c is. absurd is; apart = refl }
-
-not_in : (xs : List ℕ) (c x : ℕ) → has_port xs x ≡ false → (x == c) ≡ false → has_port (xs ++ c ∷ []) x ≡ false
-not_in [] c x out other = let same : (c == x) ≡ false = grind (arith, nat_tests, other) in rw same refl
-not_in (y ∷ xs) c x out other = by (y == x) out (λ rest. not_in xs c x rest other)
-  where
-    by : (b : Bool) → b || has_port xs x ≡ false → (has_port xs x ≡ false → has_port (xs ++ c ∷ []) x ≡ false) → b || has_port (xs ++ c ∷ []) x ≡ false
-    by false rest more = more rest
-    by true rest more = absurd (cc)
-
-apart_snoc : (xs : List ℕ) (c : ℕ) → are_apart xs ≡ true → has_port xs c ≡ false → are_apart (xs ++ c ∷ []) ≡ true
-apart_snoc [] c apart out = refl
-apart_snoc (x ∷ xs) c apart out = by (x == c) refl out (both (not (has_port xs x)) (are_apart xs) apart).0 (both (not (has_port xs x)) (are_apart xs) apart).1 (apart_snoc xs c)
-  where
-    of_first : (b : Bool) → not b ≡ true → b ≡ false
-    of_first false e = refl
-    of_first true e = absurd (cc)
-
-    by : (b : Bool) → (x == c) ≡ b → b || has_port xs c ≡ false → not (has_port xs x) ≡ true → are_apart xs ≡ true → (are_apart xs ≡ true → has_port xs c ≡ false → are_apart (xs ++ c ∷ []) ≡ true) → not (has_port (xs ++ c ∷ []) x) && are_apart (xs ++ c ∷ []) ≡ true
-    by true is out here rest more = absurd (cc)
-    by false is out here rest more = rw (not_in xs c x (of_first (has_port xs x) here) is) (more rest out)
 
 with_fine : (n : ℕ) (causes : List ℕ) (c : ℕ) → AreFine n causes → c < n → AreFine n (with_cause causes c)
 with_fine n causes c fine low = by (has_cause causes c) refl

@@ -33,7 +33,7 @@ use Rattle.ccr_model.proofs.PlacementDomains.{placement-within}
 use Rattle.ccr_model.proofs.PostNames.{along}
 use Rattle.ccr_model.proofs.Pushes.{firings-push}
 use Rattle.ccr_model.proofs.TakenOnce.{FireFacts-allowed}
-use Rattle.ccr_object.specs.Numbers.{IsDomainOf, IsSpotOf, IsTaskOf}
+use Rattle.ccr_claim.specs.Wired.{IsDomainOf, IsSpotOf, IsTaskOf}
 use Rattle.ccr_claim.specs.Plans.{firing_task}
 use Rattle.ccr_actor.specs.Plans.{arbiter_at, plan_of, queue_at}
 use Rattle.ccr_net.specs.Views.{view}

@@ -81,6 +81,7 @@ pub mod AsksMet
 pub mod OwedSteps
 pub mod CutsBounded
 pub mod Serving
+pub mod NamedReplies
 mod WorkedNets
 mod WorkedRivals
 mod WorkedTaker

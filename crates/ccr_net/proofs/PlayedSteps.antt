@@ -5,7 +5,7 @@ use Rattle.ccr_base.specs.declared.names.Place.{Place}
 use Rattle.ccr_wiring.specs.declared.parts.Parts.{Parts}
 use Rattle.ccr_claim.specs.declared.asks.Asked.{Asked}
 use Rattle.ccr_actor.specs.Actors.{next}
-use Rattle.ccr_object.specs.Numbers.{IsKnown}
+use Rattle.ccr_claim.specs.Wired.{IsKnown}
 use Rattle.ccr_object.specs.Starts.{places_of}
 use Rattle.ccr_net.specs.declared.entries.Entry.{Entry}
 use Rattle.ccr_net.specs.Places.{note_of}

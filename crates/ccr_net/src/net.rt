@@ -4,6 +4,7 @@ ghost use Rattle.std.specs.Prelude.{◌≡◌, ◌≢◌, ◌<◌, ◌≤◌, �
 ghost use Rattle.ccr_actor.specs.Nets.{IsProper};
 ghost use Rattle.ccr_actor.specs.Nets.{replies_of as replied_in};
 ghost use Rattle.ccr_claim.specs.Asks.{due_of, fits, is_settling};
+ghost use Rattle.ccr_claim.specs.Wired.{IsReplyOf};
 ghost use Rattle.ccr_net.specs.Owed.{cost, gain, most};
 ghost use Rattle.ccr_net.specs.Played.{steps_in};
 ghost use Rattle.ccr_net.specs.Served.{seats};
@@ -93,6 +94,7 @@ impl Net for PlainNet<'_> {
         requires { IsProper self.old.wiring actor (steps_in self.old.wiring self.old.acts actor) (record { place = place; ask = ask }) }
         ensures wiring { self.new.wiring ≡ self.old.wiring }
         ensures reply { IfOk result (λ reply. fits (due_of ask) reply ≡ true) }
+        ensures known { IfOk result (λ reply. IsReplyOf self.old.wiring reply) }
         ensures added { IfOk result (λ reply. steps_in self.new.wiring self.new.acts actor ≡ steps_in self.old.wiring self.old.acts actor ++ (record { asked = record { place = place; ask = ask }; reply = reply }) ∷ []) }
         ensures refused { OnErr result (steps_in self.new.wiring self.new.acts actor ≡ steps_in self.old.wiring self.old.acts actor) }
         ensures others { (other : ℕ) → other ≢ actor → steps_in self.new.wiring self.new.acts other ≡ steps_in self.old.wiring self.old.acts other }

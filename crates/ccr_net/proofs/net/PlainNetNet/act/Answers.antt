@@ -2,6 +2,7 @@ use Rattle.std.proofs.Common.{◌≡◌, ◌<◌, true, ◌+◌, ◌-◌, List, 
 use Rattle.std.specs.Prelude.{nat_lt}
 use Rattle.std.proofs.lemmas.Bool.Decides.{nat_tests}
 use Rattle.ccr_claim.specs.declared.asks.Asked.{Asked}
+use Rattle.ccr_claim.specs.Wired.{IsReplyOf}
 use Rattle.ccr_object.specs.Objects.{reply_of}
 use Rattle.ccr_net.specs.declared.entries.Entry.{Entry}
 use Rattle.ccr_net.specs.Acted.{act_after, scene_after}
@@ -9,6 +10,7 @@ use Rattle.ccr_net.specs.Owed.{cost, gain, most}
 use Rattle.ccr_net.specs.Played.{entry_of, number_at, steps_in}
 use Rattle.ccr_net.specs.Runs.{entry_for, replies_of, with_made}
 use Rattle.ccr_net.specs.Served.{Served}
+use Rattle.ccr_net.proofs.NamedReplies.{reply_named}
 use Rattle.ccr_net.proofs.Serving.{acts_from, act_added, act_costs, act_gains, act_heard, act_made, act_met, act_others, act_roomy, act_seat, free_so, push_so, room_so, some_so}
 use Rattle.ccr_net.proofs.net.PlainNetNet.act.Goals as goal
 
@@ -144,6 +146,13 @@ returns-clause-added c =
     let more = c.push_reserved.new.self.items in
     let more_so = c.push_reserved.ensures.items ∙ ap (λ (xs : List Entry). xs ++ entry ∷ []) made.items in
     subst (λ (x : Served). steps_in later.wiring later.acts k ≡ steps_in x.wiring x.acts k ++ (record { asked = one; reply = reply }) ∷ []) c.self.view_is (act_added old es room owed count k one a later more entry reply wiring_so acts_so is_entry replied did.fits more_so)
+
+pub returns-clause-known : goal.returns-clause-known
+returns-clause-known c =
+    let old = c.self.inside.places in
+    let made = c.in_ok-make_room.ensures in
+    let replied = sym (λ i. reply_of (scene_after (made.wiring i) (made.acts i) (number_at (made.wiring i) c.args.place)).0 c.args.ask) ∙ c.in_ok-reply.ensures.reply in
+    subst (λ (x : Served). IsReplyOf x.wiring c.in_ok-reply.reply) c.self.view_is (reply_named old.wiring old.acts (number_at old.wiring c.args.place) c.args.ask c.in_ok-reply.reply replied)
 
 pub returns-clause-others : goal.returns-clause-others
 returns-clause-others c =
