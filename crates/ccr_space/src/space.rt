@@ -8,6 +8,7 @@ use ccr_wiring::Wiring;
 
 mod close;
 mod make;
+mod pausing;
 mod showing;
 mod step;
 mod threads;

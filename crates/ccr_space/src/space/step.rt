@@ -5,15 +5,14 @@ ghost use Rattle.ccr_claim.specs.Asks.{fits};
 ghost use Rattle.ccr_actor.specs.Acting.{due_in, IsAfter};
 ghost use Rattle.ccr_space.specs.Spaces.{HasPlaces, IsPassOf, IsAtRest, IsHeard, IsLonger, IsMore, is_short, log, number};
 
+use super::pausing::Pausing;
 use super::{Pass, Space};
 use ccr_actor::Actor;
-use ccr_base::{ActorNo, Gate, OpenGate, Place};
+use ccr_base::{ActorNo, Gate, OpenGate};
 use ccr_claim::Reply;
 use ccr_dispatch::{point_after, point_before};
 use ccr_object::Answer;
-use ccr_wiring::Wiring;
 use std::sync::Wait;
-use std::thread::yield_now;
 
 /// What a step of a pass came to.
 #[derive(Clone, Copy, PartialEq, Eq)]
@@ -40,11 +39,17 @@ impl Space<'_> {
         ensures unmet { result ≡ Step.Unmet → IsMore false pass.old pass.new × (pass.new.stopped ≡ true) }
         ensures memory { result ≡ Step.NoMemory → (log pass.new ≡ log pass.old) × (pass.new.stopped ≡ true) }
     {
-        self.advance(rt, &OpenGate, pass)
+        self.advance(rt, &OpenGate, &mut Pausing::new(), pass)
     }
 
-    /// A step that asks the gate at its points.
-    fn advance<R: Wait, G: Gate>(&self, rt: &R, gate: &G, pass: &mut Pass<'_>) -> Step
+    /// A step that asks the gate at its points, and waits before it where the steps before were in vain.
+    fn advance<R: Wait, G: Gate>(
+        &self,
+        rt: &R,
+        gate: &G,
+        pausing: &mut Pausing,
+        pass: &mut Pass<'_>,
+    ) -> Step
         requires space { HasPlaces self.now }
         requires pass { IsPassOf self.now pass.old }
         ensures pass { IsPassOf self.now pass.new }
@@ -67,14 +72,15 @@ impl Space<'_> {
         let Some((place, ask)) = pass.actor.next() else {
             unreachable!();
         };
+        pausing.before(rt, &ask);
         if let Some(point) = point_before(&ask) {
             gate.at(point, number);
         }
-        let is_last = is_last(self.wiring, place);
         let at = self.directory.number(place);
         match self.turns.act(rt, &mut pass.seat, at, ask) {
             Ok(answer) => {
-                let (step, stopped) = heard(gate, number, is_last, &mut pass.actor, answer);
+                pausing.hear(&answer);
+                let (step, stopped) = heard(gate, number, &mut pass.actor, answer);
                 pass.stopped = stopped;
                 step
             }
@@ -85,8 +91,8 @@ impl Space<'_> {
         }
     }
 
-    /// Steps until the pass is at rest, and asks the gate. It answers how many entries its log has more, or 2^64 - 1 where there
-    /// are more. A step that found no memory is none.
+    /// Steps until the pass is at rest, and asks the gate; between steps in vain it waits for others. It answers how many entries its log
+    /// has more, or 2^64 - 1 where there are more. A step that found no memory is none.
     pub fn run<R: Wait, G: Gate>(&self, rt: &R, gate: &G, pass: &mut Pass<'_>) -> u64
         requires space { HasPlaces self.now }
         requires pass { IsPassOf self.now pass.old }
@@ -96,8 +102,9 @@ impl Space<'_> {
         ensures count { IsLonger pass.old pass.new result }
     {
         let mut steps = 0u64;
+        let mut pausing = Pausing::new();
         for _ in rt.forever() {
-            match self.advance(rt, gate, pass) {
+            match self.advance(rt, gate, &mut pausing, pass) {
                 Step::Made | Step::Unmet => steps = steps.saturating_add(1),
                 Step::NoMemory | Step::Rest => return steps,
             }
@@ -106,23 +113,8 @@ impl Space<'_> {
     }
 }
 
-/// Whether the place is the last queue, which a round asks last.
-fn is_last(wiring: &Wiring, place: Place) -> bool {
-    let queues = wiring.parts().queues.as_slice().len();
-    match place {
-        Place::Queue(queue) => queue as usize + 1 == queues,
-        _ => false,
-    }
-}
-
 /// Hands the answer to the actor, and tells what the step came to, and whether the pass is stopped.
-fn heard<G: Gate>(
-    gate: &G,
-    number: ActorNo,
-    is_last: bool,
-    actor: &mut Actor<'_>,
-    answer: Answer,
-) -> (Step, bool)
+fn heard<G: Gate>(gate: &G, number: ActorNo, actor: &mut Actor<'_>, answer: Answer) -> (Step, bool)
     requires fits { (reply : _) → answer ≡ Answer.Replied reply → fits (due_in actor.old.asking) reply ≡ true }
     ensures made { answer ≡ Answer.Unmet → result ≡ (Step.Unmet, true) }
     ensures replied { (reply : _) → answer ≡ Answer.Replied reply → result ≡ (Step.Made, actor.new.state.is_short) }
@@ -132,11 +124,6 @@ fn heard<G: Gate>(
         Answer::Replied(reply) => {
             if let Some(point) = point_after(&reply) {
                 gate.at(point, number);
-            }
-            if let Reply::Taken(None) = &reply {
-                if is_last {
-                    yield_now();
-                }
             }
             (Step::Made, told(actor, reply))
         }
