@@ -1,6 +1,7 @@
 pub mod Keywords
 pub mod Names
 pub mod Counts
+pub mod Slices
 pub mod Drafts
 pub mod Places
 pub mod Patterns

@@ -39,9 +39,13 @@ unfoldable pub after_all : So → Words → Result So ℕ
 after_all so [] = Ok so
 after_all so (first ∷ words) = if is_comment first then Ok so else after_words so first words
 
--- a line that isn't clean is code 1
+-- after the words of a line: one that isn't clean is code 1
+abbrev pub after_clean : So → Bool → Words → Result So ℕ
+after_clean so clean words = if clean then after_all so words else Err 1
+
+-- after a line
 unfoldable pub after_line : So → Line → Result So ℕ
-after_line so line = if line.clean then after_all so line.words else Err 1
+after_line so line = after_clean so line.clean line.words
 
 -- the text may not end inside a block
 abbrev pub closed : Block → Parts → Result Parts ℕ

@@ -2,6 +2,7 @@
 
 ghost use Rattle.std.specs.Prelude.{◌≡◌, ◌==◌, List, length, ℕ};
 ghost use Rattle.ccr_wiretext.specs.Names.{as_queue, as_cause, as_handler, as_arbiter};
+ghost use Rattle.ccr_wiretext.specs.Slices.{seen};
 ghost use Rattle.ccr_wiretext.specs.Places.{word, no_more, new_name, reference, port, number, number_within, policy, group, value, part, expr, interleave};
 ghost use Rattle.ccr_wiretext.specs.Answers.{Gives, Leaves, LeavesBy};
 
@@ -10,53 +11,56 @@ use crate::keyword::is_text;
 use crate::named::{Named, Names};
 use crate::stop::{Code, Stop};
 use crate::values::value_in;
-use ccr_base::{ArbiterNo, CauseNo, Expr, Group, HandlerNo, Name, Policy, PortNo, QueueNo, Value};
+use ccr_base::{ArbiterNo, CauseNo, Expr, Group, HandlerNo, Policy, PortNo, QueueNo, Value};
 use ccr_text::{is_name, read_number};
 use ccr_wiring::{MAX_ARG, MAX_PLACE, MAX_POLICY};
 use std::alloc::Global;
 use std::marker::Model;
 
-/// The words that are left. Each method takes the words of one place, or tells the code of what stands there.
+/// The words that are left: those behind so many that were taken. Each method takes the words of one place, or tells the
+/// code of what stands there.
 #[derive(Drop)]
 pub struct Cursor<'a> {
-    rest: &'a [Name],
+    words: &'a [&'a [u8]],
+    taken: usize,
 }
 
 impl<'a> Model for Cursor<'a> {
-    ghost use Rattle.std.specs.Prelude.{List as Listed, ℕ};
+    ghost use Rattle.std.specs.Prelude.{List as Listed, ℕ, drop};
+    ghost use Rattle.ccr_wiretext.specs.Slices.{seen};
 
     ghost Value = { Listed (Listed ℕ) };
 
-    ghost view = { λ cursor. cursor.rest.now };
+    ghost view = { λ cursor. seen (drop cursor.taken cursor.words.now) };
 }
 
 impl<'a> Cursor<'a> {
-    pub fn new(words: &'a [Name]) -> Self
-        ensures { result ≡ words.now }
+    pub fn new(words: &'a [&'a [u8]]) -> Self
+        ensures { result ≡ seen words.now }
     {
-        Cursor { rest: words }
+        Cursor { words, taken: 0 }
     }
 
     pub fn is_empty(&self) -> bool
         ensures { result ≡ (length self.now == 0) }
     {
-        self.rest.is_empty()
+        self.taken >= self.words.len()
     }
 
     pub fn word(&mut self) -> Result<&'a [u8], Stop>
         ensures { LeavesBy (λ word. word.now) self.new result (word self.old) }
     {
-        let Some((first, rest)) = self.rest.split_first() else {
+        let Some(word) = self.words.get(self.taken) else {
             return Err(Stop::Refused(Code::WordCount));
         };
-        self.rest = rest;
-        Ok(first.as_slice())
+        self.taken += 1;
+        Ok(*word)
     }
 
     pub fn no_more(&self) -> Result<(), Stop>
         ensures { Gives result (no_more self.now) }
     {
-        if !self.rest.is_empty() {
+        if !self.is_empty() {
             return Err(Stop::Refused(Code::WordCount));
         }
         Ok(())

@@ -4,15 +4,15 @@ ghost use Rattle.std.specs.Prelude.{◌≡◌, ◌≤◌, length, None, IfOk, If
 ghost use Rattle.ccr_wiring.specs.Valid.{IsValid};
 ghost use Rattle.ccr_wiretext.specs.Answers.{Gives, GivesState, IsReading, IsNoText, refused};
 ghost use Rattle.ccr_wiretext.specs.Lines.{IsText};
-ghost use Rattle.ccr_wiretext.specs.Reading.{is_comment, version_word, version_of, after_all, after_line, at_end, reading, reading_text};
+ghost use Rattle.ccr_wiretext.specs.Reading.{is_comment, version_word, version_of, after_all, after_clean, at_end, reading_text};
+ghost use Rattle.ccr_wiretext.specs.Slices.{seen};
 
 use crate::cursor::Cursor;
 use crate::draft::{Block, Draft};
 use crate::keyword::{is_text, keyword_of};
 use crate::refused::ReadRefused;
 use crate::stop::{Code, Stop};
-use ccr_base::Name;
-use ccr_text::{Line, split_lines};
+use ccr_text::take_line;
 use ccr_wiring::{Parts, Unfit, Wiring};
 use std::alloc::Global;
 use std::marker::Model;
@@ -54,11 +54,11 @@ fn version_word(word: &[u8]) -> Option<u32>
 }
 
 /// The version of the line `ccr 1` or `ccr 2`.
-fn version_of(words: &[Name]) -> Option<u32>
-    ensures { result ≡ version_of words.now }
+fn version_of(words: &[&[u8]]) -> Option<u32>
+    ensures { result ≡ version_of (seen words.now) }
 {
     match words {
-        [first, second] if is_text(first.as_slice(), "ccr") => version_word(second.as_slice()),
+        [first, second] if is_text(first, "ccr") => version_word(second),
         _ => None,
     }
 }
@@ -71,17 +71,17 @@ impl Reader {
     }
 
     #[tactic(auto, unfolding(crate::specs::Reading::after_all, crate::specs::Reading::after_words))]
-    fn words(&mut self, words: &[Name]) -> Result<(), Stop>
-        ensures { GivesState self.new result (after_all self.old words.now) }
+    fn words(&mut self, words: &[&[u8]]) -> Result<(), Stop>
+        ensures { GivesState self.new result (after_all self.old (seen words.now)) }
     {
         let Some((first, others)) = words.split_first() else {
             return Ok(());
         };
-        if is_comment_word(first.as_slice()) {
+        if is_comment_word(first) {
             return Ok(());
         }
         match &mut self.draft {
-            Some(draft) => draft.line(keyword_of(first.as_slice()), Cursor::new(others)),
+            Some(draft) => draft.line(keyword_of(first), Cursor::new(others)),
             None => {
                 let Some(version) = version_of(words) else {
                     return Err(Stop::Refused(Code::Version));
@@ -92,15 +92,14 @@ impl Reader {
         }
     }
 
-    /// Takes in the next line.
-    #[tactic(auto, unfolding(crate::specs::Reading::after_line))]
-    fn line(&mut self, line: &Line) -> Result<(), Stop>
-        ensures { GivesState self.new result (after_line self.old line.now) }
+    /// Takes in the words of the next line, which is clean or isn't.
+    fn line(&mut self, clean: bool, words: &[&[u8]]) -> Result<(), Stop>
+        ensures { GivesState self.new result (after_clean self.old clean (seen words.now)) }
     {
-        if !line.clean {
+        if !clean {
             return Err(Stop::Refused(Code::Unclean));
         }
-        self.words(line.words.as_slice())
+        self.words(words)
     }
 
     /// The parts, at the end of the text.
@@ -139,32 +138,30 @@ fn refused(line: u32, stop: Stop) -> ReadRefused
     }
 }
 
-#[tactic(auto, unfolding(crate::specs::Reading::reading_after))]
-fn read_lines(alloc: Global, lines: &[Line]) -> Result<Parts, ReadRefused>
-    ensures { IsReading result (reading lines.now) }
+/// No word is copied, and all lines use one list of words.
+#[tactic(auto, unfolding(crate::specs::Reading::reading_after, crate::specs::Reading::after_line))]
+fn read_text(alloc: Global, text: &[u8]) -> Result<Parts, ReadRefused>
+    requires { length text.now ≤ 1048576 }
+    ensures { IsReading result (reading_text text.now) }
 {
     let mut reader = Reader::new(alloc);
+    let mut words = Vec::new(alloc);
+    let mut rest = text;
     let mut last: u32 = 0;
-    for line in lines {
-        if let Err(stop) = reader.line(line) {
-            return Err(refused(line.number, stop));
+    'lines: while !rest.is_empty() {
+        let Ok((clean, behind)) = take_line(rest, &mut words) else {
+            return Err(ReadRefused::Memory);
+        };
+        last += 1;
+        if let Err(stop) = reader.line(clean, &words) {
+            return Err(refused(last, stop));
         }
-        last = line.number;
+        rest = behind;
     }
     match reader.end() {
         Ok(parts) => Ok(parts),
         Err(stop) => Err(refused(last.max(1), stop)),
     }
-}
-
-fn read_text(alloc: Global, text: &[u8]) -> Result<Parts, ReadRefused>
-    requires { length text.now ≤ 1048576 }
-    ensures { IsReading result (reading_text text.now) }
-{
-    let Ok(lines) = split_lines(alloc, text) else {
-        return Err(ReadRefused::Memory);
-    };
-    read_lines(alloc, lines.as_slice())
 }
 
 /// The parts that a text says, or its first offending line and the code. Near linear in the text's length.
