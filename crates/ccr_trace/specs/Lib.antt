@@ -6,6 +6,7 @@ pub mod Places
 pub mod Forms
 pub mod Known
 pub mod Values
+pub mod Written
 pub mod Reading
 pub mod Answers
 pub mod Codes

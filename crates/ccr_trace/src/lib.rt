@@ -21,8 +21,9 @@ mod words;
 mod writing;
 
 pub use laws::{lines_are_read_exactly, what_is_read_is_written, what_is_written_is_read};
+pub use names::Names;
 pub use reading::{ReadHistory, read_history};
 pub use refused::{Code, HistoryRefused};
 pub use values::values_are_small;
 pub use words::{put_message, put_number_word, put_task, put_value, put_word};
-pub use writing::write_history;
+pub use writing::{add_event, begin_text, write_history};

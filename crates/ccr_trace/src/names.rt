@@ -1,10 +1,13 @@
 //! The names that lines refer to by number.
 
-ghost use Rattle.std.specs.Prelude.{◌≡◌, map};
-ghost use Rattle.ccr_trace.specs.Words.{name_at};
+ghost use Rattle.std.specs.Prelude.{◌≡◌, IfOk, map};
+ghost use Rattle.ccr_trace.specs.Words.{branch_names, name_at};
 
-use ccr_base::CauseNo;
-use ccr_wiring::CausePart;
+use ccr_base::{CauseNo, List, Name, OutOfMemory};
+use ccr_spots::branch_names;
+use ccr_wiring::{CausePart, Parts, Wiring};
+use std::alloc::Global;
+use std::marker::Model;
 
 /// The name of the cause of this number, or no byte.
 pub fn cause_name(causes: &[CausePart], number: CauseNo) -> &[u8]
@@ -13,5 +16,49 @@ pub fn cause_name(causes: &[CausePart], number: CauseNo) -> &[u8]
     match causes.get(number as usize) {
         Some(part) => part.name.as_slice(),
         None => &[],
+    }
+}
+
+/// A wiring's parts, whose names lines refer to. Those of its branches stand in one list.
+#[derive(Drop)]
+pub struct Names<'w> {
+    parts: &'w Parts,
+    branches: List<Name>,
+}
+
+impl<'w> Model for Names<'w> {
+    ghost use Rattle.std.specs.Prelude.{◌≡◌};
+    ghost use Rattle.ccr_wiring.specs.declared.parts.Parts.{Parts as SomeParts};
+    ghost use Rattle.ccr_trace.specs.Words.{branch_names};
+
+    ghost Value = { SomeParts };
+
+    ghost view = { λ names. names.parts.now };
+
+    ghost invariant = { λ names. names.branches ≡ branch_names names.parts.now };
+}
+
+impl<'w> Names<'w> {
+    /// The names of the wiring.
+    pub fn new(alloc: Global, wiring: &'w Wiring) -> Result<Self, OutOfMemory>
+        ensures { IfOk result (λ names. names ≡ wiring.now) }
+    {
+        let parts = wiring.parts();
+        let branches = branch_names(alloc, parts)?;
+        Ok(Names { parts, branches })
+    }
+
+    /// The parts of the wiring.
+    pub(crate) fn parts(&self) -> &Parts
+        ensures { result.now ≡ self.now }
+    {
+        self.parts
+    }
+
+    /// The names of its branches.
+    pub(crate) fn branches(&self) -> &[Name]
+        ensures { result.now ≡ branch_names self.now }
+    {
+        self.branches.as_slice()
     }
 }

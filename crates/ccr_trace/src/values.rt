@@ -22,8 +22,8 @@ fn end_is_small(how: EndHow)
     }
 }
 
-/// The value of a post or of a failure.
-fn event_is_small(event: &Event)
+/// No value of the event has more than 8 numbers.
+pub(crate) fn event_is_small(event: &Event)
     ensures { HasSmallValue event.now }
 {
     match event {

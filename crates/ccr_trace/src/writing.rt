@@ -1,20 +1,23 @@
-//! The text of a history.
+//! The text of a history, whole or event by event.
 
-ghost use Rattle.std.specs.Prelude.{◌≡◌, ◌+◌, ◌++◌, ◌∷◌, [], ℕ, List as Listed, IfOk, OnOk, Ok, map, length, codes};
-ghost use Rattle.ccr_text.specs.Spelling.{text_of};
-ghost use Rattle.ccr_trace.specs.Words.{branch_names};
+ghost use Rattle.std.specs.Prelude.{◌≡◌, ◌+◌, ◌++◌, ◌∷◌, [], ℕ, List as Listed, IfOk, OnOk, Ok, length, codes};
+ghost use Rattle.ccr_model.specs.declared.history.Event.{Event as SomeEvent};
+ghost use Rattle.ccr_text.specs.Spelling.{line_text};
 ghost use Rattle.ccr_trace.specs.HistoryText.{event_words, history_text};
-ghost use Rattle.ccr_trace.specs.Known.{AreKnown, HaveMessages, AreShort};
+ghost use Rattle.ccr_trace.specs.Known.{AreKnown, HaveMessages, AreShort, IsShort};
 ghost use Rattle.ccr_trace.specs.Reading.{reading};
+ghost use Rattle.ccr_trace.specs.Values.{HasSmallValue};
+ghost use Rattle.ccr_trace.specs.Written.{IsWritten};
 
 use crate::events::put_event;
 use crate::first::first_line;
 use crate::laws::what_is_written_is_read;
-use ccr_base::{List, Name, OutOfMemory};
+use crate::names::Names;
+use crate::values::event_is_small;
+use ccr_base::{List, OutOfMemory};
 use ccr_model::{Event, History};
-use ccr_spots::branch_names;
 use ccr_text::put_bytes;
-use ccr_wiring::{Parts, Wiring};
+use ccr_wiring::Wiring;
 use std::alloc::Global;
 
 /// How many bytes the line of an event has, about.
@@ -28,19 +31,36 @@ fn room_for(alloc: Global, events: usize) -> Result<List<u8>, OutOfMemory>
     Ok(List::from_vec(bytes))
 }
 
-/// A line for each event.
-fn put_events(
-    out: &mut List<u8>,
-    parts: &Parts,
-    branches: &[Name],
-    events: &[Event],
-) -> Result<(), OutOfMemory>
-    requires { branches.now ≡ branch_names parts.now }
-    ensures text { OnOk result (out.new ≡ out.old ++ text_of (map (event_words parts.now) events.now)) }
-    ensures numbers { OnOk result (AreShort events.now) }
+/// The text of the history without events, with room for the lines of so many: its first line.
+pub fn begin_text(alloc: Global, names: &Names<'_>, events: usize) -> Result<List<u8>, OutOfMemory>
+    ensures text { IfOk result (λ text. text ≡ history_text names.now []) }
+    ensures written { IfOk result (IsWritten names.now []) }
+{
+    let mut text = room_for(alloc, events)?;
+    put_bytes(&mut text, first_line(names.parts()))?;
+    put_bytes(&mut text, b"\n")?;
+    Ok(text)
+}
+
+/// Adds the event's line to the text of the history before it.
+pub fn add_event(text: &mut List<u8>, names: &Names<'_>, event: &Event) -> Result<(), OutOfMemory>
+    ensures line { OnOk result (text.new ≡ text.old ++ line_text (event_words names.now event.now)) }
+    ensures short { OnOk result (IsShort event.now) }
+    ensures small { HasSmallValue event.now }
+    ensures written { OnOk result ((history : Listed SomeEvent) → IsWritten names.now history text.old → IsWritten names.now (history ++ event.now ∷ []) text.new) }
+{
+    event_is_small(event);
+    put_event(text, names.parts(), names.branches(), event)?;
+    Ok(())
+}
+
+/// A line for each event, behind the first line.
+fn add_events(text: &mut List<u8>, names: &Names<'_>, events: &[Event]) -> Result<(), OutOfMemory>
+    requires { IsWritten names.now [] text.old }
+    ensures { OnOk result (IsWritten names.now events.now text.new) }
 {
     for event in events {
-        put_event(out, parts, branches, event)?;
+        add_event(text, names, event)?;
     }
     Ok(())
 }
@@ -55,15 +75,14 @@ pub fn write_history(
 ) -> Result<List<u8>, OutOfMemory>
     ensures text { IfOk result (λ text. text ≡ history_text wiring.now history.now) }
     ensures numbers { OnOk result (AreShort history.now) }
+    ensures written { IfOk result (IsWritten wiring.now history.now) }
     ensures again { IfOk result (λ text. (more : Listed ℕ) → AreKnown wiring.now history.now → HaveMessages history.now → reading wiring.now (text ++ (codes "report 1" ++ 10 ∷ more)) ≡ Ok (record { history = history.now; rest = length text; lines = length history.now + 1 })) }
 {
     what_is_written_is_read();
-    let parts = wiring.parts();
-    let branches = branch_names(alloc, parts)?;
+    let _parts = wiring.parts();
+    let names = Names::new(alloc, wiring)?;
     let events = history.events();
-    let mut out = room_for(alloc, events.len())?;
-    put_bytes(&mut out, first_line(parts))?;
-    put_bytes(&mut out, b"\n")?;
-    put_events(&mut out, parts, branches.as_slice(), events)?;
-    Ok(out)
+    let mut text = begin_text(alloc, &names, events.len())?;
+    add_events(&mut text, &names, events)?;
+    Ok(text)
 }
