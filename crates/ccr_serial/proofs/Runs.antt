@@ -1,6 +1,6 @@
 -- What an engine keeps, and a run of it from its start to its end.
-use Rattle.std.proofs.Common.{◌≡◌, ℕ, ◌+◌, ◌<◌, ◌≤◌, true, false, List, [], ◌∷◌, ◌++◌, length, Option, Some, None, refl, arith, ap, ◌∙◌, subst, append_assoc, append-nil, length-append}
-use Rattle.std.specs.Prelude.{IfSome, is_some, ◌^◌}
+use Rattle.std.proofs.Common.{◌≡◌, ℕ, ◌+◌, ◌<◌, ◌≤◌, true, false, List, [], ◌∷◌, ◌++◌, length, Option, Some, None, refl, sym, arith, ap, ◌∙◌, subst, append_assoc, append-nil, length-append}
+use Rattle.std.specs.Prelude.{IfSome, IfNone, is_some, ◌^◌}
 use Rattle.ccr_wiring.specs.declared.parts.Parts.{Parts}
 use Rattle.ccr_wiring.specs.Valid.{IsValid}
 use Rattle.ccr_model.specs.declared.history.Event.{Event}
@@ -47,6 +47,13 @@ IsSound-attempts s sound = omega (arith, sound.attempts, IsSound-short s sound)
 pub IsSound-start : (w : Parts) (c : ℕ) → IsValid w → length w.posters ≤ c → c ≤ 32 → IsSound (record { wiring = w; closer = c; history = [] })
 IsSound-start w c valid high low = record { valid = valid; high = high; low = low; legal = tt; attempts = omega arith }
 
+few_attempts : (c : ℕ) (h : List Event) → next_attempt c (fired h) ≤ 2 ^ 31 → next_attempt c (fired h) < 2 ^ 31 + length h
+few_attempts c [] few = omega arith
+few_attempts c (e ∷ h) few = omega (arith, few)
+
+pub IsSound-resume : (w : Parts) (c : ℕ) (h : List Event) → IsValid w → length w.posters ≤ c → c ≤ 32 → IsLegal w h → next_attempt c (fired h) ≤ 2 ^ 31 → IsSound (record { wiring = w; closer = c; history = h })
+IsSound-resume w c h valid high low legal few = record { valid = valid; high = high; low = low; legal = legal; attempts = few_attempts c h few }
+
 -- the event that comes next leaves an engine sound
 pub IsSound-event : (s : Engine) → IsSound s → (e : Event) → next_event s ≡ Some e → IsSound (record s { history = s.history ++ e ∷ [] })
 unfolding next_event
@@ -75,6 +82,26 @@ pub IsQuiet-next : (s : Engine) → IsSound s → next_event s ≡ None → IsQu
 unfolding next_event
 IsQuiet-next s sound is = IsQuiet-first s.wiring s.closer s.history (HasQueues-valid s.wiring sound.valid) is
 
+pub IsSound-next : (s n : Engine) → IsSound s → n ≡ next_engine s → IsSound n
+IsSound-next s n sound is = rw is (of_next (next_event s) refl)
+  where
+    of_next : (o : Option Event) → next_event s ≡ o → IsSound (record s { history = with_first s.history o })
+    of_next None none = sound
+    of_next (Some e) some = IsSound-event s sound e some
+
+-- what comes next stands at the end of the history
+pub entered_history : (s x n : Engine) (e : Event) → x ≡ s → n ≡ next_engine x → next_event s ≡ Some e → n.history ≡ s.history ++ e ∷ []
+entered_history s x n e same next is = rw (next, same, is) refl
+
+-- the same of what is answered
+pub allowed-next : (s : Engine) → IsSound s → (o : Option Event) → o ≡ next_event s → IfSome o (IsAllowed s.wiring s.history)
+unfolding next_event
+allowed-next s sound o is = subst (λ x. IfSome x (IsAllowed s.wiring s.history)) (sym is) (first_allowed s.wiring s.closer s.history sound.high sound.low sound.legal)
+
+pub quiet-next : (s : Engine) → IsSound s → (o : Option Event) → o ≡ next_event s → IfNone o (IsQuiet s.wiring s.history)
+quiet-next s sound None is = IsQuiet-next s sound (sym is)
+quiet-next s sound (Some e) is = tt
+
 -- a run in the order has come from the one engine to the other
 pub record GoesFrom (start now : Engine) : Type 0 where
   pub wiring : now.wiring ≡ start.wiring
@@ -82,6 +109,9 @@ pub record GoesFrom (start now : Engine) : Type 0 where
   pub more : List Event
   pub begins : now.history ≡ start.history ++ more
   pub ordered : IsOrderedAfter start.wiring start.closer start.history more
+
+pub GoesFrom-none : (s : Engine) → GoesFrom s s
+GoesFrom-none s = record { wiring = refl; closer = refl; more = []; begins = sym (append-nil s.history); ordered = tt }
 
 goes_on : (start s : Engine) → GoesFrom start s → (e : Event) → next_event s ≡ Some e → GoesFrom start (record s { history = s.history ++ e ∷ [] })
 unfolding next_event

@@ -1,5 +1,6 @@
 -- What an engine is to its callers.
-use Rattle.std.specs.Prelude.{◌≤◌, ◌<◌, ◌+◌, ◌^◌, ℕ, List, length, Option}
+use Rattle.std.specs.Prelude.{◌≤◌, ◌<◌, ◌+◌, ◌^◌, ℕ, List, length, map, Option}
+use Rattle.std.specs.declared.snapshot.Snapshot.{Snapshot}
 use Rattle.ccr_wiring.specs.declared.parts.Parts.{Parts}
 use Rattle.ccr_wiring.specs.Valid.{IsValid}
 use Rattle.ccr_model.specs.declared.history.Event.{Event}
@@ -11,6 +12,10 @@ pub record Engine : Type 0 where
   pub wiring : Parts
   pub closer : ℕ
   pub history : List Event
+
+-- the events that are told, of which nothing is kept
+abbrev pub events_of : List (Snapshot Event) → List Event
+events_of told = map (λ (one : Snapshot Event). one.value) told
 
 -- the event that comes first after the history of the engine
 unfoldable pub next_event : Engine → Option Event

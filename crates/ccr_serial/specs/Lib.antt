@@ -9,3 +9,4 @@ pub mod Cursor
 pub mod Parts
 pub mod Candidates
 pub mod Desk
+pub mod Coming

@@ -126,6 +126,13 @@ impl Desk {
     }
 
     /// The tables.
+    pub(crate) fn ledger(&self) -> &Ledger
+        ensures { result.now ≡ self.now.books }
+    {
+        &self.ledger
+    }
+
+    /// The tables.
     pub(crate) fn into_ledger(self) -> Ledger
         ensures { result ≡ self.books }
     {

@@ -6,7 +6,9 @@ mod cursor_laws;
 mod desk;
 mod desk_laws;
 mod domains;
+mod engine;
 mod laws;
+mod listener;
 mod numbers;
 mod parts;
 mod places;
@@ -27,10 +29,12 @@ pub use desk_laws::{
     starts_are_told, the_desk_follows, the_desk_goes_ahead, the_desk_is_idle_behind,
     the_order_is_told, the_tables_tell, touched_spots_are_told,
 };
+pub use engine::Engine;
 pub use laws::{
     finished_is_legal, one_history_is_finished, quiet_is_complete, the_end_comes_nearer,
     the_order_ends,
 };
+pub use listener::Listener;
 pub use ready_laws::{
     admissions_keep_numbers, admitted_tasks_are_ready, firings_keep_numbers,
     firings_leave_others_ready, new_tasks_are_ready, none_is_put, puts_keep_numbers, puts_take_out,

@@ -22,7 +22,7 @@ fn append(history: &mut History, event: Event) -> Result<(), OutOfMemory>
 }
 
 /// The desk of the events, made by going through them once.
-fn desk_of(
+pub(crate) fn desk_of(
     alloc: Global,
     places: &Places<'_>,
     closer: ActorNo,
