@@ -15,7 +15,7 @@ use Rattle.ccr_model.specs.Firings.{fired}
 use Rattle.ccr_model.specs.Posts.{posted}
 use Rattle.ccr_claim.specs.declared.asks.Reply.{Reply}
 use Rattle.ccr_claim.specs.declared.asks.Reply.TheVariants as replies
-use Rattle.ccr_object.specs.Numbers.{IsMessageOf, IsTaskOf}
+use Rattle.ccr_claim.specs.Wired.{IsMessageOf, IsTaskOf}
 
 -- the message bears the number of this port and was posted there; its port and its causes are the wiring's
 abbrev pub IsItem : Parts → List Event → ℕ → Msg → Type 0
