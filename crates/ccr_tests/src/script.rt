@@ -1,11 +1,14 @@
 //! A net of scripted replies.
 
 ghost use Rattle.std.specs.Prelude.{◌≡◌, ◌==◌, [], true, IfOk, IsOk, filter, map};
+ghost use Rattle.ccr_wiring.specs.declared.parts.Parts.{Parts};
 ghost use Rattle.ccr_claim.specs.Asks.{due_of, fits, is_settling};
+ghost use Rattle.ccr_claim.specs.Wired.{IsReplyOf};
 
 use ccr_actor::Net;
 use ccr_base::{ActorNo, List, Msg, MsgId, OutOfMemory, Place, Spot, Task, TaskId, Value};
 use ccr_claim::{Ask, Asked, Reply, due_of, fits, settles};
+use ccr_object::Numbers;
 use ccr_samples::only;
 use ccr_wiring::Wiring;
 use std::alloc::Global;
@@ -54,8 +57,8 @@ fn message(alloc: Global) -> Msg {
     }
 }
 
-/// What settles settles. To another ask the script's next reply comes where it fits; else no memory is found. It counts the
-/// asks that were made of it.
+/// What settles settles. To another ask the script's next reply comes where it fits and names only what the wiring has; else no
+/// memory is found. It counts the asks that were made of it.
 #[derive(Drop)]
 pub struct Script<'w, R: Abort> {
     rt: &'w R,
@@ -97,6 +100,7 @@ impl<'w, R: Abort> Script<'w, R> {
         ensures wiring { self.new.wiring ≡ self.old.wiring }
         ensures made { self.new.made ≡ self.old.made }
         ensures fits { IfOk result (λ both. fits (due_of ask.now) both.0 ≡ true) }
+        ensures known { IfOk result (λ both. IsReplyOf self.old.wiring.now both.0) }
         ensures same { IfOk result (λ both. both.1 ≡ both.0) }
         ensures settles { is_settling ask.now ≡ true → IsOk result }
     {
@@ -107,7 +111,7 @@ impl<'w, R: Abort> Script<'w, R> {
             return Err(OutOfMemory);
         }
         let (reply, kept) = twice(self.rt, self.alloc, self.says[0]);
-        if !fits(due_of(ask), &reply) {
+        if !fits(due_of(ask), &reply) || !is_of(self.rt, self.alloc, self.wiring, &reply) {
             return Err(OutOfMemory);
         }
         self.says = &self.says[1..];
@@ -129,10 +133,19 @@ impl<'w, R: Abort> Net for Script<'w, R> {
     }
 }
 
+/// Whether the reply names only what the wiring has.
+fn is_of(rt: &impl Abort, alloc: Global, wiring: &Wiring, reply: &Reply) -> bool
+    ensures { result ≡ true → IsReplyOf wiring.now reply.now }
+{
+    let numbers = Numbers::of(alloc, wiring).expect(rt, "memory");
+    numbers.names(reply)
+}
+
 /// The reply to an ask that settles, twice.
 fn settled(ask: &Ask) -> (Reply, Reply)
     requires { is_settling ask.now ≡ true }
     ensures fits { fits (due_of ask.now) result.0 ≡ true }
+    ensures known { (wiring : Parts) → IsReplyOf wiring result.0 }
     ensures same { result.1 ≡ result.0 }
 {
     match ask {
