@@ -1,25 +1,24 @@
 //! A report as JSON.
 
-ghost use Rattle.std.specs.Prelude.{◌≡◌, ◌<◌, ℕ, true, IfOk, length, map, slice_index, codes};
+ghost use Rattle.std.specs.Prelude.{◌≡◌, true, List as Listed, IfOk, length, map, codes};
 ghost use Rattle.std.specs.List.{list_all};
 ghost use Rattle.serde_json.specs.Data.{string, object, member, no_members};
 ghost use Rattle.serde_json.specs.View.{view};
 ghost use Rattle.ccr_wiring.specs.declared.parts.QueuePart.{QueuePart as Queue};
 ghost use Rattle.ccr_spots.specs.Words.{spot_word};
-ghost use Rattle.ccr_model.specs.Posts.{posted as posted_to, held as held_by};
-ghost use Rattle.ccr_model.specs.Firings.{fired_at};
-ghost use Rattle.ccr_report.specs.Counting.{put_at, dropped_at};
-ghost use Rattle.ccr_report.specs.Counted.{IsCounted};
+ghost use Rattle.ccr_model.specs.declared.history.Event.{Event as SomeEvent};
+ghost use Rattle.ccr_report.specs.Counted.{HasRows, IsCounted};
 ghost use Rattle.ccr_json.specs.Lines.{is_plain, count, listed};
 ghost use Rattle.ccr_json.specs.Names.{HasPlainNames};
-ghost use Rattle.ccr_json.specs.Report.{branch_value, port_values, queue_values, report_value, report_json};
+ghost use Rattle.ccr_json.specs.Report.{report_json};
+ghost use Rattle.ccr_json.specs.Rows.{branch_rows, port_rows, queue_rows, counted_value};
 
 use crate::laws::names_are_plain;
 use crate::lines::line_of;
 use crate::text::{list, text_value};
 use crate::totals::totals_value;
 use ccr_base::{List, Name, OutOfMemory, Spot};
-use ccr_model::{Event, History};
+use ccr_model::History;
 use ccr_report::{Counts, counts_of};
 use ccr_spots::{branch_names, spot_text};
 use ccr_wiring::{Parts, Wiring};
@@ -29,17 +28,14 @@ use std::alloc::{AllocError, Global};
 /// A value for each port.
 fn port_values(
     alloc: Global,
-    events: &[Event],
     ports: &[Name],
     posted: &[u64],
     held: &[u64],
 ) -> Result<Vec<Value>, OutOfMemory>
     requires plain { list_all is_plain ports.now ≡ true }
-    requires posted_len { length posted.now ≡ length ports.now }
-    requires held_len { length held.now ≡ length ports.now }
-    requires posted { (k : ℕ) → k < length ports.now → slice_index posted.now k ≡ length (posted_to events.now k) }
-    requires held { (k : ℕ) → k < length ports.now → slice_index held.now k ≡ length (held_by events.now k) }
-    ensures { IfOk result (λ values. map view values.items ≡ port_values events.now 0 ports.now) }
+    requires posted { length posted.now ≡ length ports.now }
+    requires held { length held.now ≡ length ports.now }
+    ensures { IfOk result (λ values. map view values.items ≡ port_rows posted.now held.now 0 ports.now) }
 {
     let mut values = Vec::new(alloc);
     for (port, name) in ports.iter().enumerate() {
@@ -67,17 +63,14 @@ fn port_value(
 /// A value for each queue.
 fn queue_values(
     alloc: Global,
-    events: &[Event],
     parts: &Parts,
     put: &[u64],
     dropped: &[u64],
 ) -> Result<Vec<Value>, OutOfMemory>
     requires plain { list_all (λ (part : Queue). is_plain part.name) parts.now.queues ≡ true }
-    requires put_len { length put.now ≡ length parts.now.queues }
-    requires dropped_len { length dropped.now ≡ length parts.now.queues }
-    requires put { (k : ℕ) → k < length parts.now.queues → slice_index put.now k ≡ length (put_at parts.now events.now k) }
-    requires dropped { (k : ℕ) → k < length parts.now.queues → slice_index dropped.now k ≡ length (dropped_at parts.now events.now k) }
-    ensures { IfOk result (λ values. map view values.items ≡ queue_values parts.now events.now 0 parts.now.queues) }
+    requires put { length put.now ≡ length parts.now.queues }
+    requires dropped { length dropped.now ≡ length parts.now.queues }
+    ensures { IfOk result (λ values. map view values.items ≡ queue_rows put.now dropped.now 0 parts.now.queues) }
 {
     let queues = parts.queues.as_slice();
     let mut values = Vec::new(alloc);
@@ -98,14 +91,13 @@ fn queue_value(alloc: Global, name: Value, put: u64, dropped: u64) -> Result<Val
 /// A value for each spot.
 fn branch_values(
     alloc: Global,
-    events: &[Event],
     branches: &List<Name>,
     spots: &[Spot],
     fired: &[u64],
 ) -> Result<Vec<Value>, OutOfMemory>
     requires plain { list_all is_plain branches.now ≡ true }
-    requires fired { fired.now ≡ map (λ spot. length (fired_at events.now spot)) spots.now }
-    ensures { IfOk result (λ values. map view values.items ≡ map (branch_value branches.now events.now) spots.now) }
+    requires fired { length fired.now ≡ length spots.now }
+    ensures { IfOk result (λ values. map view values.items ≡ branch_rows branches.now fired.now 0 spots.now) }
 {
     let mut values = Vec::new(alloc);
     for (place, spot) in spots.iter().enumerate() {
@@ -145,28 +137,16 @@ fn report_of(
     json!(in alloc; {"branches": branches, "ports": ports, "queues": queues, "total": total})
 }
 
-fn report_value(
-    alloc: Global,
-    wiring: &Wiring,
-    history: &History,
-    counts: &Counts,
-) -> Result<Value, OutOfMemory>
+fn report_value(alloc: Global, wiring: &Wiring, counts: &Counts) -> Result<Value, OutOfMemory>
     requires plain { HasPlainNames wiring.now }
-    requires counted { IsCounted wiring.now history.now counts.now }
-    ensures { IfOk result (λ value. view value ≡ report_value wiring.now history.now) }
+    requires rows { HasRows wiring.now counts.now }
+    ensures { IfOk result (λ value. view value ≡ counted_value wiring.now counts.now) }
 {
     let parts = wiring.parts();
-    let events = history.events();
     let names = branch_names(alloc, parts)?;
-    let branches = branch_values(alloc, events, &names, wiring.spots(), &counts.fired)?;
-    let ports = port_values(
-        alloc,
-        events,
-        parts.ports.as_slice(),
-        &counts.posted,
-        &counts.held,
-    )?;
-    let queues = queue_values(alloc, events, parts, &counts.put, &counts.dropped)?;
+    let branches = branch_values(alloc, &names, wiring.spots(), &counts.fired)?;
+    let ports = port_values(alloc, parts.ports.as_slice(), &counts.posted, &counts.held)?;
+    let queues = queue_values(alloc, parts, &counts.put, &counts.dropped)?;
     let total = totals_value(alloc, &counts.totals)?;
     Ok(report_of(alloc, branches, ports, queues, total)?)
 }
@@ -180,21 +160,20 @@ pub fn report_json(
     ensures { IfOk result (λ text. text ≡ report_json wiring.now history.now) }
 {
     let counts = counts_of(alloc, wiring, history)?;
-    counted_json(alloc, wiring, history, &counts)
+    counted_json(alloc, wiring, &counts)
 }
 
-/// The same from the history's counts. The events aren't looked at.
+/// The same from counts: the report on each history whose counts these are.
 pub fn counted_json(
     alloc: Global,
     wiring: &Wiring,
-    history: &History,
     counts: &Counts,
 ) -> Result<List<u8>, OutOfMemory>
-    requires { IsCounted wiring.now history.now counts.now }
-    ensures { IfOk result (λ text. text ≡ report_json wiring.now history.now) }
+    requires { HasRows wiring.now counts.now }
+    ensures { IfOk result (λ text. (history : Listed SomeEvent) → IsCounted wiring.now history counts.now → text ≡ report_json wiring.now history) }
 {
     names_are_plain();
     let _parts = wiring.parts();
-    let value = report_value(alloc, wiring, history, counts)?;
+    let value = report_value(alloc, wiring, counts)?;
     line_of(alloc, &value)
 }

@@ -3,3 +3,5 @@ pub mod SpotsOf
 pub mod Tallies
 pub mod SpotCounts
 pub mod TextParts
+pub mod HasRows
+pub mod RowsTold

@@ -21,3 +21,11 @@ pub record IsCounted (wiring : Parts) (history : List Event) (counts : Counts) :
   pub put : (k : ℕ) → k < length wiring.queues → slice_index counts.put.items k ≡ length (put_at wiring history k)
   pub dropped : (k : ℕ) → k < length wiring.queues → slice_index counts.dropped.items k ≡ length (dropped_at wiring history k)
   pub totals : counts.totals ≡ totals history
+
+-- the counts have a row for each port, spot and queue of the wiring
+pub record HasRows (wiring : Parts) (counts : Counts) : Type 0 where
+  pub posted : length counts.posted.items ≡ length wiring.ports
+  pub held : length counts.held.items ≡ length wiring.ports
+  pub fired : length counts.fired.items ≡ length (spots wiring)
+  pub put : length counts.put.items ≡ length wiring.queues
+  pub dropped : length counts.dropped.items ≡ length wiring.queues

@@ -1,3 +1,4 @@
 pub mod Counting
 pub mod Counted
 pub mod Report
+pub mod Rows

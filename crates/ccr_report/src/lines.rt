@@ -1,17 +1,17 @@
 //! The lines of a report.
 
-ghost use Rattle.std.specs.Prelude.{◌≡◌, ◌<◌, ℕ, ◌++◌, ◌∷◌, [], IfOk, OnOk, OnErr, map, length, slice_index, codes, decimal};
+ghost use Rattle.std.specs.Prelude.{◌≡◌, ◌++◌, ◌∷◌, [], List as Listed, IfOk, OnOk, OnErr, length, codes, decimal};
 ghost use Rattle.ccr_wiring.specs.Wirings.{spots as spots_of};
-ghost use Rattle.ccr_model.specs.Posts.{posted as posted_to, held as held_by};
-ghost use Rattle.ccr_model.specs.Firings.{fired_at};
+ghost use Rattle.ccr_model.specs.declared.history.Event.{Event as SomeEvent};
 ghost use Rattle.ccr_text.specs.Spelling.{line_text, text_of};
-ghost use Rattle.ccr_report.specs.Counting.{put_at, dropped_at};
-ghost use Rattle.ccr_report.specs.Counted.{IsCounted};
-ghost use Rattle.ccr_report.specs.Report.{port_lines, spot_words, queue_lines, amount_text, total_words, report_text};
+ghost use Rattle.ccr_spots.specs.Words.{branch_names};
+ghost use Rattle.ccr_report.specs.Counted.{HasRows, IsCounted};
+ghost use Rattle.ccr_report.specs.Report.{amount_text, total_words, report_text};
+ghost use Rattle.ccr_report.specs.Rows.{port_rows, spot_rows, queue_rows, counted_text};
 
 use crate::counted::{Counts, counts_of};
 use ccr_base::{List, Name, OutOfMemory, Spot};
-use ccr_model::{Event, History, Totals};
+use ccr_model::{History, Totals};
 use ccr_spots::{branch_names, spot_text};
 use ccr_text::{put_bytes, put_line, put_number};
 use ccr_wiring::{Parts, Wiring};
@@ -26,28 +26,20 @@ pub fn report_text(
     ensures { IfOk result (λ text. text ≡ report_text wiring.now history.now) }
 {
     let counts = counts_of(alloc, wiring, history)?;
-    counted_text(alloc, wiring, history, &counts)
+    counted_text(alloc, wiring, &counts)
 }
 
-/// The same from the history's counts. The events aren't looked at.
+/// The same from counts: the report on each history whose counts these are.
 pub fn counted_text(
     alloc: Global,
     wiring: &Wiring,
-    history: &History,
     counts: &Counts,
 ) -> Result<List<u8>, OutOfMemory>
-    requires { IsCounted wiring.now history.now counts.now }
-    ensures { IfOk result (λ text. text ≡ report_text wiring.now history.now) }
+    requires { HasRows wiring.now counts.now }
+    ensures { IfOk result (λ text. (history : Listed SomeEvent) → IsCounted wiring.now history counts.now → text ≡ report_text wiring.now history) }
 {
     let branches = branch_names(alloc, wiring.parts())?;
-    let text = text_of(
-        alloc,
-        wiring.parts(),
-        &branches,
-        wiring.spots(),
-        history.events(),
-        counts,
-    )?;
+    let text = text_of(alloc, wiring.parts(), &branches, wiring.spots(), counts)?;
     Ok(text)
 }
 
@@ -56,18 +48,18 @@ fn text_of(
     parts: &Parts,
     branches: &List<Name>,
     spots: &[Spot],
-    events: &[Event],
     counts: &Counts,
 ) -> Result<List<u8>, OutOfMemory>
-    requires counted { IsCounted parts.now events.now counts.now }
+    requires rows { HasRows parts.now counts.now }
+    requires branches { branches.now ≡ branch_names parts.now }
     requires spots { spots.now ≡ spots_of parts.now }
-    ensures { IfOk result (λ text. text ≡ text_of ((codes "report" ∷ codes "1" ∷ []) ∷ (port_lines events.now 0 parts.now.ports ++ map (spot_words branches.now events.now) spots.now ++ queue_lines parts.now events.now 0 parts.now.queues ++ total_words counts.now.totals ∷ []))) }
+    ensures { IfOk result (λ text. text ≡ counted_text parts.now counts.now) }
 {
     let mut out = List::new(alloc);
     put_line(&mut out, &[b"report", b"1"])?;
-    put_ports(alloc, &mut out, events, parts, &counts.posted, &counts.held)?;
-    put_spots(alloc, &mut out, events, branches, spots, &counts.fired)?;
-    put_queues(alloc, &mut out, events, parts, &counts.put, &counts.dropped)?;
+    put_ports(alloc, &mut out, parts, &counts.posted, &counts.held)?;
+    put_spots(alloc, &mut out, branches, spots, &counts.fired)?;
+    put_queues(alloc, &mut out, parts, &counts.put, &counts.dropped)?;
     put_total(alloc, &mut out, &counts.totals)?;
     Ok(out)
 }
@@ -75,16 +67,13 @@ fn text_of(
 fn put_ports(
     alloc: Global,
     out: &mut List<u8>,
-    events: &[Event],
     parts: &Parts,
     posted: &[u64],
     held: &[u64],
 ) -> Result<(), OutOfMemory>
     requires posted_len { length posted.now ≡ length parts.now.ports }
     requires held_len { length held.now ≡ length parts.now.ports }
-    requires posted { (k : ℕ) → k < length parts.now.ports → slice_index posted.now k ≡ length (posted_to events.now k) }
-    requires held { (k : ℕ) → k < length parts.now.ports → slice_index held.now k ≡ length (held_by events.now k) }
-    ensures { OnOk result (out.new ≡ out.old ++ text_of (port_lines events.now 0 parts.now.ports)) }
+    ensures { OnOk result (out.new ≡ out.old ++ text_of (port_rows posted.now held.now 0 parts.now.ports)) }
 {
     let ports = parts.ports.as_slice();
     for (port, name) in ports.iter().enumerate() {
@@ -133,13 +122,12 @@ fn put_port(
 fn put_spots(
     alloc: Global,
     out: &mut List<u8>,
-    events: &[Event],
     branches: &List<Name>,
     spots: &[Spot],
     counts: &[u64],
 ) -> Result<(), OutOfMemory>
-    requires { counts.now ≡ map (λ spot. length (fired_at events.now spot)) spots.now }
-    ensures { OnOk result (out.new ≡ out.old ++ text_of (map (spot_words branches.now events.now) spots.now)) }
+    requires { length counts.now ≡ length spots.now }
+    ensures { OnOk result (out.new ≡ out.old ++ text_of (spot_rows branches.now counts.now 0 spots.now)) }
 {
     for (place, spot) in spots.iter().enumerate() {
         let word = spot_text(alloc, branches.as_slice(), *spot)?;
@@ -155,16 +143,13 @@ fn put_spots(
 fn put_queues(
     alloc: Global,
     out: &mut List<u8>,
-    events: &[Event],
     parts: &Parts,
     put: &[u64],
     dropped: &[u64],
 ) -> Result<(), OutOfMemory>
     requires put_len { length put.now ≡ length parts.now.queues }
     requires dropped_len { length dropped.now ≡ length parts.now.queues }
-    requires put { (k : ℕ) → k < length parts.now.queues → slice_index put.now k ≡ length (put_at parts.now events.now k) }
-    requires dropped { (k : ℕ) → k < length parts.now.queues → slice_index dropped.now k ≡ length (dropped_at parts.now events.now k) }
-    ensures { OnOk result (out.new ≡ out.old ++ text_of (queue_lines parts.now events.now 0 parts.now.queues)) }
+    ensures { OnOk result (out.new ≡ out.old ++ text_of (queue_rows put.now dropped.now 0 parts.now.queues)) }
 {
     let queues = parts.queues.as_slice();
     for (queue, part) in queues.iter().enumerate() {
