@@ -11,7 +11,7 @@ ghost use Rattle.ccr_ledger.specs.Firing.{after_choice, after_cut, after_cuts, a
 
 use crate::counts::{add_one, raise, take_one};
 use crate::ledger::arrive;
-use crate::loads::{load_left, no_load, with_messages};
+use crate::loads::{fitted, load_left, no_load, with_messages};
 use crate::ports::{take_pattern, take_site};
 use crate::tasks::{first_suspended, move_to, resume};
 use crate::{Card, Ledger, Stage};
@@ -69,7 +69,7 @@ fn branch_card(
     ensures { IfOk result (λ card. card ≡ branch_card wiring.now task branch (placement_seen placement.entry) number (load_seen load)) }
 {
     let spot = Spot::Branch(branch);
-    let play = play_at_spot(alloc, wiring, spot, &load)?;
+    let play = fitted(play_at_spot(alloc, wiring, spot, &load)?);
     let TaskLoad { values, causes: _ } = load;
     Ok(Card {
         spot,
@@ -99,7 +99,7 @@ fn site_card(
     ensures { IfOk result (λ card. card ≡ site_card wiring.now branch site before.now number (load_seen load)) }
 {
     let spot = Spot::Site(branch, site);
-    let play = play_at_spot(alloc, wiring, spot, &load)?;
+    let play = fitted(play_at_spot(alloc, wiring, spot, &load)?);
     let TaskLoad { values, causes: _ } = load;
     Ok(Card {
         spot,

@@ -8,6 +8,7 @@ ghost use Rattle.ccr_ledger.specs.Firing.{load_left};
 use crate::Card;
 use ccr_base::{List, Msg, OutOfMemory};
 use ccr_cause::union;
+use ccr_handler::Play;
 use ccr_model::data::TaskLoad;
 use std::alloc::Global;
 
@@ -21,6 +22,7 @@ pub(crate) fn with_messages(
 {
     let TaskLoad { values, mut causes } = load;
     let mut values = values.into_vec();
+    values.reserve_exact(messages.len())?;
     for message in messages {
         values.push(message.value)?;
         causes = union(alloc, &causes, &message.causes)?;
@@ -37,6 +39,20 @@ pub(crate) fn no_load(alloc: Global) -> TaskLoad
     TaskLoad {
         values: List::new(alloc),
         causes: List::new(alloc),
+    }
+}
+
+/// The play in no more memory than its posts need: a card stays to the end.
+pub(crate) fn fitted(play: Play) -> Play
+    ensures { result ≡ play }
+{
+    let Play { posts, end, causes } = play;
+    let mut posts = posts.into_vec();
+    posts.shrink_to_fit();
+    Play {
+        posts: List::from_vec(posts),
+        end,
+        causes,
     }
 }
 
