@@ -1,20 +1,22 @@
 //! A run of a generated wiring, of which the totals are written.
 
 ghost use Rattle.std.specs.Prelude.{◌≡◌, ◌<◌, ◌≤◌, ◌++◌, ◌∷◌, [], true, IfOk, codes, decimal};
-ghost use Rattle.ccr_model.specs.Counts.{totals};
 ghost use Rattle.ccr_gen.specs.Generated.{generated};
 ghost use Rattle.ccr_steady.specs.Agreement.{is_counts, Agrees};
 ghost use Rattle.ccr_cli.specs.Loads.{totals_of, IsLoad, LoadGives};
 
+use crate::accounting::complete_histories_account_for_all;
 use crate::answers::Answer;
-use crate::run::run_history;
+use crate::opening::first_history;
+use crate::run::closer_of;
 use crate::status::Status;
 use ccr_base::{Gate, List, OutOfMemory};
 use ccr_gen::{generate, generated_wirings_never_shed};
 use ccr_json::totals_json;
-use ccr_model::History;
-use ccr_report::{put_total, totals};
+use ccr_model::Totals;
+use ccr_report::put_total;
 use ccr_steady::{Agreed, agreed, answers_hold_of_quiet_histories, generated_wirings_agree};
+use ccr_telling::count_to_end;
 use ccr_text::{put_bytes, put_number};
 use ccr_wiring::Wiring;
 use std::alloc::Global;
@@ -22,20 +24,14 @@ use std::sync::Wait;
 use std::thread::Threads;
 
 /// The totals as a line of words, or as one line of JSON.
-fn totals_of(
-    alloc: Global,
-    wiring: &Wiring,
-    history: &History,
-    json: bool,
-) -> Result<List<u8>, OutOfMemory>
-    ensures { IfOk result (λ text. text ≡ totals_of json (totals history.now)) }
+fn totals_of(alloc: Global, totals: &Totals, json: bool) -> Result<List<u8>, OutOfMemory>
+    ensures { IfOk result (λ text. text ≡ totals_of json totals.now) }
 {
-    let totals = totals(alloc, wiring, history)?;
     if json {
-        return totals_json(alloc, &totals);
+        return totals_json(alloc, totals);
     }
     let mut line = List::new(alloc);
-    put_total(alloc, &mut line, &totals)?;
+    put_total(alloc, &mut line, totals)?;
     Ok(line)
 }
 
@@ -77,11 +73,14 @@ fn load_text<R: AllocGlobal + Threads + Wait + Sync, G: Gate + Sync>(
 {
     generated_wirings_never_shed();
     answers_hold_of_quiet_histories();
+    complete_histories_account_for_all();
     let alloc = rt.alloc();
     let wiring = generate(alloc, size)?;
+    let _valid = wiring.parts();
     let _told = agreed_counts(alloc, &wiring, size)?;
-    let (_first, history) = run_history(rt, gate, &wiring, workers, None)?;
-    let totals = totals_of(alloc, &wiring, &history, json)?;
+    let first = first_history(rt, gate, &wiring, workers, None)?;
+    let counts = count_to_end(alloc, &wiring, closer_of(&wiring, workers), first)?;
+    let totals = totals_of(alloc, &counts.totals, json)?;
     sized_text(alloc, size, totals.as_slice())
 }
 

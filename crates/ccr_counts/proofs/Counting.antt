@@ -1,6 +1,6 @@
 -- The numbers of a history, after one event more.
-use Rattle.std.proofs.Common.{◌≡◌, ℕ, ◌+◌, ◌<◌, Bool, true, false, ◌&&◌, List, [], ◌∷◌, ◌++◌, length, filter, map, Option, Some, None, refl, sym, ap, ◌∙◌, append-nil, arith, length-append}
-use Rattle.std.specs.Prelude.{◌==◌, if◌then◌else◌, option_to_list}
+use Rattle.std.proofs.Common.{◌≡◌, ℕ, ◌+◌, ◌<◌, Bool, true, false, List, [], ◌∷◌, ◌++◌, length, filter, Option, Some, None, refl, sym, ap, ◌∙◌, append-nil, arith, length-append}
+use Rattle.std.specs.Prelude.{◌==◌, option_to_list}
 use Rattle.std.specs.Option.{option_map_or}
 use Rattle.std.proofs.lemmas.List.{length-replicate}
 use Rattle.std.proofs.lemmas.Grind.{common_steps}
@@ -14,7 +14,7 @@ use Rattle.ccr_model.specs.declared.history.Event.TheVariants as events
 use Rattle.ccr_model.specs.declared.history.EndHow.{EndHow}
 use Rattle.ccr_model.specs.declared.history.EndHow.TheVariants as ends
 use Rattle.ccr_model.specs.Posts.{posts, posted, taken}
-use Rattle.ccr_model.specs.Firings.{Firing, firings, fired_at, cut, put, dropped}
+use Rattle.ccr_model.specs.Firings.{firings, fired_at, cut, put, dropped}
 use Rattle.ccr_model.specs.Counts.{is_done, is_failed, is_shed, is_yield}
 use Rattle.ccr_model.proofs.Pushes.{posts-push, firings-push, cut-push, put-push, dropped-push}
 use Rattle.ccr_model.proofs.TakenOnce.{taken-push}

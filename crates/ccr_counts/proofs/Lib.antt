@@ -5,3 +5,4 @@ pub mod Counting
 pub mod Along
 pub mod Spots
 pub mod Told
+pub mod Heard

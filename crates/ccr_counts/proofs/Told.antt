@@ -1,5 +1,5 @@
 -- The numbers of a legal history, with the tables that it left, are its counts.
-use Rattle.std.proofs.Common.{◌≡◌, ◌∙◌, ℕ, ◌+◌, ◌-◌, ◌<◌, ◌≤◌, Bool, false, List, [], ◌∷◌, length, filter, map, Option, Some, None, not, refl, sym, ap, arith}
+use Rattle.std.proofs.Common.{◌≡◌, ◌∙◌, ℕ, ◌-◌, ◌<◌, ◌≤◌, Bool, false, List, [], ◌∷◌, length, filter, map, Option, Some, None, refl, sym, ap, arith}
 use Rattle.std.specs.Prelude.{◌==◌, option_map, slice_index}
 use Rattle.std.specs.Option.{option_map_or}
 use Rattle.std.proofs.lemmas.List.{length-map}
@@ -10,11 +10,10 @@ use Rattle.ccr_wiring.specs.Wirings.{spots}
 use Rattle.ccr_wiring.specs.Valid.{IsValid}
 use Rattle.ccr_model.specs.declared.history.Event.{Event}
 use Rattle.ccr_model.specs.declared.history.Event.TheVariants as events
-use Rattle.ccr_model.specs.Posts.{posts, posted, taken, held}
+use Rattle.ccr_model.specs.Posts.{posts, taken}
 use Rattle.ccr_model.specs.Firings.{Firing, firings, firing_named, fired_at, cut, put, dropped}
 use Rattle.ccr_model.specs.Counts.{totals}
 use Rattle.ccr_model.specs.Tasks.{is_for_queue}
-use Rattle.ccr_model.specs.TaskData.{placement_of}
 use Rattle.ccr_model.specs.Legal.{IsLegal}
 use Rattle.ccr_model.proofs.TakenOnce.{untaken}
 use Rattle.ccr_rows.specs.Rows.{row}
@@ -64,7 +63,7 @@ few_cuts w h legal = omega (arith, few_cut w h legal, few_firings h, length-map 
         by (events.End t how) rest = omega (arith, rest)
 
 -- a task's card is on its queue
-on_queue : (w : Parts) (h : List Event) (b : Books) → IsLegal w h → KeepsTasks w h b → (q : ℕ) (t : TaskId) → is_on b q t ≡ is_for_queue w h q t
+pub on_queue : (w : Parts) (h : List Event) (b : Books) → IsLegal w h → KeepsTasks w h b → (q : ℕ) (t : TaskId) → is_on b q t ≡ is_for_queue w h q t
 on_queue w h b legal tasks q t = by (firing_named h t) refl
   where
     by : (o : Option Firing) → firing_named h t ≡ o → is_on b q t ≡ is_for_queue w h q t
@@ -75,7 +74,7 @@ on_queue w h b legal tasks q t = by (firing_named h t) refl
         let facts = CardFacts-fired w h t b legal tasks (f, is) in
         ap (λ (o : Option Card). option_map_or (λ (card : Card). card.queue == q) o false) facts.is_card ∙ sym (for_queue w h t b facts q)
 
-same_filter : (p q : TaskId → Bool) → ((t : TaskId) → p t ≡ q t) → (ts : List TaskId) → filter p ts ≡ filter q ts
+pub same_filter : (p q : TaskId → Bool) → ((t : TaskId) → p t ≡ q t) → (ts : List TaskId) → filter p ts ≡ filter q ts
 same_filter p q same [] = refl
 same_filter p q same (t ∷ ts) = rw (same t, same_filter p q same ts) refl
 

@@ -5,6 +5,7 @@ use Rattle.ccr_base.specs.declared.names.TaskId.{TaskId}
 use Rattle.ccr_base.specs.declared.names.MsgId.{MsgId}
 use Rattle.ccr_base.specs.declared.names.Spot.{Spot}
 use Rattle.ccr_base.specs.declared.names.Spot.TheVariants.{Branch, Site}
+use Rattle.ccr_wiring.specs.declared.parts.Parts.{Parts}
 use Rattle.ccr_model.specs.declared.history.Event.{Event}
 use Rattle.ccr_model.specs.declared.history.Event.TheVariants.{Post, Fire, Put, End}
 use Rattle.ccr_model.specs.declared.history.EndHow.{EndHow}
@@ -14,6 +15,7 @@ use Rattle.ccr_model.specs.Firings.{firings, fired_at, cut, put, dropped}
 use Rattle.ccr_model.specs.Counts.{is_done, is_failed, is_shed, is_yield}
 use Rattle.ccr_ledger.specs.declared.cards.Card.{Card}
 use Rattle.ccr_ledger.specs.Books.{Books, card_at, more, number}
+use Rattle.ccr_ledger.specs.Kept.{Keeps}
 
 -- what happened how often
 pub record Tallies : Type 0 where
@@ -160,3 +162,8 @@ pub record AreFew (most : ℕ) (tallies : Tallies) : Type 0 where
   pub failed : tallies.failed ≤ most
   pub shed : tallies.shed ≤ most
   pub yielded : tallies.yielded ≤ most
+
+-- the numbers are those of the history, whichever tables of it tell the queues of its tasks, and grew by at most one with each event
+pub record IsCounting (wiring : Parts) (history : List Event) (tallies : Tallies) : Type 0 where
+  pub counted : (books : Books) → Keeps wiring history books → AreTallies (length wiring.ports) all_places (length wiring.queues) books history tallies
+  pub few : AreFew (length history) tallies

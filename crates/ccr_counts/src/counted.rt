@@ -1,8 +1,9 @@
-//! The counts of a legal history, in one pass over its events.
+//! The counts of a legal history: in one pass over its events, or of a tally that was told of each of them.
 
-ghost use Rattle.std.specs.Prelude.{◌≡◌, ◌≤◌, ◌<◌, ℕ, IfOk, length, map, slice_index};
+ghost use Rattle.std.specs.Prelude.{◌≡◌, ◌≤◌, ◌<◌, ℕ, List as Listed, IfOk, length, map, slice_index};
 ghost use Rattle.std.specs.Option.{option_map_or};
 ghost use Rattle.ccr_rows.specs.Rows.{row};
+ghost use Rattle.ccr_model.specs.declared.history.Event.{Event as SomeEvent};
 ghost use Rattle.ccr_model.specs.Counts.{totals};
 ghost use Rattle.ccr_model.specs.Firings.{cut};
 ghost use Rattle.ccr_model.specs.Legal.{IsLegal};
@@ -10,7 +11,7 @@ ghost use Rattle.ccr_model.specs.Posts.{taken};
 ghost use Rattle.ccr_ledger.specs.Books.{number};
 ghost use Rattle.ccr_ledger.specs.Kept.{Keeps};
 ghost use Rattle.ccr_report.specs.Counted.{IsCounted};
-ghost use Rattle.ccr_counts.specs.Tallies.{AreTallies, place_of};
+ghost use Rattle.ccr_counts.specs.Tallies.{AreFew, AreTallies, IsCounting, place_of};
 ghost use Rattle.ccr_counts.specs.Totals.{totals_by};
 
 use crate::tally::{ALL_PLACES, Tally};
@@ -32,7 +33,8 @@ fn tally_of(
 ) -> Result<Tally, OutOfMemory>
     requires taken { length (taken events.now) ≤ length events.now }
     requires cut { length (cut events.now) ≤ length events.now }
-    ensures { IfOk result (AreTallies ports places queues ledger.now events.now) }
+    ensures counted { IfOk result (AreTallies ports places queues ledger.now events.now) }
+    ensures few { IfOk result (AreFew (length events.now)) }
 {
     let mut tally = Tally::new(alloc, ports, places, queues)?;
     for event in events {
@@ -91,6 +93,51 @@ fn totals_of(tally: &Tally) -> Totals
     }
 }
 
+impl Tally {
+    /// The tally of a legal history, by its tables. It can be told of what comes next.
+    pub fn of(
+        alloc: Global,
+        wiring: &Wiring,
+        events: &[Event],
+        ledger: &Ledger,
+    ) -> Result<Self, OutOfMemory>
+        requires legal { IsLegal wiring.now events.now }
+        requires tables { Keeps wiring.now events.now ledger.now }
+        ensures { IfOk result (IsCounting wiring.now events.now) }
+    {
+        let parts = wiring.parts();
+        let ports = parts.ports.as_slice().len();
+        let queues = parts.queues.as_slice().len();
+        let tally = tally_of(alloc, ledger, events, ports, ALL_PLACES, queues)?;
+        Ok(tally)
+    }
+
+    /// The counts of the legal history that was told, by its tables.
+    pub fn into_counts(
+        self,
+        alloc: Global,
+        wiring: &Wiring,
+        ledger: &Ledger,
+    ) -> Result<Counts, OutOfMemory>
+        ensures { IfOk result (λ counts. (history : Listed SomeEvent) → IsLegal wiring.now history → Keeps wiring.now history ledger.now → IsCounting wiring.now history self → IsCounted wiring.now history counts) }
+    {
+        valid_wirings_are_sound();
+        let parts = wiring.parts();
+        let held = held_of(alloc, ledger, parts.ports.as_slice().len())?;
+        let fired = fired_of(alloc, &self, wiring.spots())?;
+        let totals = totals_of(&self);
+        let (posted, put, dropped) = self.into_lists();
+        Ok(Counts {
+            posted,
+            held,
+            fired,
+            put,
+            dropped,
+            totals,
+        })
+    }
+}
+
 /// The counts of the legal history, by its tables.
 pub fn counts_by(
     alloc: Global,
@@ -102,28 +149,7 @@ pub fn counts_by(
     requires tables { Keeps wiring.now history.now ledger.now }
     ensures { IfOk result (IsCounted wiring.now history.now) }
 {
-    valid_wirings_are_sound();
-    let parts = wiring.parts();
-    let events = history.events();
-    let ports = parts.ports.as_slice().len();
-    let tally = tally_of(
-        alloc,
-        ledger,
-        events,
-        ports,
-        ALL_PLACES,
-        parts.queues.as_slice().len(),
-    )?;
-    let held = held_of(alloc, ledger, ports)?;
-    let fired = fired_of(alloc, &tally, wiring.spots())?;
-    let totals = totals_of(&tally);
-    let (posted, put, dropped) = tally.into_lists();
-    Ok(Counts {
-        posted,
-        held,
-        fired,
-        put,
-        dropped,
-        totals,
-    })
+    let tally = Tally::of(alloc, wiring, history.events(), ledger)?;
+    let counts = tally.into_counts(alloc, wiring, ledger)?;
+    Ok(counts)
 }

@@ -1,13 +1,14 @@
-//! Numbers that grow event by event. Each event makes of them what it is, and takes no memory.
+//! Numbers that grow event by event, as the engine tells them. Each event makes of them what it is, and takes no memory.
 
 ghost use Rattle.std.specs.Prelude.{◌≡◌, ◌<◌, ◌-◌, ◌^◌, ℕ, ◌+◌, IfOk, length};
 ghost use Rattle.std.specs.Option.{option_map_or};
 ghost use Rattle.ccr_ledger.specs.Books.{more, number};
-ghost use Rattle.ccr_counts.specs.Tallies.{HasRoom, after_end, after_event, after_fire, after_post, after_put, more_at, more_for, more_if_some, no_tallies, place_of};
+ghost use Rattle.ccr_counts.specs.Tallies.{HasRoom, IsCounting, after_end, after_event, after_fire, after_post, after_put, more_at, more_for, more_if_some, no_tallies, place_of};
 
 use ccr_base::{MsgId, OutOfMemory, PortNo, Spot, TaskId};
 use ccr_ledger::Ledger;
 use ccr_model::{EndHow, Event};
+use ccr_serial::{Listener, valid_histories_are_short};
 use std::alloc::Global;
 use std::marker::Model;
 
@@ -16,26 +17,26 @@ const PLACES_EACH: usize = 17;
 /// As many as the branches of a wiring have, of which there are at most 256.
 pub(crate) const ALL_PLACES: usize = 4352;
 
-/// What happened how often.
+/// What happened how often in a history. As a listener of the engine it goes on with each event.
 #[derive(Drop)]
-pub(crate) struct Tally {
+pub struct Tally {
     /// How many messages were posted at each port.
-    pub posted: Vec<u64>,
+    pub(crate) posted: Vec<u64>,
     /// How many tasks fired at the place of each spot.
     fired: Vec<u64>,
     /// How many tasks were put into each queue, and how many it dropped.
-    pub put: Vec<u64>,
-    pub dropped: Vec<u64>,
-    pub posts: u64,
+    pub(crate) put: Vec<u64>,
+    pub(crate) dropped: Vec<u64>,
+    pub(crate) posts: u64,
     /// The messages that firings took.
-    pub taken: u64,
-    pub firings: u64,
-    pub cut: u64,
-    pub drops: u64,
-    pub done: u64,
-    pub failed: u64,
-    pub shed: u64,
-    pub yielded: u64,
+    pub(crate) taken: u64,
+    pub(crate) firings: u64,
+    pub(crate) cut: u64,
+    pub(crate) drops: u64,
+    pub(crate) done: u64,
+    pub(crate) failed: u64,
+    pub(crate) shed: u64,
+    pub(crate) yielded: u64,
 }
 
 impl Model for Tally {
@@ -62,20 +63,18 @@ fn place_of(spot: Spot) -> Option<usize>
     }
 }
 
-/// One more at the place. There is none past the last.
+/// One more at the place, where it fits. There is none past the last.
 fn add_one(numbers: &mut Vec<u64>, place: usize)
-    requires { number numbers.old.items place < 2 ^ 64 - 1 }
-    ensures { numbers.new.items ≡ more place numbers.old.items }
+    ensures { number numbers.old.items place < 2 ^ 64 - 1 → numbers.new.items ≡ more place numbers.old.items }
 {
     if place < numbers.len() {
-        numbers[place] += 1;
+        numbers[place] = numbers[place].saturating_add(1);
     }
 }
 
 /// One more at the place of the spot.
 fn add_spot(numbers: &mut Vec<u64>, spot: Spot)
-    requires { (k : ℕ) → number numbers.old.items k < 2 ^ 64 - 1 }
-    ensures { numbers.new.items ≡ more_at (place_of spot) numbers.old.items }
+    ensures { ((k : ℕ) → number numbers.old.items k < 2 ^ 64 - 1) → numbers.new.items ≡ more_at (place_of spot) numbers.old.items }
 {
     if let Some(place) = place_of(spot) {
         add_one(numbers, place);
@@ -84,8 +83,7 @@ fn add_spot(numbers: &mut Vec<u64>, spot: Spot)
 
 /// One more for the queue of the task.
 fn add_task(numbers: &mut Vec<u64>, ledger: &Ledger, task: TaskId)
-    requires { (k : ℕ) → number numbers.old.items k < 2 ^ 64 - 1 }
-    ensures { numbers.new.items ≡ more_for ledger.now task numbers.old.items }
+    ensures { ((k : ℕ) → number numbers.old.items k < 2 ^ 64 - 1) → numbers.new.items ≡ more_for ledger.now task numbers.old.items }
 {
     if let Some(card) = ledger.card(task) {
         add_one(numbers, card.queue as usize);
@@ -148,59 +146,45 @@ impl Tally {
     }
 
     fn enter_post(&mut self, port: PortNo)
-        requires posted { (k : ℕ) → number self.old.posted k < 2 ^ 64 - 1 }
-        requires posts { self.old.posts < 2 ^ 64 - 1 }
-        ensures { self.new ≡ after_post port self.old }
+        ensures { ((k : ℕ) → number self.old.posted k < 2 ^ 64 - 1) → self.old.posts < 2 ^ 64 - 1 → self.new ≡ after_post port self.old }
     {
         add_one(&mut self.posted, port as usize);
-        self.posts += 1;
+        self.posts = self.posts.saturating_add(1);
     }
 
     fn enter_fire(&mut self, spot: Spot, messages: &[MsgId], cuts: &[TaskId])
-        requires fired { (k : ℕ) → number self.old.fired k < 2 ^ 64 - 1 }
-        requires taken { self.old.taken + length messages.now < 2 ^ 64 }
-        requires firings { self.old.firings < 2 ^ 64 - 1 }
-        requires cut { self.old.cut + length cuts.now < 2 ^ 64 }
-        ensures { self.new ≡ after_fire spot messages.now cuts.now self.old }
+        ensures { ((k : ℕ) → number self.old.fired k < 2 ^ 64 - 1) → self.old.taken + length messages.now < 2 ^ 64 → self.old.firings < 2 ^ 64 - 1 → self.old.cut + length cuts.now < 2 ^ 64 → self.new ≡ after_fire spot messages.now cuts.now self.old }
     {
         add_spot(&mut self.fired, spot);
-        self.taken += messages.len() as u64;
-        self.firings += 1;
-        self.cut += cuts.len() as u64;
+        self.taken = self.taken.saturating_add(messages.len() as u64);
+        self.firings = self.firings.saturating_add(1);
+        self.cut = self.cut.saturating_add(cuts.len() as u64);
     }
 
     fn enter_put(&mut self, ledger: &Ledger, task: TaskId, dropped: Option<TaskId>)
-        requires put { (k : ℕ) → number self.old.put k < 2 ^ 64 - 1 }
-        requires dropped { (k : ℕ) → number self.old.dropped k < 2 ^ 64 - 1 }
-        requires drops { self.old.drops < 2 ^ 64 - 1 }
-        ensures { self.new ≡ after_put ledger.now task dropped self.old }
+        ensures { ((k : ℕ) → number self.old.put k < 2 ^ 64 - 1) → ((k : ℕ) → number self.old.dropped k < 2 ^ 64 - 1) → self.old.drops < 2 ^ 64 - 1 → self.new ≡ after_put ledger.now task dropped self.old }
     {
         add_task(&mut self.put, ledger, task);
         if let Some(task) = dropped {
             add_task(&mut self.dropped, ledger, task);
-            self.drops += 1;
+            self.drops = self.drops.saturating_add(1);
         }
     }
 
     fn enter_end(&mut self, how: EndHow)
-        requires done { self.old.done < 2 ^ 64 - 1 }
-        requires failed { self.old.failed < 2 ^ 64 - 1 }
-        requires shed { self.old.shed < 2 ^ 64 - 1 }
-        requires yielded { self.old.yielded < 2 ^ 64 - 1 }
-        ensures { self.new ≡ after_end how self.old }
+        ensures { self.old.done < 2 ^ 64 - 1 → self.old.failed < 2 ^ 64 - 1 → self.old.shed < 2 ^ 64 - 1 → self.old.yielded < 2 ^ 64 - 1 → self.new ≡ after_end how self.old }
     {
         match how {
-            EndHow::Done => self.done += 1,
-            EndHow::Failed(_) => self.failed += 1,
-            EndHow::Yield => self.yielded += 1,
-            EndHow::Shed => self.shed += 1,
+            EndHow::Done => self.done = self.done.saturating_add(1),
+            EndHow::Failed(_) => self.failed = self.failed.saturating_add(1),
+            EndHow::Yield => self.yielded = self.yielded.saturating_add(1),
+            EndHow::Shed => self.shed = self.shed.saturating_add(1),
         }
     }
 
     /// Counts the event. The queues of its tasks are told by the tables.
     pub(crate) fn enter(&mut self, ledger: &Ledger, event: &Event)
-        requires { HasRoom event.now self.old }
-        ensures { self.new ≡ after_event ledger.now event.now self.old }
+        ensures { HasRoom event.now self.old → self.new ≡ after_event ledger.now event.now self.old }
     {
         match event {
             Event::Post(message) => self.enter_post(message.port),
@@ -214,5 +198,15 @@ impl Tally {
             Event::End { how, .. } => self.enter_end(*how),
             _ => {}
         }
+    }
+}
+
+impl Listener for Tally {
+    ghost has_heard = { λ tally wiring history. IsCounting wiring history tally };
+
+    fn hear(&mut self, tables: &Ledger, event: &Event) -> Result<(), OutOfMemory> {
+        valid_histories_are_short();
+        self.enter(tables, event);
+        Ok(())
     }
 }
