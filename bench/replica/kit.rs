@@ -52,6 +52,14 @@ impl<T> Vec<T> {
         Ok(self.0.try_reserve(count)?)
     }
 
+    pub fn reserve_exact(&mut self, count: usize) -> Result<(), AllocError> {
+        Ok(self.0.try_reserve_exact(count)?)
+    }
+
+    pub fn shrink_to_fit(&mut self) {
+        self.0.shrink_to_fit()
+    }
+
     pub fn push_reserved(&mut self, item: T) {
         self.0.push(item)
     }
@@ -419,6 +427,12 @@ pub type HashSet<K> = IndexSet<K>;
 
 /// What contracts see of a value. It has nothing here.
 pub struct Snapshot<T>(std::marker::PhantomData<T>);
+
+impl<T> Snapshot<T> {
+    pub fn of(_: &T) -> Self {
+        Snapshot(std::marker::PhantomData)
+    }
+}
 
 /// Writes a number's digits so that they end before this place, and answers where they begin.
 pub fn write_digits(number: u64, bytes: &mut [u8], end: usize) -> usize {

@@ -1,12 +1,12 @@
 //! The program in plain Rust for one thread: `run` (as `--workers 0` has it) and `verify`, over the crates without their contracts.
 use crate::ccr_base::{List, OutOfMemory};
-use crate::ccr_check::{Verdict, verdict};
-use crate::ccr_model::firings::has_shed;
+use crate::ccr_check::{Verdict, verdict_with_tables};
+use crate::ccr_counts::counts_by;
 use crate::ccr_model::History;
-use crate::ccr_report::report_text;
-use crate::ccr_serial::Serial;
+use crate::ccr_report::{Counts, counted_text};
+use crate::ccr_telling::{Told, tell_to_end};
 use crate::ccr_text::{line_of, put_bytes};
-use crate::ccr_trace::{read_history, write_history};
+use crate::ccr_trace::read_history;
 use crate::ccr_wiretext::read_wiring;
 use crate::ccr_wiring::Wiring;
 use crate::kit::Global;
@@ -18,22 +18,17 @@ fn said(text: &str) -> Result<Text, OutOfMemory> {
     Ok(text.as_bytes().to_vec())
 }
 
-fn last_line(history: &History) -> &'static [u8] {
-    if has_shed(history.events()) { b"done 6\n" } else { b"done 0\n" }
-}
-
-fn due(wiring: &Wiring, history: &History) -> Result<List<u8>, OutOfMemory> {
-    let mut text = report_text(Global, wiring, history)?;
-    put_bytes(&mut text, last_line(history))?;
+fn due(wiring: &Wiring, counts: &Counts) -> Result<List<u8>, OutOfMemory> {
+    let mut text = counted_text(Global, wiring, counts)?;
+    put_bytes(&mut text, if counts.totals.shed != 0 { b"done 6\n" } else { b"done 0\n" })?;
     Ok(text)
 }
 
 fn run(text: &[u8]) -> Result<Text, OutOfMemory> {
     let Ok(wiring) = read_wiring(Global, text) else { return said("refused\n") };
     let closer = wiring.parts().posters.as_slice().len() as u32;
-    let history = Serial::start(Global, &wiring, closer)?.finish()?;
-    let mut out = write_history(Global, &wiring, &history)?;
-    put_bytes(&mut out, due(&wiring, &history)?.as_slice())?;
+    let Told { text: mut out, counts } = tell_to_end(Global, &wiring, closer, History::new(Global))?;
+    put_bytes(&mut out, due(&wiring, &counts)?.as_slice())?;
     Ok(out.as_slice().to_vec())
 }
 
@@ -42,10 +37,14 @@ fn verify(text: &[u8]) -> Result<Text, OutOfMemory> {
     let Ok(wiring) = read_wiring(Global, &text[..place]) else { return said("refused\n") };
     let output = &text[place..];
     let Ok(read) = read_history(Global, &wiring, output) else { return said("malformed\n") };
-    match verdict(Global, &wiring, &read.history)? {
+    let (verdict, tables) = verdict_with_tables(Global, &wiring, &read.history)?;
+    match verdict {
         Verdict::Illegal { at, rule } => said(&format!("illegal {} {rule}\ndone 7\n", before + 2 + at)),
-        Verdict::Legal { .. } if due(&wiring, &read.history)?.as_slice() != &output[read.rest..] => said("misreported\ndone 7\n"),
         Verdict::Legal { complete, quiet } => {
+            let counts = counts_by(Global, &wiring, &read.history, &tables)?;
+            if due(&wiring, &counts)?.as_slice() != &output[read.rest..] {
+                return said("misreported\ndone 7\n");
+            }
             let word = |is: bool| if is { "yes" } else { "no" };
             said(&format!("legal complete {} quiet {}\ndone 0\n", word(complete), word(quiet)))
         }
