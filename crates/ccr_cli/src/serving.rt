@@ -10,7 +10,7 @@ ghost use Rattle.ccr_cli.specs.Services.{answer_words, ask_lines, client_lines, 
 ghost use Rattle.ccr_words.specs.declared.requests.Command.TheVariants.{Expand, Service as Serving};
 
 use crate::answers::{Answer, refused};
-use crate::run::{run_history, written_history};
+use crate::kept_history::{run_history, written_history};
 use crate::status::Status;
 use ccr_base::{Gate, List, Name, OutOfMemory};
 use ccr_model::History;

@@ -149,7 +149,7 @@ pub record AreTallies (ports places queues : ℕ) (books : Books) (history : Lis
   pub shed : tallies.shed ≡ length (filter is_shed history)
   pub yielded : tallies.yielded ≡ length (filter is_yield history)
 
--- no number is greater
+-- no number is greater, but for those of taken messages and cut tasks
 pub record AreFew (most : ℕ) (tallies : Tallies) : Type 0 where
   pub posted : (k : ℕ) → number tallies.posted k ≤ most
   pub fired : (k : ℕ) → number tallies.fired k ≤ most
@@ -163,7 +163,7 @@ pub record AreFew (most : ℕ) (tallies : Tallies) : Type 0 where
   pub shed : tallies.shed ≤ most
   pub yielded : tallies.yielded ≤ most
 
--- the numbers are those of the history, whichever tables of it tell the queues of its tasks, and grew by at most one with each event
+-- the numbers are those of the history, whichever tables of it tell the queues of its tasks, and none but two is greater than it is long
 pub record IsCounting (wiring : Parts) (history : List Event) (tallies : Tallies) : Type 0 where
   pub counted : (books : Books) → Keeps wiring history books → AreTallies (length wiring.ports) all_places (length wiring.queues) books history tallies
   pub few : AreFew (length history) tallies

@@ -1,14 +1,19 @@
-//! Numbers that grow event by event, as the engine tells them. Each event makes of them what it is, and takes no memory.
+//! Numbers that grow event by event. Each event makes of them what it is, and takes no memory.
 
-ghost use Rattle.std.specs.Prelude.{◌≡◌, ◌<◌, ◌-◌, ◌^◌, ℕ, ◌+◌, IfOk, length};
+ghost use Rattle.std.specs.Prelude.{◌≡◌, ◌<◌, ◌-◌, ◌^◌, ℕ, ◌+◌, ◌++◌, ◌∷◌, [], List as Listed, IfOk, length};
 ghost use Rattle.std.specs.Option.{option_map_or};
+ghost use Rattle.ccr_wiring.specs.declared.parts.Parts.{Parts};
+ghost use Rattle.ccr_wiring.specs.Valid.{IsValid};
+ghost use Rattle.ccr_model.specs.declared.history.Event.{Event as SomeEvent};
+ghost use Rattle.ccr_model.specs.Legal.{IsLegal};
 ghost use Rattle.ccr_ledger.specs.Books.{more, number};
+ghost use Rattle.ccr_ledger.specs.Kept.{Keeps};
 ghost use Rattle.ccr_counts.specs.Tallies.{HasRoom, IsCounting, after_end, after_event, after_fire, after_post, after_put, more_at, more_for, more_if_some, no_tallies, place_of};
 
 use ccr_base::{MsgId, OutOfMemory, PortNo, Spot, TaskId};
+use ccr_bounds::valid_histories_are_short;
 use ccr_ledger::Ledger;
 use ccr_model::{EndHow, Event};
-use ccr_serial::{Listener, valid_histories_are_short};
 use std::alloc::Global;
 use std::marker::Model;
 
@@ -17,7 +22,7 @@ const PLACES_EACH: usize = 17;
 /// As many as the branches of a wiring have, of which there are at most 256.
 pub(crate) const ALL_PLACES: usize = 4352;
 
-/// What happened how often in a history. As a listener of the engine it goes on with each event.
+/// What happened how often in a history.
 #[derive(Drop)]
 pub struct Tally {
     /// How many messages were posted at each port.
@@ -199,14 +204,13 @@ impl Tally {
             _ => {}
         }
     }
-}
 
-impl Listener for Tally {
-    ghost has_heard = { λ tally wiring history. IsCounting wiring history tally };
-
-    fn hear(&mut self, tables: &Ledger, event: &Event) -> Result<(), OutOfMemory> {
+    /// Counts the event that comes behind a history, by the tables before it. It may ask nothing of its caller, so a number that is as
+    /// great as it can be stays so; no legal history comes there.
+    pub fn count(&mut self, tables: &Ledger, event: &Event)
+        ensures { (wiring : Parts) (history : Listed SomeEvent) → IsValid wiring → Keeps wiring history tables.now → IsLegal wiring (history ++ event.now ∷ []) → IsCounting wiring history self.old → IsCounting wiring (history ++ event.now ∷ []) self.new }
+    {
         valid_histories_are_short();
         self.enter(tables, event);
-        Ok(())
     }
 }

@@ -7,7 +7,7 @@ ghost use Rattle.ccr_model.specs.Order.{next_attempt};
 ghost use Rattle.ccr_counts.specs.Tallies.{IsCounting};
 ghost use Rattle.ccr_telling.specs.Telling.{HasTold, IsCountedToEnd, IsToldToEnd};
 
-use crate::telling::Telling;
+use crate::telling::{Counting, Telling};
 use ccr_base::{ActorNo, List, OutOfMemory};
 use ccr_counts::Tally;
 use ccr_model::History;
@@ -42,7 +42,7 @@ fn engine_behind<'w>(
     Ok((engine, tally))
 }
 
-/// An engine behind a history, and what is told of that, of which no event is kept.
+/// An engine that goes on behind this history, and the history's text and numbers. The history is given up.
 fn telling_behind<'w>(
     alloc: Global,
     wiring: &'w Wiring,
@@ -61,24 +61,26 @@ fn telling_behind<'w>(
     Ok((engine, telling))
 }
 
-/// An engine behind a history, and the history's numbers, of which no event is kept.
-fn tally_behind<'w>(
+/// An engine that goes on behind this history, and the history's numbers. The history is given up.
+fn counting_behind<'w>(
     alloc: Global,
     wiring: &'w Wiring,
     closer: ActorNo,
     first: History,
-) -> Result<(Engine<'w>, Tally), OutOfMemory>
+) -> Result<(Engine<'w>, Counting), OutOfMemory>
     requires no_poster { length wiring.now.posters ≤ closer }
     requires low { closer ≤ 32 }
     requires legal { IsLegal wiring.now first }
     requires attempts { next_attempt closer (fired first) ≤ 2 ^ 31 }
     ensures engine { IfOk result (λ both. both.0 ≡ record { wiring = wiring.now; closer = closer; history = first }) }
-    ensures tally { IfOk result (λ both. IsCounting wiring.now first both.1) }
+    ensures counting { IfOk result (λ both. IsCounting wiring.now first both.1.tally) }
 {
-    engine_behind(alloc, wiring, closer, &first)
+    let (engine, tally) = engine_behind(alloc, wiring, closer, &first)?;
+    Ok((engine, Counting { tally }))
 }
 
-/// The serial order behind a history, to its end: the text of the whole and its counts. Each event is told as it happens, and not kept.
+/// The serial order behind a history, to its end: the text of the whole and its counts. Each event of the order becomes a line and is counted as it
+/// happens, and isn't kept.
 pub fn tell_to_end(
     alloc: Global,
     wiring: &Wiring,
@@ -112,9 +114,10 @@ pub fn count_to_end(
     requires attempts { next_attempt closer (fired first) ≤ 2 ^ 31 }
     ensures { IfOk result (IsCountedToEnd wiring.now closer first) }
 {
-    let (mut engine, mut tally) = tally_behind(alloc, wiring, closer, first)?;
-    engine.finish(&mut tally)?;
+    let (mut engine, mut counting) = counting_behind(alloc, wiring, closer, first)?;
+    engine.finish(&mut counting)?;
     let tables = engine.into_ledger()?;
+    let Counting { tally } = counting;
     let counts = tally.into_counts(alloc, wiring, &tables)?;
     Ok(counts)
 }

@@ -42,8 +42,23 @@ impl<'w> Listener for Telling<'w> {
     ghost has_heard = { HasTold };
 
     fn hear(&mut self, tables: &Ledger, event: &Event) -> Result<(), OutOfMemory> {
-        self.tally.hear(tables, event)?;
+        self.tally.count(tables, event);
         add_event(&mut self.text, &self.names, event)?;
+        Ok(())
+    }
+}
+
+/// The numbers of a history, which go on with each event.
+#[derive(Drop)]
+pub struct Counting {
+    pub tally: Tally,
+}
+
+impl Listener for Counting {
+    ghost has_heard = { λ counting wiring history. IsCounting wiring history counting.tally };
+
+    fn hear(&mut self, tables: &Ledger, event: &Event) -> Result<(), OutOfMemory> {
+        self.tally.count(tables, event);
         Ok(())
     }
 }

@@ -15,8 +15,8 @@ returns c =
     let history = c.finish.new.self.history in
     let is : c.finish.new.self.wiring ≡ w = ran.wiring ∙ ap (λ (e : Engine). e.wiring) was in
     let end = end_of w c.args.closer c.args.first history engine was ran.finished ran.legal ran.complete ran.quiet in
-    let before = subst (λ (e : Engine). IsCounting e.wiring e.history c.in_ok-engine.tally) (sym was) c.in_ok-engine.ensures.tally in
-    let told = subst (λ (e : Engine). IsCounting e.wiring history c.finish.new.listener) was (ran.heard before) in
+    let before = subst (λ (e : Engine). IsCounting e.wiring e.history c.in_ok-engine.counting.tally) (sym was) c.in_ok-engine.ensures.counting in
+    let told = subst (λ (e : Engine). IsCounting e.wiring history c.finish.new.listener.tally) was (ran.heard before) in
     let keeps = subst (λ (p : Parts). Keeps p history c.in_ok-tables.tables) is c.in_ok-tables.ensures in
     record {
       history = history;
