@@ -22,7 +22,7 @@ use Rattle.ccr_check.proofs.StillTold.{is_still_told}
 pub IsJudge-none : (w : Parts) (h : List Event) (b : Books) → IsValid w → h ≡ [] → b ≡ empty_books w → IsJudge w h b true false
 IsJudge-none w h b valid none is = rw (none, is) (record { valid = valid; legal = tt; few = omega arith; flag = refl; tables = λ current. keeps-none w })
 
-shed-more : (h : List Event) (e : Event) → has_shed (h ++ e ∷ []) ≡ has_shed h || is_shed_end e
+pub shed-more : (h : List Event) (e : Event) → has_shed (h ++ e ∷ []) ≡ has_shed h || is_shed_end e
 shed-more h e = list_any-append is_shed_end h (e ∷ []) ∙ ap (λ b. has_shed h || b) (or-false (is_shed_end e))
 
 pub IsJudge-more : (w : Parts) (h more : List Event) (e : Event) (b : Books) (current before shed : Bool) → IsValid w → IsLegal w h → IsAllowed w h e → more ≡ h ++ e ∷ [] → length more < 2 ^ 32

@@ -6,3 +6,4 @@ pub mod Refusals
 pub mod StillTold
 pub mod Along
 pub mod Accepting
+pub mod Accepted

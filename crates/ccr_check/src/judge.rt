@@ -9,7 +9,7 @@ ghost use Rattle.ccr_check.specs.Verdicts.{MeansQuiet};
 use crate::complete::{is_complete, is_complete_in};
 use crate::laws::still_is_quiet;
 use crate::left::is_still;
-use crate::standing::{ask, enter, ledger_of, make_current};
+use crate::standing::{ask, enter, ledger_of};
 use ccr_base::OutOfMemory;
 use ccr_ledger::Ledger;
 use ccr_model::{EndHow, Event, History};
@@ -42,7 +42,8 @@ impl<'w> Model for Judge<'w> {
     ghost invariant = { λ j. IsJudge j.wiring.now j.history j.ledger j.current j.shed };
 }
 
-fn is_shed_end(event: &Event) -> bool
+/// Whether the event is the end of a task that was shed.
+pub(crate) fn is_shed_end(event: &Event) -> bool
     ensures { result ≡ is_shed_end event.now }
 {
     match event {
@@ -124,38 +125,5 @@ impl<'w> Judge<'w> {
         still_is_quiet();
         let mut ledger = ledger_of(self.alloc, self.wiring, self.history.events())?;
         is_still(self.wiring, &mut ledger)
-    }
-
-    /// The same of the judge's own tables, which stay as they are.
-    pub(crate) fn is_quiet(&mut self) -> Result<bool, OutOfMemory>
-        ensures quiet { IfOk result (MeansQuiet self.old.wiring self.old.history) }
-        ensures kept { self.new ≡ self.old }
-    {
-        still_is_quiet();
-        make_current(
-            self.alloc,
-            self.wiring,
-            &self.history,
-            &mut self.ledger,
-            self.current,
-        )?;
-        self.current = true;
-        is_still(self.wiring, &mut self.ledger)
-    }
-
-    /// The tables of the accepted events, made anew where want of memory left them behind.
-    pub fn into_tables(self) -> Result<Ledger, OutOfMemory>
-        ensures { IfOk result (Keeps self.entry.wiring self.entry.history) }
-    {
-        let Judge {
-            alloc,
-            wiring,
-            history,
-            mut ledger,
-            current,
-            ..
-        } = self;
-        make_current(alloc, wiring, &history, &mut ledger, current)?;
-        Ok(ledger)
     }
 }

@@ -3,7 +3,7 @@
 ghost use Rattle.std.specs.Prelude.{◌≡◌, IfOk};
 ghost use Rattle.ccr_check.specs.Judging.{is_ending, is_idle, is_next_line, is_next_post, is_unused, refusal_in, refusal_of_post_in, sheds};
 
-use crate::alike::{are_same_tasks, ends_so, is_post, is_same_drop};
+use crate::alike::{are_same_tasks, ends_so, is_line, is_post, is_same_drop};
 use ccr_base::{ActorNo, Msg, MsgId, OutOfMemory, Spot, TaskId};
 use ccr_handler::PlayEnd;
 use ccr_ledger::Ledger;
@@ -21,7 +21,7 @@ fn is_next_line(wiring: &Wiring, ledger: &Ledger, actor: ActorNo, place: u32, me
         return false;
     };
     match poster.posts.as_slice().get(place as usize) {
-        Some(sent) => is_post(message, sent),
+        Some(sent) => is_line(message, sent),
         None => false,
     }
 }
@@ -39,8 +39,8 @@ fn is_next_post(ledger: &Ledger, task: TaskId, place: u32, message: &Msg) -> boo
     if place != card.made {
         return false;
     }
-    match card.play.posts.as_slice().get(place as usize) {
-        Some(sent) => is_post(message, sent),
+    match card.play.post(place as usize) {
+        Some(post) => is_post(message, post),
         None => false,
     }
 }
@@ -80,7 +80,7 @@ fn is_ending(wiring: &Wiring, ledger: &Ledger, task: TaskId, how: EndHow) -> boo
         return false;
     }
     match ledger.card(task) {
-        Some(card) => ends_so(&how, &card.play.end),
+        Some(card) => ends_so(&how, &card.play.end()),
         None => ends_so(&how, &PlayEnd::Done),
     }
 }
@@ -198,6 +198,7 @@ pub(crate) fn refusal(
     ensures rule { IfOk result (λ rule. rule ≡ refusal_in wiring.now ledger.old event.now) }
     ensures kept { ledger.new ≡ ledger.old }
 {
+    ledger.seek(event);
     Ok(match event {
         Event::Post(message) => refusal_of_post(wiring, ledger, message),
         Event::Fire {

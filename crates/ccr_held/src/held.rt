@@ -148,25 +148,24 @@ fn tidy_lane(
     Ok(number)
 }
 
-/// The names of the messages of the lane's first places, at most so many.
-fn first_names(
-    alloc: Global,
+/// The names of the messages of the lane's first places, at most so many, come behind those that are there.
+fn add_first_names(
     items: &[Item],
     lane: &Lane,
     most: usize,
-) -> Result<Vec<MsgId>, OutOfMemory>
-    ensures { IfOk result (λ names. names.items ≡ names_at items.now (take most lane.now.places)) }
+    names: &mut Vec<MsgId>,
+) -> Result<(), OutOfMemory>
+    ensures { OnOk result (names.new.items ≡ names.old.items ++ names_at items.now (take most lane.now.places)) }
 {
-    let mut names = Vec::new(alloc);
     for number in 0..most {
         let Some(place) = lane.at(number) else {
-            return Ok(names);
+            return Ok(());
         };
         if let Some(name) = name_at(items, place) {
             names.push(name)?;
         }
     }
-    Ok(names)
+    Ok(())
 }
 
 /// The name of the message of the place, while it is there.
@@ -248,13 +247,28 @@ impl HeldMessages {
         Ok(least <= self.lanes[number].count())
     }
 
+    /// The names of the oldest messages that satisfy the predicate, at most so many, come behind those that are there.
+    pub fn add_names(
+        &mut self,
+        pred: Pred,
+        most: usize,
+        names: &mut Vec<MsgId>,
+    ) -> Result<(), OutOfMemory>
+        ensures names { OnOk result (names.new.items ≡ names.old.items ++ map (λ (m : Msg). m.id) (take most (fitting pred self.old))) }
+        ensures kept { self.new ≡ self.old }
+    {
+        let number = tidy_lane(self.alloc, &self.items, &mut self.lanes, pred, most)?;
+        add_first_names(&self.items, &self.lanes[number], most, names)
+    }
+
     /// The names of the oldest messages that satisfy the predicate, at most so many.
     pub fn names(&mut self, pred: Pred, most: usize) -> Result<Vec<MsgId>, OutOfMemory>
         ensures names { IfOk result (λ names. names.items ≡ map (λ (m : Msg). m.id) (take most (fitting pred self.old))) }
         ensures kept { self.new ≡ self.old }
     {
-        let number = tidy_lane(self.alloc, &self.items, &mut self.lanes, pred, most)?;
-        first_names(self.alloc, &self.items, &self.lanes[number], most)
+        let mut names = Vec::new(self.alloc);
+        self.add_names(pred, most, &mut names)?;
+        Ok(names)
     }
 
     /// Takes out the oldest message that satisfies the predicate.

@@ -1,11 +1,15 @@
--- Where one port holds too little for its slot, the slots have no choice.
-use Rattle.std.proofs.Common.{◌≡◌, ℕ, Bool, true, false, ◌&&◌, List, [], ◌∷◌, Option, Some, None, refl}
-use Rattle.std.specs.Prelude.{if◌then◌else◌}
+-- Where one port holds too little for its slot, the slots have no choice; else each takes its own.
+use Rattle.std.proofs.Common.{◌≡◌, ◌∙◌, ap, ℕ, zero, suc, take, Bool, true, false, List, [], ◌∷◌, ◌++◌, flat_map, Option, Some, None, refl, length, ◌≤◌, arith}
+use Rattle.std.specs.Prelude.{option_map}
 use Rattle.std.specs.List.{list_all}
+use Rattle.std.proofs.lemmas.List.{map-append}
+use Rattle.ccr_rows.specs.Rows.{row}
+use Rattle.ccr_base.specs.declared.names.MsgId.{MsgId}
 use Rattle.ccr_base.specs.declared.messages.Msg.{Msg}
 use Rattle.ccr_base.specs.declared.patterns.Slot.{Slot}
 use Rattle.ccr_base.specs.Choice.{choice, is_choosable}
-use Rattle.ccr_model.specs.Choice.{choice_of_slots, joined}
+use Rattle.ccr_model.specs.Choice.{choice_of_slots, joined, names_of}
+use Rattle.ccr_ledger.specs.Taking.{slot_takes}
 
 none-behind : (o : Option (List Msg)) → joined o None ≡ None
 none-behind None = refl
@@ -20,3 +24,32 @@ no_choice_of_slots held_at (slot ∷ slots) lacking = of_test (is_choosable slot
         → choice_of_slots held_at (slot ∷ slots) ≡ None
     of_test true enough rest = rw (rest (rw enough at lacking)) (none-behind (choice slot (held_at slot.port)))
     of_test false enough rest = rw enough refl
+
+-- an empty port gives nothing
+pub none_taken : (held_at : ℕ → List Msg) (slot : Slot) → held_at slot.port ≡ [] → names_of (slot_takes held_at slot) ≡ []
+none_taken held_at slot empty = rw empty (of_most slot.most)
+  where
+    of_most : (n : ℕ) → names_of (take n []) ≡ []
+    of_most zero = refl
+    of_most (suc n) = refl
+
+-- no row stands past the last
+pub none_past : (rows : List (List Msg)) (n : ℕ) → length rows ≤ n → row rows n ≡ []
+none_past [] n past = refl
+none_past (r ∷ rows) zero past = absurd (omega arith)
+none_past (r ∷ rows) (suc n) past = none_past rows n (omega arith)
+
+pub names_of_whole_choice : (held_at : ℕ → List Msg) (slots : List Slot) → list_all (λ slot. is_choosable slot (held_at slot.port)) slots ≡ true
+    → option_map names_of (choice_of_slots held_at slots) ≡ Some (flat_map (λ slot. names_of (slot_takes held_at slot)) slots)
+names_of_whole_choice held_at [] whole = refl
+names_of_whole_choice held_at (slot ∷ slots) whole = of_test (is_choosable slot (held_at slot.port)) refl (choice_of_slots held_at slots) refl (λ others. names_of_whole_choice held_at slots others)
+  where
+    of_test : (b : Bool) → is_choosable slot (held_at slot.port) ≡ b → (o : Option (List Msg)) → choice_of_slots held_at slots ≡ o
+        → (list_all (λ other. is_choosable other (held_at other.port)) slots ≡ true → option_map names_of (choice_of_slots held_at slots) ≡ Some (flat_map (λ other. names_of (slot_takes held_at other)) slots))
+        → option_map names_of (choice_of_slots held_at (slot ∷ slots)) ≡ Some (flat_map (λ other. names_of (slot_takes held_at other)) (slot ∷ slots))
+    of_test false lacking o is rest = let none = rw lacking at whole in absurd (cc)
+    of_test true enough None is rest = let others = rw is at (rest (rw enough at whole)) in absurd (cc)
+    of_test true enough (Some back) is rest =
+        let others = rw is at (rest (rw enough at whole)) in
+        let behind : names_of back ≡ flat_map (λ other. names_of (slot_takes held_at other)) slots = cc in
+        rw (enough, is) (ap Some (map-append (λ (m : Msg). m.id) (slot_takes held_at slot) back ∙ ap (λ (names : List MsgId). names_of (slot_takes held_at slot) ++ names) behind))

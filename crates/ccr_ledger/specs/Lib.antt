@@ -1,3 +1,4 @@
+pub mod Compact
 pub mod Books
 pub mod Posting
 pub mod Taking

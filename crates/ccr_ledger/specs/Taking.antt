@@ -15,6 +15,10 @@ pub record Takes : Type 0 where
   pub messages : List Msg
   pub ports : List (List Msg)
 
+-- the messages that the slot takes of what its port holds
+abbrev pub slot_takes : (ℕ → List Msg) → Slot → List Msg
+slot_takes held_at slot = take slot.most (fitting slot.pred (held_at slot.port))
+
 -- what the slot takes
 abbrev pub take_slot : Slot → List (List Msg) → Takes
 take_slot slot ports = record {

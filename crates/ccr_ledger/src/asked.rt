@@ -1,6 +1,6 @@
 //! What the tables answer.
 
-ghost use Rattle.std.specs.Prelude.{◌≡◌, IfOk, length, map};
+ghost use Rattle.std.specs.Prelude.{◌≡◌, IfOk, IfSome, Some, length, map};
 ghost use Rattle.std.specs.List.{slice_get};
 ghost use Rattle.std.specs.Option.{option_map};
 ghost use Rattle.ccr_base.specs.declared.names.TaskId.{TaskId};
@@ -18,6 +18,7 @@ use crate::{Card, Ledger, Runner, Stage};
 use ccr_base::{
     ActorNo, BranchNo, Group, MsgId, OutOfMemory, Policy, PortNo, QueueNo, Spot, TaskId,
 };
+use ccr_model::Event;
 use ccr_model::placements::{is_teardown, placement, policy_of, site_port};
 use ccr_rows::Rows;
 use ccr_wiring::Wiring;
@@ -47,11 +48,53 @@ fn row_of(alloc: Global, rows: &Rows<TaskId>, number: usize) -> Result<Vec<TaskI
 }
 
 impl Ledger {
+    /// The card at the guessed place, where it is that of the task.
+    fn guessed(&self, task: TaskId) -> Option<&Card>
+        ensures { IfSome result (λ card. card_at self.now.tasks task ≡ Some card.now) }
+    {
+        let (name, card) = self.tasks.get_index(self.guess)?;
+        if *name == task { Some(card) } else { None }
+    }
+
     /// What is kept of the task; nothing where it never fired.
     pub fn card(&self, task: TaskId) -> Option<&Card>
         ensures { option_map (λ card. card.now) result ≡ card_at self.now.tasks task }
     {
-        self.tasks.get(&task)
+        match self.guessed(task) {
+            Some(card) => Some(card),
+            None => self.tasks.get(&task),
+        }
+    }
+
+    /// The task's card becomes the guess, where it isn't.
+    fn seek_task(&mut self, task: TaskId)
+        ensures { self.new ≡ self.old }
+    {
+        if self.guessed(task).is_some() {
+            return;
+        }
+        if let Some(place) = self.tasks.get_index_of(&task) {
+            self.guess = place;
+        }
+    }
+
+    /// Looks up the card of the event's task, which is asked for again and again while the event is judged and entered. The tables
+    /// stay as they are.
+    pub fn seek(&mut self, event: &Event)
+        ensures { self.new ≡ self.old }
+    {
+        match event {
+            Event::Post(message) => {
+                if let MsgId::Task { task, .. } = message.id {
+                    self.seek_task(task);
+                }
+            }
+            Event::Fire { .. } => {}
+            Event::Admit(task)
+            | Event::Put { task, .. }
+            | Event::Start { task, .. }
+            | Event::End { task, .. } => self.seek_task(*task),
+        }
     }
 
     /// The task that fired after so many others.
@@ -331,7 +374,7 @@ impl Ledger {
         ensures { result ≡ has_more self.now task }
     {
         match self.card(task) {
-            Some(card) => (card.made as usize) < card.play.posts.as_slice().len(),
+            Some(card) => (card.made as usize) < card.play.len(),
             None => false,
         }
     }

@@ -1,7 +1,7 @@
 //! What is kept of each task that fired, and of each that runs.
 
-use ccr_base::{ActorNo, List, QueueNo, Spot, TaskId, Value};
-use ccr_handler::Play;
+use crate::{KeptPlay, KeptValues};
+use ccr_base::{ActorNo, QueueNo, Spot, TaskId};
 
 /// How far a task has come.
 #[derive(Clone, Copy, PartialEq, Eq)]
@@ -20,29 +20,29 @@ pub enum Stage {
     Dropped,
 }
 
-/// What is kept of a task.
+/// What is kept of a task, the widest first.
 #[derive(Drop)]
 pub struct Card {
+    /// What it posts, how it ends, and its causes at the end.
+    pub play: KeptPlay,
+    /// The values that it starts with.
+    pub values: KeptValues,
+    /// The domain of its branch's arbiter.
+    pub domain: usize,
+    /// How many tasks fired before it.
+    pub number: usize,
+    /// The task that its branch fired, of which it is a segment.
+    pub root: TaskId,
     /// Where it fired.
     pub spot: Spot,
     pub queue: QueueNo,
-    /// The domain of its branch's arbiter.
-    pub domain: usize,
+    /// How many posts it has made.
+    pub made: u32,
     /// Whether its branch is a concurrent one.
     pub concurrent: bool,
-    /// The task that its branch fired, of which it is a segment.
-    pub root: TaskId,
-    /// How many tasks fired before it.
-    pub number: usize,
-    /// The values that it starts with.
-    pub values: List<Value>,
-    /// What it posts, how it ends, and its causes at the end.
-    pub play: Play,
     pub stage: Stage,
     /// Whether it is a root that was admitted and isn't over.
     pub admitted: bool,
-    /// How many posts it has made.
-    pub made: u32,
 }
 
 /// A running task, and the actor that started it.

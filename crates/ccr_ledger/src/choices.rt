@@ -1,12 +1,13 @@
 //! What the ports hold for a pattern.
 
-ghost use Rattle.std.specs.Prelude.{◌≡◌, IfOk, length, take};
+ghost use Rattle.std.specs.Prelude.{◌≡◌, ◌++◌, IfOk, OnOk, length, take};
 ghost use Rattle.std.specs.List.{list_all};
 ghost use Rattle.std.specs.Option.{option_map};
-ghost use Rattle.ccr_base.specs.Choice.{choice, fitting, is_choosable};
+ghost use Rattle.ccr_base.specs.Choice.{is_choosable};
 ghost use Rattle.ccr_rows.specs.Rows.{row};
 ghost use Rattle.ccr_model.specs.Choice.{choice_of_slots, engine_choice_of, engine_gather, names_of, oldest};
 ghost use Rattle.ccr_model.specs.Enough.{has_enough};
+ghost use Rattle.ccr_ledger.specs.Taking.{slot_takes};
 
 use ccr_base::{MsgId, OutOfMemory, Pattern, PortNo, Slot};
 use ccr_held::HeldMessages;
@@ -71,38 +72,22 @@ pub(crate) fn has_enough(
     }
 }
 
-/// The names of the oldest messages of the slot's port that satisfy its predicate, at most as many as it takes.
-fn slot_names(
-    alloc: Global,
+/// The names of the oldest messages of the slot's port that satisfy its predicate, at most as many as it takes, come behind those
+/// that are there.
+fn add_slot_names(
     ports: &mut Vec<HeldMessages>,
     slot: &Slot,
-) -> Result<Vec<MsgId>, OutOfMemory>
-    ensures names { IfOk result (λ names. names.items ≡ names_of (take slot.now.most (fitting slot.now.pred (row ports.old.items slot.now.port)))) }
+    names: &mut Vec<MsgId>,
+) -> Result<(), OutOfMemory>
+    ensures names { OnOk result (names.new.items ≡ names.old.items ++ names_of (slot_takes (row ports.old.items) slot.now)) }
     ensures kept { ports.new.items ≡ ports.old.items }
 {
     let number = slot.port as usize;
     if number < ports.len() {
         let port = &mut ports[number];
-        port.names(slot.pred, slot.most as usize)
-    } else {
-        Ok(Vec::new(alloc))
+        port.add_names(slot.pred, slot.most as usize, names)?;
     }
-}
-
-/// The names of the slot's choice, if its port holds enough.
-fn choice_names(
-    alloc: Global,
-    ports: &mut Vec<HeldMessages>,
-    slot: &Slot,
-) -> Result<Option<Vec<MsgId>>, OutOfMemory>
-    ensures names { IfOk result (λ names. option_map (λ found. found.items) names ≡ option_map names_of (choice slot.now (row ports.old.items slot.now.port))) }
-    ensures kept { ports.new.items ≡ ports.old.items }
-{
-    if slot_has_enough(ports, slot)? {
-        Ok(Some(slot_names(alloc, ports, slot)?))
-    } else {
-        Ok(None)
-    }
+    Ok(())
 }
 
 /// The names of the slots' choice, slot by slot, if each port holds enough.
@@ -119,10 +104,7 @@ pub(crate) fn names_of_slots(
     }
     let mut names = Vec::new(alloc);
     for slot in slots {
-        let Some(found) = choice_names(alloc, ports, slot)? else {
-            return Ok(None);
-        };
-        names.extend_from_slice(&found)?;
+        add_slot_names(ports, slot, &mut names)?;
     }
     Ok(Some(names))
 }

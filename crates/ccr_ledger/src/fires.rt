@@ -11,10 +11,10 @@ ghost use Rattle.ccr_ledger.specs.Firing.{after_choice, after_cut, after_cuts, a
 
 use crate::counts::{add_one, raise, take_one};
 use crate::ledger::arrive;
-use crate::loads::{fitted, load_left, no_load, with_messages};
+use crate::loads::{load_left, no_load, with_messages};
 use crate::ports::{take_pattern, take_site};
 use crate::tasks::{first_suspended, move_to, resume};
-use crate::{Card, Ledger, Stage};
+use crate::{Card, KeptPlay, KeptValues, Ledger, Stage};
 use ccr_base::{BranchNo, MsgId, OutOfMemory, Spot, TaskId};
 use ccr_held::HeldMessages;
 use ccr_model::data::{TaskLoad, play_at_spot};
@@ -69,7 +69,7 @@ fn branch_card(
     ensures { IfOk result (λ card. card ≡ branch_card wiring.now task branch (placement_seen placement.entry) number (load_seen load)) }
 {
     let spot = Spot::Branch(branch);
-    let play = fitted(play_at_spot(alloc, wiring, spot, &load)?);
+    let play = KeptPlay::of(alloc, play_at_spot(alloc, wiring, spot, &load)?)?;
     let TaskLoad { values, causes: _ } = load;
     Ok(Card {
         spot,
@@ -78,7 +78,7 @@ fn branch_card(
         concurrent: is_concurrent(placement.branch.group),
         root: task,
         number,
-        values,
+        values: KeptValues::of(alloc, values)?,
         play,
         stage: first_stage(placement),
         admitted: false,
@@ -99,7 +99,7 @@ fn site_card(
     ensures { IfOk result (λ card. card ≡ site_card wiring.now branch site before.now number (load_seen load)) }
 {
     let spot = Spot::Site(branch, site);
-    let play = fitted(play_at_spot(alloc, wiring, spot, &load)?);
+    let play = KeptPlay::of(alloc, play_at_spot(alloc, wiring, spot, &load)?)?;
     let TaskLoad { values, causes: _ } = load;
     Ok(Card {
         spot,
@@ -108,7 +108,7 @@ fn site_card(
         concurrent: before.concurrent,
         root: before.root,
         number,
-        values,
+        values: KeptValues::of(alloc, values)?,
         play,
         stage: Stage::Ready,
         admitted: false,
@@ -160,7 +160,7 @@ impl Ledger {
     fn cut(&mut self, task: TaskId)
         ensures { self.new ≡ after_cut task self.old }
     {
-        let Some(card) = self.tasks.get(&task) else {
+        let Some(card) = self.card(task) else {
             return;
         };
         let spot = card.spot;
@@ -201,6 +201,7 @@ impl Ledger {
         ensures err { OnErr result (self.new ≡ self.old) }
     {
         let queue = placement.branch.queue as usize;
+        let place = self.tasks.len();
         self.tasks.reserve(1)?;
         add_one(&mut self.coming, queue)?;
         if let Err(refused) = wait(&mut self.waiting, placement, task) {
@@ -210,6 +211,7 @@ impl Ledger {
         let Ok(_) = self.tasks.insert(task, card) else {
             unreachable!()
         };
+        self.guess = place;
         Ok(())
     }
 

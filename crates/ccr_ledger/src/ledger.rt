@@ -33,6 +33,8 @@ pub struct Ledger {
     pub(crate) ports: Vec<HeldMessages>,
     /// By the names of the tasks that fired, in the order of their firings.
     pub(crate) tasks: IndexMap<TaskId, Card>,
+    /// The place among them of the one that is most likely asked for next: a guess, which is tested.
+    pub(crate) guess: usize,
     /// The queued tasks of each queue.
     pub(crate) queued: Rows<TaskId>,
     /// The tasks of each domain that wait for their admission.
@@ -199,6 +201,7 @@ impl Ledger {
             alloc,
             ports: empty_ports(alloc, parts.ports.as_slice().len())?,
             tasks: IndexMap::new(alloc),
+            guess: 0,
             queued,
             waiting,
             suspended,
@@ -265,7 +268,7 @@ impl Ledger {
         ensures ok { OnOk result (self.new ≡ option_map_or (λ card. after_admit task card self.old) (card_at self.old.tasks task) self.old) }
         ensures err { OnErr result (self.new ≡ self.old) }
     {
-        let Some(card) = self.tasks.get(&task) else {
+        let Some(card) = self.card(task) else {
             return Ok(());
         };
         let domain = card.domain;
@@ -280,7 +283,7 @@ impl Ledger {
     fn last(&mut self, root: TaskId)
         ensures { self.new ≡ after_last root self.old }
     {
-        let Some(card) = self.tasks.get(&root) else {
+        let Some(card) = self.card(root) else {
             return;
         };
         if !card.admitted {
@@ -308,7 +311,7 @@ impl Ledger {
     fn drop_oldest(&mut self, task: TaskId)
         ensures { self.new ≡ option_map_or (λ card. after_drop task card self.old) (card_at self.old.tasks task) self.old }
     {
-        let Some(card) = self.tasks.get(&task) else {
+        let Some(card) = self.card(task) else {
             return;
         };
         let spot = card.spot;
@@ -323,7 +326,7 @@ impl Ledger {
         ensures ok { OnOk result (self.new ≡ option_map_or (λ card. after_enter task card (after_dropped dropped self.old)) (card_at self.old.tasks task) self.old) }
         ensures err { OnErr result (self.new ≡ after_dropped dropped self.old) }
     {
-        let Some(card) = self.tasks.get(&task) else {
+        let Some(card) = self.card(task) else {
             return Ok(());
         };
         let queue = card.queue;
@@ -340,7 +343,7 @@ impl Ledger {
         ensures ok { OnOk result (self.new ≡ option_map_or (λ card. after_start task actor card self.old) (card_at self.old.tasks task) self.old) }
         ensures err { OnErr result (self.new ≡ self.old) }
     {
-        let Some(card) = self.tasks.get(&task) else {
+        let Some(card) = self.card(task) else {
             return Ok(());
         };
         let spot = card.spot;
@@ -365,7 +368,7 @@ impl Ledger {
         ensures ok { OnOk result (self.new ≡ option_map_or (λ card. after_end task how card self.old) (card_at self.old.tasks task) self.old) }
         ensures err { OnErr result (self.new ≡ self.old) }
     {
-        let Some(card) = self.tasks.get(&task) else {
+        let Some(card) = self.card(task) else {
             return Ok(());
         };
         let spot = card.spot;

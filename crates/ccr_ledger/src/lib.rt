@@ -6,6 +6,8 @@ mod cards;
 mod choices;
 mod counts;
 mod fires;
+mod kept_plays;
+mod kept_values;
 mod laws;
 mod ledger;
 mod loads;
@@ -14,6 +16,8 @@ mod ports;
 mod tasks;
 
 pub use cards::{Card, Runner, Stage};
+pub use kept_plays::{KeptPlay, PostOf};
+pub use kept_values::KeptValues;
 pub use laws::{
     cards_are_kept, counts_are_kept, empty_tables_are_kept, flags_are_kept, ports_are_kept,
     posts_are_counted, rows_are_kept, running_tasks_are_kept, sizes_are_kept, tables_are_kept,

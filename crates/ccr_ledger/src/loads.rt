@@ -1,4 +1,4 @@
-//! What a task starts with, and its play.
+//! What a task starts with.
 
 ghost use Rattle.std.specs.Prelude.{◌≡◌, IfOk};
 ghost use Rattle.ccr_model.specs.Views.{load_seen};
@@ -8,7 +8,6 @@ ghost use Rattle.ccr_ledger.specs.Firing.{load_left};
 use crate::Card;
 use ccr_base::{List, Msg, OutOfMemory};
 use ccr_cause::union;
-use ccr_handler::Play;
 use ccr_model::data::TaskLoad;
 use std::alloc::Global;
 
@@ -42,26 +41,12 @@ pub(crate) fn no_load(alloc: Global) -> TaskLoad
     }
 }
 
-/// The play in no more memory than its posts need: a card stays to the end.
-pub(crate) fn fitted(play: Play) -> Play
-    ensures { result ≡ play }
-{
-    let Play { posts, end, causes } = play;
-    let mut posts = posts.into_vec();
-    posts.shrink_to_fit();
-    Play {
-        posts: List::from_vec(posts),
-        end,
-        causes,
-    }
-}
-
 /// What the task of the card leaves to the next.
 pub(crate) fn load_left(alloc: Global, card: &Card) -> Result<TaskLoad, OutOfMemory>
     ensures { IfOk result (λ load. load_seen load ≡ load_left card.now) }
 {
     Ok(TaskLoad {
-        values: card.values.copy(alloc)?,
-        causes: card.play.causes.copy(alloc)?,
+        values: card.values.to_list(alloc)?,
+        causes: card.play.causes(alloc)?,
     })
 }

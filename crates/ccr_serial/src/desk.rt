@@ -182,6 +182,13 @@ impl Desk {
         Ok(first_start(wiring, &self.ledger, closer, &mut self.queues))
     }
 
+    /// The tables have the event's task at hand then. The desk stays as it is.
+    pub(crate) fn seek(&mut self, event: &Event)
+        ensures { self.new ≡ self.old }
+    {
+        self.ledger.seek(event);
+    }
+
     /// Enters the event, which is allowed after those before it.
     pub(crate) fn push(
         &mut self,

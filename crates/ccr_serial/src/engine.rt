@@ -167,6 +167,13 @@ impl<'w> Engine<'w> {
         }
     }
 
+    /// The tables have the event's task at hand then. Contracts see no change.
+    fn seek(&mut self, event: &Event)
+        ensures { self.new ≡ self.old }
+    {
+        self.desk.seek(event);
+    }
+
     /// The event that comes next happens, and the listener hears of it: whether there was one.
     fn advance<L: Listener>(&mut self, listener: &mut L) -> Result<bool, OutOfMemory>
         ensures more { IfOk result (λ more. more ≡ is_some (next_event self.old)) }
@@ -177,6 +184,7 @@ impl<'w> Engine<'w> {
         let Some(event) = self.next()? else {
             return Ok(false);
         };
+        self.seek(&event);
         listener.hear(self.tables()?, &event)?;
         self.enter(event)?;
         Ok(true)

@@ -5,6 +5,7 @@ ghost use Rattle.std.specs.List.{slice_get};
 ghost use Rattle.std.specs.Option.{option_map, option_and_then};
 ghost use Rattle.ccr_model.specs.Order.{how_of};
 ghost use Rattle.ccr_ledger.specs.Books.{runners};
+ghost use Rattle.ccr_ledger.specs.Compact.{sent_of};
 ghost use Rattle.ccr_serial.specs.Ready.{IsLeastFirst};
 ghost use Rattle.ccr_serial.specs.Numbered.{IsNoneBut};
 ghost use Rattle.ccr_serial.specs.Parts.{admission_in, are_done_in, choose_in, fire_in, first_admit_in, line_in, post_in, put_in, run_in, start_at_in, start_in};
@@ -12,21 +13,34 @@ ghost use Rattle.ccr_serial.specs.Parts.{admission_in, are_done_in, choose_in, f
 use crate::numbers::Numbers;
 use ccr_base::{ActorNo, List, Msg, MsgId, OutOfMemory, QueueNo, Sent, Spot, TaskId};
 use ccr_handler::PlayEnd;
-use ccr_ledger::Ledger;
+use ccr_ledger::{Ledger, PostOf};
 use ccr_model::{EndHow, Event};
 use ccr_wiring::{PosterPart, Wiring};
 use std::alloc::Global;
 
 /// The post as a message of this name.
-pub(crate) fn message_of(alloc: Global, id: MsgId, sent: &Sent) -> Result<Msg, OutOfMemory>
-    ensures { IfOk result (λ message. message ≡ record { id = id; port = sent.now.port; value = sent.now.value; causes = sent.now.causes }) }
+pub(crate) fn message_of(alloc: Global, id: MsgId, post: PostOf<'_>) -> Result<Msg, OutOfMemory>
+    ensures { IfOk result (λ message. message ≡ record { id = id; port = post.port; value = post.value; causes = post.causes.now }) }
 {
+    let mut causes = List::new(alloc);
+    causes.extend(post.causes)?;
     Ok(Msg {
         id,
+        port: post.port,
+        value: post.value,
+        causes,
+    })
+}
+
+/// The post of a script.
+fn post_of(sent: &Sent) -> PostOf<'_>
+    ensures { sent_of result ≡ sent.now }
+{
+    PostOf {
         port: sent.port,
         value: sent.value,
-        causes: sent.causes.copy(alloc)?,
-    })
+        causes: sent.causes.as_slice(),
+    }
 }
 
 /// The poster's next line.
@@ -46,7 +60,7 @@ fn next_line(
         actor: number,
         place,
     };
-    Ok(Some(Event::Post(message_of(alloc, id, sent)?)))
+    Ok(Some(Event::Post(message_of(alloc, id, post_of(sent))?)))
 }
 
 /// The post that is due next: the lowest poster with posts left makes it. `poster` skips those that have none.
@@ -186,10 +200,10 @@ fn run_task(
             how: EndHow::Done,
         });
     };
-    let Some(sent) = card.play.posts.as_slice().get(card.made as usize) else {
+    let Some(post) = card.play.post(card.made as usize) else {
         return Ok(Event::End {
             task,
-            how: how_of(card.play.end),
+            how: how_of(card.play.end()),
         });
     };
     if !ledger.budget_lasts(wiring) {
@@ -202,7 +216,7 @@ fn run_task(
         task,
         place: card.made,
     };
-    Ok(Event::Post(message_of(alloc, id, sent)?))
+    Ok(Event::Post(message_of(alloc, id, post)?))
 }
 
 /// The next event of the running task that started first.

@@ -1,0 +1,156 @@
+//! The play of a task, in few bytes: most post one number or nothing, end so, and have no causes.
+
+ghost use Rattle.std.specs.Prelude.{◌≡◌, [], ◌∷◌, IfOk, IfSome, length};
+ghost use Rattle.std.specs.List.{slice_get};
+ghost use Rattle.std.specs.Option.{option_map};
+ghost use Rattle.ccr_ledger.specs.Compact.{play_kept, sent_of};
+
+use ccr_base::{CauseNo, List, OutOfMemory, PortNo, Sent, Value};
+use ccr_handler::{Play, PlayEnd};
+use std::alloc::Global;
+use std::marker::Model;
+
+/// How it is kept.
+#[derive(Drop)]
+enum Form {
+    /// It posts nothing.
+    Idle,
+    /// It posts this number alone to the port.
+    One { number: u64, port: PortNo },
+    Full(Box<Play>),
+}
+
+/// A play; contracts see it as such.
+#[derive(Drop)]
+pub struct KeptPlay {
+    form: Form,
+}
+
+impl Model for KeptPlay {
+    ghost use Rattle.ccr_handler.specs.declared.segments.Play.{Play};
+    ghost use Rattle.ccr_ledger.specs.Compact.{play_kept};
+
+    ghost Value = { Play };
+
+    ghost view = { λ kept. play_kept kept.form };
+}
+
+/// A post of a play, as it will be sent.
+#[derive(Clone, Copy)]
+pub struct PostOf<'a> {
+    pub port: PortNo,
+    pub value: Value,
+    pub causes: &'a [CauseNo],
+}
+
+/// The one number of a post without causes.
+fn number_of(sent: &Sent) -> Option<u64>
+    ensures { IfSome result (λ number. sent.now ≡ record { port = sent.now.port; value = number ∷ []; causes = [] }) }
+{
+    match (sent.value.numbers(), sent.causes.as_slice()) {
+        ([number], []) => Some(*number),
+        _ => None,
+    }
+}
+
+/// How a play is kept that posts at most one number, and neither fails nor yields nor has causes.
+fn short(play: &Play) -> Option<Form>
+    ensures { IfSome result (λ form. play_kept form ≡ play.now) }
+{
+    if play.end != PlayEnd::Done || !play.causes.is_empty() {
+        return None;
+    }
+    match play.posts.as_slice() {
+        [] => Some(Form::Idle),
+        [sent] => Some(Form::One {
+            number: number_of(sent)?,
+            port: sent.port,
+        }),
+        _ => None,
+    }
+}
+
+/// The play in no more memory than its posts need.
+fn fitted(play: Play) -> Play
+    ensures { result ≡ play }
+{
+    let Play { posts, end, causes } = play;
+    let mut posts = posts.into_vec();
+    posts.shrink_to_fit();
+    Play {
+        posts: List::from_vec(posts),
+        end,
+        causes,
+    }
+}
+
+impl KeptPlay {
+    /// The play in few bytes.
+    pub(crate) fn of(alloc: Global, play: Play) -> Result<Self, OutOfMemory>
+        ensures { IfOk result (λ kept. kept ≡ play) }
+    {
+        let form = match short(&play) {
+            Some(form) => form,
+            None => Form::Full(Box::new(alloc, fitted(play))?),
+        };
+        Ok(KeptPlay { form })
+    }
+
+    /// How many posts it has.
+    pub fn len(&self) -> usize
+        ensures { result ≡ length self.now.posts }
+    {
+        match &self.form {
+            Form::Idle => 0,
+            Form::One { .. } => 1,
+            Form::Full(play) => play.posts.len(),
+        }
+    }
+
+    /// The post at the place, from 0.
+    pub fn post(&self, place: usize) -> Option<PostOf<'_>>
+        ensures { option_map sent_of result ≡ slice_get self.now.posts place }
+    {
+        match &self.form {
+            Form::Idle => None,
+            Form::One { number, port } => {
+                if place != 0 {
+                    return None;
+                }
+                Some(PostOf {
+                    port: *port,
+                    value: Value::one(*number),
+                    causes: &[],
+                })
+            }
+            Form::Full(play) => {
+                let sent = play.posts.as_slice().get(place)?;
+                Some(PostOf {
+                    port: sent.port,
+                    value: sent.value,
+                    causes: sent.causes.as_slice(),
+                })
+            }
+        }
+    }
+
+    /// How it ends.
+    pub fn end(&self) -> PlayEnd
+        ensures { result ≡ self.now.end }
+    {
+        match &self.form {
+            Form::Full(play) => play.end,
+            _ => PlayEnd::Done,
+        }
+    }
+
+    /// Its causes at the end, as a list of their own.
+    pub(crate) fn causes(&self, alloc: Global) -> Result<List<CauseNo>, OutOfMemory>
+        ensures { IfOk result (λ causes. causes ≡ self.now.causes) }
+    {
+        match &self.form {
+            Form::Full(play) => play.causes.copy(alloc),
+            _ => Ok(List::new(alloc)),
+        }
+    }
+}
