@@ -32,7 +32,8 @@ told_here : (w : Parts) (es : List Event) (at : ℕ) (e : Event) → at < length
     → first_refusal w (take at es) at (drop at es) ≡ elim o as (λ x. Option (ℕ × ℕ)) [ None ↦ first_refusal w (take at es ++ e ∷ []) (at + 1) (drop (suc at) es) | Some rule ↦ Some (at, rule) ]
 told_here w es at e low is o asked =
     let here = drop-cons es at e low ∙ ap (λ x. x ∷ drop (suc at) es) (sym is) in
-    rw (here, asked) refl
+    ap (λ rest. first_refusal w (take at es) at rest) here
+    ∙ ap (λ (asking : Option ℕ). elim asking as (λ x. Option (ℕ × ℕ)) [ None ↦ first_refusal w (take at es ++ e ∷ []) (at + 1) (drop (suc at) es) | Some rule ↦ Some (at, rule) ]) asked
 
 pub accepted_more : (w : Parts) → IsValid w → (es : List Event) (at : ℕ) (e : Event) (old new : Books) (before shed : Bool) → at < length es → e ≡ get_or es at e
     → refusal_in w old e ≡ None → new ≡ after_event w e old → shed ≡ before || is_shed_end e → IsAccepted w es at old before → IsAccepted w es (at + 1) new shed

@@ -3,33 +3,17 @@
 ghost use Rattle.std.specs.Prelude.{◌≡◌};
 ghost use Rattle.ccr_base.specs.Names.{same_lists, same_options, same_task};
 ghost use Rattle.ccr_model.specs.Rules.{ends_so, is_post};
-ghost use Rattle.ccr_ledger.specs.Compact.{sent_of};
 
-use ccr_base::{Msg, Sent, TaskId};
+use ccr_base::{CauseNo, Msg, PortNo, TaskId, Value};
 use ccr_handler::PlayEnd;
-use ccr_ledger::PostOf;
 use ccr_model::EndHow;
 
 /// Whether the message is the post, but for its name.
 #[tactic(auto, using(crate::proofs::SameLists::same_items))]
-pub(crate) fn is_post(message: &Msg, post: PostOf<'_>) -> bool
-    ensures { result ≡ is_post message.now (sent_of post) }
+pub(crate) fn is_post(message: &Msg, port: PortNo, value: &Value, causes: &[CauseNo]) -> bool
+    ensures { result ≡ is_post message.now (record { port = port; value = value.now; causes = causes.now }) }
 {
-    message.port == post.port
-        && message.value == post.value
-        && message.causes.as_slice() == post.causes
-}
-
-/// Whether the message is the line of the script, but for its name.
-pub(crate) fn is_line(message: &Msg, sent: &Sent) -> bool
-    ensures { result ≡ is_post message.now sent.now }
-{
-    let post = PostOf {
-        port: sent.port,
-        value: sent.value,
-        causes: sent.causes.as_slice(),
-    };
-    is_post(message, post)
+    message.port == port && message.value == *value && message.causes.as_slice() == causes
 }
 
 /// Whether the tasks are these, in this order.

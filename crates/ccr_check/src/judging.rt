@@ -45,11 +45,7 @@ fn first_refusal(
 }
 
 /// Whether no event at all is allowed after the history, by its tables, which stay as they are.
-fn is_quiet(
-    wiring: &Wiring,
-    history: &History,
-    ledger: &mut Ledger,
-) -> Result<bool, OutOfMemory>
+fn is_quiet(wiring: &Wiring, history: &History, ledger: &mut Ledger) -> Result<bool, OutOfMemory>
     requires legal { IsLegal wiring.now history.now }
     requires tables { Keeps wiring.now history.now ledger.old }
     ensures quiet { IfOk result (MeansQuiet wiring.now history.now) }

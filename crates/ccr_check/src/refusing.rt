@@ -3,7 +3,7 @@
 ghost use Rattle.std.specs.Prelude.{◌≡◌, IfOk};
 ghost use Rattle.ccr_check.specs.Judging.{is_ending, is_idle, is_next_line, is_next_post, is_unused, refusal_in, refusal_of_post_in, sheds};
 
-use crate::alike::{are_same_tasks, ends_so, is_line, is_post, is_same_drop};
+use crate::alike::{are_same_tasks, ends_so, is_post, is_same_drop};
 use ccr_base::{ActorNo, Msg, MsgId, OutOfMemory, Spot, TaskId};
 use ccr_handler::PlayEnd;
 use ccr_ledger::Ledger;
@@ -21,7 +21,7 @@ fn is_next_line(wiring: &Wiring, ledger: &Ledger, actor: ActorNo, place: u32, me
         return false;
     };
     match poster.posts.as_slice().get(place as usize) {
-        Some(sent) => is_line(message, sent),
+        Some(sent) => is_post(message, sent.port, &sent.value, sent.causes.as_slice()),
         None => false,
     }
 }
@@ -40,7 +40,7 @@ fn is_next_post(ledger: &Ledger, task: TaskId, place: u32, message: &Msg) -> boo
         return false;
     }
     match card.play.post(place as usize) {
-        Some(post) => is_post(message, post),
+        Some(post) => is_post(message, post.port, &post.value, post.causes),
         None => false,
     }
 }

@@ -5,42 +5,38 @@ ghost use Rattle.std.specs.List.{slice_get};
 ghost use Rattle.std.specs.Option.{option_map, option_and_then};
 ghost use Rattle.ccr_model.specs.Order.{how_of};
 ghost use Rattle.ccr_ledger.specs.Books.{runners};
-ghost use Rattle.ccr_ledger.specs.Compact.{sent_of};
 ghost use Rattle.ccr_serial.specs.Ready.{IsLeastFirst};
 ghost use Rattle.ccr_serial.specs.Numbered.{IsNoneBut};
 ghost use Rattle.ccr_serial.specs.Parts.{admission_in, are_done_in, choose_in, fire_in, first_admit_in, line_in, post_in, put_in, run_in, start_at_in, start_in};
 
 use crate::numbers::Numbers;
-use ccr_base::{ActorNo, List, Msg, MsgId, OutOfMemory, QueueNo, Sent, Spot, TaskId};
+use ccr_base::{
+    ActorNo, CauseNo, List, Msg, MsgId, OutOfMemory, PortNo, QueueNo, Spot, TaskId, Value,
+};
 use ccr_handler::PlayEnd;
-use ccr_ledger::{Ledger, PostOf};
+use ccr_ledger::Ledger;
 use ccr_model::{EndHow, Event};
 use ccr_wiring::{PosterPart, Wiring};
 use std::alloc::Global;
 
 /// The post as a message of this name.
-pub(crate) fn message_of(alloc: Global, id: MsgId, post: PostOf<'_>) -> Result<Msg, OutOfMemory>
-    ensures { IfOk result (λ message. message ≡ record { id = id; port = post.port; value = post.value; causes = post.causes.now }) }
+pub(crate) fn message_of(
+    alloc: Global,
+    id: MsgId,
+    port: PortNo,
+    value: Value,
+    causes: &[CauseNo],
+) -> Result<Msg, OutOfMemory>
+    ensures { IfOk result (λ message. message ≡ record { id = id; port = port; value = value; causes = causes.now }) }
 {
-    let mut causes = List::new(alloc);
-    causes.extend(post.causes)?;
+    let mut own = List::new(alloc);
+    own.extend(causes)?;
     Ok(Msg {
         id,
-        port: post.port,
-        value: post.value,
-        causes,
+        port,
+        value,
+        causes: own,
     })
-}
-
-/// The post of a script.
-fn post_of(sent: &Sent) -> PostOf<'_>
-    ensures { sent_of result ≡ sent.now }
-{
-    PostOf {
-        port: sent.port,
-        value: sent.value,
-        causes: sent.causes.as_slice(),
-    }
 }
 
 /// The poster's next line.
@@ -60,7 +56,8 @@ fn next_line(
         actor: number,
         place,
     };
-    Ok(Some(Event::Post(message_of(alloc, id, post_of(sent))?)))
+    let message = message_of(alloc, id, sent.port, sent.value, sent.causes.as_slice())?;
+    Ok(Some(Event::Post(message)))
 }
 
 /// The post that is due next: the lowest poster with posts left makes it. `poster` skips those that have none.
@@ -216,7 +213,8 @@ fn run_task(
         task,
         place: card.made,
     };
-    Ok(Event::Post(message_of(alloc, id, post)?))
+    let message = message_of(alloc, id, post.port, post.value, post.causes)?;
+    Ok(Event::Post(message))
 }
 
 /// The next event of the running task that started first.

@@ -16,6 +16,6 @@ returns-clause-names c =
     let whole = sym c.in_ok-slots_have_enough.ensures.enough ∙ c.if-not-branch.false in
     let asked = c.slots_have_enough.new.ports.items in
     let names : c.loop-slot.names.items ≡ flat_map (λ slot. names_of (slot_takes (row asked) slot)) c.args.slots.now =
-      rw (drop_all c.loop-slot.slot-index c.args.slots.now (omega arith), append-nil c.loop-slot.names.items) at c.loop-slot.invariant.names in
+    rw (drop_all c.loop-slot.slot-index c.args.slots.now (omega arith), append-nil c.loop-slot.names.items) at c.loop-slot.invariant.names in
     ap Some (names ∙ ap (λ rows. flat_map (λ slot. names_of (slot_takes (row rows) slot)) c.args.slots.now) c.in_ok-slots_have_enough.ensures.kept)
     ∙ sym (names_of_whole_choice (row c.args.ports.now.items) c.args.slots.now whole)
