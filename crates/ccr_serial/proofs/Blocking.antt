@@ -1,7 +1,7 @@
 -- The blocked branches: what is known of them by their queues, and what comes in and leaves.
-use Rattle.std.proofs.Common.{◌≡◌, ◌∙◌, ℕ, zero, suc, ◌+◌, ◌<◌, ◌≤◌, Bool, true, false, ◌||◌, List, [], ◌∷◌, length, Option, Some, None, refl, ap, sym, subst, arith, length-set}
+use Rattle.std.proofs.Common.{◌≡◌, ◌∙◌, ℕ, zero, suc, ◌+◌, ◌<◌, Bool, true, false, ◌||◌, List, [], ◌∷◌, length, Option, Some, None, refl, ap, sym, subst, arith, length-set}
 use Rattle.std.specs.Prelude.{◌==◌, option_map}
-use Rattle.std.specs.List.{slice_get, list_any}
+use Rattle.std.specs.List.{slice_get}
 use Rattle.std.specs.Option.{option_map_or}
 use Rattle.std.proofs.lemmas.Bool.Decides.{nat_tests}
 use Rattle.ccr_base.specs.declared.names.Spot.{Spot}
@@ -9,13 +9,13 @@ use Rattle.ccr_base.specs.declared.names.Spot.TheVariants.{Branch, Site}
 use Rattle.ccr_wiring.specs.declared.parts.Parts.{Parts}
 use Rattle.ccr_wiring.specs.Wirings.{Placement, placement, policy_of, spots}
 use Rattle.ccr_wiring.specs.Valid.{HasQueues}
-use Rattle.ccr_model.proofs.Booleans.{either, or_left, or_right, no_both, eq-self, refuted, same_number}
+use Rattle.ccr_model.proofs.Booleans.{either, or_left, or_right, no_both, eq-self, same_number}
 use Rattle.ccr_rows.specs.Rows.{row, with_row, empty_rows}
 use Rattle.ccr_ledger.specs.Books.{Books}
 use Rattle.ccr_ledger.specs.Asked.{room, queue_has_room}
-use Rattle.ccr_serial.specs.Ready.{has_number, IsLeast, IsLeastFirst}
+use Rattle.ccr_serial.specs.Ready.{has_number, IsLeastFirst}
 use Rattle.ccr_serial.specs.Numbered.{passes_at}
-use Rattle.ccr_serial.specs.Blocked.{queue_at, is_on, is_blocked, AreBlocked, is_before, IsFullBefore, Blocks}
+use Rattle.ccr_serial.specs.Blocked.{queue_at, is_on, is_blocked, AreBlocked, Blocks}
 
 -- which queue a place is blocked at
 pub row_within : (rows : List (List ℕ)) (q k : ℕ) → has_number (row rows q) k ≡ true → q < length rows

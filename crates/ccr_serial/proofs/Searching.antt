@@ -1,7 +1,7 @@
 -- The search for the first spot that can fire, among the touched ones and the blocked ones that have room.
-use Rattle.std.proofs.Common.{◌≡◌, ◌∙◌, ℕ, zero, suc, ◌+◌, ◌<◌, ◌≤◌, Bool, true, false, ◌&&◌, ◌||◌, not, List, [], ◌∷◌, length, Option, Some, None, Result, Ok, Err, refl, ap, sym, subst, arith}
-use Rattle.std.specs.Prelude.{◌==◌, nat_lt, is_some, option_map, option_and_then, IfSome, IfNone, IfOk, OnOk}
-use Rattle.std.specs.List.{slice_get, list_any}
+use Rattle.std.proofs.Common.{◌≡◌, ◌∙◌, ℕ, ◌+◌, ◌<◌, ◌≤◌, Bool, true, false, ◌&&◌, List, ◌∷◌, length, Option, Some, None, Result, Ok, Err, refl, ap, sym, subst, arith}
+use Rattle.std.specs.Prelude.{◌==◌, nat_lt, is_some, option_and_then, IfSome, IfNone, IfOk}
+use Rattle.std.specs.List.{slice_get}
 use Rattle.std.specs.Option.{option_map_or}
 use Rattle.std.proofs.lemmas.Bool.Decides.{nat_tests}
 use Rattle.ccr_base.specs.declared.names.TaskId.{TaskId}
@@ -21,7 +21,7 @@ use Rattle.ccr_serial.specs.Ready.{has_number, IsLeast, IsLeastFirst}
 use Rattle.ccr_serial.specs.Numbered.{passes_at}
 use Rattle.ccr_serial.specs.Blocked.{is_blocked, AreBlocked, is_before, IsFullBefore, Blocks}
 use Rattle.ccr_serial.specs.Parts.{choose_in, fire_in, first_fire_in, fires_in, could_fire_in, IsStillIn}
-use Rattle.ccr_serial.specs.Candidates.{AreCandidates, IsNoneBefore, IsFirstOpen, IsOpen, place_of}
+use Rattle.ccr_serial.specs.Candidates.{AreCandidates, IsNoneBefore, IsFirstOpen, place_of}
 use Rattle.ccr_serial.proofs.Blocking.{same_room, row_within, first_within, blocked_row, AreBlocked-left, left_alone, total, total_left}
 use Rattle.ccr_serial.proofs.Gaining.{none_before}
 use Rattle.ccr_serial.proofs.PartSteps.{fire_at_place, fire_none}

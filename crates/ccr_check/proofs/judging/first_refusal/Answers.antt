@@ -1,4 +1,4 @@
-use Rattle.std.proofs.Common.{◌≡◌, ◌∙◌, ◌||◌, None, Some, ap, refl, sym, arith}
+use Rattle.std.proofs.Common.{◌≡◌, ◌∙◌, ◌||◌, ap, refl, sym, arith}
 use Rattle.ccr_model.specs.Legal.{is_shed_end}
 use Rattle.ccr_ledger.specs.Events.{after_event}
 use Rattle.ccr_check.proofs.Accepted.{accepted_none, accepted_more, refused_here}
