@@ -4,5 +4,6 @@ pub mod Places
 pub mod Stillness
 pub mod Refusals
 pub mod StillTold
+pub mod Along
 pub mod Accepting
 pub mod Accepted

@@ -6,19 +6,19 @@ ghost use Rattle.ccr_model.specs.Legal.{IsAllowed, IsLegal, IsQuiet, is_complete
 ghost use Rattle.ccr_model.specs.Order.{next_attempt, IsFinished};
 ghost use Rattle.ccr_ledger.specs.Kept.{Keeps};
 ghost use Rattle.ccr_serial.specs.Desk.{empty_desk};
-ghost use Rattle.ccr_serial.specs.Engine.{IsSound, next_event, next_engine};
+ghost use Rattle.ccr_serial.specs.Engine.{IsSound, events_of, next_event, next_engine};
 
 use crate::desk::Desk;
 use crate::listener::Listener;
 use crate::places::Places;
 use crate::standing::desk_of;
 use ccr_base::{ActorNo, OutOfMemory};
-use ccr_bounds::GhostHistory;
 use ccr_ledger::Ledger;
 use ccr_model::Event;
 use ccr_wiring::Wiring;
 use std::alloc::Global;
 use std::marker::Model;
+use std::snapshot::Snapshot;
 
 /// An engine over a wiring. Contracts see what happened so far, of which nothing is kept but the tables. After a call that found no
 /// memory each further one answers so too, since the tables can't be made anew.
@@ -30,20 +30,31 @@ pub struct Engine<'w> {
     /// What the next event is read from.
     desk: Desk,
     /// What happened, for contracts alone: it takes no memory.
-    told: GhostHistory,
+    told: Vec<Snapshot<Event>>,
     /// Whether the desk is that of what happened.
     whole: bool,
 }
 
 impl<'w> Model for Engine<'w> {
-    ghost use Rattle.ccr_serial.specs.Engine.{Engine as Seen};
+    ghost use Rattle.ccr_serial.specs.Engine.{Engine as Seen, events_of};
     ghost use Rattle.ccr_serial.specs.Desk.{IsRead};
 
     ghost Value = { Seen };
 
-    ghost view = { λ e. record { wiring = e.places; closer = e.closer; history = e.told } };
+    ghost view = { λ e. record { wiring = e.places; closer = e.closer; history = events_of e.told.items } };
 
-    ghost invariant = { λ e. IsRead (record { wiring = e.places; closer = e.closer; history = e.told }) e.desk e.whole };
+    ghost invariant = { λ e. IsRead (record { wiring = e.places; closer = e.closer; history = events_of e.told.items }) e.desk e.whole };
+}
+
+/// The events, for contracts alone.
+fn told_of(alloc: Global, events: &[Event]) -> Result<Vec<Snapshot<Event>>, OutOfMemory>
+    ensures { IfOk result (λ told. events_of told.items ≡ events.now) }
+{
+    let mut told = Vec::new(alloc);
+    for event in events {
+        told.push(Snapshot::of(event))?;
+    }
+    Ok(told)
 }
 
 /// The wiring's places, and an empty desk.
@@ -68,7 +79,7 @@ impl<'w> Engine<'w> {
             closer,
             alloc,
             desk,
-            told: GhostHistory::new(alloc),
+            told: Vec::new(alloc),
             whole: true,
         })
     }
@@ -87,20 +98,7 @@ impl<'w> Engine<'w> {
         ensures { IfOk result (λ engine. engine ≡ record { wiring = wiring.now; closer = closer; history = events.now }) }
     {
         wiring.parts();
-        Engine::behind(alloc, wiring, closer, events)
-    }
-
-    /// The same behind the events of a sound engine.
-    pub(crate) fn behind(
-        alloc: Global,
-        wiring: &'w Wiring,
-        closer: ActorNo,
-        events: &[Event],
-    ) -> Result<Self, OutOfMemory>
-        requires { IsSound (record { wiring = wiring.now; closer = closer; history = events.now }) }
-        ensures { IfOk result (λ engine. engine ≡ record { wiring = wiring.now; closer = closer; history = events.now }) }
-    {
-        let told = GhostHistory::of(alloc, events)?;
+        let told = told_of(alloc, events)?;
         let places = Places::new(alloc, wiring)?;
         let desk = desk_of(alloc, &places, closer, events)?;
         Ok(Engine {
@@ -132,8 +130,8 @@ impl<'w> Engine<'w> {
         Ok(next)
     }
 
-    /// The event happens, which is the one that comes next.
-    pub(crate) fn follow(&mut self, event: &Event) -> Result<(), OutOfMemory>
+    /// The desk and what is told go on by the event.
+    fn follow(&mut self, event: &Event) -> Result<(), OutOfMemory>
         requires { next_event self.old ≡ Some event.now }
         ensures history { OnOk result (self.new ≡ next_engine self.old) }
         ensures err { OnErr result (self.new ≡ self.old) }
@@ -144,12 +142,12 @@ impl<'w> Engine<'w> {
         let _valid = self.places.parts();
         self.whole = false;
         self.desk.push(&self.places, self.closer, event)?;
-        self.told.push(event)?;
+        self.told.push(Snapshot::of(event))?;
         self.whole = true;
         Ok(())
     }
 
-    /// The same of an event that nobody needs any more.
+    /// The event happens, which is the one that comes next.
     pub fn enter(&mut self, event: Event) -> Result<(), OutOfMemory>
         requires { next_event self.old ≡ Some event }
         ensures history { OnOk result (self.new ≡ next_engine self.old) }

@@ -1,8 +1,7 @@
 //! The parts of a wiring, as plain data. A number that names a part is its place among its kind, from 0.
 
-use crate::script_posts::ScriptPost;
 use ccr_base::{
-    ArbiterNo, Group, Handler, HandlerNo, List, Name, Pattern, Policy, PortNo, QueueNo,
+    ArbiterNo, Group, Handler, HandlerNo, List, Name, Pattern, Policy, PortNo, QueueNo, Sent,
 };
 
 #[derive(Clone, Copy, PartialEq, Eq)]
@@ -65,7 +64,7 @@ pub struct DomainPart {
 #[derive(Drop)]
 pub struct PosterPart {
     pub name: Name,
-    pub posts: List<ScriptPost>,
+    pub posts: List<Sent>,
 }
 
 /// Everything that a wiring text says.
