@@ -484,3 +484,14 @@ impl ToTextIn for u64 {
         Ok(self.to_string())
     }
 }
+
+unsafe extern "C" {
+    #[link_name = "memchr"]
+    fn c_memchr(bytes: *const u8, byte: i32, len: usize) -> *const u8;
+}
+
+/// The first index that holds the byte.
+pub fn memchr(needle: u8, haystack: &[u8]) -> Option<usize> {
+    let found = unsafe { c_memchr(haystack.as_ptr(), i32::from(needle), haystack.len()) };
+    if found.is_null() { None } else { Some(found as usize - haystack.as_ptr() as usize) }
+}

@@ -1,12 +1,9 @@
 //! The program in plain Rust for one thread: `run` (as `--workers 0` has it) and `verify`, over the crates without their contracts.
 use crate::ccr_base::{List, OutOfMemory};
-use crate::ccr_check::{Verdict, verdict_with_tables};
-use crate::ccr_counts::counts_by;
 use crate::ccr_model::History;
 use crate::ccr_report::{Counts, counted_text};
-use crate::ccr_telling::{Told, tell_to_end};
+use crate::ccr_telling::{Judgement, Told, judge_text, tell_to_end};
 use crate::ccr_text::{line_of, put_bytes};
-use crate::ccr_trace::read_history;
 use crate::ccr_wiretext::read_wiring;
 use crate::ccr_wiring::Wiring;
 use crate::kit::Global;
@@ -36,17 +33,15 @@ fn verify(text: &[u8]) -> Result<Text, OutOfMemory> {
     let (place, before) = line_of(text, b"history");
     let Ok(wiring) = read_wiring(Global, &text[..place]) else { return said("refused\n") };
     let output = &text[place..];
-    let Ok(read) = read_history(Global, &wiring, output) else { return said("malformed\n") };
-    let (verdict, tables) = verdict_with_tables(Global, &wiring, &read.history)?;
-    match verdict {
-        Verdict::Illegal { at, rule } => said(&format!("illegal {} {rule}\ndone 7\n", before + 2 + at)),
-        Verdict::Legal { complete, quiet } => {
-            let counts = counts_by(Global, &wiring, &read.history, &tables)?;
-            if due(&wiring, &counts)?.as_slice() != &output[read.rest..] {
+    let Ok(judgement) = judge_text(Global, &wiring, output) else { return said("malformed\n") };
+    match judgement {
+        Judgement::Illegal { at, rule } => said(&format!("illegal {} {rule}\ndone 7\n", before + 2 + at)),
+        Judgement::Legal(found) => {
+            if due(&wiring, &found.counts)?.as_slice() != &output[found.rest..] {
                 return said("misreported\ndone 7\n");
             }
             let word = |is: bool| if is { "yes" } else { "no" };
-            said(&format!("legal complete {} quiet {}\ndone 0\n", word(complete), word(quiet)))
+            said(&format!("legal complete {} quiet {}\ndone 0\n", word(found.complete), word(found.quiet)))
         }
     }
 }

@@ -88,7 +88,7 @@ step-in wiring actor state stop one reply goes is = cc is
 pub step_is : (wiring : Parts) (actor : ℕ) (state : State) (one : Asked) (reply : Reply) → asked wiring actor state ≡ Some one → reached (asking-at wiring actor state (turn state)) reply ≡ after wiring actor state reply
 step_is wiring actor state one reply is = step-in wiring actor state (turn state) one reply refl is
 
--- ---- want of memory
+-- ---- running out of memory
 
 never-refused : (ask : Ask) → is_settling ask ≡ true → is_refusable (due_of ask) ≡ true → ⊥
 never-refused (asks.Post m) is may = cc is

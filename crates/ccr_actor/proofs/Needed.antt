@@ -32,7 +32,7 @@ use Rattle.ccr_actor.proofs.Steps.{driven-turn, first_spot, hand_alone, hand_run
 
 -- ---- the attempt
 
--- it was given up for want of memory, or its task waits
+-- it was given up out of memory, or its task waits
 abbrev pub wants : Progress → Bool
 wants progresses.Running = false
 wants (progresses.Fired waits) = waits

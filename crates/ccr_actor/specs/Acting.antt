@@ -38,7 +38,7 @@ due_in (going due) = due
 abbrev pub bare : List Asked → State
 bare hand = record (fresh_state resting) { hand = hand; is_short = true }
 
--- the state of an actor that was told of want of memory, where it was
+-- the state of an actor that was told that memory ran out, where it was
 abbrev pub kept_if : Bool → State → State
 kept_if true state = bare state.hand
 kept_if false state = state
@@ -112,7 +112,7 @@ answered a reply = at_state a.wiring a.actor (state_after_reply a a.asking reply
 abbrev pub shortened : Acting → Acting
 shortened a = at_state a.wiring a.actor (shorten a.wiring a.actor a.state)
 
--- after this answer, or short then for want of memory
+-- after this answer, or short then of memory
 abbrev pub IsAfter : Acting → Answer → Acting → Type 0
 IsAfter a (Ok reply) new = (new ≡ answered a reply) ⊎ ((a.state.is_short ≡ false) × (new ≡ shortened (answered a reply)))
 IsAfter a (Err refused) new = new ≡ shortened a

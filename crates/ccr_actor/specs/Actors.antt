@@ -263,7 +263,7 @@ after_in wiring actor state (drive spot more) reply = after_attempt wiring actor
 after_in wiring actor state go_on reply = after_work wiring state state.work reply
 after_in wiring actor state stop reply = state
 
--- ---- want of memory
+-- ---- running out of memory
 
 -- what the attempt under way hands back
 abbrev pub in_attempt : Parts → ℕ → State → List Spot → List Asked

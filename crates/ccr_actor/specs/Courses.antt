@@ -133,7 +133,7 @@ pub record IsUnderWay (course : Course) : Type 0 where
 abbrev pub owed : Parts → ℕ → State → List Asked
 owed wiring actor state = state.hand ++ in_attempt wiring actor state state.spots
 
--- the state after an answer to the attempt's ask; want of memory changes nothing yet
+-- the state after an answer to the attempt's ask; running out of memory changes nothing yet
 abbrev pub heard : Parts → ℕ → State → Spot → List Spot → Answer → State
 heard wiring actor state spot more (Ok reply) = after_attempt wiring actor state spot more reply
 heard wiring actor state spot more (Err refused) = state
@@ -156,17 +156,17 @@ pub record EndsSo (target wanted : State) (attempt : AttemptState) : Type 0 wher
   pub reached : target ≡ wanted
   pub ended : HasEnded attempt
 
--- it was given up for want of memory
+-- it was given up out of memory
 pub record EndsOwing (wiring : Parts) (actor : ℕ) (target : State) (attempt : AttemptState) : Type 0 where
   pub owes : attempt.hand ≡ owed wiring actor target
   pub ended : HasEnded attempt
 
--- whether it was want of memory
+-- whether memory ran out
 abbrev pub is_memory : Why → Bool
 is_memory whys.Memory = true
 is_memory _ = false
 
--- it was given up, for want of memory or not
+-- it was given up, out of memory or not
 abbrev pub IsGivenUp : Bool → Parts → ℕ → State → List Spot → State → AttemptState → Type 0
 IsGivenUp true wiring actor state more target attempt = EndsOwing wiring actor target attempt
 IsGivenUp false wiring actor state more target attempt = EndsSo target (end_attempt state attempt.hand more) attempt
@@ -244,7 +244,7 @@ IsAsked course parts.Drive due = IsUnderWay course × ((course.short ≡ false) 
 IsAsked course parts.Work due = IsFree course × ((course.arbiters.items ≡ []) × (spots_left (state_of course) ≡ []))
 IsAsked course _ due = IsSettling course due
 
--- a reply to an ask of the hand comes; want of memory doesn't
+-- a reply to an ask of the hand comes; running out of memory doesn't
 abbrev pub IsToldSo : Part → Due → Answer → Type 0
 IsToldSo part due (Ok reply) = IsTold part due reply
 IsToldSo part due (Err refused) = ⊥
@@ -256,7 +256,7 @@ IsAnswered course parts.Drive answer = IsUnderWay course × ((course.short ≡ f
 IsAnswered course parts.Work answer = IsFree course × ((course.arbiters.items ≡ []) × ((spots_left (state_of course) ≡ []) × (due_at course.attempt ≡ dues.Nothing)))
 IsAnswered course part answer = (course.dropped ≡ None) × (IsPast course.attempt × IsToldSo part (due_at course.attempt) answer)
 
--- the state after the answer; want of memory changes nothing yet
+-- the state after the answer; running out of memory changes nothing yet
 abbrev pub target : Part → Parts → ℕ → State → Answer → State
 target part wiring actor state (Err refused) = state
 target parts.Admit wiring actor state (Ok reply) = after wiring actor state reply

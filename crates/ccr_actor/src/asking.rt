@@ -14,15 +14,16 @@ use crate::attempting::take_ask;
 use crate::course::{Course, Part};
 use crate::wired::plan_of;
 use crate::work::{Work, over};
-use ccr_base::{ActorNo, CauseNo, How, List, Msg, MsgId, OutOfMemory, Place, Sent, TaskId};
+use ccr_base::{ActorNo, CauseNo, How, List, Msg, MsgId, OutOfMemory, Place, TaskId};
 use ccr_claim::{Ask, Asked, Attempt, Progress};
+use ccr_wiring::ScriptPost;
 use std::alloc::Global;
 
 /// The post of the script's next line, or the poster leaves.
 fn line_ask(
     number: ActorNo,
     place: u32,
-    lines: &[Sent],
+    lines: &[ScriptPost],
     causes: &mut Option<List<CauseNo>>,
 ) -> Asked
     requires { IsLineOf lines.now causes.old }
@@ -39,28 +40,28 @@ fn line_ask(
         unreachable!();
     };
     Asked {
-        place: Place::Port(sent.port),
+        place: Place::Port(sent.port()),
         ask: Ask::Post(Msg {
             id: MsgId::Script {
                 actor: number,
                 place,
             },
-            port: sent.port,
-            value: sent.value,
+            port: sent.port(),
+            value: sent.value(),
             causes,
         }),
     }
 }
 
 /// The same causes. To copy none takes no memory.
-fn copied(alloc: Global, causes: &List<CauseNo>) -> Result<List<CauseNo>, OutOfMemory>
+fn copied(alloc: Global, causes: &[CauseNo]) -> Result<List<CauseNo>, OutOfMemory>
     ensures same { IfOk result (λ same. same ≡ causes.now) }
     ensures needs { OnErr result (IsTrue (has_any causes.now)) }
 {
     if causes.is_empty() {
         return Ok(List::new(alloc));
     }
-    causes.copy(alloc)
+    Ok(List::from_vec(Vec::from_slice(alloc, causes)?))
 }
 
 impl Course<'_> {
@@ -165,7 +166,7 @@ impl Course<'_> {
     {
         if let Work::Lines { lines, .. } = &self.work {
             if let Some(sent) = lines.first() {
-                self.line = Some(copied(self.alloc, &sent.causes)?);
+                self.line = Some(copied(self.alloc, sent.causes())?);
             }
         }
         Ok(())

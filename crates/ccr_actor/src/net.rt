@@ -18,7 +18,7 @@ pub trait Net {
     ghost steps: { Self → ℕ → List Step };
 
     /// Asks the place. Its reply fits the ask, and names only spots, domains, queues, ports and causes of the wiring, no cause
-    /// twice in a message or task. Only want of memory refuses an ask, never one that settles, and then no step is noted.
+    /// twice in a message or task. Only running out of memory refuses an ask, never one that settles, and then no step is noted.
     fn act(&mut self, actor: ActorNo, place: Place, ask: Ask) -> Result<Reply, OutOfMemory>
         requires { IsProper (wiring self.old) actor (steps self.old actor) (record { place = place; ask = ask }) }
         ensures wiring { wiring self.new ≡ wiring self.old }

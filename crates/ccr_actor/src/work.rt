@@ -10,7 +10,7 @@ use crate::wired::branch_of;
 use ccr_base::{CauseNo, How, List, Msg, MsgId, Place, Sent, Task};
 use ccr_claim::{Ask, Asked};
 use ccr_handler::{Play, PlayEnd};
-use ccr_wiring::QueuePart;
+use ccr_wiring::{QueuePart, ScriptPost};
 use std::alloc::Global;
 use std::collections::VecDeque;
 use std::mem::replace;
@@ -34,7 +34,7 @@ pub struct Playing {
 pub enum Work<'w> {
     Lines {
         place: u32,
-        lines: &'w [Sent],
+        lines: &'w [ScriptPost],
     },
     Round,
     Taking {

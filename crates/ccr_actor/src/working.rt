@@ -15,7 +15,7 @@ use crate::work::{Playing, Work};
 use ccr_base::{OutOfMemory, Sent, Spot, Task};
 use ccr_claim::Reply;
 use ccr_handler::{Play, PlayEnd};
-use ccr_wiring::QueuePart;
+use ccr_wiring::{QueuePart, ScriptPost};
 use std::collections::VecDeque;
 use std::mem::replace;
 
@@ -56,7 +56,7 @@ impl<'w> Course<'w> {
     }
 
     /// The line was posted, or the poster has left.
-    pub fn line_made(&mut self, place: u32, lines: &'w [Sent]) -> Result<(), OutOfMemory>
+    pub fn line_made(&mut self, place: u32, lines: &'w [ScriptPost]) -> Result<(), OutOfMemory>
         requires counted { place + length lines.now < 2 ^ 32 }
         ensures ok { OnOk result (state_of self.new ≡ after_line self.old.wiring.now (state_of self.old) place lines.now) }
         ensures counted { OnOk result (IsCounted self.new.work self.new.taken self.new.empty) }
@@ -69,7 +69,7 @@ impl<'w> Course<'w> {
             self.work = Work::Resting;
             return Ok(());
         }
-        self.spots = spots_at(self.alloc, self.wiring, lines[0].port)?;
+        self.spots = spots_at(self.alloc, self.wiring, lines[0].port())?;
         self.fired = 0;
         self.work = Work::Lines {
             place: place + 1,
@@ -118,7 +118,7 @@ impl<'w> Course<'w> {
     }
 
     /// The task's segment begins. Where it has no number of 32 bits, or more posts than there are such numbers, the answer is
-    /// want of memory.
+    /// running out of memory.
     fn begin_play(&mut self, queue: u32, task: Task) -> Result<(), OutOfMemory>
         requires taken { self.old.taken < 32768 }
         requires empty { self.old.empty < 10000 }

@@ -76,7 +76,7 @@ module _ (plan : ClaimPlan) (task : TaskId) where
       subst (λ (s : AttemptState). MayFollow s (drop n (answers ++ answer ∷ []))) (sym (wanting-more n answers answer within)) (subst (MayFollow (wanting plan task n answers)) (sym (drop-append-le n answers (answer ∷ []) within)) back) in
       subst (λ b. AreSplit b plan task n (answers ++ answer ∷ [])) (sym (le-leb n (length (answers ++ answer ∷ [])) (longer n answers answer within))) (front, behind)
 
-  -- ---- want of memory now
+  -- ---- running out of memory now
 
   all-taken : (answers : List Answer) → take (length answers) answers ≡ answers
   all-taken answers = take_all (length answers) answers (omega arith)

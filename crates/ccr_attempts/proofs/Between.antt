@@ -237,7 +237,7 @@ module _ (w : Parts) (a : ℕ) (past : List Step) (st : State) (idle : Idle w a 
   pub idle_goes : Goal
   idle_goes = step-in st.is_short st.hand st.arbiters (spots_left st) refl refl refl refl
 
--- ---- one step, and want of memory
+-- ---- one step, and running out of memory
 
 pub goes_on : (w : Parts) (a : ℕ) (past : List Step) (st : State) (one : Asked) (reply : Reply) → Goes w a past st → asked w a st ≡ Some one → fits (due_of one.ask) reply ≡ true → Goes w a (past ++ (record { asked = one; answer = Ok reply }) ∷ []) (after w a st reply)
 goes_on w a past st one reply (inl idle) asks fit = idle_goes w a past st idle one reply asks fit

@@ -1,4 +1,4 @@
--- Where an actor stands in its attempts, and how one reply or want of memory moves it on.
+-- Where an actor stands in its attempts, and how one reply, or running out of memory, moves it on.
 use Rattle.std.proofs.Common.{◌≡◌, ◌⊎◌, inl, inr, ℕ, ◌^◌, true, false, List, [], ◌∷◌, ◌++◌, flat_map, Option, Some, None, Ok, refl, sym, ap, subst, arith, ◌∙◌, append_assoc}
 use Rattle.std.specs.Prelude.{nat_lt}
 use Rattle.std.proofs.lemmas.Grind.{common_steps}

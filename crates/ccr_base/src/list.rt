@@ -1,4 +1,4 @@
-//! A vector that contracts see as a list, and the error for want of memory.
+//! A vector that contracts see as a list, and the error of running out of memory.
 
 ghost use Rattle.std.specs.Prelude.{◌≡◌, ◌<◌, ◌==◌, [], ◌∷◌, ◌++◌, Some, IfOk, IfErr, OnOk, OnErr, length};
 ghost use Rattle.std.specs.List.{slice_get, remove};

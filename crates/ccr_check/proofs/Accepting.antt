@@ -9,30 +9,45 @@ use Rattle.ccr_model.specs.declared.history.Event.{Event}
 use Rattle.ccr_model.specs.Legal.{IsAllowed, IsLegal, IsQuiet, is_shed_end, has_shed}
 use Rattle.ccr_model.proofs.LegalParts.{legal_push}
 use Rattle.ccr_ledger.specs.Books.{Books}
-use Rattle.ccr_ledger.specs.Events.{empty_books}
+use Rattle.ccr_ledger.specs.Events.{after_event, empty_books}
 use Rattle.ccr_ledger.specs.Kept.{Keeps}
-use Rattle.ccr_ledger.proofs.Keeping.{keeps-none}
+use Rattle.ccr_ledger.proofs.Keeping.{keeps-none, keeps-event}
 use Rattle.ccr_check.specs.Left.{is_still}
 use Rattle.ccr_check.specs.LeftInTables.{is_still_in}
 use Rattle.ccr_check.specs.Verdicts.{AllowsSome, MeansQuiet}
-use Rattle.ccr_check.specs.Judges.{IsJudge}
+use Rattle.ccr_check.specs.Judges.{Judged, IsChecker, IsJudge}
 use Rattle.ccr_check.proofs.Stillness.{MeansQuiet-still}
 use Rattle.ccr_check.proofs.StillTold.{is_still_told}
 
-pub IsJudge-none : (w : Parts) (h : List Event) (b : Books) → IsValid w → h ≡ [] → b ≡ empty_books w → IsJudge w h b true false
-IsJudge-none w h b valid none is = rw (none, is) (record { valid = valid; legal = tt; few = omega arith; flag = refl; tables = λ current. keeps-none w })
+pub IsChecker-none : (w : Parts) (h : List Event) (b : Books) → IsValid w → h ≡ [] → b ≡ empty_books w → IsChecker (record { wiring = w; history = h }) b true false
+IsChecker-none w h b valid none is = rw (none, is) (record { valid = valid; legal = tt; flag = refl; tables = λ whole. keeps-none w })
 
 pub shed-more : (h : List Event) (e : Event) → has_shed (h ++ e ∷ []) ≡ has_shed h || is_shed_end e
 shed-more h e = list_any-append is_shed_end h (e ∷ []) ∙ ap (λ b. has_shed h || b) (or-false (is_shed_end e))
 
-pub IsJudge-more : (w : Parts) (h more : List Event) (e : Event) (b : Books) (current before shed : Bool) → IsValid w → IsLegal w h → IsAllowed w h e → more ≡ h ++ e ∷ [] → length more < 2 ^ 32
-    → before ≡ has_shed h → shed ≡ before || is_shed_end e → (current ≡ true → Keeps w more b) → IsJudge w more b current shed
-IsJudge-more w h more e b current before shed valid legal allowed is few was now tables = record {
+pub IsChecker-more : (j : Judged) (more : List Event) (e : Event) (old new : Books) (before shed : Bool) → IsChecker j old true before → IsAllowed j.wiring j.history e
+    → more ≡ j.history ++ e ∷ [] → new ≡ after_event j.wiring e old → shed ≡ before || is_shed_end e → IsChecker (record j { history = more }) new true shed
+IsChecker-more j more e old new before shed kept allowed is entered now = record {
+  valid = kept.valid;
+  legal = rw is (legal_push j.wiring [] j.history e kept.legal allowed);
+  flag = now ∙ (ap (λ flag. flag || is_shed_end e) kept.flag ∙ (sym (shed-more j.history e) ∙ ap has_shed (sym is)));
+  tables = λ whole. rw (is, entered) (keeps-event j.wiring kept.valid j.history e old kept.legal allowed (kept.tables refl));
+}
+
+-- behind a call that found no memory
+pub IsChecker-lost : (j : Judged) (old new : Books) (whole shed : Bool) → IsChecker j old whole shed → IsChecker j new false shed
+IsChecker-lost j old new whole shed kept = record { valid = kept.valid; legal = kept.legal; flag = kept.flag; tables = λ is. absurd (cc) }
+
+pub IsJudge-none : (j inner : Judged) → IsValid j.wiring → j.history ≡ [] → inner ≡ j → IsJudge j inner true
+IsJudge-none j inner valid none is = record { valid = valid; legal = rw none tt; few = rw none (omega arith); so_far = λ current. is }
+
+pub IsJudge-more : (j inner new : Judged) (more : List Event) (e : Event) → IsValid j.wiring → IsLegal j.wiring j.history → IsAllowed j.wiring j.history e → more ≡ j.history ++ e ∷ [] → length more < 2 ^ 32
+    → inner ≡ j → new ≡ record inner { history = inner.history ++ e ∷ [] } → IsJudge (record j { history = more }) new true
+IsJudge-more j inner new more e valid legal allowed is few same accepted = record {
   valid = valid;
-  legal = rw is (legal_push w [] h e legal allowed);
+  legal = rw is (legal_push j.wiring [] j.history e legal allowed);
   few = few;
-  flag = now ∙ (ap (λ flag. flag || is_shed_end e) was ∙ (sym (shed-more h e) ∙ ap has_shed (sym is)));
-  tables = tables;
+  so_far = λ current. rw (accepted, same, is) refl;
 }
 
 -- what is left by the tables tells whether the history is quiet

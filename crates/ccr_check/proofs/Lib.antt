@@ -4,6 +4,5 @@ pub mod Places
 pub mod Stillness
 pub mod Refusals
 pub mod StillTold
-pub mod Along
 pub mod Accepting
 pub mod Accepted

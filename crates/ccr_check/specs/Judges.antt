@@ -12,10 +12,16 @@ pub record Judged : Type 0 where
   pub wiring : Parts
   pub history : List Event
 
--- the accepted events are legal and fewer than 2^32; the flag says whether a task was shed; where the tables are current they say what the model says
-pub record IsJudge (wiring : Parts) (history : List Event) (books : Books) (current shed : Bool) : Type 0 where
-  pub valid : IsValid wiring
-  pub legal : IsLegal wiring history
-  pub few : length history < 2 ^ 32
-  pub flag : shed ≡ has_shed history
-  pub tables : current ≡ true → Keeps wiring history books
+-- the accepted events are legal; the flag says whether a task was shed; where the tables are theirs they say what the model says
+pub record IsChecker (judged : Judged) (books : Books) (whole shed : Bool) : Type 0 where
+  pub valid : IsValid judged.wiring
+  pub legal : IsLegal judged.wiring judged.history
+  pub flag : shed ≡ has_shed judged.history
+  pub tables : whole ≡ true → Keeps judged.wiring judged.history books
+
+-- the accepted events are legal and fewer than 2^32, and the judge of them that keeps none has come as far, where it is current
+pub record IsJudge (judged inner : Judged) (current : Bool) : Type 0 where
+  pub valid : IsValid judged.wiring
+  pub legal : IsLegal judged.wiring judged.history
+  pub few : length judged.history < 2 ^ 32
+  pub so_far : current ≡ true → inner ≡ judged

@@ -1,18 +1,15 @@
-//! The judge of events, one after another.
+//! The judge that keeps what it accepted.
 
-ghost use Rattle.std.specs.Prelude.{◌≡◌, ◌++◌, ◌∷◌, [], IfNone, IfOk, IfSome, OnErr, length};
-ghost use Rattle.ccr_model.specs.Legal.{IsLegal, is_complete, is_shed_end};
+ghost use Rattle.std.specs.Prelude.{◌≡◌, ◌++◌, ◌∷◌, [], IfNone, IfOk, IfSome, OnErr, OnOk, length, true};
+ghost use Rattle.ccr_model.specs.Legal.{IsLegal, is_complete};
 ghost use Rattle.ccr_model.specs.Rules.{refusal};
-ghost use Rattle.ccr_ledger.specs.Kept.{Keeps};
 ghost use Rattle.ccr_check.specs.Verdicts.{MeansQuiet};
 
-use crate::complete::{is_complete, is_complete_in};
-use crate::laws::still_is_quiet;
-use crate::left::is_still;
-use crate::standing::{ask, enter, ledger_of};
+use crate::checker::Checker;
+use crate::complete::is_complete;
 use ccr_base::OutOfMemory;
-use ccr_ledger::Ledger;
-use ccr_model::{EndHow, Event, History};
+use ccr_bounds::valid_histories_are_short;
+use ccr_model::{Event, History};
 use ccr_wiring::Wiring;
 use std::alloc::Global;
 use std::marker::Model;
@@ -24,12 +21,10 @@ pub struct Judge<'w> {
     wiring: &'w Wiring,
     /// The events that were accepted.
     history: History,
-    /// The tables of the history, where they are current.
-    ledger: Ledger,
-    /// Whether they are: an event for which there was no memory may leave them behind.
+    /// The judge of them that keeps none.
+    checker: Checker<'w>,
+    /// Whether it has come as far: where there was no memory it may not have.
     current: bool,
-    /// Whether a task was shed.
-    shed: bool,
 }
 
 impl<'w> Model for Judge<'w> {
@@ -39,17 +34,27 @@ impl<'w> Model for Judge<'w> {
 
     ghost view = { λ j. record { wiring = j.wiring.now; history = j.history } };
 
-    ghost invariant = { λ j. IsJudge j.wiring.now j.history j.ledger j.current j.shed };
+    ghost invariant = { λ j. IsJudge (record { wiring = j.wiring.now; history = j.history }) j.checker j.current };
 }
 
-/// Whether the event is the end of a task that was shed.
-pub(crate) fn is_shed_end(event: &Event) -> bool
-    ensures { result ≡ is_shed_end event.now }
+/// Makes the inner judge anew where it hasn't come as far as the history.
+fn make_current<'w>(
+    alloc: Global,
+    wiring: &'w Wiring,
+    history: &History,
+    checker: &mut Checker<'w>,
+    current: bool,
+) -> Result<(), OutOfMemory>
+    requires legal { IsLegal wiring.now history.now }
+    requires so_far { current ≡ true → checker.old ≡ record { wiring = wiring.now; history = history.now } }
+    ensures so_far { OnOk result (checker.new ≡ record { wiring = wiring.now; history = history.now }) }
+    ensures err { OnErr result (checker.new ≡ checker.old) }
 {
-    match event {
-        Event::End { how, .. } => *how == EndHow::Shed,
-        _ => false,
+    if current {
+        return Ok(());
     }
+    *checker = Checker::behind(alloc, wiring, history.events())?;
+    Ok(())
 }
 
 impl<'w> Judge<'w> {
@@ -58,13 +63,13 @@ impl<'w> Judge<'w> {
         ensures { IfOk result (λ judge. judge ≡ record { wiring = wiring.now; history = [] }) }
     {
         let _valid = wiring.parts();
+        let checker = Checker::new(alloc, wiring)?;
         Ok(Judge {
             alloc,
             wiring,
             history: History::new(alloc),
-            ledger: Ledger::new(alloc, wiring)?,
+            checker,
             current: true,
-            shed: false,
         })
     }
 
@@ -75,26 +80,25 @@ impl<'w> Judge<'w> {
         ensures refused { IfOk result (λ rule. IfSome rule (λ number. self.new ≡ self.old)) }
         ensures err { OnErr result (self.new ≡ self.old) }
     {
-        let rule = ask(
+        make_current(
             self.alloc,
             self.wiring,
             &self.history,
-            &mut self.ledger,
-            &mut self.current,
-            event,
+            &mut self.checker,
+            self.current,
         )?;
+        self.current = true;
+        let rule = self.checker.refusal(event)?;
         if rule.is_some() {
             return Ok(rule);
         }
-        enter(
-            self.alloc,
-            self.wiring,
-            &mut self.history,
-            &mut self.ledger,
-            &mut self.current,
-            event,
-        )?;
-        self.shed = self.shed || is_shed_end(event);
+        // A legal history is short, so no bound is tested.
+        valid_histories_are_short();
+        let kept = event.copy(self.alloc)?;
+        self.current = false;
+        self.checker.accept(event)?;
+        self.history.append(kept)?;
+        self.current = true;
         Ok(None)
     }
 
@@ -111,19 +115,19 @@ impl<'w> Judge<'w> {
         ensures { result ≡ is_complete self.now.wiring self.now.history }
     {
         let wiring: &Wiring = self.wiring;
-        if self.current {
-            is_complete_in(wiring, &self.ledger, self.shed)
-        } else {
-            is_complete(wiring, self.history.events())
+        if self.current
+            && let Ok(complete) = self.checker.complete()
+        {
+            return complete;
         }
+        is_complete(wiring, self.history.events())
     }
 
     /// Whether no event at all is allowed after those that were accepted. It goes through them once, and makes tables of its own.
     pub fn quiet(&self) -> Result<bool, OutOfMemory>
         ensures { IfOk result (MeansQuiet self.now.wiring self.now.history) }
     {
-        still_is_quiet();
-        let mut ledger = ledger_of(self.alloc, self.wiring, self.history.events())?;
-        is_still(self.wiring, &mut ledger)
+        let mut checker = Checker::behind(self.alloc, self.wiring, self.history.events())?;
+        checker.quiet()
     }
 }

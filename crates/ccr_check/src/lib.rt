@@ -2,15 +2,16 @@
 #![tactic(auto)]
 
 mod alike;
+mod checker;
 mod complete;
 mod judge;
 mod judging;
 mod laws;
 mod left;
 mod refusing;
-mod standing;
 mod verdicts;
 
+pub use checker::Checker;
 pub use judge::Judge;
 pub use judging::{verdict, verdict_with_tables};
 pub use laws::still_is_quiet;

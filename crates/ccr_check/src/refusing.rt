@@ -21,7 +21,7 @@ fn is_next_line(wiring: &Wiring, ledger: &Ledger, actor: ActorNo, place: u32, me
         return false;
     };
     match poster.posts.as_slice().get(place as usize) {
-        Some(sent) => is_post(message, sent.port, &sent.value, sent.causes.as_slice()),
+        Some(sent) => is_post(message, sent.port(), &sent.value(), sent.causes()),
         None => false,
     }
 }

@@ -40,7 +40,7 @@ booking_only (stages.GaveUp why) waits.Nothing left is = cc
 booking_only (stages.GaveUp why) waits.Ask left is = cc
 booking_only (stages.GaveUp why) waits.Put left is = cc
 
--- made ready, or given up for want of memory
+-- made ready, or given up out of memory
 pub prepared : (state : AttemptState) (reply : Reply) (mid new : AttemptState) → mid.ended ≡ None → replied state reply ≡ record mid { due = dues.Nothing } → (new ≡ record mid { due = dues.Nothing }) ⊎ (new ≡ given_up whys.Memory mid) → IsAfterReply state reply new
 prepared state reply mid new none is (inl e) = inl (e ∙ sym is)
 prepared state reply mid new none is (inr e) = inr (e ∙ rw (is, none) refl)

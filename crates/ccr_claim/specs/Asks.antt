@@ -68,7 +68,7 @@ is_refusable dues.Settled = false
 is_refusable dues.Put = false
 is_refusable _ = true
 
--- an answer: a reply, or want of memory
+-- an answer: a reply, or running out of memory
 abbrev pub Answer : Type 0
 Answer = Result Reply OutOfMemory
 

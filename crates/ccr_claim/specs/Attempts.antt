@@ -209,10 +209,10 @@ abbrev pub attempt_after : ClaimPlan → TaskId → Option ℕ → List Answer �
 attempt_after plan task None answers = after_all (begun plan task) answers
 attempt_after plan task (Some n) answers = if nat_le n (length answers) then after_all (in_want (after_all (begun plan task) (take n answers))) (drop n answers) else after_all (begun plan task) answers
 
--- after this answer, or given up then for want of memory
+-- after this answer, or given up then out of memory
 abbrev pub IsAfter : AttemptState → Answer → AttemptState → Type 0
 IsAfter state answer new = (new ≡ answered state answer) ⊎ (new ≡ in_want (answered state answer))
 
--- after this reply, or given up then for want of memory
+-- after this reply, or given up then out of memory
 abbrev pub IsAfterReply : AttemptState → Reply → AttemptState → Type 0
 IsAfterReply state reply new = IsAfter state (Ok reply) new

@@ -146,7 +146,7 @@ fn are_at(port: PortNo, messages: &[Msg]) -> bool
     messages.iter().all(|m| m.port == port)
 }
 
-/// Whether the answer is one that may come: a reply that fits, or want of memory where something is due that doesn't settle.
+/// Whether the answer is one that may come: a reply that fits, or running out of memory where something is due that doesn't settle.
 pub fn may_come(due: Due, answer: &Result<Reply, OutOfMemory>) -> bool
     ensures { result ≡ may_come due answer.now }
 {

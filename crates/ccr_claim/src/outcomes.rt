@@ -3,7 +3,7 @@
 use crate::Ask;
 use ccr_base::{By, Place, PortNo, Task, TaskId};
 
-/// Why an attempt was given up: the reply that ended it, or want of memory.
+/// Why an attempt was given up: the reply that ended it, or running out of memory.
 #[derive(Clone, Copy, PartialEq, Eq)]
 pub enum Why {
     Full(u32),

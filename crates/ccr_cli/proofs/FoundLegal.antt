@@ -24,7 +24,8 @@ reading_nothing : (wiring : Parts) (read : ReadHistory) → reading wiring [] �
 unfolding reading_lines
 reading_nothing wiring read is = cc
 
-read_output : (wiring : Parts) (before : ℕ) (text : List ℕ) (read : ReadHistory) → reading wiring text ≡ Ok read → reading_output wiring before text ≡ Ok read
+-- the text is the output's
+pub read_output : (wiring : Parts) (before : ℕ) (text : List ℕ) (read : ReadHistory) → reading wiring text ≡ Ok read → reading_output wiring before text ≡ Ok read
 read_output wiring before [] read is = absurd (reading_nothing wiring read is)
 read_output wiring before (b ∷ text) read is = rw is refl
 

@@ -144,7 +144,7 @@ further_statuses (Run workers schedule) = 6 ∷ []
 further_statuses Verify = 7 ∷ []
 further_statuses _ = []
 
--- the exit statuses where a wiring is read and no fault comes; 5 is want of memory
+-- the exit statuses where a wiring is read and no fault comes; 5 is running out of memory
 abbrev pub statuses_of : Command → List ℕ
 statuses_of command = 0 ∷ 5 ∷ further_statuses command
 

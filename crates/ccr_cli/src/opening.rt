@@ -56,7 +56,7 @@ fn threaded_history<R: AllocGlobal + Threads + Wait + Sync, G: Gate + Sync>(
     Ok(first)
 }
 
-/// The history of the closed run. Where it names an actor that was told of want of memory, that is the answer.
+/// The history of the closed run. Where it names an actor that was told that memory ran out, that is the answer.
 fn unless_short(closed: Seen) -> Result<History, OutOfMemory>
     ensures short { is_ok result ≡ (length closed.short == 0) }
     ensures history { IfOk result (λ first. first ≡ closed.history) }

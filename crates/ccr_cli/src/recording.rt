@@ -17,7 +17,7 @@ use std::alloc::Global;
 use std::sync::Wait;
 use std::thread::Threads;
 
-/// The entries of the closed run. Where it names an actor that was told of want of memory, that is the answer.
+/// The entries of the closed run. Where it names an actor that was told that memory ran out, that is the answer.
 fn entries_unless_short(closed: Closed) -> Result<Full, OutOfMemory>
     ensures short { is_ok result ≡ (length closed.short == 0) }
     ensures entries { IfOk result (λ full. full ≡ closed.full) }

@@ -20,7 +20,7 @@ asks_of (Some one) place ask is =
     let P : (Place × Ask) → Option Asked = λ p. Some (record { place = p.0; ask = p.1 }) in
     ap P same
 
--- a reply that the ask may have, or want of memory where it doesn't settle
+-- a reply that the ask may have, or running out of memory where it doesn't settle
 pub may_answer : (ask : Ask) (answer : Answer) → IfOk answer (λ reply. fits (due_of ask) reply ≡ true) → (is_settling ask ≡ true → IsOk answer) → may_come (due_of ask) answer ≡ true
 may_answer ask (Ok reply) fit ok = fit
 may_answer (kinds.Post m) (Err refused) fit ok = refl

@@ -4,7 +4,7 @@ ghost use Rattle.std.specs.Prelude.{◌≡◌, ◌≤◌, IfOk};
 ghost use Rattle.ccr_gen.specs.Posters.{sent, script, poster, posters};
 
 use ccr_base::{List, OutOfMemory, Sent, Value};
-use ccr_wiring::PosterPart;
+use ccr_wiring::{PosterPart, ScriptPost};
 use std::alloc::Global;
 
 fn sent(alloc: Global, post: u32) -> Sent
@@ -19,13 +19,13 @@ fn sent(alloc: Global, post: u32) -> Sent
 
 /// The posts of the poster of this number, of so many in all.
 #[tactic(auto, using(crate::proofs::Lines::script_more))]
-fn script(alloc: Global, size: u32, number: u32) -> Result<List<Sent>, OutOfMemory>
+fn script(alloc: Global, size: u32, number: u32) -> Result<List<ScriptPost>, OutOfMemory>
     ensures { IfOk result (λ posts. posts ≡ script size number) }
 {
     let mut posts = Vec::new(alloc);
     for post in 0..size {
         if post % 4 == number {
-            posts.push(sent(alloc, post))?;
+            posts.push(ScriptPost::of(alloc, sent(alloc, post))?)?;
         }
     }
     Ok(List::from_vec(posts))

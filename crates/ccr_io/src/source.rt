@@ -53,7 +53,7 @@ impl From<AllocError> for ReadEnd {
 /// The most bytes that are asked for at once.
 const PIECE: usize = 16_384;
 
-/// Reads to the end of input, where that has at most `limit` bytes. Want of memory may come at any time; the bytes read
+/// Reads to the end of input, where that has at most `limit` bytes. Running out of memory may come at any time; the bytes read
 /// up to there are then gone from the source, as with every other end.
 #[tactic(auto, using(crate::proofs::Bytes::reading))]
 pub fn read_all<S: Source>(alloc: Global, source: &mut S, limit: usize) -> Result<List<u8>, ReadEnd>

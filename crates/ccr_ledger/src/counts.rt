@@ -15,7 +15,7 @@ pub(crate) fn number(numbers: &[u32], place: usize) -> u32
     }
 }
 
-/// One more at the place. A count that no longer fits is a want of memory.
+/// One more at the place. A count that no longer fits counts as out of memory.
 pub(crate) fn add_one(numbers: &mut Vec<u32>, place: usize) -> Result<(), OutOfMemory>
     ensures ok { OnOk result (numbers.new.items ≡ more place numbers.old.items) }
     ensures err { OnErr result (numbers.new.items ≡ numbers.old.items) }

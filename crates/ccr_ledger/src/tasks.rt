@@ -42,7 +42,7 @@ pub(crate) fn end_root(tasks: &mut IndexMap<TaskId, Card>, task: TaskId)
     }
 }
 
-/// The task has made one more post. A count that no longer fits is a want of memory.
+/// The task has made one more post. A count that no longer fits counts as out of memory.
 pub(crate) fn count_post(
     tasks: &mut IndexMap<TaskId, Card>,
     task: TaskId,

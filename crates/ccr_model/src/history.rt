@@ -144,6 +144,17 @@ impl History {
         self.past.push(event)
     }
 
+    /// Adds the event at the end. Where memory runs out the event is dropped, and the history stays as it was.
+    pub fn append(&mut self, event: Event) -> Result<(), OutOfMemory>
+        ensures ok { OnOk result (self.new ≡ self.old ++ event ∷ []) }
+        ensures err { OnErr result (self.new ≡ self.old) }
+    {
+        match self.push(event) {
+            Ok(()) => Ok(()),
+            Err((memory, _)) => Err(memory),
+        }
+    }
+
     pub fn events(&self) -> &[Event]
         ensures { result.now ≡ self.now }
     {

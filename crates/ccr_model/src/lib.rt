@@ -5,6 +5,7 @@ pub mod choices;
 pub mod data;
 pub mod enough;
 pub mod firings;
+mod ghost_history;
 mod history;
 mod laws;
 pub mod live;
@@ -15,6 +16,7 @@ pub mod rules;
 mod sites;
 pub mod tasks;
 
+pub use ghost_history::GhostHistory;
 pub use history::{EndHow, Event, Fate, History, TaskState, Totals};
 pub use laws::{
     exclusive_roots_are_alone, first_is_allowed, legal_is_covered, messages_are_taken_once,

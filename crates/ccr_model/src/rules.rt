@@ -13,7 +13,9 @@ use crate::tasks::{
     admitted, count_unfinished, has_post_left, placement_of, queued, running, running_by, waiting,
 };
 use crate::{EndHow, Event};
-use ccr_base::{ActorNo, CauseNo, Msg, MsgId, OutOfMemory, Policy, Sent, Spot, TaskId};
+use ccr_base::{
+    ActorNo, CauseNo, Msg, MsgId, OutOfMemory, Policy, PortNo, Sent, Spot, TaskId, Value,
+};
 use ccr_handler::PlayEnd;
 use ccr_wiring::{MAX_ACTOR, Wiring};
 use std::alloc::Global;
@@ -30,13 +32,20 @@ fn are_same_causes(causes: &[CauseNo], others: &[CauseNo]) -> bool
     }
 }
 
+/// Whether the message is what is sent so, but for its name.
+fn is_sent(message: &Msg, port: PortNo, value: &Value, causes: &[CauseNo]) -> bool
+    ensures { result ≡ is_post message.now (record { port = port; value = value.now; causes = causes.now }) }
+{
+    message.port == port
+        && message.value == *value
+        && are_same_causes(message.causes.as_slice(), causes)
+}
+
 /// Whether the message is the post, but for its name.
 fn is_post(message: &Msg, sent: &Sent) -> bool
     ensures { result ≡ is_post message.now sent.now }
 {
-    message.port == sent.port
-        && message.value == sent.value
-        && are_same_causes(message.causes.as_slice(), sent.causes.as_slice())
+    is_sent(message, sent.port, &sent.value, sent.causes.as_slice())
 }
 
 /// Whether the message is the poster's next line.
@@ -56,7 +65,7 @@ pub(crate) fn is_script_line(
         return false;
     };
     match poster.posts.as_slice().get(place as usize) {
-        Some(sent) => is_post(message, sent),
+        Some(sent) => is_sent(message, sent.port(), &sent.value(), sent.causes()),
         None => false,
     }
 }

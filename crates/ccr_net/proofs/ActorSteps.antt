@@ -176,7 +176,7 @@ owed_more w h a b c le place asks.Draw is = absurd is
 owed_more w h a b c le place asks.Leave is = absurd is
 owed_more w h a b c le place asks.Left is = absurd is
 
--- want of memory
+-- running out of memory
 pub ActorMatches-short : (w : Parts) (h : List Event) (port : ℕ → PortState) (a : ℕ) (st : State) → ActorMatches w h port a st → ActorMatches w h port a (shorten w a st)
 ActorMatches-short w h port a st match =
     ActorMatches-same w h port a (end_attempt st (st.hand ++ in_attempt w a st st.spots) []) (shorten w a st) refl refl refl

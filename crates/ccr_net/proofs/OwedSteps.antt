@@ -400,7 +400,7 @@ module _ (w : Parts) (a : ℕ) (st : State) (one : Asked) where
   pub paid : (r : Reply) → asked w a st ≡ Some one → fits (due_of one.ask) r ≡ true → IsPaid st one.ask r (after w a st r)
   paid r is_next fit = paid-in (turn st) r (turn-is st.is_short st.hand st.arbiters (spots_left st)) is_next fit
 
--- want of memory costs no more
+-- running out of memory costs no more
 short-weighs : (w : Parts) (a : ℕ) (st : State) → weight (shorten w a st) ≤ weight st
 short-weighs w a st =
     let all = hand-append st.hand (in_attempt w a st st.spots) in

@@ -1,4 +1,4 @@
--- A played run with want of memory at other steps, by the steps of its actors.
+-- A played run that runs out of memory at other steps, by the steps of its actors.
 use Rattle.std.proofs.Common.{◌≡◌, ◌<◌, ℕ, ◌+◌, Bool, true, false, List, [], ◌∷◌, ◌++◌, length, Some, refl, sym, ap, ◌∙◌, subst}
 use Rattle.std.specs.Prelude.{◌==◌, cond, filter_map}
 use Rattle.std.specs.List.{cons_option}

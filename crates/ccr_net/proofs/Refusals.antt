@@ -138,7 +138,7 @@ acting_beside w lacks es k n j x other acting = record {
 
 -- ---- the run so far
 
--- want of memory behind these replies changes nothing yet
+-- running out of memory behind these replies changes nothing yet
 fewer : (w : Parts) (k n : ℕ) (given : List Reply) → length given < n → actors.next w k (Some n) given ≡ actors.next w k None given
 fewer w k n given less =
     let no : nat_le n (length given) ≡ false = grind (arith, nat_tests, less) in
@@ -162,7 +162,7 @@ cast_more w lacks v l (act ∷ acts) k =
     let rest : length (taught (rules w lacks) l v act k).0.given ≤ length (cast_from w lacks v l (act ∷ acts) k).0.given = cast_more w lacks (moved after_deed v act) (taught (rules w lacks) l v act) acts k in
     omega (arith, first, rest)
 
--- a run is one with want of memory elsewhere too, where each actor asks alike after fewer replies than it gets there
+-- a run is one that runs out of memory elsewhere too, where each actor asks alike after fewer replies than it gets there
 module _ (w : Parts) (workers : ℕ) (lacks others : Lacks) (facts : StepFacts w workers lacks) where
   run_alike : (past : List Entry) (v : Scene Placed) (l : Cast (rules w lacks)) (acts : List (Act Deed)) → Matches w workers lacks past v l → IsRunFrom (rules w lacks) (length w.posters + workers) v l acts
       → ((k : ℕ) (given : List Reply) → length given < length (cast_from w lacks v l acts k).0.given → actors.next w k (others k) given ≡ actors.next w k (lacks k) given) → IsRunFrom (rules w others) (length w.posters + workers) v l acts

@@ -155,7 +155,7 @@ module _ (w : Parts) (acts : List (Act Deed)) (serving : IsServing w acts) (k : 
     pub seat_few : k < 32
     seat_few = let small = (sound w serving.valid).small.posters in omega (arith, low, small)
 
-    -- the want of memory that the actor's steps are next under
+    -- the lack of memory that the actor's steps are next under
     abbrev own_lacks : Lacks
     own_lacks j = cond (k == j) proper.0 (serving.lacks j)
 

@@ -22,7 +22,7 @@ ghost use Rattle.ccr_net.specs.Places.{note_of};
 ghost use Rattle.ccr_net.specs.Visible.{visible};
 
 /// What is visible of a run is legal and covered, in each valid wiring: attempts given up, busy ports, rivals, full
-/// throttle queues, claims that stand, cut and shed tasks and want of memory at any step of any actor are among the runs.
+/// throttle queues, claims that stand, cut and shed tasks and running out of memory at any step of any actor are among the runs.
 pub fn visible_runs_are_legal_and_covered()
     ensures legal { (wiring : Parts) (workers : ℕ) (entries : List Entry) → IsValid wiring → workers ≤ 16 → IsRun wiring workers entries → IsLegal wiring (visible entries) }
     ensures covered { (wiring : Parts) (workers : ℕ) (entries : List Entry) → IsValid wiring → workers ≤ 16 → IsRun wiring workers entries → is_covered wiring (visible entries) ≡ true }
@@ -54,7 +54,7 @@ pub fn played_runs_are_runs()
     ensures replies { (wiring : Parts) (workers : ℕ) (lacks : Lacks) (acts : List (Act Deed)) → IsValid wiring → workers ≤ 16 → IsRunFrom (rules wiring lacks) (length wiring.posters + workers) (scene wiring) (cast (rules wiring lacks)) acts → (actor : ℕ) → given_in wiring lacks acts actor ≡ replies_of wiring (entries_of wiring acts) actor }
 {}
 
-/// A run as the objects play it, with want of memory at some steps, is one with want of memory at other steps, where each
+/// A run as the objects play it, that runs out of memory at some steps, is one that runs out of memory at other steps, where each
 /// actor's steps are what it asks next then too.
 pub fn played_runs_follow_their_steps()
     ensures { (wiring : Parts) (workers : ℕ) (lacks others : Lacks) (acts : List (Act Deed)) → IsValid wiring → workers ≤ 16 → IsRunFrom (rules wiring lacks) (length wiring.posters + workers) (scene wiring) (cast (rules wiring lacks)) acts → ((actor : ℕ) → actor < length wiring.posters + workers → AreNext wiring actor (others actor) [] (steps_in wiring acts actor)) → IsRunFrom (rules wiring others) (length wiring.posters + workers) (scene wiring) (cast (rules wiring others)) acts }

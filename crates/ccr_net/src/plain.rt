@@ -189,7 +189,7 @@ fn next_stamp(places: &[u128], actors: &[u128], number: u32, actor: ActorNo) -> 
     places[number as usize].max(actors[actor as usize]) + 1
 }
 
-/// The answer of the object of this number. The others stay as they were, and all do for want of memory.
+/// The answer of the object of this number. The others stay as they were, and all do where memory runs out.
 fn answer_at(
     objects: &mut [PlaceObject],
     number: u32,

@@ -19,7 +19,7 @@ use ccr_wiring::Wiring;
 use std::alloc::Global;
 
 /// The run that these turns give. A turn makes its actor's next step, or nothing where the actor rests. Posters have the
-/// lowest numbers and the workers those behind them. Any want of memory ends the call.
+/// lowest numbers and the workers those behind them. Running out of memory ends the call.
 pub fn run_schedule(
     alloc: Global,
     wiring: &Wiring,

@@ -17,7 +17,7 @@ use std::alloc::Global;
 
 /// The run of `run_schedule` in which the asks of these numbers find no memory. The asks of all actors that don't settle
 /// are numbered from 0, as they are made. A refused one leaves no entry; its actor then only settles what it has in hand, one
-/// ask a turn. Any want of memory of the call's own ends it.
+/// ask a turn. Running out of memory in the call itself ends it.
 pub fn run_short(
     alloc: Global,
     wiring: &Wiring,

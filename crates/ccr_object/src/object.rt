@@ -58,7 +58,7 @@ pub struct Placed {
 
 impl PlaceObject {
     /// Tests the condition of the ask, and does what it asks. Where the condition isn't met, or the ask isn't one for this
-    /// kind of place, the object stays as it was, and so it does for want of memory. A reply is one that the ask may have.
+    /// kind of place, the object stays as it was, and so it does where memory runs out. A reply is one that the ask may have.
     #[inline(always)]
     pub fn answer(&mut self, ask: Ask) -> Result<(Answer, Deed), OutOfMemory>
         ensures reply { IfOk result (λ given. given.0 ≡ reply_of (placed self.old) ask) }

@@ -86,7 +86,7 @@ run_of w n past (e ∷ es) made low =
 pub only : (w : Parts) (n : ℕ) (es : List Entry) → All (λ a. a < length w.posters + n) (schedule es) → scheduled w (schedule es) ≡ es → IsOfNextSteps w n es
 only w n es low same = run_of w n [] es (subst (AreMade w []) same (made_all w [] (schedule es) tt)) low
 
--- ---- where nobody asks anything else for want of memory
+-- ---- where nobody asks anything else out of memory
 
 next_from : (w : Parts) (n : ℕ) (lacks : Lacks) (past es : List Entry) → IsRunAfter w n lacks past es → AskAlways w lacks past es → IsRunAfter w n never past es
 next_from w n lacks past [] run asks = tt

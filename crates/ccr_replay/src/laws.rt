@@ -12,7 +12,7 @@ ghost use Rattle.ccr_replay.specs.Records.{record_text};
 ghost use Rattle.ccr_replay.specs.Schedules.{schedule, AskAlways, IsOfNextSteps};
 
 /// The actors of a run's entries, in their order, are a schedule. Where each step of each actor is its next one, as where nobody
-/// asked anything else for want of memory, the run of that schedule is that run again: the same actors at the same places, with
+/// asked anything else out of memory, the run of that schedule is that run again: the same actors at the same places, with
 /// the same notes and stamps. Of no other entries is it so: their schedule gives others, or names somebody who is no actor.
 /// And the run of any turns is given again by those that added an entry.
 pub fn schedules_give_runs_again()

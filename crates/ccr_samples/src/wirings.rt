@@ -8,7 +8,7 @@ use ccr_base::{
     Action, Group, Handler, List, OutOfMemory, Pattern, Policy, PortNo, Pred, Sent, Slot, Value,
 };
 use ccr_wiring::{
-    ArbiterPart, BranchPart, CausePart, HandlerPart, Kind, Parts, PosterPart, QueuePart,
+    ArbiterPart, BranchPart, CausePart, HandlerPart, Kind, Parts, PosterPart, QueuePart, ScriptPost,
 };
 use std::alloc::Global;
 
@@ -81,7 +81,7 @@ pub fn one_post(alloc: Global) -> Result<List<PosterPart>, OutOfMemory>
     };
     let poster = PosterPart {
         name: name(alloc, b"p")?,
-        posts: only(alloc, sent)?,
+        posts: only(alloc, ScriptPost::of(alloc, sent)?)?,
     };
     only(alloc, poster)
 }

@@ -1,33 +1,26 @@
 -- What an engine keeps: its desk, which is that of what happened as long as there was memory.
-use Rattle.std.proofs.Common.{◌≡◌, ◌∙◌, ℕ, ◌≤◌, Bool, true, false, List, [], ◌∷◌, ◌++◌, length, Option, Some, refl, ap, subst}
+use Rattle.std.proofs.Common.{◌≡◌, ℕ, ◌≤◌, Bool, true, false, List, [], ◌∷◌, ◌++◌, length, Option, Some, refl, ap, ◌∙◌, subst}
 use Rattle.std.specs.Prelude.{◌^◌}
-use Rattle.std.specs.declared.snapshot.Snapshot.{Snapshot}
-use Rattle.std.proofs.lemmas.List.{map-append}
 use Rattle.ccr_wiring.specs.declared.parts.Parts.{Parts}
 use Rattle.ccr_wiring.specs.Valid.{IsValid}
 use Rattle.ccr_model.specs.declared.history.Event.{Event}
-use Rattle.ccr_model.specs.Firings.{fired}
 use Rattle.ccr_model.specs.Legal.{IsLegal}
-use Rattle.ccr_model.specs.Order.{next_attempt}
+use Rattle.ccr_model.specs.Order.{with_first}
 use Rattle.ccr_ledger.specs.Books.{Books}
 use Rattle.ccr_ledger.specs.Kept.{Keeps}
 use Rattle.ccr_serial.specs.Desk.{Desk, IsRead, IsAhead, IsIdle, Follows, Stands, empty_desk, first_in}
 use Rattle.ccr_serial.specs.Coming.{ComesNext}
-use Rattle.ccr_serial.specs.Engine.{Engine, IsSound, events_of, next_event}
+use Rattle.ccr_serial.specs.Engine.{Engine, IsSound, IsMade, next_event, next_engine}
 use Rattle.ccr_serial.proofs.Along.{ahead_by, first_by, idle_by, stands_next, stands_none}
-use Rattle.ccr_serial.proofs.Runs.{IsAllowed-next, IsSound-event, IsSound-start, IsSound-resume, IsSound-pushed}
-
--- one event more is told
-pub events_of-push : (told : List (Snapshot Event)) (one : Snapshot Event) (e : Event) → one.value ≡ e → events_of (told ++ one ∷ []) ≡ events_of told ++ e ∷ []
-events_of-push told one e is = map-append (λ (s : Snapshot Event). s.value) told (one ∷ []) ∙ ap (λ x. events_of told ++ x ∷ []) is
+use Rattle.ccr_serial.proofs.Runs.{IsAllowed-next, IsSound-event, IsSound-start, IsSound-pushed}
 
 pub IsRead-start : (w v : Parts) (c : ℕ) (h : List Event) (d : Desk) → IsValid w → length w.posters ≤ c → c ≤ 32 → v ≡ w → h ≡ [] → d ≡ empty_desk w → IsRead (record { wiring = v; closer = c; history = h }) d true
 IsRead-start w v c h d valid high low same none is = rw (same, none, is) (record { sound = IsSound-start w c valid high low; stands = λ current. stands_none w valid c })
 
-pub IsRead-resume : (w v : Parts) (c : ℕ) (es h : List Event) (d : Desk) → IsValid w → length w.posters ≤ c → c ≤ 32 → IsLegal w es → next_attempt c (fired es) ≤ 2 ^ 31 → v ≡ w → h ≡ es → Stands v c es d → IsRead (record { wiring = v; closer = c; history = h }) d true
-IsRead-resume w v c es h d valid high low legal few same is stands =
+pub IsRead-behind : (w v : Parts) (c : ℕ) (es h : List Event) (d : Desk) → IsSound (record { wiring = w; closer = c; history = es }) → v ≡ w → h ≡ es → Stands v c es d → IsRead (record { wiring = v; closer = c; history = h }) d true
+IsRead-behind w v c es h d sound same is stands =
     let now : Stands w c es d = subst (λ (p : Parts). Stands p c es d) same stands in
-    rw (same, is) (record { sound = IsSound-resume w c es valid high low legal few; stands = λ whole. now })
+    rw (same, is) (record { sound = sound; stands = λ whole. now })
 
 pub IsRead-entered : (s : Engine) → IsSound s → (e : Event) → next_event s ≡ Some e → (h : List Event) → h ≡ s.history ++ e ∷ [] → (d : Desk) (current : Bool) → (current ≡ true → Stands s.wiring s.closer h d) → IsRead (record s { history = h }) d current
 IsRead-entered s sound e is h more d current stands = record { sound = IsSound-pushed s sound e is h more; stands = stands }
@@ -57,3 +50,17 @@ IsRead-next s old new e h read is follows more =
 -- what comes next, with the tables before it
 pub ComesNext-first : (s : Engine) (b : Books) (e : Event) → IsSound s → Keeps s.wiring s.history b → next_event s ≡ Some e → ComesNext s.wiring s.history b e
 ComesNext-first s b e sound keeps is = record { valid = sound.valid; tables = keeps; legal = (IsSound-event s sound e is).legal }
+
+-- an engine that keeps its history: at its start or behind these events
+pub IsMade-behind : (s made : Engine) → IsSound s → made ≡ s → IsMade s made true
+IsMade-behind s made sound is = record { sound = sound; so_far = λ current. is }
+
+-- and behind one event more
+pub IsMade-entered : (s made : Engine) (h : List Event) (e : Event) → IsSound s → next_event s ≡ Some e → made ≡ next_engine s → h ≡ s.history ++ e ∷ [] → IsMade (record s { history = h }) made true
+IsMade-entered s made h e sound is entered more =
+    let same : made ≡ record s { history = s.history ++ e ∷ [] } = entered ∙ ap (λ (o : Option Event). record s { history = with_first s.history o }) is in
+    record { sound = IsSound-pushed s sound e is h more; so_far = λ current. rw more same }
+
+-- and where a call found no memory
+pub IsMade-lost : (s made : Engine) → IsSound s → IsMade s made false
+IsMade-lost s made sound = record { sound = sound; so_far = λ current. absurd (cc) }

@@ -1,6 +1,5 @@
 -- What an engine is to its callers.
-use Rattle.std.specs.Prelude.{◌≤◌, ◌<◌, ◌+◌, ◌^◌, ℕ, List, length, map, Option}
-use Rattle.std.specs.declared.snapshot.Snapshot.{Snapshot}
+use Rattle.std.specs.Prelude.{◌≡◌, ◌≤◌, ◌<◌, ◌+◌, ◌^◌, ℕ, Bool, true, List, length, Option}
 use Rattle.ccr_wiring.specs.declared.parts.Parts.{Parts}
 use Rattle.ccr_wiring.specs.Valid.{IsValid}
 use Rattle.ccr_model.specs.declared.history.Event.{Event}
@@ -12,10 +11,6 @@ pub record Engine : Type 0 where
   pub wiring : Parts
   pub closer : ℕ
   pub history : List Event
-
--- the events that are told, of which nothing is kept
-abbrev pub events_of : List (Snapshot Event) → List Event
-events_of told = map (λ (one : Snapshot Event). one.value) told
 
 -- the event that comes first after the history of the engine
 unfoldable pub next_event : Engine → Option Event
@@ -32,3 +27,8 @@ pub record IsSound (engine : Engine) : Type 0 where
   pub low : engine.closer ≤ 32
   pub legal : IsLegal engine.wiring engine.history
   pub attempts : next_attempt engine.closer (fired engine.history) < 2 ^ 31 + length engine.history
+
+-- the history is that of a sound engine, and the engine that makes it has come so far, where it is current
+pub record IsMade (engine made : Engine) (current : Bool) : Type 0 where
+  pub sound : IsSound engine
+  pub so_far : current ≡ true → made ≡ engine

@@ -6,7 +6,7 @@ ghost use Rattle.ccr_model.specs.Legal.{IsAllowed, IsLegal, IsQuiet, is_complete
 ghost use Rattle.ccr_model.specs.Order.{next_attempt, IsFinished};
 ghost use Rattle.ccr_ledger.specs.Kept.{Keeps};
 ghost use Rattle.ccr_serial.specs.Desk.{empty_desk};
-ghost use Rattle.ccr_serial.specs.Engine.{IsSound, events_of, next_event, next_engine};
+ghost use Rattle.ccr_serial.specs.Engine.{IsSound, next_event, next_engine};
 
 use crate::desk::Desk;
 use crate::listener::Listener;
@@ -14,11 +14,10 @@ use crate::places::Places;
 use crate::standing::desk_of;
 use ccr_base::{ActorNo, OutOfMemory};
 use ccr_ledger::Ledger;
-use ccr_model::Event;
+use ccr_model::{Event, GhostHistory};
 use ccr_wiring::Wiring;
 use std::alloc::Global;
 use std::marker::Model;
-use std::snapshot::Snapshot;
 
 /// An engine over a wiring. Contracts see what happened so far, of which nothing is kept but the tables. After a call that found no
 /// memory each further one answers so too, since the tables can't be made anew.
@@ -30,31 +29,20 @@ pub struct Engine<'w> {
     /// What the next event is read from.
     desk: Desk,
     /// What happened, for contracts alone: it takes no memory.
-    told: Vec<Snapshot<Event>>,
+    told: GhostHistory,
     /// Whether the desk is that of what happened.
     whole: bool,
 }
 
 impl<'w> Model for Engine<'w> {
-    ghost use Rattle.ccr_serial.specs.Engine.{Engine as Seen, events_of};
+    ghost use Rattle.ccr_serial.specs.Engine.{Engine as Seen};
     ghost use Rattle.ccr_serial.specs.Desk.{IsRead};
 
     ghost Value = { Seen };
 
-    ghost view = { λ e. record { wiring = e.places; closer = e.closer; history = events_of e.told.items } };
+    ghost view = { λ e. record { wiring = e.places; closer = e.closer; history = e.told } };
 
-    ghost invariant = { λ e. IsRead (record { wiring = e.places; closer = e.closer; history = events_of e.told.items }) e.desk e.whole };
-}
-
-/// The events, for contracts alone.
-fn told_of(alloc: Global, events: &[Event]) -> Result<Vec<Snapshot<Event>>, OutOfMemory>
-    ensures { IfOk result (λ told. events_of told.items ≡ events.now) }
-{
-    let mut told = Vec::new(alloc);
-    for event in events {
-        told.push(Snapshot::of(event))?;
-    }
-    Ok(told)
+    ghost invariant = { λ e. IsRead (record { wiring = e.places; closer = e.closer; history = e.told }) e.desk e.whole };
 }
 
 /// The wiring's places, and an empty desk.
@@ -79,7 +67,7 @@ impl<'w> Engine<'w> {
             closer,
             alloc,
             desk,
-            told: Vec::new(alloc),
+            told: GhostHistory::new(alloc),
             whole: true,
         })
     }
@@ -98,7 +86,20 @@ impl<'w> Engine<'w> {
         ensures { IfOk result (λ engine. engine ≡ record { wiring = wiring.now; closer = closer; history = events.now }) }
     {
         wiring.parts();
-        let told = told_of(alloc, events)?;
+        Engine::behind(alloc, wiring, closer, events)
+    }
+
+    /// The same behind the events of a sound engine.
+    pub(crate) fn behind(
+        alloc: Global,
+        wiring: &'w Wiring,
+        closer: ActorNo,
+        events: &[Event],
+    ) -> Result<Self, OutOfMemory>
+        requires { IsSound (record { wiring = wiring.now; closer = closer; history = events.now }) }
+        ensures { IfOk result (λ engine. engine ≡ record { wiring = wiring.now; closer = closer; history = events.now }) }
+    {
+        let told = GhostHistory::of(alloc, events)?;
         let places = Places::new(alloc, wiring)?;
         let desk = desk_of(alloc, &places, closer, events)?;
         Ok(Engine {
@@ -130,8 +131,8 @@ impl<'w> Engine<'w> {
         Ok(next)
     }
 
-    /// The desk and what is told go on by the event.
-    fn follow(&mut self, event: &Event) -> Result<(), OutOfMemory>
+    /// The event happens, which is the one that comes next.
+    pub(crate) fn follow(&mut self, event: &Event) -> Result<(), OutOfMemory>
         requires { next_event self.old ≡ Some event.now }
         ensures history { OnOk result (self.new ≡ next_engine self.old) }
         ensures err { OnErr result (self.new ≡ self.old) }
@@ -142,12 +143,12 @@ impl<'w> Engine<'w> {
         let _valid = self.places.parts();
         self.whole = false;
         self.desk.push(&self.places, self.closer, event)?;
-        self.told.push(Snapshot::of(event))?;
+        self.told.push(event)?;
         self.whole = true;
         Ok(())
     }
 
-    /// The event happens, which is the one that comes next.
+    /// The same of an event that nobody needs any more.
     pub fn enter(&mut self, event: Event) -> Result<(), OutOfMemory>
         requires { next_event self.old ≡ Some event }
         ensures history { OnOk result (self.new ≡ next_engine self.old) }

@@ -56,7 +56,7 @@ fn next_line(
         actor: number,
         place,
     };
-    let message = message_of(alloc, id, sent.port, sent.value, sent.causes.as_slice())?;
+    let message = message_of(alloc, id, sent.port(), sent.value(), sent.causes())?;
     Ok(Some(Event::Post(message)))
 }
 

@@ -1,17 +1,14 @@
-//! The engine.
+//! The engine that keeps its history.
 
-ghost use Rattle.std.specs.Prelude.{◌≡◌, ◌<◌, ◌≤◌, ◌^◌, ◌+◌, [], ◌++◌, ◌∷◌, length, IfOk, IfErr, IfSome, IfNone, OnErr, OnOk, is_some, true};
+ghost use Rattle.std.specs.Prelude.{◌≡◌, ◌≤◌, ◌^◌, [], length, IfOk, IfErr, IfSome, IfNone, OnErr, OnOk, Some, is_some, true};
 ghost use Rattle.ccr_model.specs.Firings.{fired};
 ghost use Rattle.ccr_model.specs.Legal.{IsAllowed, IsLegal, IsQuiet, is_complete};
 ghost use Rattle.ccr_model.specs.Order.{next_attempt, IsFinished};
 ghost use Rattle.ccr_ledger.specs.Kept.{Keeps};
-ghost use Rattle.ccr_serial.specs.Desk.{empty_desk};
-ghost use Rattle.ccr_serial.specs.Engine.{next_event, next_engine};
+ghost use Rattle.ccr_serial.specs.Engine.{IsSound, next_event, next_engine};
 ghost use Rattle.ccr_serial.specs.Steps.{event_of};
 
-use crate::desk::Desk;
-use crate::places::Places;
-use crate::standing::{enter, make_current, next_of};
+use crate::engine::Engine;
 use ccr_base::{ActorNo, OutOfMemory};
 use ccr_ledger::Ledger;
 use ccr_model::{Event, History};
@@ -26,36 +23,48 @@ pub enum Stepped {
     Quiet,
 }
 
-/// An engine over a wiring, with its history so far.
+/// An engine over a wiring, with its history so far, which callers may stop and look at.
 #[derive(Drop)]
 pub struct Serial<'w> {
-    places: Places<'w>,
+    alloc: Global,
+    wiring: &'w Wiring,
     closer: ActorNo,
     history: History,
-    alloc: Global,
-    /// What the next event is read from.
-    desk: Desk,
-    /// Whether the desk is that of the history.
+    /// The engine that makes the history.
+    engine: Engine<'w>,
+    /// Whether it stands at the end of the history: where there was no memory it may not.
     current: bool,
 }
 
 impl<'w> Model for Serial<'w> {
-    ghost use Rattle.ccr_serial.specs.Engine.{Engine};
-    ghost use Rattle.ccr_serial.specs.Desk.{IsRead};
+    ghost use Rattle.ccr_serial.specs.Engine.{Engine as Seen, IsMade};
 
-    ghost Value = { Engine };
+    ghost Value = { Seen };
 
-    ghost view = { λ s. record { wiring = s.places; closer = s.closer; history = s.history } };
+    ghost view = { λ s. record { wiring = s.wiring.now; closer = s.closer; history = s.history } };
 
-    ghost invariant = { λ s. IsRead (record { wiring = s.places; closer = s.closer; history = s.history }) s.desk s.current };
+    ghost invariant = { λ s. IsMade (record { wiring = s.wiring.now; closer = s.closer; history = s.history }) s.engine s.current };
 }
 
-/// The wiring's first places, and an empty desk.
-fn begin<'w>(alloc: Global, wiring: &'w Wiring) -> Result<(Places<'w>, Desk), OutOfMemory>
-    ensures places { IfOk result (λ both. both.0 ≡ wiring.now) }
-    ensures desk { IfOk result (λ both. both.1 ≡ empty_desk wiring.now) }
+/// Makes the engine anew where it doesn't stand at the end of the history.
+fn make_current<'w>(
+    alloc: Global,
+    wiring: &'w Wiring,
+    closer: ActorNo,
+    history: &History,
+    engine: &mut Engine<'w>,
+    current: bool,
+) -> Result<(), OutOfMemory>
+    requires sound { IsSound (record { wiring = wiring.now; closer = closer; history = history.now }) }
+    requires made { current ≡ true → engine.old ≡ record { wiring = wiring.now; closer = closer; history = history.now } }
+    ensures made { OnOk result (engine.new ≡ record { wiring = wiring.now; closer = closer; history = history.now }) }
+    ensures err { OnErr result (engine.new ≡ engine.old) }
 {
-    Ok((Places::new(alloc, wiring)?, Desk::new(alloc, wiring)?))
+    if current {
+        return Ok(());
+    }
+    *engine = Engine::behind(alloc, wiring, closer, history.events())?;
+    Ok(())
 }
 
 impl<'w> Serial<'w> {
@@ -66,18 +75,18 @@ impl<'w> Serial<'w> {
         ensures { IfOk result (λ engine. engine ≡ record { wiring = wiring.now; closer = closer; history = [] }) }
     {
         wiring.parts();
-        let (places, desk) = begin(alloc, wiring)?;
+        let engine = Engine::start(alloc, wiring, closer)?;
         Ok(Serial {
-            places,
+            alloc,
+            wiring,
             closer,
             history: History::new(alloc),
-            alloc,
-            desk,
+            engine,
             current: true,
         })
     }
 
-    /// An engine that goes on from a legal history.
+    /// An engine that goes on from a legal history, which it goes through once.
     pub fn resume(
         alloc: Global,
         wiring: &'w Wiring,
@@ -92,14 +101,14 @@ impl<'w> Serial<'w> {
         ensures returned { IfErr result (λ refused. refused.1 ≡ history) }
     {
         wiring.parts();
-        match begin(alloc, wiring) {
-            Ok((places, desk)) => Ok(Serial {
-                places,
+        match Engine::resume(alloc, wiring, closer, history.events()) {
+            Ok(engine) => Ok(Serial {
+                alloc,
+                wiring,
                 closer,
                 history,
-                alloc,
-                desk,
-                current: false,
+                engine,
+                current: true,
             }),
             Err(refused) => Err((refused, history)),
         }
@@ -113,6 +122,48 @@ impl<'w> Serial<'w> {
         &self.history
     }
 
+    /// The event that comes next, if any. It hasn't happened yet.
+    fn next(&mut self) -> Result<Option<Event>, OutOfMemory>
+        ensures event { IfOk result (λ event. event ≡ next_event self.old) }
+        ensures allowed { IfOk result (λ event. IfSome event (IsAllowed self.old.wiring self.old.history)) }
+        ensures quiet { IfOk result (λ event. IfNone event (IsQuiet self.old.wiring self.old.history)) }
+        ensures kept { self.new ≡ self.old }
+    {
+        make_current(
+            self.alloc,
+            self.wiring,
+            self.closer,
+            &self.history,
+            &mut self.engine,
+            self.current,
+        )?;
+        self.current = false;
+        let next = self.engine.next()?;
+        self.current = true;
+        Ok(next)
+    }
+
+    /// The event happens, which is the one that comes next.
+    fn enter(&mut self, event: Event) -> Result<(), OutOfMemory>
+        requires { next_event self.old ≡ Some event }
+        ensures history { OnOk result (self.new ≡ next_engine self.old) }
+        ensures err { OnErr result (self.new ≡ self.old) }
+    {
+        make_current(
+            self.alloc,
+            self.wiring,
+            self.closer,
+            &self.history,
+            &mut self.engine,
+            self.current,
+        )?;
+        self.current = false;
+        self.engine.follow(&event)?;
+        self.history.append(event)?;
+        self.current = true;
+        Ok(())
+    }
+
     /// Appends the event that comes next, or answers that there is none.
     pub fn step(&mut self) -> Result<Stepped, OutOfMemory>
         ensures event { IfOk result (λ did. event_of did ≡ next_event self.old) }
@@ -121,27 +172,25 @@ impl<'w> Serial<'w> {
         ensures quiet { IfOk result (λ did. IfNone (event_of did) (IsQuiet self.old.wiring self.old.history)) }
         ensures err { OnErr result (self.new ≡ self.old) }
     {
-        let next = next_of(
-            self.alloc,
-            &self.places,
-            self.closer,
-            &self.history,
-            &mut self.desk,
-            &mut self.current,
-        )?;
-        let Some(event) = next else {
+        let Some(event) = self.next()? else {
             return Ok(Stepped::Quiet);
         };
         let kept = event.copy(self.alloc)?;
-        enter(
-            &self.places,
-            self.closer,
-            &mut self.history,
-            &mut self.desk,
-            &mut self.current,
-            kept,
-        )?;
+        self.enter(kept)?;
         Ok(Stepped::Did(event))
+    }
+
+    /// Appends the event that comes next, and answers whether there was one.
+    fn advance(&mut self) -> Result<bool, OutOfMemory>
+        ensures more { IfOk result (λ more. more ≡ is_some (next_event self.old)) }
+        ensures history { OnOk result (self.new ≡ next_engine self.old) }
+        ensures err { OnErr result (self.new ≡ self.old) }
+    {
+        let Some(event) = self.next()? else {
+            return Ok(false);
+        };
+        self.enter(event)?;
+        Ok(true)
     }
 
     /// Steps until no event is allowed.
@@ -165,42 +214,15 @@ impl<'w> Serial<'w> {
     {
         'steps: while self.advance()? {}
         let Serial {
-            places,
+            alloc,
+            wiring,
             closer,
             history,
-            alloc,
-            mut desk,
+            mut engine,
             current,
         } = self;
-        make_current(alloc, &places, closer, &history, &mut desk, current)?;
-        Ok((history, desk.into_ledger()))
-    }
-
-    /// Appends the event that comes next, and answers whether there was one.
-    fn advance(&mut self) -> Result<bool, OutOfMemory>
-        ensures more { IfOk result (λ more. more ≡ is_some (next_event self.old)) }
-        ensures history { OnOk result (self.new ≡ next_engine self.old) }
-        ensures err { OnErr result (self.new ≡ self.old) }
-    {
-        let next = next_of(
-            self.alloc,
-            &self.places,
-            self.closer,
-            &self.history,
-            &mut self.desk,
-            &mut self.current,
-        )?;
-        let Some(event) = next else {
-            return Ok(false);
-        };
-        enter(
-            &self.places,
-            self.closer,
-            &mut self.history,
-            &mut self.desk,
-            &mut self.current,
-            event,
-        )?;
-        Ok(true)
+        make_current(alloc, wiring, closer, &history, &mut engine, current)?;
+        let tables = engine.into_ledger()?;
+        Ok((history, tables))
     }
 }

@@ -24,7 +24,7 @@ code_number codes.NoOp = 11
 code_number codes.SecondPolicy = 13
 code_number codes.NameForm = 14
 
--- want of memory promises nothing; a refusal is the reader's, with this code's number
+-- running out of memory promises nothing; a refusal is the reader's, with this code's number
 abbrev pub Fails : {Y : Type 0} → Stop → Result Y ℕ → Type 0
 Fails stops.Memory read = Unit {0}
 Fails (stops.Refused code) read = read ≡ Err (code_number code)

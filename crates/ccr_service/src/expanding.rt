@@ -13,7 +13,7 @@ use ccr_base::{
 };
 use ccr_wiring::{
     ArbiterPart, BranchPart, CausePart, HandlerPart, Kind, MAX_BUDGET, Parts, PosterPart,
-    QueuePart, Unfit, Wiring,
+    QueuePart, ScriptPost, Unfit, Wiring,
 };
 use std::alloc::Global;
 
@@ -223,14 +223,14 @@ fn script(
     client: CauseNo,
     ops: u32,
     asks: &[AskPart],
-) -> Result<List<Sent>, OutOfMemory>
+) -> Result<List<ScriptPost>, OutOfMemory>
     requires few { ops ≤ 32 }
     requires asked { are_asked ops asks.now ≡ true }
     ensures { IfOk result (λ posts. posts ≡ map (request client) asks.now) }
 {
     let mut posts = Vec::new(alloc);
     for ask in asks {
-        posts.push(request(alloc, client, *ask)?)?;
+        posts.push(ScriptPost::of(alloc, request(alloc, client, *ask)?)?)?;
     }
     Ok(List::from_vec(posts))
 }

@@ -10,8 +10,8 @@ ghost use Rattle.ccr_steady.specs.Counting.{is_short, AreStuck, IsReady, IsCount
 ghost use Rattle.ccr_steady.specs.Agreement.{IsDear};
 
 use crate::rules::actions_of;
-use ccr_base::{Action, OutOfMemory, Pattern, PortNo, Sent, Slot};
-use ccr_wiring::{PlacementOf, PosterPart, Wiring};
+use ccr_base::{Action, OutOfMemory, Pattern, PortNo, Slot};
+use ccr_wiring::{PlacementOf, PosterPart, ScriptPost, Wiring};
 use std::alloc::Global;
 
 /// Counts one post to the port.
@@ -26,12 +26,12 @@ fn count_post(got: &mut [u64], port: PortNo)
 }
 
 /// Counts the posts of a script.
-fn count_script(got: &mut [u64], posts: &[Sent])
+fn count_script(got: &mut [u64], posts: &[ScriptPost])
     requires { (place : ℕ) → place < length got.old → slice_index got.old place + length posts.now < 1000000 }
     ensures { (place : ℕ) → place < length got.old → slice_index got.new place ≡ slice_index got.old place + lines (at_port place) posts.now }
 {
     for post in posts {
-        count_post(got, post.port);
+        count_post(got, post.port());
     }
 }
 

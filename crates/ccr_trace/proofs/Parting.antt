@@ -16,7 +16,7 @@ both false b e = absurd cc
 abbrev pub lacks : ℕ → List ℕ → Bool
 lacks separator bytes = list_all (λ b. not (b == separator)) bytes
 
-other : (b separator : ℕ) → not (b == separator) ≡ true → (b == separator) ≡ false
+pub other : (b separator : ℕ) → not (b == separator) ≡ true → (b == separator) ≡ false
 other b separator e = grind (arith, nat_tests, e)
 
 same_byte : (separator : ℕ) → (separator == separator) ≡ true
@@ -44,7 +44,7 @@ pub pieces_join : (separator : ℕ) (word : List ℕ) (words : List (List ℕ)) 
 pieces_join separator word [] are = pieces_only separator word are.0
 pieces_join separator word (next ∷ words) are = pieces_first separator word (join_with_byte separator (next ∷ words)) are.0 ∙ ap (λ (w : List (List ℕ)). word ∷ w) (pieces_join separator next words are.1)
 
-lacks-append : (separator : ℕ) (xs ys : List ℕ) → lacks separator xs ≡ true → lacks separator ys ≡ true → lacks separator (xs ++ ys) ≡ true
+pub lacks-append : (separator : ℕ) (xs ys : List ℕ) → lacks separator xs ≡ true → lacks separator ys ≡ true → lacks separator (xs ++ ys) ≡ true
 lacks-append separator [] ys e f = f
 lacks-append separator (b ∷ xs) ys e f =
     let parts = both (not (b == separator)) (lacks separator xs) e in

@@ -8,5 +8,6 @@ pub mod Known
 pub mod Values
 pub mod Written
 pub mod Reading
+pub mod EventReaders
 pub mod Answers
 pub mod Codes

@@ -1,6 +1,6 @@
 //! The words of a line, read from left to right.
 
-ghost use Rattle.std.specs.Prelude.{◌≡◌, [], ◌∷◌, IfSome, IfNone};
+ghost use Rattle.std.specs.Prelude.{◌≡◌, [], ◌∷◌, Some, IfSome, IfNone};
 ghost use Rattle.std.specs.List.{list_all};
 ghost use Rattle.ccr_text.specs.Words.{is_name_of};
 ghost use Rattle.ccr_trace.specs.Pieces.{pieces};
@@ -10,7 +10,7 @@ ghost use Rattle.ccr_trace.specs.Forms.{word, no_more, only, place};
 ghost use Rattle.ccr_trace.specs.Answers.{Says, Leaves, LeavesBy};
 
 use crate::pieces::Pieces;
-use crate::places::{message_of, short_number, spot_of, task_of, value_of};
+use crate::places::{message_of, short_in, spot_of, task_of, value_of};
 use crate::stop::Stop;
 use ccr_base::{ActorNo, MsgId, TaskId, Value};
 use ccr_text::is_name;
@@ -66,6 +66,9 @@ impl<'a> Cursor<'a> {
     pub fn task(&mut self) -> Result<TaskId, Stop>
         ensures { Leaves self.new result (place task_of self.old) }
     {
+        if let Some(task) = self.words.plain_task() {
+            return Ok(task);
+        }
         let word = self.word()?;
         task_of(word).ok_or(Stop::Malformed)
     }
@@ -73,8 +76,19 @@ impl<'a> Cursor<'a> {
     pub fn message(&mut self) -> Result<MsgId, Stop>
         ensures { Leaves self.new result (place message_of self.old) }
     {
+        if let Some(message) = self.words.plain_message() {
+            return Ok(message);
+        }
         let word = self.word()?;
         message_of(word).ok_or(Stop::Malformed)
+    }
+
+    /// Takes the first word where one scan finds a message's name; else nothing is taken.
+    pub fn plain_message(&mut self) -> Option<MsgId>
+        ensures some { IfSome result (λ message. place message_of self.old ≡ Some (message, self.new)) }
+        ensures none { IfNone result (self.new ≡ self.old) }
+    {
+        self.words.plain_message()
     }
 
     /// A word of the form of a name.
@@ -99,8 +113,7 @@ impl<'a> Cursor<'a> {
     pub fn actor(&mut self) -> Result<ActorNo, Stop>
         ensures { Leaves self.new result (place short_number self.old) }
     {
-        let word = self.word()?;
-        short_number(word).ok_or(Stop::Malformed)
+        short_in(&mut self.words).ok_or(Stop::Malformed)
     }
 
     /// A branch's name, and its site where there is one.

@@ -46,6 +46,9 @@ fn fired(alloc: Global, mut words: Cursor<'_>) -> Result<(List<MsgId>, List<Task
     ensures { Says result (fired words.entry) }
 {
     let mut messages = List::new(alloc);
+    'plain: while let Some(message) = words.plain_message() {
+        messages.push(message).map_err(|refused| refused.0)?;
+    }
     'words: while let Some(word) = words.take() {
         if is_text(word, "cut") {
             return Ok((messages, cuts(alloc, words)?));

@@ -2,6 +2,7 @@
 #![tactic(auto)]
 
 mod cursor;
+mod event_reader;
 mod events;
 mod first;
 mod forms;
@@ -15,11 +16,13 @@ mod plain;
 mod prepending;
 mod reading;
 mod refused;
+mod scanning;
 mod stop;
 mod values;
 mod words;
 mod writing;
 
+pub use event_reader::EventReader;
 pub use laws::{lines_are_read_exactly, what_is_read_is_written, what_is_written_is_read};
 pub use names::Names;
 pub use reading::{ReadHistory, read_history};

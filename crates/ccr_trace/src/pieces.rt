@@ -2,10 +2,13 @@
 
 ghost use Rattle.std.specs.Prelude.{◌≡◌, ◌==◌, [], ◌∷◌, Some, None, IfSome, IfNone, length};
 ghost use Rattle.ccr_trace.specs.Pieces.{pieces};
-ghost use Rattle.ccr_trace.specs.Places.{exact_number};
+ghost use Rattle.ccr_trace.specs.Places.{exact_number, message_of, task_of};
 ghost use Rattle.ccr_trace.specs.Forms.{place};
 
+use crate::scanning::{message_before, task_before};
+use ccr_base::{MsgId, TaskId};
 use ccr_text::number_before;
+use memchr::memchr;
 use std::marker::Model;
 
 /// What stands before the first separator, and what stands behind it.
@@ -13,12 +16,10 @@ fn cut(separator: u8, bytes: &[u8]) -> (&[u8], Option<&[u8]>)
     ensures last { IfNone result.1 (pieces separator bytes.now ≡ result.0.now ∷ []) }
     ensures parts { IfSome result.1 (λ rest. pieces separator bytes.now ≡ result.0.now ∷ pieces separator rest.now) }
 {
-    for (place, byte) in bytes.iter().enumerate() {
-        if *byte == separator {
-            return (&bytes[..place], Some(&bytes[place + 1..]));
-        }
+    match memchr(separator, bytes) {
+        Some(place) => (&bytes[..place], Some(&bytes[place + 1..])),
+        None => (bytes, None),
     }
-    (bytes, None)
 }
 
 /// The pieces that are left.
@@ -68,6 +69,7 @@ impl<'a> Pieces<'a> {
     pub fn take(&mut self) -> Option<&'a [u8]>
         ensures some { IfSome result (λ piece. self.old ≡ piece.now ∷ self.new) }
         ensures none { IfNone result (self.old ≡ []) }
+        ensures left { IfNone result (self.new ≡ []) }
     {
         let (piece, rest) = cut(self.separator, self.rest?);
         self.rest = rest;
@@ -83,5 +85,31 @@ impl<'a> Pieces<'a> {
         let (number, rest) = number_before(self.separator, self.rest?)?;
         self.rest = rest;
         Some(number)
+    }
+
+    /// Takes the first word of a line where one scan finds tA.K; else nothing is taken, and `task_of` says what the word is.
+    pub fn plain_task(&mut self) -> Option<TaskId>
+        ensures some { IfSome result (λ task. place task_of self.old ≡ Some (task, self.new)) }
+        ensures none { IfNone result (self.new ≡ self.old) }
+    {
+        if self.separator != b' ' {
+            return None;
+        }
+        let (task, rest) = task_before(self.rest?)?;
+        self.rest = rest;
+        Some(task)
+    }
+
+    /// The same of sA.K and tA.K.I, and of `message_of`.
+    pub fn plain_message(&mut self) -> Option<MsgId>
+        ensures some { IfSome result (λ message. place message_of self.old ≡ Some (message, self.new)) }
+        ensures none { IfNone result (self.new ≡ self.old) }
+    {
+        if self.separator != b' ' {
+            return None;
+        }
+        let (message, rest) = message_before(self.rest?)?;
+        self.rest = rest;
+        Some(message)
     }
 }

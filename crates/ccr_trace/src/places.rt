@@ -81,7 +81,7 @@ pub fn value_of(version: u32, word: &[u8]) -> Option<Value>
 
 /// Takes the first number, which is below 2^32.
 #[tactic(auto, using(crate::proofs::Firsts::short_none))]
-fn short_in(numbers: &mut Pieces<'_>) -> Option<u32>
+pub fn short_in(numbers: &mut Pieces<'_>) -> Option<u32>
     ensures some { IfSome result (λ n. place short_number numbers.old ≡ Some (n, numbers.new)) }
     ensures none { IfNone result (place short_number numbers.old ≡ None) }
 {

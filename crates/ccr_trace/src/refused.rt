@@ -31,7 +31,7 @@ impl Code {
     }
 }
 
-/// The first line that offends, and its code (docs/FORMATS.md), or want of memory.
+/// The first line that offends, and its code (docs/FORMATS.md), or running out of memory.
 #[derive(Clone, Copy, Debug, PartialEq, Eq, Error)]
 pub enum HistoryRefused {
     #[error("line {line} is refused with code {code}")]

@@ -12,7 +12,7 @@ use ccr_try::{put_spot, put_truth, put_word};
 use ccr_wiring::Wiring;
 use std::alloc::Global;
 
-/// Brings the actor of this number from its first step to rest, and answers how many steps it made; none for want of memory.
+/// Brings the actor of this number from its first step to rest, and answers how many steps it made; none where memory runs out.
 fn rest_one(alloc: Global, wiring: &Wiring, net: &mut PlainNet<'_>, number: ActorNo) -> u64
     requires wiring { net.old.wiring ≡ wiring.now }
     requires first { steps_in net.old.wiring net.old.acts number ≡ [] }

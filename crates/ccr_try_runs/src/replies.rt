@@ -132,7 +132,7 @@ fn firing(alloc: Global, task: Option<Task>) -> Reply {
     }
 }
 
-/// The reply of this word, with these numbers behind it. Want of memory for `memory`, and for a word that is none.
+/// The reply of this word, with these numbers behind it. Running out of memory for `memory`, and for a word that is none.
 fn reply(alloc: Global, word: &str, first: u32, second: u32) -> Result<Reply, OutOfMemory> {
     Ok(match word {
         "done" => Reply::Done,

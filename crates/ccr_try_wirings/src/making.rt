@@ -1,14 +1,21 @@
 //! Names and lists of parts, and the code that stands in parts.
 
-use ccr_base::{List, Name};
+use ccr_base::{List, Name, Sent};
 use ccr_text::put_bytes;
 use ccr_try::put_number;
-use ccr_wiring::{Parts, Unfit, Wiring};
+use ccr_wiring::{Parts, ScriptPost, Unfit, Wiring};
 use std::alloc::Global;
 
 /// Adds the item. Where memory is refused it lacks.
 pub fn add<T: Drop>(list: &mut List<T>, item: T) {
     let _ = list.add(item);
+}
+
+/// The post as a script keeps it, or none where there is no memory.
+pub fn add_post(alloc: Global, posts: &mut List<ScriptPost>, post: Sent) {
+    if let Ok(post) = ScriptPost::of(alloc, post) {
+        add(posts, post);
+    }
 }
 
 /// The word with its number.

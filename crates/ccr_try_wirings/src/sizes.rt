@@ -1,6 +1,6 @@
 //! Parts of given sizes.
 
-use crate::making::{add, name};
+use crate::making::{add, add_post, name};
 use ccr_base::{Action, Expr, Group, Handler, List, Pattern, Policy, Pred, Sent, Slot, Value};
 use ccr_wiring::{
     ArbiterPart, BranchPart, CausePart, HandlerPart, Kind, Parts, PosterPart, QueuePart, SetPart,
@@ -163,7 +163,7 @@ fn posters(alloc: Global, sizes: &Sizes) -> List<PosterPart> {
                 value: Value::one(0),
                 causes: List::new(alloc),
             };
-            add(&mut posts, post);
+            add_post(alloc, &mut posts, post);
         }
         let part = PosterPart {
             name: name(alloc, b"w", number),

@@ -1,6 +1,6 @@
 //! What only version 2 has.
 
-use crate::making::{add, name, put_code};
+use crate::making::{add, add_post, name, put_code};
 use crate::sizes::{SMALL, parts};
 use ccr_base::{Action, Expr, Handler, List, Sent, Value};
 use ccr_try::first_number;
@@ -21,7 +21,7 @@ pub fn with_post(alloc: Global, input: &str, out: &mut List<u8>) {
         value,
         causes: List::new(alloc),
     };
-    add(&mut posts, post);
+    add_post(alloc, &mut posts, post);
     let poster = PosterPart {
         name: name(alloc, b"w", 0),
         posts,

@@ -16,7 +16,7 @@ pub mod NamesApart
 pub mod SpotCounts
 pub mod Sound
 pub mod LineFacts
-pub mod LinesTaken
+pub mod PlainPosts
 pub mod NamesAdded
 pub mod SoundLines
 pub mod NoCode

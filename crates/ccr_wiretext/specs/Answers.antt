@@ -9,7 +9,7 @@ use Rattle.ccr_wiretext.specs.Codes.{code_number}
 use Rattle.ccr_wiretext.specs.Places.{Words}
 use Rattle.ccr_wiretext.specs.Lines.{IsText}
 
--- want of memory promises nothing; a refusal is the reader's, with this code's number
+-- running out of memory promises nothing; a refusal is the reader's, with this code's number
 abbrev pub Fails : {Y : Type 0} → Stop → Result Y ℕ → Type 0
 Fails stops.Memory read = Unit {0}
 Fails (stops.Refused code) read = read ≡ Err (code_number code)

@@ -9,6 +9,7 @@ pub mod Forms
 pub mod Blocks
 pub mod Reading
 pub mod Codes
+pub mod Scanning
 pub mod Answers
 pub mod Spelling
 pub mod Grammar

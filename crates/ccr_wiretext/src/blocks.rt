@@ -1,7 +1,10 @@
 //! Which first words may stand in which block, and what a line declares.
 
-ghost use Rattle.std.specs.Prelude.{◌≡◌};
+ghost use Rattle.std.specs.Prelude.{◌≡◌, ◌∷◌, [], true, false, List as Listed, ℕ, Some, Ok, IfOk, IfSome};
+ghost use Rattle.ccr_text.specs.Words.{number_of};
 ghost use Rattle.ccr_wiretext.specs.Answers.{GivesState};
+ghost use Rattle.ccr_wiretext.specs.declared.keyword.Keyword.TheVariants.{Post};
+ghost use Rattle.ccr_wiretext.specs.Scanning.{MayPost};
 ghost use Rattle.ccr_wiretext.specs.Blocks.{outside_line, handler_line, group_of, arbiter_line, poster_line, line_in};
 
 use crate::cursor::Cursor;
@@ -9,7 +12,7 @@ use crate::draft::{Block, Draft};
 use crate::forms::arbiter_end_form;
 use crate::keyword::Keyword;
 use crate::stop::{Code, Stop};
-use ccr_base::{Action, Group};
+use ccr_base::{Action, Group, List, OutOfMemory, PortNo, Sent, Value};
 use ccr_wiring::{
     ArbiterPart, HandlerPart, Kind, MAX_ARBITERS, MAX_HANDLERS, MAX_PORTS, MAX_POSTERS, PosterPart,
 };
@@ -200,6 +203,39 @@ impl Draft {
             _ => return Err(Stop::Refused(Code::Keyword)),
         }
         Ok(())
+    }
+
+    /// The port of a post more in the open poster, where one may stand.
+    fn post_port(&self, name: &[u8]) -> Option<PortNo>
+        ensures { IfSome result (MayPost self.now name.now) }
+    {
+        let Block::Poster(part) = &self.block else {
+            return None;
+        };
+        if !self.has_post_room(part) {
+            return None;
+        }
+        self.port(name)
+    }
+
+    /// Takes in the post of this number at the port of this name. Where it may not stand nothing is done, and the reader of words says why.
+    pub fn plain_post(&mut self, name: &[u8], number: u64) -> Result<bool, OutOfMemory>
+        ensures taken { IfOk result (λ taken. taken ≡ true → (digits : Listed ℕ) → number_of digits ≡ Some number → line_in self.old.block self.old Post (name.now ∷ digits ∷ []) ≡ Ok self.new) }
+        ensures left { IfOk result (λ taken. taken ≡ false → self.new ≡ self.old) }
+    {
+        let Some(port) = self.post_port(name) else {
+            return Ok(false);
+        };
+        let post = Sent {
+            port,
+            value: Value::one(number),
+            causes: List::new(self.alloc),
+        };
+        match mem::replace(&mut self.block, Block::Outside) {
+            Block::Poster(part) => self.add_post(part, post)?,
+            _ => unreachable!(),
+        }
+        Ok(true)
     }
 
     /// Takes in a line with these words.

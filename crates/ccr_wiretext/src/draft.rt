@@ -10,7 +10,7 @@ use crate::spotted::Spotted;
 use ccr_base::{Action, Handler, List, Name, OutOfMemory, Sent};
 use ccr_wiring::{
     ArbiterPart, BranchPart, CausePart, DomainPart, HandlerPart, Kind, MAX_BUDGET, Parts,
-    PosterPart, QueuePart, SetPart,
+    PosterPart, QueuePart, ScriptPost, SetPart,
 };
 use std::alloc::Global;
 use std::marker::Model;
@@ -240,7 +240,7 @@ impl Draft {
     pub fn add_post(&mut self, mut part: PosterPart, post: Sent) -> Result<(), OutOfMemory>
         ensures { OnOk result (self.new ≡ with_post self.old part post) }
     {
-        push(&mut part.posts, post)?;
+        push(&mut part.posts, ScriptPost::of(self.alloc, post)?)?;
         self.block = Block::Poster(part);
         Ok(())
     }

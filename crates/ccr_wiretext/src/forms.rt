@@ -3,6 +3,7 @@
 ghost use Rattle.std.specs.Prelude.{◌≡◌, ◌<◌, ◌+◌, ◌++◌, None, IfOk, OnOk, length, nat_lt, sum, map};
 ghost use Rattle.std.specs.List.{list_any};
 ghost use Rattle.ccr_wiring.specs.Spots.{times};
+ghost use Rattle.ccr_wiretext.specs.Drafts.{script_count};
 ghost use Rattle.ccr_wiretext.specs.Names.{meaning_of};
 ghost use Rattle.ccr_wiretext.specs.Answers.{Gives, GivesBy};
 ghost use Rattle.ccr_wiretext.specs.Forms.{budget_form, queue_form, name_form, set_form, cause_form, combine_form, crowds, branch_tail, receive_room, receive_form, branch_form, post_form, fail_form, caused_form, await_form, script_form, arbiter_end_form};
@@ -307,13 +308,20 @@ impl Draft {
         Ok(Action::Await(port))
     }
 
+    /// Whether there is room for a post more in the open poster.
+    pub fn has_post_room(&self, part: &PosterPart) -> bool
+        ensures { result ≡ nat_lt (script_count self.now.parts + length part.now.posts) 10000 }
+    {
+        let begun = part.posts.as_slice().len();
+        has_post_room(self.parts.posters.as_slice(), begun)
+    }
+
     /// post PORT VALUE CAUSE .., in a poster.
     #[tactic(auto, unfolding(crate::specs::Forms::script_form))]
     pub fn script_form(&self, part: &PosterPart, mut words: Cursor<'_>) -> Result<Sent, Stop>
         ensures { Gives result (script_form self.now part.now words.entry) }
     {
-        let begun = part.posts.as_slice().len();
-        if !has_post_room(self.parts.posters.as_slice(), begun) {
+        if !self.has_post_room(part) {
             return Err(Stop::Refused(Code::Limit));
         }
         let port = words.port(self)?;

@@ -1,17 +1,20 @@
 //! A text, line by line.
 
-ghost use Rattle.std.specs.Prelude.{◌≡◌, ◌≤◌, length, None, IfOk, IfErr};
+ghost use Rattle.std.specs.Prelude.{◌≡◌, ◌≢◌, ◌≤◌, [], length, None, IfErr, IfNone, IfOk, IfSome};
 ghost use Rattle.ccr_wiring.specs.Valid.{IsValid};
 ghost use Rattle.ccr_wiretext.specs.Answers.{Gives, GivesState, IsReading, IsNoText, refused};
 ghost use Rattle.ccr_wiretext.specs.Lines.{IsText};
 ghost use Rattle.ccr_wiretext.specs.Reading.{is_comment, version_word, version_of, after_all, after_clean, at_end, reading_text};
+ghost use Rattle.ccr_wiretext.specs.Scanning.{IsLineRefused, IsLineTaken};
 ghost use Rattle.ccr_wiretext.specs.Slices.{seen};
 
 use crate::cursor::Cursor;
 use crate::draft::{Block, Draft};
 use crate::keyword::{is_text, keyword_of};
 use crate::refused::ReadRefused;
+use crate::scanning::plain_post;
 use crate::stop::{Code, Stop};
+use ccr_base::OutOfMemory;
 use ccr_text::take_line;
 use ccr_wiring::{Parts, Unfit, Wiring};
 use std::alloc::Global;
@@ -102,6 +105,37 @@ impl Reader {
         self.words(words)
     }
 
+    /// Takes in the text's first line where it is a plain post, and answers what stands behind it.
+    fn plain_line<'t>(&mut self, text: &'t [u8]) -> Result<Option<&'t [u8]>, OutOfMemory>
+        ensures taken { IfOk result (λ found. IfSome found (λ behind. IsLineTaken self.old text.now self.new behind.now)) }
+        ensures left { IfOk result (λ found. IfNone found (self.new ≡ self.old)) }
+    {
+        let Some(draft) = &mut self.draft else {
+            return Ok(None);
+        };
+        let Some(post) = plain_post(text) else {
+            return Ok(None);
+        };
+        if !draft.plain_post(post.port, post.number)? {
+            return Ok(None);
+        }
+        Ok(Some(post.behind))
+    }
+
+    /// Takes in the text's first line, and answers what stands behind it. No word is copied, and all lines use one list of words.
+    fn next<'t>(&mut self, text: &'t [u8], words: &mut Vec<&'t [u8]>) -> Result<&'t [u8], Stop>
+        requires { text.now ≢ [] }
+        ensures taken { IfOk result (λ behind. IsLineTaken self.old text.now self.new behind.now) }
+        ensures refused { IfErr result (IsLineRefused self.old text.now) }
+    {
+        if let Some(behind) = self.plain_line(text)? {
+            return Ok(behind);
+        }
+        let (clean, behind) = take_line(text, words)?;
+        self.line(clean, words)?;
+        Ok(behind)
+    }
+
     /// The parts, at the end of the text.
     #[tactic(auto, unfolding(crate::specs::Reading::at_end))]
     fn end(self) -> Result<Parts, Stop>
@@ -138,7 +172,6 @@ fn refused(line: u32, stop: Stop) -> ReadRefused
     }
 }
 
-/// No word is copied, and all lines use one list of words.
 #[tactic(auto, unfolding(crate::specs::Reading::reading_after, crate::specs::Reading::after_line))]
 fn read_text(alloc: Global, text: &[u8]) -> Result<Parts, ReadRefused>
     requires { length text.now ≤ 1048576 }
@@ -149,14 +182,11 @@ fn read_text(alloc: Global, text: &[u8]) -> Result<Parts, ReadRefused>
     let mut rest = text;
     let mut last: u32 = 0;
     'lines: while !rest.is_empty() {
-        let Ok((clean, behind)) = take_line(rest, &mut words) else {
-            return Err(ReadRefused::Memory);
-        };
         last += 1;
-        if let Err(stop) = reader.line(clean, &words) {
-            return Err(refused(last, stop));
+        match reader.next(rest, &mut words) {
+            Ok(behind) => rest = behind,
+            Err(stop) => return Err(refused(last, stop)),
         }
-        rest = behind;
     }
     match reader.end() {
         Ok(parts) => Ok(parts),

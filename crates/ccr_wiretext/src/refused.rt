@@ -2,7 +2,7 @@
 
 use thiserror::Error;
 
-/// The first line that offends, and its code (docs/FORMATS.md), or want of memory.
+/// The first line that offends, and its code (docs/FORMATS.md), or running out of memory.
 #[derive(Clone, Copy, Debug, PartialEq, Eq, Error)]
 pub enum ReadRefused {
     #[error("line {line} is refused with code {code}")]

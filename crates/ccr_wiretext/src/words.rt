@@ -8,9 +8,9 @@ ghost use Rattle.ccr_wiretext.specs.Values.{IsNumeral, IsValue, IsExprValued, Is
 use crate::draft::copy_of;
 use ccr_base::{
     Action, ArbiterNo, CauseNo, Expr, Group, HandlerNo, List, Name, OutOfMemory, Pattern, Policy,
-    PortNo, Pred, QueueNo, Sent, Slot, Value,
+    PortNo, Pred, QueueNo, Slot, Value,
 };
-use ccr_wiring::{BranchPart, CausePart, DomainPart, Parts, QueuePart, SetPart};
+use ccr_wiring::{BranchPart, CausePart, DomainPart, Parts, QueuePart, ScriptPost, SetPart};
 use std::alloc::Global;
 use std::marker::Model;
 
@@ -387,13 +387,13 @@ impl LineWords {
         self.pattern(parts, &branch.pattern)
     }
 
-    pub fn post(&mut self, parts: &Parts, post: &Sent) -> Result<(), OutOfMemory>
+    pub fn post(&mut self, parts: &Parts, post: &ScriptPost) -> Result<(), OutOfMemory>
         ensures words { OnOk result (self.new ≡ self.old ++ post_words parts.now post.now) }
         ensures valued { OnOk result (IsValue post.now.value) }
     {
-        self.word_and_name("post", port_name(parts, post.port))?;
-        self.value(&post.value)?;
-        self.causes(parts, post.causes.as_slice())
+        self.word_and_name("post", port_name(parts, post.port()))?;
+        self.value(&post.value())?;
+        self.causes(parts, post.causes())
     }
 
     pub fn end(&mut self) -> Result<(), OutOfMemory>

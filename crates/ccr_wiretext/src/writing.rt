@@ -9,10 +9,10 @@ ghost use Rattle.ccr_wiretext.specs.Spelling.{version_words, budget_words, queue
 
 use crate::laws::what_is_written_is_read;
 use crate::words::LineWords;
-use ccr_base::{Action, List, Name, OutOfMemory, Sent};
+use ccr_base::{Action, List, Name, OutOfMemory};
 use ccr_wiring::{
     ArbiterPart, BranchPart, CausePart, DomainPart, HandlerPart, Kind, Parts, PosterPart,
-    QueuePart, SetPart, Wiring,
+    QueuePart, ScriptPost, SetPart, Wiring,
 };
 use std::alloc::Global;
 
@@ -259,7 +259,7 @@ fn put_posts(
     alloc: Global,
     out: &mut Text,
     parts: &Parts,
-    posts: &[Sent],
+    posts: &[ScriptPost],
 ) -> Result<(), OutOfMemory>
     ensures text { OnOk result (out.new.items ≡ out.old.items ++ text_of (map (post_words parts.now) posts.now)) }
     ensures valued { OnOk result (All (λ post. IsValue post.value) posts.now) }

@@ -6,6 +6,7 @@ pub mod References
 pub mod Repeats
 pub mod Limits
 pub mod Versions
+pub mod Compact
 pub mod Spots
 pub mod Placements
 pub mod Codes

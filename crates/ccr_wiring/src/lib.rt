@@ -11,6 +11,7 @@ mod parts;
 mod placements;
 mod references;
 mod repeats;
+mod script_posts;
 mod spots;
 mod unfit;
 mod versions;
@@ -29,5 +30,6 @@ pub use parts::{
 pub use placements::PlacementOf;
 pub use references::is_interleave;
 pub use repeats::are_apart;
+pub use script_posts::ScriptPost;
 pub use unfit::Unfit;
 pub use wiring::Wiring;

@@ -1,7 +1,8 @@
 //! The parts of a wiring, as plain data. A number that names a part is its place among its kind, from 0.
 
+use crate::script_posts::ScriptPost;
 use ccr_base::{
-    ArbiterNo, Group, Handler, HandlerNo, List, Name, Pattern, Policy, PortNo, QueueNo, Sent,
+    ArbiterNo, Group, Handler, HandlerNo, List, Name, Pattern, Policy, PortNo, QueueNo,
 };
 
 #[derive(Clone, Copy, PartialEq, Eq)]
@@ -64,7 +65,7 @@ pub struct DomainPart {
 #[derive(Drop)]
 pub struct PosterPart {
     pub name: Name,
-    pub posts: List<Sent>,
+    pub posts: List<ScriptPost>,
 }
 
 /// Everything that a wiring text says.

@@ -5,10 +5,11 @@ ghost use Rattle.std.specs.List.{list_any};
 ghost use Rattle.ccr_wiring.specs.References.{is_beyond, has_beyond, no_port, no_cause, action_is_dangling, pattern_is_dangling, slots_are_dangling, branch_is_dangling, post_is_dangling, set_is_dangling, cause_is_dangling, handler_is_dangling, arbiter_is_dangling, poster_is_dangling, has_dangling, has_dangling_set, has_dangling_cause, has_dangling_handler, has_dangling_arbiter, has_dangling_poster, no_interleave, domain_is_dangling, has_dangling_domain};
 ghost use Rattle.ccr_wiring.specs.Groups.{is_interleave};
 
+use crate::script_posts::ScriptPost;
 use crate::{
     ArbiterPart, BranchPart, CausePart, DomainPart, HandlerPart, Kind, Parts, PosterPart, SetPart,
 };
-use ccr_base::{Action, ArbiterNo, Pattern, Sent, Slot};
+use ccr_base::{Action, ArbiterNo, Pattern, Slot};
 
 fn is_beyond(count: usize, number: u32) -> bool
     ensures { result ≡ is_beyond count number }
@@ -67,10 +68,10 @@ fn branch_is_dangling(parts: &Parts, branch: &BranchPart) -> bool
         || pattern_is_dangling(parts, &branch.pattern)
 }
 
-fn post_is_dangling(parts: &Parts, post: &Sent) -> bool
+fn post_is_dangling(parts: &Parts, post: &ScriptPost) -> bool
     ensures { result ≡ post_is_dangling parts.now post.now }
 {
-    no_port(parts, post.port) || has_beyond(parts.causes.as_slice().len(), post.causes.as_slice())
+    no_port(parts, post.port()) || has_beyond(parts.causes.as_slice().len(), post.causes())
 }
 
 fn set_is_dangling(parts: &Parts, set: &SetPart) -> bool

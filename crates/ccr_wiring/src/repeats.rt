@@ -3,8 +3,9 @@
 ghost use Rattle.std.specs.Prelude.{◌≡◌, ◌++◌, IfOk, OnOk};
 ghost use Rattle.ccr_wiring.specs.Repeats.{has_port, are_apart, are_slots_apart, slot_ports, names_ports_once, branch_repeats, arbiter_repeats, set_repeats, post_repeats, poster_repeats, has_repeating_set, has_repeating_arbiter, has_repeating_poster, members_in_all, has_repeating_domain, has_repeat};
 
+use crate::script_posts::ScriptPost;
 use crate::{ArbiterPart, BranchPart, DomainPart, Parts, PosterPart, SetPart};
-use ccr_base::{ArbiterNo, OutOfMemory, Pattern, PortNo, Sent, Slot};
+use ccr_base::{ArbiterNo, OutOfMemory, Pattern, PortNo, Slot};
 use std::alloc::Global;
 
 fn has_number(numbers: &[u32], number: u32) -> bool
@@ -78,10 +79,10 @@ fn set_repeats(set: &SetPart) -> bool
     !are_apart(set.ports.as_slice())
 }
 
-fn post_repeats(post: &Sent) -> bool
+fn post_repeats(post: &ScriptPost) -> bool
     ensures { result ≡ post_repeats post.now }
 {
-    !are_apart(post.causes.as_slice())
+    !are_apart(post.causes())
 }
 
 fn poster_repeats(poster: &PosterPart) -> bool

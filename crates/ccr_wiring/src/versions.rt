@@ -49,7 +49,7 @@ fn poster_is_newer(poster: &PosterPart) -> bool
     ensures { result ≡ poster_is_newer poster.now }
 {
     let posts = poster.posts.as_slice();
-    posts.iter().any(|post| is_long(&post.value))
+    posts.iter().any(|post| is_long(&post.value()))
 }
 
 fn has_newer_handler(handlers: &[HandlerPart]) -> bool

@@ -27,7 +27,7 @@ pub struct Closed {
 }
 
 impl<'w> Space<'w> {
-    /// Closes the locks. All passes have to be handed in, in any order. Refused for want of memory alone; then the run is
+    /// Closes the locks. All passes have to be handed in, in any order. Refused only where memory runs out; then the run is
     /// given up.
     pub fn close(self, alloc: Global, passes: List<Pass<'w>>) -> Result<Closed, OutOfMemory>
         requires space { IsSpace self }

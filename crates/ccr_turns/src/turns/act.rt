@@ -11,7 +11,7 @@ use std::sync::Wait;
 
 impl<O: Kept> Turns<O> {
     /// Lets the object at the place answer the ask, under the lock of that place alone, and keeps the entry. It waits
-    /// while another seat has the lock. Refused for want of memory, or where the object refuses: then neither the
+    /// while another seat has the lock. Refused where memory runs out, or where the object refuses: then neither the
     /// object nor its history changed.
     pub fn act<R: Wait>(
         &self,

@@ -48,7 +48,7 @@ fn lift<O: Kept>(mut closed: Closed<Slot<O>, Global>, mut kept: Vec<Left<O>>) ->
 
 impl<O: Kept> Turns<O> {
     /// Each object with the kept entries of the history of its lock, in the order of the places. All seats have to be handed in, in any
-    /// order. Refused only for want of memory: then the locks and the seats come back as they were.
+    /// order. Refused only where memory runs out: then the locks and the seats come back as they were.
     pub fn close(
         self,
         alloc: Global,

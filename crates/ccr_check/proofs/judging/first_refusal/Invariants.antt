@@ -1,5 +1,5 @@
-use Rattle.ccr_check.proofs.Accepted.{IsAccepted}
+use Rattle.ccr_check.proofs.Accepted.{HasAccepted}
 use Rattle.ccr_check.proofs.judging.first_refusal.Given as goal
 
 abbrev pub invariant-loop-at : goal.invariant-loop-at
-invariant-loop-at l = IsAccepted l.wiring l.events l.at l.ledger l.shed
+invariant-loop-at l = HasAccepted l.fn.checker l.checker l.events l.at

@@ -1,10 +1,14 @@
-use Rattle.std.proofs.Common.{arith}
+use Rattle.std.proofs.Common.{◌≡◌, ◌≢◌, ℕ, ◌<◌, get_or, arith}
+use Rattle.std.proofs.lemmas.Bool.Decides.{nat_tests}
 use Rattle.std.proofs.lemmas.Grind.{common_steps}
 use Rattle.ccr_trace.proofs.Cutting.{pieces_at, pieces_whole}
 use Rattle.ccr_trace.proofs.pieces.cut.Goals as goal
 
-pub returns-then-byte-separator-clause-parts : goal.returns-then-byte-separator-clause-parts
-returns-then-byte-separator-clause-parts c = grind (arith, common_steps, pieces_at c.args.separator c.args.bytes.now c.loop-place.place c.loop-place.invariant c.loop-place-test.true c.if-byte-separator.true)
+pub returns-in-Some-clause-parts : goal.returns-in-Some-clause-parts
+returns-in-Some-clause-parts c =
+    let none : (k : ℕ) → k < c.in-Some.place → get_or c.args.bytes.now k 0 ≢ c.args.separator = λ k below same. c.in-Some.ensures.0.before k (omega arith) below (grind (arith, nat_tests, same)) in
+    let here : get_or c.args.bytes.now c.in-Some.place 0 ≡ c.args.separator = grind (arith, nat_tests, c.in-Some.ensures.1) in
+    grind (arith, common_steps, pieces_at c.args.separator c.args.bytes.now c.in-Some.place none c.in-Some.ensures.0.high here)
 
-pub returns-clause-last : goal.returns-clause-last
-returns-clause-last c = pieces_whole c.args.separator c.args.bytes.now (λ k h. c.loop-place.invariant k (omega arith))
+pub returns-in-None-clause-last : goal.returns-in-None-clause-last
+returns-in-None-clause-last c = pieces_whole c.args.separator c.args.bytes.now (λ k below same. c.in-None.ensures k (omega arith) below (grind (arith, nat_tests, same)))

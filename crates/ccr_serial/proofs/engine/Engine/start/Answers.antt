@@ -1,7 +1,5 @@
-use Rattle.std.proofs.Common.{ap}
-use Rattle.ccr_serial.specs.Engine.{events_of}
 use Rattle.ccr_serial.proofs.Reading.{IsRead-start}
 use Rattle.ccr_serial.proofs.engine.Engine.start.Goals as goal
 
 pub invariant_of-result : goal.invariant_of-result
-invariant_of-result c = IsRead-start c.args.wiring.now c.in_ok-places.places c.args.closer _ c.in_ok-places.desk c.parts.ensures.valid c.requires.no_poster c.requires.low c.in_ok-places.ensures.places (ap events_of c.new.ensures.items) c.in_ok-places.ensures.desk
+invariant_of-result c = IsRead-start c.args.wiring.now c.in_ok-places.places c.args.closer _ c.in_ok-places.desk c.parts.ensures.valid c.requires.no_poster c.requires.low c.in_ok-places.ensures.places c.new.ensures c.in_ok-places.ensures.desk

@@ -1,7 +1,7 @@
 use Rattle.std.proofs.Common.{◌<◌, arith, subst}
 use Rattle.ccr_bounds.specs.Potential.{potential}
 use Rattle.ccr_serial.specs.Engine.{IsSound}
-use Rattle.ccr_serial.proofs.Runs.{GoesFrom, GoesFrom-next, IsDone-next, IsSound-attempts}
+use Rattle.ccr_serial.proofs.Runs.{GoesFrom, GoesFrom-next, IsDone-next}
 use Rattle.ccr_serial.proofs.serial.Serial.finish_with_tables.Goals as goal
 
 goes_on : (c : goal.Then-branch) → GoesFrom c.args.self c.advance.new.self × (potential c.args.self.wiring c.advance.new.self.history < potential c.args.self.wiring c.steps.self.history)
@@ -21,6 +21,3 @@ returns-clause-complete c = (IsDone-next c.args.self c.steps.self _ c.self.invar
 
 pub returns-clause-quiet : goal.returns-clause-quiet
 returns-clause-quiet c = (IsDone-next c.args.self c.steps.self _ c.self.invariant.sound c.steps.invariant (grind arith) (grind arith)).quiet
-
-pub make_current-requires-clause-attempts : goal.make_current-requires-clause-attempts
-make_current-requires-clause-attempts c = IsSound-attempts _ c.self.invariant.sound

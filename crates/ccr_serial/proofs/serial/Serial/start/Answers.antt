@@ -1,5 +1,6 @@
-use Rattle.ccr_serial.proofs.Reading.{IsRead-start}
+use Rattle.ccr_serial.proofs.Reading.{IsMade-behind}
+use Rattle.ccr_serial.proofs.Runs.{IsSound-start}
 use Rattle.ccr_serial.proofs.serial.Serial.start.Goals as goal
 
 pub invariant_of-result : goal.invariant_of-result
-invariant_of-result c = IsRead-start c.args.wiring.now c.in_ok-places.places c.args.closer c.new.result c.in_ok-places.desk c.parts.ensures.valid c.requires.no_poster c.requires.low c.in_ok-places.ensures.places c.new.ensures c.in_ok-places.ensures.desk
+invariant_of-result c = rw c.new.ensures (IsMade-behind _ c.in_ok-engine.engine (IsSound-start c.args.wiring.now c.args.closer c.parts.ensures.valid c.requires.no_poster c.requires.low) c.in_ok-engine.ensures)

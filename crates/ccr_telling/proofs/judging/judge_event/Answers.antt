@@ -1,0 +1,15 @@
+use Rattle.std.proofs.Common.{◌++◌, ◌∷◌, [], subst, arith}
+use Rattle.ccr_model.specs.Legal.{IsAllowed}
+use Rattle.ccr_model.proofs.LegalParts.{legal_push}
+use Rattle.ccr_check.specs.Judges.{Judged}
+use Rattle.ccr_counts.specs.Tallies.{IsCounting}
+use Rattle.ccr_telling.proofs.judging.judge_event.Goals as goal
+
+pub returns-clause-counted : goal.returns-clause-counted
+returns-clause-counted c = λ before.
+    let r = c.refusal.new.self in
+    let e = c.args.event.now in
+    let allowed : IsAllowed r.wiring r.history e = grind arith in
+    let legal = legal_push r.wiring [] r.history e c.in_ok-tables.ensures.legal allowed in
+    let counted = c.count.ensures r.wiring r.history c.in_ok-tables.ensures.valid c.in_ok-tables.ensures.tables legal in
+    subst (λ (j : Judged). IsCounting j.wiring j.history c.args.tally.now → IsCounting j.wiring (j.history ++ e ∷ []) c.count.new.self) c.in_ok-rule.ensures.kept counted before

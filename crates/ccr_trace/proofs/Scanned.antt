@@ -1,0 +1,87 @@
+-- Words that one scan finds are what whole words say.
+use Rattle.std.proofs.Common.{◌≡◌, ℕ, Bool, true, false, cond, List, [], ◌∷◌, ◌++◌, length, Option, Some, None, refl, sym, ap, ◌∙◌, append_assoc}
+use Rattle.std.specs.Prelude.{◌==◌, ◌&&◌, not, nat_lt, ◌^◌}
+use Rattle.std.specs.List.{list_all, join_with_byte}
+use Rattle.std.specs.Char.{is_ascii_digit}
+use Rattle.std.proofs.lemmas.List.Splits.{join_with_byte-slice_split}
+use Rattle.ccr_base.specs.declared.names.MsgId.TheVariants as ids
+use Rattle.ccr_text.specs.Words.{is_digits, value_after, number_of}
+use Rattle.ccr_trace.specs.Pieces.{pieces}
+use Rattle.ccr_trace.specs.Places.{◌>>=◌, where_spelled, where_short, exact_number, short_number, task_in, task_of, script_in, answer_in, message_of}
+use Rattle.ccr_trace.specs.Forms.{Words, place}
+use Rattle.ccr_trace.proofs.Cutting.{pieces_some}
+use Rattle.ccr_trace.proofs.Parting.{lacks, other, lacks-append, lacks_tested, pieces_first, pieces_only}
+use Rattle.ccr_trace.proofs.Steps.{bind_some, place_some}
+
+both : (a b : Bool) → (a && b) ≡ true → (a ≡ true) × (b ≡ true)
+both true b e = (refl, e)
+both false b e = absurd cc
+
+-- what stands before the first separator, and what behind it
+cut_at : (separator : ℕ) (bytes word rest : List ℕ) → pieces separator bytes ≡ word ∷ pieces separator rest → bytes ≡ word ++ separator ∷ rest
+cut_at separator bytes word rest is = sym (join_with_byte-slice_split separator bytes) ∙ (ap (join_with_byte separator) is ∙ by (pieces separator rest) refl)
+  where
+    by : (parts : Words) → pieces separator rest ≡ parts → join_with_byte separator (word ∷ parts) ≡ word ++ separator ∷ rest
+    by [] none = absurd (let some : (length {A = List ℕ} [] == 0) ≡ false = ap (λ (ps : Words). length ps == 0) (sym none) ∙ pieces_some separator rest in cc)
+    by (part ∷ parts) are = ap (λ (back : List ℕ). word ++ separator ∷ back) (ap (join_with_byte separator) (sym are) ∙ join_with_byte-slice_split separator rest)
+
+-- bytes that lack the separator go into the first piece
+pieces_behind : (separator : ℕ) (front bytes word : List ℕ) (words : Words) → lacks separator front ≡ true → pieces separator bytes ≡ word ∷ words → pieces separator (front ++ bytes) ≡ (front ++ word) ∷ words
+pieces_behind separator [] bytes word words e is = is
+pieces_behind separator (b ∷ front) bytes word words e is =
+    let parts = both (not (b == separator)) (lacks separator front) e in
+    rw (other b separator parts.0, pieces_behind separator front bytes word words parts.1 is) refl
+
+-- a number's word has digits alone
+digits_of : (word : List ℕ) (n : ℕ) → short_number word ≡ Some n → list_all is_ascii_digit word ≡ true
+unfolding short_number exact_number
+digits_of word n e =
+    let exact = bind_some (exact_number word) where_short n e in
+    let number = bind_some (number_of word) (where_spelled word) exact.0 exact.1 in
+    by (is_digits word) (nat_lt (value_after 0 word) (2 ^ 64)) refl number.1
+  where
+    by : (a b : Bool) {m : ℕ} → is_digits word ≡ a → cond (a && b) (Some (value_after 0 word)) None ≡ Some m → list_all is_ascii_digit word ≡ true
+    by true b is some = (both _ (list_all is_ascii_digit word) is).1
+    by false b is some = absurd cc
+
+number_lacks : (separator : ℕ) (word : List ℕ) (n : ℕ) → is_ascii_digit separator ≡ false → short_number word ≡ Some n → lacks separator word ≡ true
+number_lacks separator word n none e = lacks_tested is_ascii_digit separator word none (digits_of word n e)
+
+-- a letter and a number stand before the numbers that are left
+letter_number : (letter : ℕ) (numbers rest word next : List ℕ) (n : ℕ) (behind : Words) → (letter == 32) ≡ false → short_number word ≡ Some n → numbers ≡ word ++ 46 ∷ rest → pieces 32 rest ≡ next ∷ behind
+    → pieces 32 (letter ∷ numbers) ≡ (letter ∷ (word ++ 46 ∷ next)) ∷ behind
+letter_number letter numbers rest word next n behind other e bytes are =
+    let words : pieces 32 ((word ++ 46 ∷ []) ++ rest) ≡ ((word ++ 46 ∷ []) ++ next) ∷ behind = pieces_behind 32 (word ++ 46 ∷ []) rest next behind (lacks-append 32 word (46 ∷ []) (number_lacks 32 word n refl e) refl) are in
+    let same : pieces 32 numbers ≡ (word ++ 46 ∷ next) ∷ behind = ap (pieces 32) (bytes ∙ sym (append_assoc word (46 ∷ []) rest)) ∙ (words ∙ ap (λ (w : List ℕ). w ∷ behind) (append_assoc word (46 ∷ []) next)) in
+    rw (other, same) refl
+
+pub task_scanned : (numbers rest : List ℕ) (a k : ℕ) (behind : Words) → place short_number (pieces 46 numbers) ≡ Some (a, pieces 46 rest) → place short_number (pieces 32 rest) ≡ Some (k, behind)
+    → place task_of (pieces 32 (116 ∷ numbers)) ≡ Some (record { actor = a; attempt = k }, behind)
+unfolding task_of
+task_scanned numbers rest a k behind e f =
+    let first = place_some short_number (pieces 46 numbers) (a, pieces 46 rest) e in
+    let next = place_some short_number (pieces 32 rest) (k, behind) f in
+    let words = letter_number 116 numbers rest first.0 next.0 a behind refl first.2 (cut_at 46 numbers first.0 rest first.1) next.1 in
+    rw (words, pieces_first 46 first.0 next.0 (number_lacks 46 first.0 a refl first.2), pieces_only 46 next.0 (number_lacks 46 next.0 k refl next.2), first.2, next.2) refl
+
+pub script_scanned : (numbers rest : List ℕ) (a k : ℕ) (behind : Words) → place short_number (pieces 46 numbers) ≡ Some (a, pieces 46 rest) → place short_number (pieces 32 rest) ≡ Some (k, behind)
+    → place message_of (pieces 32 (115 ∷ numbers)) ≡ Some (ids.Script a k, behind)
+unfolding message_of
+script_scanned numbers rest a k behind e f =
+    let first = place_some short_number (pieces 46 numbers) (a, pieces 46 rest) e in
+    let next = place_some short_number (pieces 32 rest) (k, behind) f in
+    let words = letter_number 115 numbers rest first.0 next.0 a behind refl first.2 (cut_at 46 numbers first.0 rest first.1) next.1 in
+    rw (words, pieces_first 46 first.0 next.0 (number_lacks 46 first.0 a refl first.2), pieces_only 46 next.0 (number_lacks 46 next.0 k refl next.2), first.2, next.2) refl
+
+pub answer_scanned : (numbers second third : List ℕ) (a k i : ℕ) (behind : Words) → place short_number (pieces 46 numbers) ≡ Some (a, pieces 46 second) → place short_number (pieces 46 second) ≡ Some (k, pieces 46 third)
+    → place short_number (pieces 32 third) ≡ Some (i, behind) → place message_of (pieces 32 (116 ∷ numbers)) ≡ Some (ids.Task (record { actor = a; attempt = k }) i, behind)
+unfolding message_of
+answer_scanned numbers second third a k i behind e f g =
+    let first = place_some short_number (pieces 46 numbers) (a, pieces 46 second) e in
+    let next = place_some short_number (pieces 46 second) (k, pieces 46 third) f in
+    let last = place_some short_number (pieces 32 third) (i, behind) g in
+    let inner : pieces 32 second ≡ (next.0 ++ 46 ∷ last.0) ∷ behind =
+    ap (pieces 32) (cut_at 46 second next.0 third next.1 ∙ sym (append_assoc next.0 (46 ∷ []) third))
+    ∙ (pieces_behind 32 (next.0 ++ 46 ∷ []) third last.0 behind (lacks-append 32 next.0 (46 ∷ []) (number_lacks 32 next.0 k refl next.2) refl) last.1 ∙ ap (λ (w : List ℕ). w ∷ behind) (append_assoc next.0 (46 ∷ []) last.0)) in
+    let words = letter_number 116 numbers second first.0 (next.0 ++ 46 ∷ last.0) a behind refl first.2 (cut_at 46 numbers first.0 second first.1) inner in
+    rw (words, pieces_first 46 first.0 (next.0 ++ 46 ∷ last.0) (number_lacks 46 first.0 a refl first.2), pieces_first 46 next.0 last.0 (number_lacks 46 next.0 k refl next.2), pieces_only 46 last.0 (number_lacks 46 last.0 i refl last.2), first.2, next.2, last.2) refl
