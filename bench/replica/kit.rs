@@ -23,7 +23,7 @@ impl From<TryReserveError> for AllocError {
 }
 
 pub mod prelude {
-    pub use super::{Box, ToTextIn, Vec};
+    pub use super::{Box, CollectIn, ToTextIn, Vec};
 }
 
 #[derive(Debug, PartialEq, Eq, Hash)]
@@ -45,6 +45,22 @@ impl<T> Vec<T> {
             return Err(AllocFailed { value: item });
         }
         self.0.push(item);
+        Ok(())
+    }
+
+    pub fn insert(&mut self, at: usize, item: T) -> Result<(), AllocError> {
+        self.0.try_reserve(1)?;
+        self.0.insert(at, item);
+        Ok(())
+    }
+
+    pub fn sort_by_key<K: Ord, F: FnMut(&T) -> K>(&mut self, key: F) -> Result<(), AllocError> {
+        self.0.sort_by_key(key);
+        Ok(())
+    }
+
+    pub fn sort_by_cached_key<K: Ord, F: FnMut(&T) -> K>(&mut self, key: F) -> Result<(), AllocError> {
+        self.0.sort_by_cached_key(key);
         Ok(())
     }
 
@@ -167,6 +183,12 @@ impl<T> Deref for Box<T> {
     }
 }
 
+impl<T> DerefMut for Box<T> {
+    fn deref_mut(&mut self) -> &mut T {
+        &mut self.0
+    }
+}
+
 pub struct VecDeque<T>(std::collections::VecDeque<T>);
 
 impl<T> VecDeque<T> {
@@ -180,6 +202,18 @@ impl<T> VecDeque<T> {
         }
         self.0.push_back(item);
         Ok(())
+    }
+
+    pub fn push_back_reserved(&mut self, item: T) {
+        self.0.push_back(item)
+    }
+
+    pub fn reserve(&mut self, count: usize) -> Result<(), AllocError> {
+        Ok(self.0.try_reserve(count)?)
+    }
+
+    pub fn from_vec(items: Vec<T>) -> Self {
+        VecDeque(items.0.into())
     }
 }
 
@@ -223,16 +257,16 @@ impl<T> DerefMut for BTreeSet<T> {
 
 /// A hash by multiplying and folding, as the kit's maps have it.
 #[derive(Default)]
-struct Folding(u64);
+pub struct FoldHasher(u64);
 
-impl Folding {
+impl FoldHasher {
     fn fold(&mut self, number: u64) {
         let product = u128::from(self.0 ^ number ^ 0x243F_6A88_85A3_08D3) * 0x9E37_79B9_7F4A_7C15;
         self.0 = (product as u64) ^ ((product >> 64) as u64);
     }
 }
 
-impl Hasher for Folding {
+impl Hasher for FoldHasher {
     fn finish(&self) -> u64 {
         self.0
     }
@@ -267,7 +301,7 @@ impl Hasher for Folding {
 }
 
 fn hash_of<Q: Hash + ?Sized>(key: &Q) -> u64 {
-    let mut hasher = Folding::default();
+    let mut hasher = FoldHasher::default();
     key.hash(&mut hasher);
     hasher.finish()
 }
@@ -391,7 +425,57 @@ impl<K: Eq + Hash, V> IndexMap<K, V> {
     }
 }
 
-pub type HashMap<K, V> = IndexMap<K, V>;
+/// A map with Rust's own hasher where none is named, as the kit's has it.
+pub struct HashMap<K, V, S = std::collections::hash_map::RandomState>(std::collections::HashMap<K, V, S>);
+
+impl<K: Eq + Hash, V> HashMap<K, V> {
+    pub fn new(_: Global) -> Self {
+        HashMap(std::collections::HashMap::new())
+    }
+}
+
+impl<K: Eq + Hash, V, S: std::hash::BuildHasher> HashMap<K, V, S> {
+    pub fn with_hasher(_: Global, hasher: S) -> Self {
+        HashMap(std::collections::HashMap::with_hasher(hasher))
+    }
+
+    pub fn insert(&mut self, key: K, value: V) -> Result<Option<V>, AllocError> {
+        self.0.try_reserve(1)?;
+        Ok(self.0.insert(key, value))
+    }
+}
+
+impl<K, V, S> Deref for HashMap<K, V, S> {
+    type Target = std::collections::HashMap<K, V, S>;
+    fn deref(&self) -> &Self::Target {
+        &self.0
+    }
+}
+
+impl<K, V, S> DerefMut for HashMap<K, V, S> {
+    fn deref_mut(&mut self) -> &mut Self::Target {
+        &mut self.0
+    }
+}
+
+/// To gather in the kit's way.
+pub trait CollectIn: Iterator + Sized {
+    fn collect_in<C: FromIteratorIn<Self::Item>>(self, alloc: Global) -> Result<C, AllocError> {
+        C::from_iter_in(self, alloc)
+    }
+}
+
+impl<I: Iterator> CollectIn for I {}
+
+pub trait FromIteratorIn<T>: Sized {
+    fn from_iter_in<I: Iterator<Item = T>>(items: I, alloc: Global) -> Result<Self, AllocError>;
+}
+
+impl<T> FromIteratorIn<T> for Vec<T> {
+    fn from_iter_in<I: Iterator<Item = T>>(items: I, _: Global) -> Result<Self, AllocError> {
+        Ok(Vec(items.collect()))
+    }
+}
 
 pub struct IndexSet<K>(IndexMap<K, ()>);
 
@@ -402,6 +486,14 @@ impl<K: Eq + Hash> IndexSet<K> {
 
     pub fn insert(&mut self, key: K) -> Result<bool, AllocError> {
         Ok(self.0.insert(key, ())?.is_none())
+    }
+
+    pub fn reserve(&mut self, count: usize) -> Result<(), AllocError> {
+        self.0.reserve(count)
+    }
+
+    pub fn first(&self) -> Option<&K> {
+        Some(self.0.get_index(0)?.0)
     }
 
     pub fn get_index_of<Q: Hash + Eq + ?Sized>(&self, key: &Q) -> Option<usize>
@@ -424,6 +516,8 @@ impl<K: Eq + Hash> IndexSet<K> {
 }
 
 pub type HashSet<K> = IndexSet<K>;
+
+pub use std::collections::LinkedList;
 
 /// What contracts see of a value. It has nothing here.
 pub struct Snapshot<T>(std::marker::PhantomData<T>);
