@@ -174,9 +174,9 @@ paced works.Resting taken empty is = tt
 booked : (course : Course) → IsPast course.attempt ⊎ IsUnderWay course → spots_left (state_of course) ≡ [] → phase_of course.attempt ≡ booking
 booked course (inl past) none = past_phase course.attempt past
 booked course (inr way) none =
-    let first = first_spot course.wiring.now (record { actor = course.number; attempt = course.count }) course.spots.items course.attempt way.runs in
+    let first = first_spot course.wiring.now (record { actor = course.number; attempt = course.count }) course.spots course.attempt way.runs in
     let left : nat_lt course.count (2 ^ 32) ≡ true = grind (arith, nat_tests, way.count) in
-    cc (sym first.2 ∙ (sym (ap (λ b. cond b course.spots.items []) left) ∙ none))
+    cc (sym first.2 ∙ (sym (ap (λ b. cond b course.spots []) left) ∙ none))
 
 pub within : (course : Course) → IsHeld course None → (kept (state_of course)).is_short ≡ false → IsWithin (kept (state_of course))
 within course held long =

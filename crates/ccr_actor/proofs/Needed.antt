@@ -105,10 +105,10 @@ drives : (course : Course) (due : Due) → IsAsked course parts.Drive due → (s
 drives course due asked =
     let way = asked.0 in
     let name : TaskId = record { actor = course.number; attempt = course.count } in
-    let first = first_spot course.wiring.now name course.spots.items course.attempt way.runs in
-    let none : (state_of course).hand ≡ [] = hand_alone course way.dropped way.put ∙ hand_runs course.wiring.now name course.spots.items course.attempt way.runs in
+    let first = first_spot course.wiring.now name course.spots course.attempt way.runs in
+    let none : (state_of course).hand ≡ [] = hand_alone course way.dropped way.put ∙ hand_runs course.wiring.now name course.spots course.attempt way.runs in
     let left : nat_lt course.count (2 ^ 32) ≡ true = grind (arith, nat_tests, way.count) in
-    (first.0, first.1, driven-turn course.short (state_of course).hand course.arbiters.items (nat_lt course.count (2 ^ 32)) course.spots.items first.0 first.1 asked.1.0 none way.arbiters left first.2)
+    (first.0, first.1, driven-turn course.short (state_of course).hand course.arbiters.items (nat_lt course.count (2 ^ 32)) course.spots first.0 first.1 asked.1.0 none way.arbiters left first.2)
 
 -- ---- what contracts see of it
 

@@ -1,6 +1,6 @@
 -- Steps of the course: what follows from where the attempt stands.
 use Rattle.std.proofs.Common.{◌≡◌, ℕ, ◌^◌, cond, arith, Bool, true, false, List, [], ◌∷◌, Option, Some, None, Result, Ok, Err, refl, sym, ap, subst, ◌∙◌, drop}
-use Rattle.std.specs.Prelude.{OnOk, OnErr, nat_lt, slice_index_or}
+use Rattle.std.specs.Prelude.{OnOk, OnErr, nat_lt, slice_get, unwrap_or}
 use Rattle.std.proofs.lemmas.Bool.Decides.{nat_tests}
 use Rattle.std.proofs.lemmas.List.{append-nil}
 use Rattle.ccr_base.specs.declared.list.OutOfMemory.{OutOfMemory}
@@ -47,26 +47,26 @@ pub hand_alone : (course : Course) → course.dropped ≡ None → course.put �
 hand_alone course dropped put = rw (dropped, put) (append-nil (hand_of course.attempt))
 
 -- the attempt of this course, after an answer
-pub heard_in : (course : Course) (attempt new : AttemptState) (answer : Answer) (spot : Spot) (more : List Spot) → course.attempt ≡ Some attempt → course.dropped ≡ None → course.put ≡ None → course.spots.items ≡ spot ∷ more
-    → Runs course.wiring.now (record { actor = course.number; attempt = course.count }) course.spots.items course.attempt → due_at course.attempt ≡ due_next course.attempt → may_come (due_at course.attempt) answer ≡ true → IsAfter attempt answer new
+pub heard_in : (course : Course) (attempt new : AttemptState) (answer : Answer) (spot : Spot) (more : List Spot) → course.attempt ≡ Some attempt → course.dropped ≡ None → course.put ≡ None → course.spots ≡ spot ∷ more
+    → Runs course.wiring.now (record { actor = course.number; attempt = course.count }) course.spots course.attempt → due_at course.attempt ≡ due_next course.attempt → may_come (due_at course.attempt) answer ≡ true → IsAfter attempt answer new
     → IsHeard course.wiring.now course.number (record { actor = course.number; attempt = course.count }) (state_of course) spot more (heard course.wiring.now course.number (state_of course) spot more answer) (progress_of new.ended) new
 heard_in course attempt new answer spot more is dropped put at runs due may after =
-    let here = runs_at course.wiring.now (record { actor = course.number; attempt = course.count }) course.spots.items course.attempt spot more attempt at is runs in
+    let here = runs_at course.wiring.now (record { actor = course.number; attempt = course.count }) course.spots course.attempt spot more attempt at is runs in
     let none : (state_of course).hand ≡ [] = hand_alone course dropped put ∙ (ap hand_of is ∙ here.hand) in
     heard_at course.wiring.now course.number (state_of course) spot more attempt answer new none at (rw is refl) here (subst (λ o. may_come (due_at o) answer ≡ true) is may) (subst (λ o. due_at o ≡ due_next o) is due) after
 
 -- the first of the spots
-pub is_first : (spots : List Spot) (first spot : Spot) (more : List Spot) → first ≡ slice_index_or spots 0 first → spots ≡ spot ∷ more → first ≡ spot
-is_first spots first spot more look at = look ∙ ap (λ ss. slice_index_or ss 0 first) at
+pub is_first : (spots : List Spot) (first spot : Spot) (more : List Spot) → slice_get spots 0 ≡ Some first → spots ≡ spot ∷ more → first ≡ spot
+is_first spots first spot more look at = ap (λ o. unwrap_or o first) (sym look ∙ ap (λ ss. slice_get ss 0) at)
 
 -- a firing of the attempt, seen from the state before
-pub fired_in : (course : Course) (new : AttemptState) (first spot : Spot) (more : List Spot) (waits : Bool) → course.dropped ≡ None → course.put ≡ None → course.spots.items ≡ spot ∷ more → first ≡ spot
-    → fired_on course.wiring.now (state_of (record course { attempt = Some new })) first (drop 1 course.spots.items) waits (state_of (record course { attempt = Some new })).hand ≡ fired_on course.wiring.now (state_of course) spot more waits new.hand
+pub fired_in : (course : Course) (new : AttemptState) (first spot : Spot) (more : List Spot) (waits : Bool) → course.dropped ≡ None → course.put ≡ None → course.spots ≡ spot ∷ more → first ≡ spot
+    → fired_on course.wiring.now (state_of (record course { attempt = Some new })) first (drop 1 course.spots) waits (state_of (record course { attempt = Some new })).hand ≡ fired_on course.wiring.now (state_of course) spot more waits new.hand
 fired_in course new first spot more waits dropped put at is = rw (hand_alone (record course { attempt = Some new }) dropped put, is, at) refl
 
 -- likewise where it was given up
-pub given_in : (course : Course) (new : AttemptState) (spot : Spot) (more : List Spot) → course.dropped ≡ None → course.put ≡ None → course.spots.items ≡ spot ∷ more
-    → end_attempt (state_of (record course { attempt = Some new })) (state_of (record course { attempt = Some new })).hand (drop 1 course.spots.items) ≡ end_attempt (state_of course) new.hand more
+pub given_in : (course : Course) (new : AttemptState) (spot : Spot) (more : List Spot) → course.dropped ≡ None → course.put ≡ None → course.spots ≡ spot ∷ more
+    → end_attempt (state_of (record course { attempt = Some new })) (state_of (record course { attempt = Some new })).hand (drop 1 course.spots) ≡ end_attempt (state_of course) new.hand more
 given_in course new spot more dropped put at = rw (hand_alone (record course { attempt = Some new }) dropped put, at) refl
 
 -- a step that reaches this state as far as it counts, or has its hand
@@ -117,10 +117,10 @@ hand_runs wiring name (spot ∷ more) None runs = absurd runs
 hand_runs wiring name (spot ∷ more) (Some attempt) runs = runs.hand
 
 -- the state after an answer to the attempt that is driven
-pub driven_target : (course : Course) (spot : Spot) (more : List Spot) (answer : Answer) → IsUnderWay course → course.short ≡ false → course.spots.items ≡ spot ∷ more → target parts.Drive course.wiring.now course.number (state_of course) answer ≡ heard course.wiring.now course.number (state_of course) spot more answer
+pub driven_target : (course : Course) (spot : Spot) (more : List Spot) (answer : Answer) → IsUnderWay course → course.short ≡ false → course.spots ≡ spot ∷ more → target parts.Drive course.wiring.now course.number (state_of course) answer ≡ heard course.wiring.now course.number (state_of course) spot more answer
 driven_target course spot more (Err refused) way short at = refl
 driven_target course spot more (Ok reply) way short at =
     let name : TaskId = record { actor = course.number; attempt = course.count } in
-    let none : (state_of course).hand ≡ [] = hand_alone course way.dropped way.put ∙ hand_runs course.wiring.now name course.spots.items course.attempt way.runs in
+    let none : (state_of course).hand ≡ [] = hand_alone course way.dropped way.put ∙ hand_runs course.wiring.now name course.spots course.attempt way.runs in
     let left : nat_lt course.count (2 ^ 32) ≡ true = grind (arith, nat_tests, way.count) in
-    ap (λ t. after_in course.wiring.now course.number (state_of course) t reply) (driven-turn course.short (state_of course).hand course.arbiters.items (nat_lt course.count (2 ^ 32)) course.spots.items spot more short none way.arbiters left at)
+    ap (λ t. after_in course.wiring.now course.number (state_of course) t reply) (driven-turn course.short (state_of course).hand course.arbiters.items (nat_lt course.count (2 ^ 32)) course.spots spot more short none way.arbiters left at)

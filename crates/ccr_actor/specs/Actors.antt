@@ -25,7 +25,8 @@ use Rattle.ccr_claim.specs.declared.asks.Reply.{Reply}
 use Rattle.ccr_claim.specs.declared.asks.Reply.TheVariants as replies
 use Rattle.ccr_claim.specs.Plans.{slots_in}
 use Rattle.ccr_claim.specs.Attempts.{at_place, Phase, booking, claiming, had_in, attempt_ask, release, firing_hand, put_ask, over_dropped, claimed}
-use Rattle.ccr_actor.specs.Plans.{plan_of, spots_at, throttled, arbiter_at, is_interleave_number}
+use Rattle.ccr_wiring.specs.Takers.{spots_at}
+use Rattle.ccr_actor.specs.Plans.{plan_of, throttled, arbiter_at, is_interleave_number}
 
 -- what an actor does between drives: the rest of a script, a round, a take (how many posters have left, the queue, those
 -- behind it), a play (its task, how many posts are made, the rest), a post that was drawn, an end for want of budget, rest

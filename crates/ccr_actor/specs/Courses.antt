@@ -64,7 +64,7 @@ state_of course = record {
   hand = dropped_asks course.dropped ++ (hand_of course.attempt ++ put_asks course.put);
   arbiters = course.arbiters.items;
   admitted = course.admitted;
-  spots = course.spots.items;
+  spots = course.spots;
   phase = phase_of course.attempt;
   fired = course.fired;
   work = work_of course.work;
@@ -123,7 +123,7 @@ Runs wiring name _ _ = ⊥
 
 -- the attempt that runs is driven: nothing comes before it
 pub record IsUnderWay (course : Course) : Type 0 where
-  pub runs : Runs course.wiring.now (record { actor = course.number; attempt = course.count }) course.spots.items course.attempt
+  pub runs : Runs course.wiring.now (record { actor = course.number; attempt = course.count }) course.spots course.attempt
   pub dropped : course.dropped ≡ None
   pub put : course.put ≡ None
   pub arbiters : course.arbiters.items ≡ []

@@ -3,6 +3,7 @@ pub mod Actors
 pub mod Acting
 pub mod Needs
 pub mod Inside
+pub mod Driven
 pub mod Courses
 pub mod Hands
 pub mod Nets

@@ -12,7 +12,8 @@ use Rattle.ccr_claim.specs.declared.asks.Reply.TheVariants as replies
 use Rattle.ccr_claim.specs.Attempts.{Phase, booking, claiming}
 use Rattle.ccr_actor.specs.Acting.{Acting, Asking, quiet, settling, going, state_after_reply}
 use Rattle.ccr_actor.specs.Actors.{State, Work, lines, round, taking, playing, posting, shedding, resting, Turn, settle, admit, drive, go_on, stop, turn, play_in}
-use Rattle.ccr_actor.specs.Plans.{spots_at, is_interleave_number}
+use Rattle.ccr_wiring.specs.Takers.{spots_at}
+use Rattle.ccr_actor.specs.Plans.{is_interleave_number}
 
 -- whether there is anything in the list
 abbrev pub has_any : {A : Type 0} → List A → Bool

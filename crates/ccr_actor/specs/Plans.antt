@@ -1,6 +1,6 @@
 -- What the wiring says of attempts: their plans, and the spots to drive.
-use Rattle.std.specs.Prelude.{ℕ, Bool, true, false, ◌==◌, List, [], ◌∷◌, filter}
-use Rattle.std.specs.List.{slice_get, list_any}
+use Rattle.std.specs.Prelude.{ℕ, Bool, true, false, List, [], ◌∷◌}
+use Rattle.std.specs.List.{slice_get}
 use Rattle.std.specs.Option.{option_map_or}
 use Rattle.ccr_base.specs.declared.names.Spot.{Spot}
 use Rattle.ccr_base.specs.declared.names.Spot.TheVariants.{Branch, Site}
@@ -12,9 +12,10 @@ use Rattle.ccr_wiring.specs.declared.parts.ArbiterPart.{ArbiterPart}
 use Rattle.ccr_wiring.specs.declared.parts.Kind.{Kind}
 use Rattle.ccr_wiring.specs.declared.parts.Kind.TheVariants as kinds
 use Rattle.ccr_wiring.specs.declared.parts.Parts.{Parts}
-use Rattle.ccr_wiring.specs.Wirings.{Placement, placement, site_port, spots, branch_of}
+use Rattle.ccr_wiring.specs.Takers.{branches_of}
+use Rattle.ccr_wiring.specs.Wirings.{Placement, placement, site_port, branch_of}
 use Rattle.ccr_claim.specs.declared.plan.ClaimPlan.{ClaimPlan}
-use Rattle.ccr_claim.specs.Plans.{any_slot, ports_in}
+use Rattle.ccr_claim.specs.Plans.{any_slot}
 
 -- the one message that a site takes
 abbrev pub one_of : ℕ → Pattern
@@ -41,22 +42,9 @@ arbiter_at wiring spot = option_map_or (λ (s : Placement). s.arbiter) (placemen
 abbrev pub plan_of : Parts → Spot → ClaimPlan
 plan_of wiring spot = record { spot = spot; pattern = pattern_at wiring spot; queue = queue_at wiring spot; arbiter = arbiter_at wiring spot }
 
--- whether a firing at the spot takes messages of the port
-abbrev pub names_port : Parts → ℕ → Spot → Bool
-names_port wiring port spot = list_any (λ other. other == port) (ports_in (pattern_at wiring spot))
-
--- the spots that name the port
-abbrev pub spots_at : Parts → ℕ → List Spot
-spots_at wiring port = filter (names_port wiring port) (spots wiring)
-
--- whether the spot is a branch of the queue
-abbrev pub is_for : Parts → ℕ → Spot → Bool
-is_for wiring queue (Branch branch) = option_map_or (λ (s : Placement). s.branch.queue == queue) (placement wiring branch) false
-is_for wiring queue (Site branch site) = false
-
 -- the branches of a throttle queue
 abbrev pub throttled : Parts → ℕ → Policy → List Spot
-throttled wiring queue (Throttle n) = filter (is_for wiring queue) (spots wiring)
+throttled wiring queue (Throttle n) = branches_of wiring queue
 throttled wiring queue _ = []
 
 -- whether the arbiter is an Interleave

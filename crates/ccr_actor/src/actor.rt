@@ -12,6 +12,7 @@ ghost use Rattle.ccr_actor.specs.Needs.{needs_memory, next_needs, takes_unnumber
 ghost use Rattle.ccr_actor.specs.Actors.{start, work_of as work_at};
 
 use crate::course::{Course, Part};
+use crate::driven::Driven;
 use crate::work::Work;
 use ccr_base::{ActorNo, OutOfMemory, Place};
 use ccr_claim::{Ask, Due, Reply, due_of};
@@ -169,7 +170,7 @@ fn begin(alloc: Global, wiring: &Wiring, number: ActorNo) -> Result<Actor<'_>, O
         dropped: None,
         arbiters: VecDeque::new(alloc),
         admitted: 0,
-        spots: VecDeque::new(alloc),
+        spots: Driven::none(),
         fired: 0,
         work: first_work(wiring, number),
         count: 0,

@@ -12,10 +12,10 @@ ghost use Rattle.ccr_claim.specs.Attempts.{attempt_ask};
 
 use crate::attempting::take_ask;
 use crate::course::{Course, Part};
-use crate::wired::plan_of;
+use crate::wired::attempt_at;
 use crate::work::{Work, over};
 use ccr_base::{ActorNo, CauseNo, How, List, Msg, MsgId, OutOfMemory, Place, TaskId};
-use ccr_claim::{Ask, Asked, Attempt, Progress};
+use ccr_claim::{Ask, Asked, Progress};
 use ccr_wiring::ScriptPost;
 use std::alloc::Global;
 
@@ -142,15 +142,15 @@ impl Course<'_> {
         if self.is_running() {
             return Ok(());
         }
-        let Some(spot) = self.spots.front() else {
+        let Some(spot) = self.spots.first() else {
             unreachable!();
         };
         let name = TaskId {
             actor: self.number,
             attempt: self.count as u32,
         };
-        let plan = plan_of(self.alloc, self.wiring, *spot)?;
-        self.attempt = Some(Attempt::begin(self.alloc, plan, name)?);
+        let earlier = self.attempt.take();
+        self.attempt = Some(attempt_at(self.alloc, self.wiring, spot, name, earlier)?);
         Ok(())
     }
 

@@ -7,9 +7,10 @@ ghost use Rattle.ccr_actor.specs.Actors.{add_arbiter, after_admit};
 ghost use Rattle.ccr_actor.specs.Courses.{state_of, hand_of, IsBeside, IsIdle};
 ghost use Rattle.ccr_actor.specs.Needs.{adds_arbiter};
 
+use crate::driven::Driven;
 use crate::wired::is_interleave_number;
 use crate::work::Work;
-use ccr_base::{ActorNo, ArbiterNo, CauseNo, List, OutOfMemory, Spot, Task};
+use ccr_base::{ActorNo, ArbiterNo, CauseNo, List, OutOfMemory, Task};
 use ccr_claim::{Attempt, Reply};
 use ccr_wiring::Wiring;
 use std::alloc::Global;
@@ -40,7 +41,7 @@ pub struct Course<'w> {
     pub arbiters: VecDeque<ArbiterNo>,
     pub admitted: u32,
     /// The spots that are driven.
-    pub spots: VecDeque<Spot>,
+    pub spots: Driven<'w>,
     pub fired: u32,
     pub work: Work<'w>,
     /// How many attempts have ended.

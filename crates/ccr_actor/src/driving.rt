@@ -10,6 +10,7 @@ ghost use Rattle.ccr_actor.specs.Courses.{state_of, phase_of, due_at, due_next, 
 
 use crate::attempting::{answer, is_memory};
 use crate::course::{ATTEMPTS, Course, MOST};
+use crate::driven::Driven;
 use crate::wired::arbiter_at;
 use ccr_base::{OutOfMemory, Spot};
 use ccr_claim::{Progress, Reply};
@@ -24,11 +25,11 @@ impl Course<'_> {
 
     /// The attempt fired at the first spot, and its task waits or not.
     fn fire(&mut self, spot: Spot, waits: bool) -> Result<(), OutOfMemory>
-        requires spot { self.old.spots.items ≡ spot ∷ drop 1 self.old.spots.items }
+        requires spot { self.old.spots ≡ spot ∷ drop 1 self.old.spots }
         requires phase { phase_of self.old.attempt ≡ booking }
         requires count { self.old.count < 2 ^ 32 }
         requires fired { self.old.fired < 32768 }
-        ensures ok { OnOk result (state_of self.new ≡ fired_on self.old.wiring.now (state_of self.old) spot (drop 1 self.old.spots.items) waits (state_of self.old).hand) }
+        ensures ok { OnOk result (state_of self.new ≡ fired_on self.old.wiring.now (state_of self.old) spot (drop 1 self.old.spots) waits (state_of self.old).hand) }
         ensures err { OnErr result ((state_of self.new).hand ≡ (state_of self.old).hand) }
         ensures needs { OnErr result (waits ≡ true) }
         ensures attempt { self.new.attempt ≡ self.old.attempt }
@@ -38,7 +39,7 @@ impl Course<'_> {
         self.count += 1;
         self.fired += 1;
         if self.fired >= MOST {
-            self.spots.clear();
+            self.spots = Driven::none();
         }
         self.admitted = 0;
         self.arbiters.clear();
@@ -53,14 +54,14 @@ impl Course<'_> {
     fn give_up(&mut self)
         requires phase { phase_of self.old.attempt ≡ booking }
         requires count { self.old.count < 2 ^ 32 }
-        requires spot { 0 < length self.old.spots.items }
-        ensures state { state_of self.new ≡ end_attempt (state_of self.old) (state_of self.old).hand (drop 1 self.old.spots.items) }
+        requires spot { 0 < length self.old.spots }
+        ensures state { state_of self.new ≡ end_attempt (state_of self.old) (state_of self.old).hand (drop 1 self.old.spots) }
         ensures attempt { self.new.attempt ≡ self.old.attempt }
         ensures work { self.new.work ≡ self.old.work }
         ensures beside { IsBeside self.old self.new }
     {
         self.count += 1;
-        self.spots.pop_front();
+        self.spots.skip();
     }
 
     /// Takes in the answer to the attempt's ask.
@@ -70,7 +71,7 @@ impl Course<'_> {
         requires asked { due_at self.old.attempt ≡ due_next self.old.attempt }
         requires reply { IsTrue (may_come (due_at self.old.attempt) reply) }
         requires fired { self.old.fired < 32768 }
-        ensures step { (spot : Spot) (more : List Spot) → self.old.spots.items ≡ spot ∷ more → IsStep result self.old.wiring.now self.old.number (heard self.old.wiring.now self.old.number (state_of self.old) spot more reply) (state_of self.new) }
+        ensures step { (spot : Spot) (more : List Spot) → self.old.spots ≡ spot ∷ more → IsStep result self.old.wiring.now self.old.number (heard self.old.wiring.now self.old.number (state_of self.old) spot more reply) (state_of self.new) }
         ensures attempt { OnOk result (IsPast self.new.attempt ⊎ IsUnderWay self.new) }
         ensures past { OnErr result (IsPast self.new.attempt) }
         ensures refused { OnErr reply (IsErr result) }
@@ -80,10 +81,9 @@ impl Course<'_> {
         ensures work { self.new.work ≡ self.old.work }
         ensures beside { IsBeside self.old self.new }
     {
-        let Some(spot) = self.spots.front() else {
+        let Some(spot) = self.spots.first() else {
             unreachable!();
         };
-        let spot = *spot;
         let Some(attempt) = &mut self.attempt else {
             unreachable!();
         };

@@ -6,6 +6,7 @@ mod answering;
 mod asking;
 mod attempting;
 mod course;
+mod driven;
 mod driving;
 mod laws;
 mod net;

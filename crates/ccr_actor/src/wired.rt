@@ -1,67 +1,22 @@
 //! What a wiring says that an actor goes by: the plan at a spot, the spots to drive, and the play of a task.
 
-ghost use Rattle.std.specs.Prelude.{◌≡◌, ◌==◌, [], IfOk, IsTrue, OnErr, filter, map};
-ghost use Rattle.std.specs.List.{slice_get, list_any};
+ghost use Rattle.std.specs.Prelude.{◌≡◌, [], IfOk, map};
 ghost use Rattle.std.specs.Option.{option_map_or};
 ghost use Rattle.ccr_handler.specs.Playing.{actions_from, play};
 ghost use Rattle.ccr_wiring.specs.declared.parts.CausePart.{CausePart};
-ghost use Rattle.ccr_wiring.specs.Wirings.{Placement, placement, segment_of, spots as spots_of, actions_of, awaited, branch_of, exception_port, policy_of, site_port};
-ghost use Rattle.ccr_claim.specs.Plans.{ports_in};
+ghost use Rattle.ccr_wiring.specs.Wirings.{Placement, placement, segment_of, actions_of, branch_of, exception_port, policy_of};
+ghost use Rattle.ccr_claim.specs.Attempts.{begun};
 ghost use Rattle.ccr_actor.specs.Actors.{play_in};
-ghost use Rattle.ccr_actor.specs.Needs.{has_any};
-ghost use Rattle.ccr_actor.specs.Plans.{one_of, pattern_at, queue_at, arbiter_at, plan_of, names_port, spots_at, is_for, throttled, is_interleave_number};
+ghost use Rattle.ccr_actor.specs.Plans.{one_of, pattern_at, queue_at, arbiter_at, plan_of, throttled, is_interleave_number};
 
 use ccr_base::{
-    Action, ArbiterNo, BranchNo, CauseNo, Handler, HandlerNo, List, OutOfMemory, Pattern, Policy,
-    PortNo, Pred, QueueNo, Slot, Spot, Task,
+    ArbiterNo, CauseNo, Handler, List, OutOfMemory, Pattern, Policy, PortNo, Pred, QueueNo, Slot,
+    Spot, Task, TaskId,
 };
-use ccr_claim::ClaimPlan;
+use ccr_claim::{Attempt, ClaimPlan};
 use ccr_handler::{Play, PlayEnd, plays};
-use ccr_wiring::{Kind, Wiring};
+use ccr_wiring::{Kind, Wiring, branch_of};
 use std::alloc::Global;
-use std::collections::VecDeque;
-
-/// The branch of which the spot is, or is a site.
-pub fn branch_of(spot: Spot) -> BranchNo
-    ensures { result ≡ branch_of spot }
-{
-    match spot {
-        Spot::Branch(branch) | Spot::Site(branch, _) => branch,
-    }
-}
-
-fn actions_of(wiring: &Wiring, handler: HandlerNo) -> &[Action]
-    ensures { result.now ≡ actions_of wiring.now handler }
-{
-    match wiring.parts().handlers.as_slice().get(handler as usize) {
-        Some(part) => part.handler.actions.as_slice(),
-        None => &[],
-    }
-}
-
-/// The port that the actions await at this site.
-fn awaited_at(actions: &[Action], site: u32) -> Option<PortNo>
-    ensures { result ≡ slice_get (awaited actions.now) site }
-{
-    let mut left = site;
-    for action in actions {
-        if let Action::Await(port) = action {
-            if left == 0 {
-                return Some(*port);
-            }
-            left -= 1;
-        }
-    }
-    None
-}
-
-/// The port that is awaited at this site of the branch.
-fn site_port(wiring: &Wiring, branch: BranchNo, site: u32) -> Option<PortNo>
-    ensures { result ≡ site_port wiring.now branch site }
-{
-    let placement = wiring.placement(branch)?;
-    awaited_at(actions_of(wiring, placement.branch.handler), site)
-}
 
 fn copy_pattern(alloc: Global, pattern: &Pattern) -> Result<Pattern, OutOfMemory>
     ensures { IfOk result (λ copied. copied ≡ pattern.now) }
@@ -103,7 +58,7 @@ fn pattern_at(alloc: Global, wiring: &Wiring, spot: Spot) -> Result<Pattern, Out
             Some(placement) => copy_pattern(alloc, &placement.branch.pattern),
             None => Ok(Pattern::Slots(List::new(alloc))),
         },
-        Spot::Site(branch, site) => match site_port(wiring, branch, site) {
+        Spot::Site(branch, site) => match wiring.site_port(branch, site) {
             Some(port) => one_of(alloc, port),
             None => Ok(Pattern::Slots(List::new(alloc))),
         },
@@ -131,118 +86,67 @@ pub fn arbiter_at(wiring: &Wiring, spot: Spot) -> ArbiterNo
     }
 }
 
-/// The plan of attempts on the spot.
-pub fn plan_of(alloc: Global, wiring: &Wiring, spot: Spot) -> Result<ClaimPlan, OutOfMemory>
-    ensures { IfOk result (λ plan. plan ≡ plan_of wiring.now spot) }
-{
-    Ok(ClaimPlan {
-        spot,
-        pattern: pattern_at(alloc, wiring, spot)?,
-        queue: queue_at(wiring, spot),
-        arbiter: arbiter_at(wiring, spot),
-    })
-}
-
-fn pattern_names(pattern: &Pattern, port: PortNo) -> bool
-    ensures { result ≡ list_any (λ other. other == port) (ports_in pattern.now) }
-{
-    match pattern {
-        Pattern::Slots(slots) => slots_name(slots.as_slice(), port),
-        Pattern::Gather { first, second, .. } => *first == port || *second == port,
-    }
-}
-
-fn slots_name(slots: &[Slot], port: PortNo) -> bool
-    ensures { result ≡ list_any (λ other. other == port) (map (λ slot. slot.port) slots.now) }
-{
-    for slot in slots {
-        if slot.port == port {
-            return true;
-        }
-    }
-    false
-}
-
-/// Whether a firing at the spot takes messages of the port.
-fn names_port(wiring: &Wiring, port: PortNo, spot: Spot) -> bool
-    ensures { result ≡ names_port wiring.now port spot }
-{
-    match spot {
-        Spot::Branch(branch) => match wiring.placement(branch) {
-            Some(placement) => pattern_names(&placement.branch.pattern, port),
-            None => false,
-        },
-        Spot::Site(branch, site) => match site_port(wiring, branch, site) {
-            Some(other) => other == port,
-            None => false,
-        },
-    }
-}
-
-/// The spots that name the port.
-pub fn spots_at(alloc: Global, wiring: &Wiring, port: PortNo) -> Result<VecDeque<Spot>, OutOfMemory>
-    ensures spots { IfOk result (λ spots. spots.items ≡ spots_at wiring.now port) }
-    ensures needs { OnErr result (IsTrue (has_any (spots_at wiring.now port))) }
-{
-    let mut spots = VecDeque::new(alloc);
-    for spot in wiring.spots() {
-        if names_port(wiring, port, *spot) {
-            spots.push_back(*spot)?;
-        }
-    }
-    Ok(spots)
-}
-
-/// Whether the spot is a branch of the queue.
-fn is_for(wiring: &Wiring, queue: QueueNo, spot: Spot) -> bool
-    ensures { result ≡ is_for wiring.now queue spot }
-{
-    match spot {
-        Spot::Branch(branch) => match wiring.placement(branch) {
-            Some(placement) => placement.branch.queue == queue,
-            None => false,
-        },
-        Spot::Site(..) => false,
-    }
-}
-
-fn policy_of(wiring: &Wiring, queue: QueueNo) -> Policy
-    ensures { result ≡ policy_of wiring.now queue }
-{
-    match wiring.parts().queues.as_slice().get(queue as usize) {
-        Some(part) => part.policy,
-        None => Policy::Unbounded,
-    }
-}
-
-/// The branches of a throttle queue.
-pub fn throttled(
+/// An attempt at the spot under this name, in the memory of an earlier one, if any. A branch's pattern isn't copied anew then.
+pub fn attempt_at(
     alloc: Global,
     wiring: &Wiring,
-    queue: QueueNo,
-) -> Result<VecDeque<Spot>, OutOfMemory>
-    ensures { IfOk result (λ spots. spots.items ≡ throttled wiring.now queue (policy_of wiring.now queue)) }
+    spot: Spot,
+    name: TaskId,
+    earlier: Option<Attempt>,
+) -> Result<Attempt, OutOfMemory>
+    ensures { IfOk result (λ attempt. attempt ≡ begun (plan_of wiring.now spot) name) }
 {
-    match policy_of(wiring, queue) {
-        Policy::Throttle(_) => branches_of(alloc, wiring, queue),
-        _ => Ok(VecDeque::new(alloc)),
+    if let Spot::Branch(branch) = spot {
+        if let Some(placement) = wiring.placement(branch) {
+            return begin(
+                alloc,
+                wiring,
+                spot,
+                &placement.branch.pattern,
+                name,
+                earlier,
+            );
+        }
+    }
+    let pattern = pattern_at(alloc, wiring, spot)?;
+    begin(alloc, wiring, spot, &pattern, name, earlier)
+}
+
+fn begin(
+    alloc: Global,
+    wiring: &Wiring,
+    spot: Spot,
+    pattern: &Pattern,
+    name: TaskId,
+    earlier: Option<Attempt>,
+) -> Result<Attempt, OutOfMemory>
+    requires { pattern.now ≡ pattern_at wiring.now spot }
+    ensures { IfOk result (λ attempt. attempt ≡ begun (plan_of wiring.now spot) name) }
+{
+    let queue = queue_at(wiring, spot);
+    let arbiter = arbiter_at(wiring, spot);
+    match earlier {
+        Some(old) => Attempt::begin_in(old, spot, pattern, queue, arbiter, name),
+        None => {
+            let plan = ClaimPlan {
+                spot,
+                pattern: copy_pattern(alloc, pattern)?,
+                queue,
+                arbiter,
+            };
+            Attempt::begin(alloc, plan, name)
+        }
     }
 }
 
-fn branches_of(
-    alloc: Global,
-    wiring: &Wiring,
-    queue: QueueNo,
-) -> Result<VecDeque<Spot>, OutOfMemory>
-    ensures { IfOk result (λ found. found.items ≡ filter (is_for wiring.now queue) (spots_of wiring.now)) }
+/// The branches of a throttle queue; none of another.
+pub fn throttled(wiring: &Wiring, queue: QueueNo) -> &[Spot]
+    ensures { result.now ≡ throttled wiring.now queue (policy_of wiring.now queue) }
 {
-    let mut found = VecDeque::new(alloc);
-    for spot in wiring.spots() {
-        if is_for(wiring, queue, *spot) {
-            found.push_back(*spot)?;
-        }
+    match wiring.policy_of(queue) {
+        Policy::Throttle(_) => wiring.branches_of(queue),
+        _ => &[],
     }
-    Ok(found)
 }
 
 /// Whether the domain of this number is of Interleaves.
@@ -264,19 +168,6 @@ fn exception_ports(alloc: Global, wiring: &Wiring) -> Result<Vec<PortNo>, OutOfM
         ports.push(cause.port)?;
     }
     Ok(ports)
-}
-
-/// The handler of the branch.
-fn handler_of(wiring: &Wiring, branch: BranchNo) -> Option<&Handler>
-    ensures { option_map_or (λ handler. handler.now.actions) result [] ≡ option_map_or (λ (s : Placement). actions_of wiring.now s.branch.handler) (placement wiring.now branch) [] }
-{
-    let placement = wiring.placement(branch)?;
-    let part = wiring
-        .parts()
-        .handlers
-        .as_slice()
-        .get(placement.branch.handler as usize)?;
-    Some(&part.handler)
 }
 
 /// The play of no actions.
@@ -315,7 +206,7 @@ pub fn play_in(
     requires { segment ≡ segment_of task.now.spot }
     ensures { IfOk result (λ found. found ≡ play_in wiring.now task.now) }
 {
-    match handler_of(wiring, branch_of(task.spot)) {
+    match wiring.handler_of(branch_of(task.spot)) {
         Some(handler) => play_with(alloc, wiring, handler, segment, task),
         None => idle(alloc, &task.causes),
     }

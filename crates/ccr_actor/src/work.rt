@@ -6,11 +6,10 @@ ghost use Rattle.ccr_actor.specs.Actors.{play_ask, post_ask};
 ghost use Rattle.ccr_actor.specs.Acting.{sent_play};
 ghost use Rattle.ccr_actor.specs.Inside.{how_over, play_of, playing_of, over_ask, suspend_ask};
 
-use crate::wired::branch_of;
 use ccr_base::{CauseNo, How, List, Msg, MsgId, Place, Sent, Task};
 use ccr_claim::{Ask, Asked};
 use ccr_handler::{Play, PlayEnd};
-use ccr_wiring::{QueuePart, ScriptPost};
+use ccr_wiring::{QueuePart, ScriptPost, branch_of};
 use std::alloc::Global;
 use std::collections::VecDeque;
 use std::mem::replace;

@@ -5,30 +5,20 @@ ghost use Rattle.ccr_actor.specs.Actors.{after_end, after_line, after_over, afte
 ghost use Rattle.ccr_actor.specs.Courses.{state_of, IsBeside, IsCounted, IsPlayCounted, IsStep};
 ghost use Rattle.ccr_actor.specs.Inside.{play_of, work_of};
 ghost use Rattle.ccr_actor.specs.Needs.{adds_arbiter, end_needs, has_any, is_unnumbered, line_needs, play_needs, take_needs, take_unnumbered, work_needs, work_unnumbered};
-ghost use Rattle.ccr_actor.specs.Plans.{spots_at};
+ghost use Rattle.ccr_wiring.specs.Takers.{spots_at};
 ghost use Rattle.ccr_claim.specs.Attempts.{booking};
 ghost use Rattle.ccr_wiring.specs.Wirings.{segment_of};
 
 use crate::course::{Course, EMPTY_ROUNDS, MOST};
-use crate::wired::{branch_of, play_in, spots_at, throttled};
+use crate::driven::Driven;
+use crate::wired::{play_in, throttled};
 use crate::work::{Playing, Work};
 use ccr_base::{OutOfMemory, Sent, Spot, Task};
 use ccr_claim::Reply;
 use ccr_handler::{Play, PlayEnd};
-use ccr_wiring::{QueuePart, ScriptPost};
+use ccr_wiring::{QueuePart, ScriptPost, branch_of, segment_of};
 use std::collections::VecDeque;
 use std::mem::replace;
-
-/// The number of the segment that a task fired at the spot runs; none where it has none of 32 bits.
-fn segment_of(spot: Spot) -> Option<u32>
-    ensures number { IfSome result (λ segment. segment ≡ segment_of spot) }
-    ensures none { IfNone result (2 ^ 32 ≤ segment_of spot) }
-{
-    match spot {
-        Spot::Branch(_) => Some(0),
-        Spot::Site(_, site) => site.checked_add(1),
-    }
-}
 
 /// The task ends for want of budget.
 fn shed<'w>(playing: Playing) -> Work<'w>
@@ -69,7 +59,7 @@ impl<'w> Course<'w> {
             self.work = Work::Resting;
             return Ok(());
         }
-        self.spots = spots_at(self.alloc, self.wiring, lines[0].port())?;
+        self.spots = Driven::of(self.wiring.spots_at(lines[0].port()));
         self.fired = 0;
         self.work = Work::Lines {
             place: place + 1,
@@ -136,7 +126,7 @@ impl<'w> Course<'w> {
         if posts.len() > u32::MAX as usize {
             return Err(OutOfMemory);
         }
-        self.spots = throttled(self.alloc, self.wiring, queue)?;
+        self.spots = Driven::of(throttled(self.wiring, queue));
         self.fired = 0;
         self.taken += 1;
         self.work = Work::Playing(Playing {
@@ -180,8 +170,7 @@ impl<'w> Course<'w> {
             PlayEnd::Done | PlayEnd::Failed(_) => self.task_over(&playing.task),
             PlayEnd::Yield(_) => {
                 let site = Spot::Site(branch_of(playing.task.spot), playing.segment);
-                self.spots.clear();
-                self.spots.push_back(site)?;
+                self.spots = Driven::site(site);
                 self.fired = 0;
                 self.next_round();
                 Ok(())
@@ -221,7 +210,7 @@ impl<'w> Course<'w> {
         ensures attempt { self.new.attempt ≡ self.old.attempt }
         ensures beside { IsBeside self.old self.new }
     {
-        self.spots = spots_at(self.alloc, self.wiring, sent.port)?;
+        self.spots = Driven::of(self.wiring.spots_at(sent.port));
         self.fired = 0;
         let place = playing.place + 1;
         self.work = Work::Playing(Playing { place, ..playing });

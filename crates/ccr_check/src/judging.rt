@@ -1,14 +1,12 @@
 //! The verdict on a history.
 
 ghost use Rattle.std.specs.Prelude.{◌≡◌, ◌<◌, ◌^◌, [], IfNone, IfOk, length};
-ghost use Rattle.ccr_model.specs.Legal.{IsLegal, first_refusal};
-ghost use Rattle.ccr_ledger.specs.Kept.{Keeps};
+ghost use Rattle.ccr_model.specs.Legal.{first_refusal};
 ghost use Rattle.ccr_check.specs.Verdicts.{TellsLegal, TellsComplete, TellsQuiet, refusal_told};
 
 use crate::Verdict;
 use crate::checker::Checker;
 use ccr_base::OutOfMemory;
-use ccr_ledger::Ledger;
 use ccr_model::{Event, History};
 use ccr_wiring::Wiring;
 use std::alloc::Global;
@@ -32,7 +30,7 @@ fn first_refusal(
     Ok(None)
 }
 
-/// Legal where each event is allowed after those before it, else the first that isn't.
+/// Legal where each event is allowed after those before it, else the first that isn't. No event is kept.
 pub fn verdict(alloc: Global, wiring: &Wiring, history: &History) -> Result<Verdict, OutOfMemory>
     requires { length history.now < 2 ^ 32 }
     ensures refusal { IfOk result (λ verdict. refusal_told verdict ≡ first_refusal wiring.now [] 0 history.now) }
@@ -40,28 +38,11 @@ pub fn verdict(alloc: Global, wiring: &Wiring, history: &History) -> Result<Verd
     ensures complete { IfOk result (TellsComplete wiring.now history.now) }
     ensures quiet { IfOk result (TellsQuiet wiring.now history.now) }
 {
-    let (verdict, _tables) = verdict_with_tables(alloc, wiring, history)?;
-    Ok(verdict)
-}
-
-/// The same, and the tables of the history where it is legal; of what was accepted where it isn't. No event is kept.
-pub fn verdict_with_tables(
-    alloc: Global,
-    wiring: &Wiring,
-    history: &History,
-) -> Result<(Verdict, Ledger), OutOfMemory>
-    requires { length history.now < 2 ^ 32 }
-    ensures refusal { IfOk result (λ judged. refusal_told judged.0 ≡ first_refusal wiring.now [] 0 history.now) }
-    ensures legal { IfOk result (λ judged. TellsLegal wiring.now history.now judged.0) }
-    ensures complete { IfOk result (λ judged. TellsComplete wiring.now history.now judged.0) }
-    ensures quiet { IfOk result (λ judged. TellsQuiet wiring.now history.now judged.0) }
-    ensures tables { IfOk result (λ judged. IsLegal wiring.now history.now → Keeps wiring.now history.now judged.1) }
-{
     let mut checker = Checker::new(alloc, wiring)?;
     if let Some((at, rule)) = first_refusal(&mut checker, history.events())? {
-        return Ok((Verdict::Illegal { at, rule }, checker.into_ledger()?));
+        return Ok(Verdict::Illegal { at, rule });
     }
     let complete = checker.complete()?;
     let quiet = checker.quiet()?;
-    Ok((Verdict::Legal { complete, quiet }, checker.into_ledger()?))
+    Ok(Verdict::Legal { complete, quiet })
 }

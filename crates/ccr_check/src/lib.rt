@@ -13,6 +13,6 @@ mod verdicts;
 
 pub use checker::Checker;
 pub use judge::Judge;
-pub use judging::{verdict, verdict_with_tables};
+pub use judging::verdict;
 pub use laws::still_is_quiet;
 pub use verdicts::Verdict;

@@ -1,8 +1,6 @@
 -- The steps of an attempt after a booking and after a claim that got its messages.
-use Rattle.std.proofs.Common.{◌≡◌, ◌⊎◌, ℕ, Bool, true, false, List, [], ◌∷◌, ◌++◌, drop, length, reverse, Option, Some, None, refl, sym, ap, inl, inr, ◌∙◌, arith}
-use Rattle.std.specs.Prelude.{slice_get}
+use Rattle.std.proofs.Common.{◌≡◌, ◌⊎◌, Bool, true, List, [], ◌∷◌, reverse, Option, None, refl, sym, inl, inr, ◌∙◌}
 use Rattle.std.proofs.lemmas.List.{reverse-reverse}
-use Rattle.ccr_base.specs.declared.messages.Msg.{Msg}
 use Rattle.ccr_base.specs.declared.names.TaskId.{TaskId}
 use Rattle.ccr_base.specs.declared.patterns.Slot.{Slot}
 use Rattle.ccr_base.specs.declared.tasks.Cut.{Cut}
@@ -18,8 +16,8 @@ use Rattle.ccr_claim.specs.declared.stages.Stage.TheVariants as stages
 use Rattle.ccr_claim.specs.declared.stages.Unanswered.{Unanswered}
 use Rattle.ccr_claim.specs.declared.stages.Unanswered.TheVariants as waits
 use Rattle.ccr_claim.specs.Asks.{fits}
-use Rattle.ccr_claim.specs.Plans.{slots_in, narrowed}
-use Rattle.ccr_claim.specs.Attempts.{AttemptState, Phase, claiming, claimed, replied, given_up, IsAfterReply}
+use Rattle.ccr_claim.specs.Plans.{slots_in}
+use Rattle.ccr_claim.specs.Attempts.{AttemptState, replied, given_up, IsAfterReply}
 use Rattle.ccr_claim.specs.Inside.{seen, claim_due, due_in, IsUnclaimed}
 
 -- no claim and no commit is answered by a booking

@@ -1,8 +1,7 @@
 -- What stands after each step of an attempt: its hand is the rest of what it owes.
 use Rattle.std.proofs.Common.{◌≡◌, ◌⊎◌, ℕ, ◌+◌, ◌*◌, ◌≤◌, Bool, true, false, List, [], ◌∷◌, ◌++◌, length, map, take, drop, reverse, Option, Some, None, Ok, Err, refl, sym, ap, inl, inr, ◌∙◌, arith, subst, cond}
-use Rattle.std.specs.Prelude.{filter, nat_le}
+use Rattle.std.specs.Prelude.{nat_le}
 use Rattle.std.specs.List.{flat_map}
-use Rattle.std.specs.Bool.{IsTrue}
 use Rattle.std.proofs.lemmas.List.{append-nil, append_assoc, map-append, length-append, length-map, length-reverse, reverse-append}
 use Rattle.std.proofs.lemmas.List.Elements.{filter-append}
 use Rattle.ccr_base.specs.declared.messages.Msg.{Msg}
@@ -17,9 +16,7 @@ use Rattle.ccr_base.specs.declared.tasks.Task.{Task}
 use Rattle.ccr_claim.specs.declared.asks.Ask.{Ask}
 use Rattle.ccr_claim.specs.declared.asks.Ask.TheVariants as asks
 use Rattle.ccr_claim.specs.declared.asks.Asked.{Asked}
-use Rattle.ccr_claim.specs.declared.asks.Due.{Due}
 use Rattle.ccr_claim.specs.declared.asks.Due.TheVariants as dues
-use Rattle.ccr_claim.specs.declared.asks.Reply.{Reply}
 use Rattle.ccr_claim.specs.declared.asks.Reply.TheVariants as replies
 use Rattle.ccr_claim.specs.declared.outcomes.Outcome.{Outcome}
 use Rattle.ccr_claim.specs.declared.outcomes.Outcome.TheVariants as outcomes
@@ -27,10 +24,10 @@ use Rattle.ccr_claim.specs.declared.outcomes.Why.{Why}
 use Rattle.ccr_claim.specs.declared.outcomes.Why.TheVariants as whys
 use Rattle.ccr_claim.specs.declared.plan.ClaimPlan.{ClaimPlan}
 use Rattle.ccr_claim.specs.declared.plan.Had.{Had}
-use Rattle.ccr_claim.specs.Asks.{Answer, is_settling, due_of, fits, may_come}
-use Rattle.ccr_claim.specs.Plans.{slots_in, narrowed, rest_narrowed}
-use Rattle.ccr_claim.specs.Attempts.{AttemptState, Phase, booking, claiming, had_in, at_place, attempt_ask, claim_ask, free_ask, consume_ask, unbook_ask, cut_ask, put_asks, release, firing_hand, waits, begun, next, sent, given_up, in_want, replied, answered, after, after_all, attempt_after}
-use Rattle.ccr_claim.specs.Settling.{Step, Shot, AreSplit, step_of, steps_from, MayFollow, wanting, steps, AreAnswers, asks_of, settling, got_at, booked_at, shot_by, claims, bookings, shots, cuts_of, free_at, consume_at, unbook_at, released, shot_asks, completed}
+use Rattle.ccr_claim.specs.Asks.{Answer, is_settling, due_of, may_come}
+use Rattle.ccr_claim.specs.Plans.{slots_in, narrowed}
+use Rattle.ccr_claim.specs.Attempts.{AttemptState, Phase, booking, claiming, attempt_ask, claim_ask, free_ask, consume_ask, unbook_ask, cut_ask, put_asks, release, firing_hand, waits, begun, sent, in_want, after, after_all, attempt_after}
+use Rattle.ccr_claim.specs.Settling.{Step, Shot, AreSplit, step_of, steps_from, MayFollow, wanting, steps, AreAnswers, asks_of, settling, got_at, booked_at, shot_by, claims, bookings, shots, cuts_of, free_at, consume_at, released, completed}
 use Rattle.ccr_claim.proofs.Gathering.{flat-push}
 
 -- ---- lists

@@ -1,5 +1,5 @@
 -- Which replies an ask may have, and which asks settle what an earlier reply gave.
-use Rattle.std.specs.Prelude.{ℕ, Bool, true, false, ◌==◌, ◌&&◌, nat_lt, nat_le, List, length, Result, Ok, Err}
+use Rattle.std.specs.Prelude.{Bool, true, false, ◌==◌, ◌&&◌, nat_lt, nat_le, List, length, Result, Ok, Err}
 use Rattle.std.specs.List.{list_all}
 use Rattle.ccr_base.specs.declared.list.OutOfMemory.{OutOfMemory}
 use Rattle.ccr_base.specs.declared.messages.Msg.{Msg}

@@ -1,5 +1,5 @@
 -- What the fields of an attempt stand for.
-use Rattle.std.specs.Prelude.{◌≡◌, ℕ, ◌+◌, ◌≤◌, Bool, true, false, List, [], ◌∷◌, ◌++◌, map, reverse, length, Option, Some, None, MatchOption, if◌then◌else◌}
+use Rattle.std.specs.Prelude.{◌≡◌, ℕ, ◌+◌, ◌≤◌, Bool, List, [], ◌∷◌, ◌++◌, map, reverse, length, Option, Some, None, MatchOption, if◌then◌else◌}
 use Rattle.ccr_base.specs.declared.names.TaskId.{TaskId}
 use Rattle.ccr_base.specs.declared.patterns.Slot.{Slot}
 use Rattle.ccr_base.specs.declared.tasks.Cut.{Cut}

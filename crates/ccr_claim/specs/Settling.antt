@@ -1,5 +1,5 @@
 -- The asks of an attempt with their answers, and what they settle.
-use Rattle.std.specs.Prelude.{ℕ, Bool, true, false, List, [], ◌∷◌, ◌++◌, length, map, filter, flat_map, take, drop, reverse, nat_le, Option, Some, None, Ok, Err, if◌then◌else◌}
+use Rattle.std.specs.Prelude.{ℕ, Bool, true, false, List, [], ◌∷◌, ◌++◌, length, map, filter, flat_map, take, drop, reverse, nat_le, Option, Some, None, Ok, if◌then◌else◌}
 use Rattle.std.specs.Bool.{IsTrue}
 use Rattle.ccr_base.specs.declared.names.Place.{Place}
 use Rattle.ccr_base.specs.declared.names.TaskId.{TaskId}

@@ -1,6 +1,6 @@
 //! The attempt: it books, claims port by port, commits, and settles what it has in hand.
 
-ghost use Rattle.std.specs.Prelude.{◌≡◌, ◌⊎◌, ◌==◌, length, IsTrue, IfOk, None};
+ghost use Rattle.std.specs.Prelude.{◌≡◌, ◌⊎◌, ◌==◌, ◌≤◌, [], length, vec_capacity, IsTrue, IfOk, None};
 ghost use Rattle.ccr_claim.specs.declared.asks.Due.TheVariants as dues;
 ghost use Rattle.ccr_claim.specs.declared.asks.Reply.TheVariants as replies;
 ghost use Rattle.ccr_claim.specs.declared.outcomes.Why.TheVariants as whys;
@@ -10,10 +10,13 @@ ghost use Rattle.ccr_claim.specs.Attempts.{begun, next, sent, replied, given_up,
 use crate::firing::{Firing, ready};
 use crate::hand::{claim, completion, release, resumes, stage_due, unanswered_by};
 use crate::outcomes::{Next, Outcome, Progress, Why};
-use crate::slots::{in_order, next_slot};
+use crate::slots::{copy_in, in_order, next_slot, order_in};
 use crate::stages::{Stage, Unanswered};
 use crate::{Ask, Asked, ClaimPlan, Due, Had, Reply};
-use ccr_base::{Cut, List, Msg, OutOfMemory, Place, PortNo, Slot, Task, TaskId};
+use ccr_base::{
+    ArbiterNo, Cut, List, Msg, OutOfMemory, Pattern, Place, PortNo, QueueNo, Slot, Spot, Task,
+    TaskId,
+};
 use std::alloc::Global;
 use std::collections::VecDeque;
 use std::marker::Model;
@@ -55,6 +58,16 @@ impl Model for Attempt {
     ghost invariant = { λ a. IsHeld a.plan a.task a.stage a.unanswered a.left.items a.had.items (vec_capacity a.had) a.firing };
 }
 
+/// No claims, with room for so many.
+fn cleared(had: Vec<Had>, room: usize) -> Result<Vec<Had>, OutOfMemory>
+    ensures { IfOk result (λ had. (had.items ≡ []) × (room ≤ vec_capacity had)) }
+{
+    let mut had = had;
+    had.clear();
+    had.reserve(room)?;
+    Ok(had)
+}
+
 impl Attempt {
     /// An attempt that has asked nothing yet. Takes the memory for its slots.
     pub fn begin(alloc: Global, plan: ClaimPlan, task: TaskId) -> Result<Attempt, OutOfMemory>
@@ -62,6 +75,48 @@ impl Attempt {
     {
         let left = in_order(alloc, &plan.pattern)?;
         let had = Vec::with_capacity(alloc, left.len())?;
+        Ok(Attempt {
+            alloc,
+            plan,
+            task,
+            stage: Stage::Booking,
+            unanswered: Unanswered::Nothing,
+            left,
+            had,
+            firing: None,
+            booked: false,
+            cuts: VecDeque::new(alloc),
+            put: None,
+            dropped: None,
+        })
+    }
+
+    /// The same in the memory of an earlier attempt, which is done with. Where that has room for the slots, it takes none.
+    pub fn begin_in(
+        old: Attempt,
+        spot: Spot,
+        pattern: &Pattern,
+        queue: QueueNo,
+        arbiter: ArbiterNo,
+        task: TaskId,
+    ) -> Result<Attempt, OutOfMemory>
+        ensures { IfOk result (λ attempt. attempt ≡ begun (record { spot = spot; pattern = pattern.now; queue = queue; arbiter = arbiter }) task) }
+    {
+        let Attempt {
+            alloc,
+            plan,
+            left,
+            had,
+            ..
+        } = old;
+        let left = order_in(left, pattern)?;
+        let had = cleared(had, left.len())?;
+        let plan = ClaimPlan {
+            spot,
+            pattern: copy_in(alloc, plan.pattern, pattern)?,
+            queue,
+            arbiter,
+        };
         Ok(Attempt {
             alloc,
             plan,

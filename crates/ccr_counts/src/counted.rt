@@ -17,7 +17,7 @@ ghost use Rattle.ccr_counts.specs.Totals.{totals_by};
 use crate::tally::{ALL_PLACES, Tally};
 use ccr_base::{OutOfMemory, PortNo, Spot};
 use ccr_ledger::Ledger;
-use ccr_model::{Event, History, Totals};
+use ccr_model::{Event, Totals};
 use ccr_report::Counts;
 use ccr_wiring::{Wiring, valid_wirings_are_sound};
 use std::alloc::Global;
@@ -136,20 +136,4 @@ impl Tally {
             totals,
         })
     }
-}
-
-/// The counts of the legal history, by its tables.
-pub fn counts_by(
-    alloc: Global,
-    wiring: &Wiring,
-    history: &History,
-    ledger: &Ledger,
-) -> Result<Counts, OutOfMemory>
-    requires legal { IsLegal wiring.now history.now }
-    requires tables { Keeps wiring.now history.now ledger.now }
-    ensures { IfOk result (IsCounted wiring.now history.now) }
-{
-    let tally = Tally::of(alloc, wiring, history.events(), ledger)?;
-    let counts = tally.into_counts(alloc, wiring, ledger)?;
-    Ok(counts)
 }

@@ -4,5 +4,4 @@
 mod counted;
 mod tally;
 
-pub use counted::counts_by;
 pub use tally::Tally;

@@ -33,7 +33,8 @@ use Rattle.ccr_claim.specs.declared.plan.Had.{Had}
 use Rattle.ccr_claim.specs.Asks.{due_of, fits}
 use Rattle.ccr_claim.specs.Plans.{slots_in, gather_slots, insert_slot, narrowed}
 use Rattle.ccr_claim.specs.Attempts.{Phase, booking, claiming, had_in, attempt_ask, claimed, release, firing_hand, free_ask, consume_ask, unbook_ask, cut_ask, put_asks}
-use Rattle.ccr_actor.specs.Plans.{plan_of, one_of, no_pattern, spots_at, names_port, throttled, is_for, is_interleave_number}
+use Rattle.ccr_wiring.specs.Takers.{spots_at, takes_from, is_for}
+use Rattle.ccr_actor.specs.Plans.{plan_of, one_of, no_pattern, throttled, is_interleave_number}
 use Rattle.ccr_actor.specs.Actors.{State, Work, lines, round, taking, playing, posting, shedding, resting, spots_left, work_ask, name_at, add_arbiter, admit_too, settled, strike, after_admit, give_up, driven_on, fire, after_attempt, after_work, after_line, after_round, after_take, after_play, after_end, after_over, take_from}
 use Rattle.ccr_actor.specs.Within.{IsPaced}
 use Rattle.ccr_dispatch.specs.Ranks.{puts_by, puts_in, settles_in, admissions_left, phase_left, drive_left, drive_most, work_left}
@@ -340,7 +341,7 @@ calm-play wiring state task place play (sent ∷ posts) replies.Spent at is = re
 calm-play wiring state task place play (sent ∷ posts) (replies.Left n) at is = record { driven = is.driven; phase = is.phase; hand = is.hand; arbiters = is.arbiters }
 
 calm-at : (wiring : Parts) (state : State) (port : ℕ) → length (spots_left (record state { spots = spots_at wiring port })) ≤ length (spots wiring) + 1
-calm-at wiring state port = (let few = filter-length (names_port wiring port) (spots wiring) in calm-spots wiring (nat_lt state.attempt (2 ^ 32)) (spots_at wiring port) (length (spots wiring) + 1) (omega (arith, few)))
+calm-at wiring state port = (let few = filter-length (takes_from wiring port) (spots wiring) in calm-spots wiring (nat_lt state.attempt (2 ^ 32)) (spots_at wiring port) (length (spots wiring) + 1) (omega (arith, few)))
 
 calm-line : (wiring : Parts) (state : State) (place : ℕ) (sents : List Sent) → IsCalm wiring state → IsCalm wiring (after_line wiring state place sents)
 calm-line wiring state place [] is = record { driven = is.driven; phase = is.phase; hand = is.hand; arbiters = is.arbiters }

@@ -19,7 +19,7 @@ use ccr_base::{
     ActorNo, BranchNo, Group, MsgId, OutOfMemory, Policy, PortNo, QueueNo, Spot, TaskId,
 };
 use ccr_model::Event;
-use ccr_model::placements::{is_teardown, placement, policy_of, site_port};
+use ccr_model::placements::is_teardown;
 use ccr_rows::Rows;
 use ccr_wiring::Wiring;
 use std::alloc::Global;
@@ -143,7 +143,7 @@ impl Ledger {
         ensures { result ≡ lives wiring.now self.now spot }
     {
         match spot {
-            Spot::Branch(branch) => match placement(wiring, branch) {
+            Spot::Branch(branch) => match wiring.placement(branch) {
                 Some(placement) => self.group_lives(
                     branch,
                     placement.arbiter,
@@ -172,10 +172,10 @@ impl Ledger {
         let Spot::Branch(branch) = spot else {
             return true;
         };
-        match placement(wiring, branch) {
+        match wiring.placement(branch) {
             Some(placement) => {
                 let queue = placement.branch.queue;
-                self.queue_has_room(queue, policy_of(wiring, queue))
+                self.queue_has_room(queue, wiring.policy_of(queue))
             }
             None => true,
         }
@@ -187,11 +187,11 @@ impl Ledger {
         ensures kept { self.new ≡ self.old }
     {
         match spot {
-            Spot::Branch(branch) => match placement(wiring, branch) {
+            Spot::Branch(branch) => match wiring.placement(branch) {
                 Some(placement) => has_enough(&mut self.ports, &placement.branch.pattern),
                 None => Ok(false),
             },
-            Spot::Site(branch, site) => match site_port(wiring, branch, site) {
+            Spot::Site(branch, site) => match wiring.site_port(branch, site) {
                 Some(port) => Ok(count(&self.ports, port) != 0),
                 None => Ok(false),
             },
@@ -204,7 +204,7 @@ impl Ledger {
         ensures kept { self.new ≡ self.old }
     {
         match spot {
-            Spot::Branch(branch) => match placement(wiring, branch) {
+            Spot::Branch(branch) => match wiring.placement(branch) {
                 Some(placement) => names_of_choice(
                     self.alloc,
                     &mut self.ports,
@@ -212,7 +212,7 @@ impl Ledger {
                 ),
                 None => Ok(None),
             },
-            Spot::Site(branch, site) => match site_port(wiring, branch, site) {
+            Spot::Site(branch, site) => match wiring.site_port(branch, site) {
                 Some(port) => names_of_site(self.alloc, &mut self.ports, port),
                 None => Ok(None),
             },
@@ -230,7 +230,7 @@ impl Ledger {
         ensures kept { self.new ≡ self.old }
     {
         match spot {
-            Spot::Branch(branch) => match placement(wiring, branch) {
+            Spot::Branch(branch) => match wiring.placement(branch) {
                 Some(placement) => {
                     are_choice_of(
                         self.alloc,
@@ -241,7 +241,7 @@ impl Ledger {
                 }
                 None => Ok(false),
             },
-            Spot::Site(branch, site) => match site_port(wiring, branch, site) {
+            Spot::Site(branch, site) => match wiring.site_port(branch, site) {
                 Some(port) => are_oldest(self.alloc, &mut self.ports, port, names),
                 None => Ok(false),
             },
@@ -255,7 +255,7 @@ impl Ledger {
         let Spot::Branch(branch) = spot else {
             return Ok(Vec::new(self.alloc));
         };
-        let Some(placement) = placement(wiring, branch) else {
+        let Some(placement) = wiring.placement(branch) else {
             return Ok(Vec::new(self.alloc));
         };
         if is_teardown(placement.branch.group) {
@@ -319,7 +319,7 @@ impl Ledger {
     {
         let card = self.card(task)?;
         let queue = card.queue as usize;
-        match policy_of(wiring, card.queue) {
+        match wiring.policy_of(card.queue) {
             Policy::Discard(most) => {
                 if most as usize <= self.queued.len(queue) {
                     self.queued.first(queue).copied()

@@ -18,9 +18,7 @@ use crate::{Card, KeptPlay, KeptValues, Ledger, Stage};
 use ccr_base::{BranchNo, MsgId, OutOfMemory, Spot, TaskId};
 use ccr_held::HeldMessages;
 use ccr_model::data::{TaskLoad, play_at_spot};
-use ccr_model::placements::{
-    PlacementOf, is_concurrent, is_interleave, is_teardown, placement, site_port,
-};
+use ccr_model::placements::{PlacementOf, is_concurrent, is_interleave, is_teardown};
 use ccr_rows::Rows;
 use ccr_wiring::Wiring;
 use std::alloc::Global;
@@ -150,7 +148,7 @@ fn next_card(
     ensures ports { OnOk result (ports.new.items ≡ (take_site (site_port wiring.now branch site) ports.old.items).ports) }
     ensures card { IfOk result (λ card. card ≡ site_card wiring.now branch site before.now number (with_messages (load_left before.now) (take_site (site_port wiring.now branch site) ports.old.items).messages)) }
 {
-    let taken = take_site(alloc, ports, site_port(wiring, branch, site))?;
+    let taken = take_site(alloc, ports, wiring.site_port(branch, site))?;
     let load = with_messages(alloc, load_left(alloc, before)?, &taken)?;
     site_card(alloc, wiring, branch, site, before, number, load)
 }
@@ -283,7 +281,7 @@ impl Ledger {
     {
         match spot {
             Spot::Branch(branch) => {
-                let Some(placement) = placement(wiring, branch) else {
+                let Some(placement) = wiring.placement(branch) else {
                     return Ok(());
                 };
                 self.cut_all(cuts);

@@ -9,7 +9,6 @@ ghost use Rattle.ccr_model.specs.Choice.{names_of, choice_of_slots, are_first, a
 ghost use Rattle.ccr_model.specs.Views.{seen};
 
 use crate::Event;
-use crate::placements::{placement, site_port};
 use crate::posts::held;
 use ccr_base::{List, Msg, MsgId, OutOfMemory, Pattern, PortNo, Slot, Spot};
 use ccr_wiring::Wiring;
@@ -162,11 +161,11 @@ pub fn is_choice(
     ensures { IfOk result (λ is. is ≡ is_choice wiring.now events.now spot names.now) }
 {
     match spot {
-        Spot::Branch(branch) => match placement(wiring, branch) {
+        Spot::Branch(branch) => match wiring.placement(branch) {
             Some(placement) => is_choice_of(alloc, events, &placement.branch.pattern, names),
             None => Ok(false),
         },
-        Spot::Site(branch, site) => match site_port(wiring, branch, site) {
+        Spot::Site(branch, site) => match wiring.site_port(branch, site) {
             Some(port) => are_oldest(alloc, events, port, names),
             None => Ok(false),
         },

@@ -10,13 +10,12 @@ ghost use Rattle.ccr_model.specs.Views.{seen, load_seen};
 
 use crate::Event;
 use crate::firings::{before, messages_of, spot_of};
-use crate::placements::placement;
 use crate::posts::message_named;
-use crate::sites::{branch_of, resumed, spot_before};
+use crate::sites::{resumed, spot_before};
 use ccr_base::{BranchNo, CauseNo, Handler, List, Msg, OutOfMemory, PortNo, Spot, TaskId, Value};
 use ccr_cause::union;
 use ccr_handler::{Play, PlayEnd, plays};
-use ccr_wiring::Wiring;
+use ccr_wiring::{Wiring, branch_of, segment_of};
 use std::alloc::Global;
 
 /// What a segment starts with.
@@ -106,19 +105,6 @@ fn play_with(
     plays(alloc, handler, &ports, segment, values, &load.causes)
 }
 
-/// The handler of the branch.
-fn handler_of(wiring: &Wiring, branch: BranchNo) -> Option<&Handler>
-    ensures { option_map_or (λ handler. handler.now.actions) result [] ≡ actions_at wiring.now branch }
-{
-    let placement = placement(wiring, branch)?;
-    let part = wiring
-        .parts()
-        .handlers
-        .as_slice()
-        .get(placement.branch.handler as usize)?;
-    Some(&part.handler)
-}
-
 /// The play of a segment of the branch with this load.
 fn play_at(
     alloc: Global,
@@ -129,7 +115,7 @@ fn play_at(
 ) -> Result<Play, OutOfMemory>
     ensures { IfOk result (λ found. found ≡ play_at wiring.now branch segment (load_seen load.now)) }
 {
-    match handler_of(wiring, branch) {
+    match wiring.handler_of(branch) {
         Some(handler) => play_with(alloc, wiring, handler, segment, load),
         None => idle(alloc, &load.causes),
     }
@@ -172,17 +158,6 @@ fn load_at(
     let load = load_at(alloc, wiring, events, spot_before(branch, site), before)?;
     let left = load_after(alloc, wiring, branch, site, load)?;
     with_messages(alloc, left, &messages)
-}
-
-/// The number of the segment that a task fired at the spot runs, where it fits.
-fn segment_of(spot: Spot) -> Option<u32>
-    ensures fits { IfSome result (λ segment. segment ≡ segment_of spot) }
-    ensures large { IfNone result (2 ^ 32 ≤ segment_of spot) }
-{
-    match spot {
-        Spot::Branch(_) => Some(0),
-        Spot::Site(_, site) => site.checked_add(1),
-    }
 }
 
 /// The play of a task that fires at the spot and starts with this load.

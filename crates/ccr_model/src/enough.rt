@@ -8,7 +8,6 @@ ghost use Rattle.ccr_model.specs.Enough.{can_fire, can_take, has_enough};
 
 use crate::Event;
 use crate::live::{has_room, is_live};
-use crate::placements::{placement, site_port};
 use crate::posts::held;
 use ccr_base::{OutOfMemory, Pattern, Slot, Spot, can_choose};
 use ccr_wiring::Wiring;
@@ -62,11 +61,11 @@ fn can_take(
     ensures { IfOk result (λ can. can ≡ can_take wiring.now events.now spot) }
 {
     match spot {
-        Spot::Branch(branch) => match placement(wiring, branch) {
+        Spot::Branch(branch) => match wiring.placement(branch) {
             Some(placement) => has_enough(alloc, events, &placement.branch.pattern),
             None => Ok(false),
         },
-        Spot::Site(branch, site) => match site_port(wiring, branch, site) {
+        Spot::Site(branch, site) => match wiring.site_port(branch, site) {
             Some(port) => Ok(!held(alloc, events, port)?.is_empty()),
             None => Ok(false),
         },

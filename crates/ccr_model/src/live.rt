@@ -5,7 +5,6 @@ ghost use Rattle.ccr_model.specs.Live.{is_live_in, is_live, has_room_in, has_roo
 
 use crate::Event;
 use crate::firings::fired_at;
-use crate::placements::{placement, policy_of};
 use crate::sites::suspended;
 use crate::tasks::{Branches, coming, fired_by};
 use ccr_base::{BranchNo, Group, OutOfMemory, Policy, QueueNo, Spot};
@@ -46,7 +45,7 @@ pub fn is_live(
     let Spot::Branch(branch) = spot else {
         return Ok(!suspended(alloc, events, spot)?.is_empty());
     };
-    match placement(wiring, branch) {
+    match wiring.placement(branch) {
         Some(placement) => is_live_in(
             alloc,
             wiring,
@@ -89,10 +88,10 @@ pub fn has_room(
     let Spot::Branch(branch) = spot else {
         return Ok(true);
     };
-    match placement(wiring, branch) {
+    match wiring.placement(branch) {
         Some(placement) => {
             let queue = placement.branch.queue;
-            has_room_in(alloc, wiring, events, queue, policy_of(wiring, queue))
+            has_room_in(alloc, wiring, events, queue, wiring.policy_of(queue))
         }
         None => Ok(true),
     }

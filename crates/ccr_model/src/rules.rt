@@ -7,7 +7,7 @@ ghost use Rattle.ccr_model.specs.Rules.{is_post, is_script_line, is_play_post, h
 
 use crate::data::play_of;
 use crate::firings::{cut, ever_admitted, fired, has_task, put, spot_of};
-use crate::placements::{is_concurrent, is_interleave, is_teardown, placement, policy_of};
+use crate::placements::{is_concurrent, is_interleave, is_teardown};
 use crate::posts::{posts_of_poster, posts_of_task, posts_of_tasks};
 use crate::tasks::{
     admitted, count_unfinished, has_post_left, placement_of, queued, running, running_by, waiting,
@@ -117,7 +117,7 @@ pub fn cuts_at(
     ensures { IfOk result (λ tasks. tasks.items ≡ cuts_at wiring.now events.now spot) }
 {
     if let Spot::Branch(branch) = spot {
-        if let Some(placement) = placement(wiring, branch) {
+        if let Some(placement) = wiring.placement(branch) {
             if is_teardown(placement.branch.group) {
                 return waiting(alloc, wiring, events, placement.arbiter);
             }
@@ -207,7 +207,7 @@ fn needs_no_admission(wiring: &Wiring, spot: Spot) -> bool
     let Spot::Branch(branch) = spot else {
         return true;
     };
-    match placement(wiring, branch) {
+    match wiring.placement(branch) {
         Some(placement) => !is_interleave(placement.kind),
         None => false,
     }
@@ -262,7 +262,7 @@ pub fn drop_at(
         Some(placement) => {
             let queue = placement.branch.queue;
             let queued = queued(alloc, wiring, events, queue)?;
-            Ok(drop_by(policy_of(wiring, queue), &queued))
+            Ok(drop_by(wiring.policy_of(queue), &queued))
         }
         None => Ok(None),
     }

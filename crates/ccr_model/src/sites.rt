@@ -11,14 +11,6 @@ use crate::firings::{before, fired_at, spot_of, yielded};
 use ccr_base::{BranchNo, OutOfMemory, Spot, TaskId};
 use std::alloc::Global;
 
-pub(crate) fn branch_of(spot: Spot) -> BranchNo
-    ensures { result ≡ branch_of spot }
-{
-    match spot {
-        Spot::Branch(branch) | Spot::Site(branch, _) => branch,
-    }
-}
-
 /// The spot at which the task fired that this site suspends.
 pub(crate) fn spot_before(branch: BranchNo, site: u32) -> Spot
     ensures branch { branch_of result ≡ branch }

@@ -13,11 +13,11 @@ use crate::firings::{
     cut, dropped, ended, ever_admitted, last_segments, put, remove_all, spot_of, started,
     started_as,
 };
-use crate::placements::{PlacementOf, is_interleave, is_teardown, placement};
+use crate::placements::{PlacementOf, is_interleave, is_teardown};
 use crate::posts::posts_of_task;
-use crate::sites::{branch_of, root_of};
+use crate::sites::root_of;
 use ccr_base::{ActorNo, OutOfMemory, QueueNo, Spot, TaskId};
-use ccr_wiring::Wiring;
+use ccr_wiring::{Wiring, branch_of};
 use std::alloc::Global;
 
 /// Which branches are meant, by the number of a domain or of a queue.
@@ -49,7 +49,7 @@ fn is_meant(wiring: &Wiring, which: Branches, spot: Spot) -> bool
     let Spot::Branch(branch) = spot else {
         return false;
     };
-    match placement(wiring, branch) {
+    match wiring.placement(branch) {
         Some(found) => means(which, &found),
         None => false,
     }
@@ -84,7 +84,7 @@ pub(crate) fn placement_of<'w>(
     ensures { option_map placement_seen result ≡ placement_of wiring.now events.now task }
 {
     let spot = spot_of(events, task)?;
-    placement(wiring, branch_of(spot))
+    wiring.placement(branch_of(spot))
 }
 
 /// The tasks that branches of this domain of Interleaves fired, neither admitted nor cut, by firing.

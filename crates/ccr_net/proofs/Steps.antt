@@ -50,7 +50,8 @@ use Rattle.ccr_claim.specs.declared.plan.Had.{Had}
 use Rattle.ccr_claim.specs.Plans.{any_slot, had_at, ports_in, in_pattern, names_of}
 use Rattle.ccr_claim.specs.declared.asks.Asked.{Asked}
 use Rattle.ccr_claim.specs.Attempts.{had_in}
-use Rattle.ccr_actor.specs.Plans.{pattern_at, one_of, throttled, is_for as is_branch_for}
+use Rattle.ccr_wiring.specs.Takers.{is_for as is_branch_for}
+use Rattle.ccr_actor.specs.Plans.{pattern_at, one_of, throttled}
 use Rattle.ccr_actor.specs.Actors.{State, round, playing, resting, turn, settle, drive, go_on, after_in, name_at, spots_left, fire, begin_play, play_in, after_over, next_round, driving, settled, admit_too}
 use Rattle.ccr_net.specs.declared.entries.Entry.{Entry}
 use Rattle.ccr_net.specs.Runs.{Lacks, state_of, port_at, notes_at, reply_of, reply_to, waits}

@@ -37,7 +37,7 @@ use Rattle.ccr_places.specs.Queues as queues
 use Rattle.ccr_places.specs.Meters as meters
 use Rattle.ccr_claim.specs.declared.asks.Ask.TheVariants as asks
 use Rattle.ccr_claim.specs.Attempts.{at_place, had_in}
-use Rattle.ccr_actor.specs.Plans.{spots_at, names_port}
+use Rattle.ccr_wiring.specs.Takers.{spots_at, takes_from}
 use Rattle.ccr_actor.specs.Actors.{State, Work, name_at, lines, round, taking, playing, posting, shedding, resting, go_on, turn, ask_in, after_in, play_in, take_from, after_over, driving, work_ask, script_message, task_message}
 use Rattle.ccr_net.specs.declared.entries.Entry.{Entry}
 use Rattle.ccr_net.specs.Runs.{Lacks, state_of, port_at, notes_at, reply_of}
@@ -137,7 +137,7 @@ module _ (w : Parts) (n : ℕ) (first : PlainFacts w) (few : n ≤ 33) (lacks : 
       post got =
           let note = (given_some _ (notes.Post m) e.note got.gives).1 in
           step_post w n lacks es e low holds m next got.there note turns (rw (turns, work) refl)
-          (record { hand = refl; phase = refl; attempt = refl; spots_so = λ s among. first.places_so s (filter_among (names_port w sent.port) (spots w) s among) })
+          (record { hand = refl; phase = refl; attempt = refl; spots_so = λ s among. first.places_so s (filter_among (takes_from w sent.port) (spots w) s among) })
           (script_allowed w h e.actor place is.poster sent is.is_poster rest.0 is.place_so) is.place_so
           (record { poster = is.poster; is_poster = is.is_poster; place_so = ap (λ k. k + 1) is.place_so ∙ sym (script_own h m e.actor place refl); left_so = rest.1 ∙ ap (λ k. drop k is.poster.posts) (suc-one place) })
           (λ a other. script_says h m a e.actor place refl other)
@@ -326,7 +326,7 @@ module _ (w : Parts) (n : ℕ) (first : PlainFacts w) (few : n ≤ 33) (lacks : 
       post got =
           let note = (given_some _ (notes.Post m) e.note got.gives).1 in
           step_post w n lacks es e low holds m next got.there note turns (rw (turns, work) refl)
-          (record { hand = refl; phase = refl; attempt = refl; spots_so = λ s among. first.places_so s (filter_among (names_port w sent.port) (spots w) s among) })
+          (record { hand = refl; phase = refl; attempt = refl; spots_so = λ s among. first.places_so s (filter_among (takes_from w sent.port) (spots w) s among) })
           (play_allowed w h task.id place sent (runs h e.actor task.id run.alone) line run.place_so room) run.place_so (
             record {
               worker = run.worker;

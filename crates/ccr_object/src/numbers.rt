@@ -10,9 +10,9 @@ ghost use Rattle.ccr_claim.specs.declared.asks.Ask.{Ask};
 ghost use Rattle.ccr_claim.specs.declared.asks.Reply.{Reply as Replied};
 ghost use Rattle.ccr_claim.specs.Wired.{IsKnown, IsReplyOf};
 
-use ccr_base::{Action, ArbiterNo, Cut, HandlerNo, Msg, OutOfMemory, Spot, Task};
+use ccr_base::{Action, ArbiterNo, Cut, Msg, OutOfMemory, Spot, Task};
 use ccr_claim::{Ask, Reply};
-use ccr_wiring::{BranchPart, Parts, Wiring};
+use ccr_wiring::{BranchPart, Wiring};
 use std::alloc::Global;
 use std::marker::Model;
 
@@ -44,7 +44,7 @@ impl Numbers {
     {
         let parts = wiring.parts();
         let domains = domain_tests(alloc, wiring)?;
-        let sites = site_counts(alloc, parts)?;
+        let sites = site_counts(alloc, wiring)?;
         Ok(Numbers {
             ports: parts.ports.as_slice().len(),
             queues: parts.queues.as_slice().len(),
@@ -187,15 +187,6 @@ fn are_apart(numbers: &[u32]) -> bool
     true
 }
 
-fn actions_of(parts: &Parts, handler: HandlerNo) -> &[Action]
-    ensures { result.now ≡ actions_of parts.now handler }
-{
-    match parts.handlers.as_slice().get(handler as usize) {
-        Some(part) => part.handler.actions.as_slice(),
-        None => &[],
-    }
-}
-
 fn count_awaits(actions: &[Action]) -> usize
     ensures { result ≡ length (awaited actions.now) }
 {
@@ -210,13 +201,13 @@ fn count_awaits(actions: &[Action]) -> usize
 
 fn add_counts(
     counts: &mut Vec<usize>,
-    parts: &Parts,
+    wiring: &Wiring,
     branches: &[BranchPart],
 ) -> Result<(), OutOfMemory>
-    ensures { OnOk result (counts.new.items ≡ counts.old.items ++ map (site_count parts.now) branches.now) }
+    ensures { OnOk result (counts.new.items ≡ counts.old.items ++ map (site_count wiring.now) branches.now) }
 {
     for branch in branches {
-        counts.push(count_awaits(actions_of(parts, branch.handler)))?;
+        counts.push(count_awaits(wiring.actions_of(branch.handler)))?;
     }
     Ok(())
 }
@@ -232,12 +223,12 @@ fn domain_tests(alloc: Global, wiring: &Wiring) -> Result<Vec<bool>, OutOfMemory
     Ok(tests)
 }
 
-fn site_counts(alloc: Global, parts: &Parts) -> Result<Vec<usize>, OutOfMemory>
-    ensures { IfOk result (λ counts. counts.items ≡ site_counts parts.now) }
+fn site_counts(alloc: Global, wiring: &Wiring) -> Result<Vec<usize>, OutOfMemory>
+    ensures { IfOk result (λ counts. counts.items ≡ site_counts wiring.now) }
 {
     let mut counts = Vec::new(alloc);
-    for arbiter in parts.arbiters.as_slice() {
-        add_counts(&mut counts, parts, arbiter.branches.as_slice())?;
+    for arbiter in wiring.parts().arbiters.as_slice() {
+        add_counts(&mut counts, wiring, arbiter.branches.as_slice())?;
     }
     Ok(counts)
 }

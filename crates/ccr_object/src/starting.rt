@@ -8,7 +8,7 @@ ghost use Rattle.ccr_object.specs.Starts.{port_places, queue_places, arbiter_pla
 use crate::object::Object;
 use ccr_arbiter::ArbiterObject;
 use ccr_await::SiteObject;
-use ccr_base::{ArbiterNo, BranchNo, Group, List, OutOfMemory, Place, Policy, QueueNo, Spot};
+use ccr_base::{ArbiterNo, BranchNo, Group, List, OutOfMemory, Place, Spot};
 use ccr_interleave::InterleaveObject;
 use ccr_port::PortObject;
 use ccr_queue::{Meter, QueueObject};
@@ -89,20 +89,11 @@ pub fn object_at(alloc: Global, wiring: &Wiring, place: Place) -> Result<Object,
         Place::Arbiter(number) => arbiter_at(alloc, wiring, number)?,
         Place::Site(branch, site) => Object::Site(SiteObject::new(alloc, branch, site)),
         Place::Queue(number) => {
-            let policy = policy_of(wiring, number);
+            let policy = wiring.policy_of(number);
             Object::Queue(QueueObject::new(alloc, number, policy))
         }
         Place::Meter => Object::Meter(Meter::new(wiring.parts().budget)),
     })
-}
-
-fn policy_of(wiring: &Wiring, queue: QueueNo) -> Policy
-    ensures { result ≡ policy_of wiring.now queue }
-{
-    match wiring.parts().queues.as_slice().get(queue as usize) {
-        Some(part) => part.policy,
-        None => Policy::Unbounded,
-    }
 }
 
 fn kind_of(wiring: &Wiring, arbiter: ArbiterNo) -> Kind

@@ -10,6 +10,7 @@ use crate::stage::{self, QueueStage, QueuedTask};
 use ccr_base::{OutOfMemory, Policy, QueueNo, Task, TaskId};
 use std::alloc::Global;
 use std::collections::{HashMap, VecDeque};
+use std::hash::{BuildHasherDefault, FoldHasher};
 use std::marker::Model;
 
 /// The answer to a booking: a throttle that is full tells its number.
@@ -25,7 +26,7 @@ pub struct QueueObject {
     number: QueueNo,
     policy: Policy,
     /// The booked and the queued tasks.
-    stages: HashMap<TaskId, QueueStage>,
+    stages: HashMap<TaskId, QueueStage, BuildHasherDefault<FoldHasher>>,
     /// The oldest first, with room for all tasks of the table.
     queued: VecDeque<QueuedTask>,
     /// How many of the booked and queued tasks don't resume a suspended one.
@@ -65,7 +66,7 @@ impl QueueObject {
         QueueObject {
             number,
             policy,
-            stages: HashMap::new(alloc),
+            stages: HashMap::with_hasher(alloc, BuildHasherDefault::new()),
             queued: VecDeque::new(alloc),
             fresh: 0,
         }

@@ -10,9 +10,9 @@ ghost use Rattle.ccr_wiring.specs.Wirings.{branch_of};
 ghost use Rattle.ccr_model.specs.Firings.{spot_of};
 ghost use Rattle.ccr_report.specs.Counting.{branch_queues, queues_in};
 
-use ccr_base::{BranchNo, OutOfMemory, QueueNo, Spot, TaskId};
+use ccr_base::{OutOfMemory, QueueNo, Spot, TaskId};
 use ccr_model::Event;
-use ccr_wiring::{ArbiterPart, Parts};
+use ccr_wiring::{ArbiterPart, Parts, branch_of};
 use std::alloc::Global;
 use std::collections::HashMap;
 
@@ -64,14 +64,6 @@ fn add_queues(queues: &mut Vec<QueueNo>, arbiter: &ArbiterPart) -> Result<(), Ou
         queues.push(part.queue)?;
     }
     Ok(())
-}
-
-fn branch_of(spot: Spot) -> BranchNo
-    ensures { result ≡ branch_of spot }
-{
-    match spot {
-        Spot::Branch(branch) | Spot::Site(branch, _) => branch,
-    }
 }
 
 /// The task's queue.

@@ -31,7 +31,7 @@ pub fn merge<O: Drop, N: Drop>(
 }
 
 // How many entries there are.
-fn count_of<O: Drop, N: Drop>(kept: &[(O, List<Held<N>>)]) -> usize {
+pub(crate) fn count_of<O: Drop, N: Drop>(kept: &[(O, List<Held<N>>)]) -> usize {
     let mut count = 0usize;
     for left in kept {
         count = count.saturating_add(left.1.len());

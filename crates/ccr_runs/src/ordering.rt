@@ -17,6 +17,6 @@ pub fn in_order<E: Drop>(items: Vec<Stamped<E>>) -> Result<Vec<Stamped<E>>, OutO
     ensures { IfOk result (λ sorted. sorted.items ≡ in_order (λ one. one.stamp) items.items) }
 {
     let mut sorted = items;
-    sorted.sort_by_cached_key(|one| one.stamp)?;
+    sorted.sort_by_key(|one| one.stamp)?;
     Ok(sorted)
 }

@@ -16,7 +16,7 @@ use crate::touched::note_touched;
 use ccr_base::{ActorNo, OutOfMemory, Spot, TaskId};
 use ccr_ledger::Ledger;
 use ccr_model::Event;
-use ccr_model::placements::{is_interleave, placement};
+use ccr_model::placements::is_interleave;
 use ccr_wiring::Wiring;
 use std::alloc::Global;
 use std::marker::Model;
@@ -60,7 +60,7 @@ fn needs_no_admission(wiring: &Wiring, spot: Spot) -> bool
     ensures { result ≡ needs_no_admission wiring.now spot }
 {
     match spot {
-        Spot::Branch(branch) => match placement(wiring, branch) {
+        Spot::Branch(branch) => match wiring.placement(branch) {
             Some(placement) => !is_interleave(placement.kind),
             None => false,
         },

@@ -8,7 +8,6 @@ ghost use Rattle.ccr_serial.specs.Parts.{is_in_domain, touches_domain_in};
 use crate::numbers::Numbers;
 use ccr_base::{OutOfMemory, Spot, TaskId};
 use ccr_ledger::Ledger;
-use ccr_model::placements::placement;
 use ccr_model::{EndHow, Event};
 use ccr_wiring::Wiring;
 
@@ -17,7 +16,7 @@ fn note_branch(wiring: &Wiring, spot: Spot, domains: &mut Numbers) -> Result<(),
     ensures { OnOk result (Gains (λ domain. is_branch_where wiring.now (λ s. domain == s.arbiter) spot) domains.old domains.new) }
 {
     match spot {
-        Spot::Branch(branch) => match placement(wiring, branch) {
+        Spot::Branch(branch) => match wiring.placement(branch) {
             Some(placement) => domains.enter(placement.arbiter),
             None => Ok(()),
         },

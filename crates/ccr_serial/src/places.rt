@@ -12,7 +12,6 @@ ghost use Rattle.ccr_serial.specs.Numbered.{ArePlaces};
 ghost use Rattle.ccr_serial.specs.Places.{AreKeyed, IsNoted, branch_places, first_place, list_at, takes_from};
 
 use ccr_base::{OutOfMemory, Pattern, PortNo, Slot, Spot};
-use ccr_model::placements::{placement, site_port};
 use ccr_wiring::{Parts, Wiring};
 use std::alloc::Global;
 use std::marker::Model;
@@ -77,11 +76,11 @@ fn note_ports(
     ensures { OnOk result (IsNoted (λ port. takes_from wiring.now port spot) place ports.old ports.new) }
 {
     match spot {
-        Spot::Branch(branch) => match placement(wiring, branch) {
+        Spot::Branch(branch) => match wiring.placement(branch) {
             Some(placement) => note_pattern(&placement.branch.pattern, place, ports),
             None => Ok(()),
         },
-        Spot::Site(branch, site) => match site_port(wiring, branch, site) {
+        Spot::Site(branch, site) => match wiring.site_port(branch, site) {
             Some(port) => note(port, place, ports),
             None => Ok(()),
         },
@@ -203,7 +202,7 @@ impl<'w> Places<'w> {
         ensures { result ≡ first_place (same_spot (Site branch site)) (spots self.now) }
     {
         let _spots = self.wiring.spots();
-        let Some(_port) = site_port(self.wiring, branch, site) else {
+        let Some(_port) = self.wiring.site_port(branch, site) else {
             return None;
         };
         match self.of_branch(branch) {

@@ -16,7 +16,6 @@ use crate::parts::{choose_at, fire_at};
 use ccr_base::{OutOfMemory, QueueNo, Spot, TaskId};
 use ccr_ledger::Ledger;
 use ccr_model::Event;
-use ccr_model::placements::placement;
 use ccr_wiring::Wiring;
 
 /// A blocked branch: its queue and its place.
@@ -31,7 +30,7 @@ fn queue_at(wiring: &Wiring, spot: Spot) -> Option<QueueNo>
     ensures { result ≡ queue_at wiring.now spot }
 {
     match spot {
-        Spot::Branch(branch) => match placement(wiring, branch) {
+        Spot::Branch(branch) => match wiring.placement(branch) {
             Some(placement) => Some(placement.branch.queue),
             None => None,
         },

@@ -1,6 +1,7 @@
 -- The history that the histories of the locks show is that of the merged entries.
-use Rattle.std.proofs.Common.{Bool, true, false, ◌≡◌, ◌∙◌, ℕ, suc, cond, List, [], ◌∷◌, ◌++◌, map, refl, ap, sym, Option, Some, None}
-use Rattle.std.specs.Prelude.{flat_map}
+use Rattle.std.proofs.Common.{Bool, true, false, ◌≡◌, ◌≤◌, ◌∙◌, ℕ, suc, cond, List, [], ◌∷◌, ◌++◌, map, refl, ap, sym, arith, Option, Some, None}
+use Rattle.std.specs.Prelude.{flat_map, drop, slice_get, unwrap_or}
+use Rattle.std.proofs.lemmas.List.{append_assoc}
 use Rattle.std.specs.List.{cons_option}
 use Rattle.std.specs.Option.{option_map}
 use Rattle.std.proofs.lemmas.List.Concat.{flat_map-append}
@@ -11,49 +12,21 @@ use Rattle.ccr_places.specs.declared.notes.Note.TheVariants as notes
 use Rattle.ccr_model.specs.declared.history.Event.{Event}
 use Rattle.ccr_object.specs.declared.deed.Deed.{Deed}
 use Rattle.ccr_object.specs.Events.{has_event, is_event}
-use Rattle.ccr_turns.specs.Histories.{keeps, sifted}
+use Rattle.ccr_turns.specs.Histories.{history_stamps, keeps, sifted}
 use Rattle.ccr_turns.specs.Locks.{sifted_of}
 use Rattle.ccr_turns.specs.declared.kept.Keep.{Keep}
 use Rattle.ccr_turns.specs.declared.kept.Keep.TheVariants.{Every, Seen}
-use Rattle.ccr_turns.specs.Lists.{Each}
+use Rattle.ccr_turns.specs.Lists.{Each, Rises}
 use Rattle.ccr_turns.specs.declared.history.Held.{Held}
 use Rattle.ccr_runs.specs.declared.acts.Act.{Act}
-use Rattle.ccr_runs.specs.declared.ordering.Stamped.{Stamped}
-use Rattle.ccr_runs.specs.Merges.{held, tag, tagged}
+use Rattle.ccr_runs.specs.Merges.{tag, tagged}
 use Rattle.ccr_runs.specs.Orders.{in_order, merged}
 use Rattle.ccr_runs.proofs.InOrder.{shown_in_order}
 use Rattle.ccr_net.specs.declared.entries.Entry.{Entry}
 use Rattle.ccr_net.specs.Played.{entries_of, place_at}
 use Rattle.ccr_net.specs.Visible.{shown, visible}
 use Rattle.ccr_space.specs.Closes.{Kept}
-use Rattle.ccr_space.specs.Shows.{held_shown, kept_shown, note_shown, stamped}
-
-abbrev act_shown : Act Deed → List (Stamped Event)
-act_shown act = held_shown (held act)
-
-abbrev item_of : Stamped Event → Event
-item_of one = one.item
-
-tagged_shown : (place : ℕ) (history : List (Held Deed)) → flat_map held_shown history ≡ flat_map act_shown (map (tag place) history)
-tagged_shown place [] = refl
-tagged_shown place (h ∷ history) = ap (λ (l : List (Stamped Event)). held_shown h ++ l) (tagged_shown place history)
-
-all_tagged : (place : ℕ) (kept : List Kept) → kept_shown kept ≡ flat_map act_shown (tagged place kept)
-all_tagged place [] = refl
-all_tagged place (left ∷ kept) =
-    (λ i. tagged_shown place left.1 i ++ all_tagged (suc place) kept i) ∙ sym (flat_map-append act_shown (map (tag place) left.1) (tagged (suc place) kept))
-
-each_stamped : (stamp : ℕ) (events : List Event) → Each (λ (one : Stamped Event). one.stamp ≡ stamp) (map (stamped stamp) events)
-each_stamped stamp [] = tt
-each_stamped stamp (event ∷ events) = (refl, each_stamped stamp events)
-
-items_append : (xs ys : List (Stamped Event)) → map item_of (xs ++ ys) ≡ map item_of xs ++ map item_of ys
-items_append [] ys = refl
-items_append (x ∷ xs) ys = ap (λ (l : List Event). x.item ∷ l) (items_append xs ys)
-
-items_stamped : (stamp : ℕ) (events : List Event) → map item_of (map (stamped stamp) events) ≡ events
-items_stamped stamp [] = refl
-items_stamped stamp (event ∷ events) = ap (λ (l : List Event). event ∷ l) (items_stamped stamp events)
+use Rattle.ccr_space.specs.Shows.{act_shown, acts_shown, note_shown}
 
 -- the entry of an act shows what its note shows
 one_shown : (wiring : Parts) (act : Act Deed) (note : Option Note) (more : List Entry)
@@ -61,18 +34,22 @@ one_shown : (wiring : Parts) (act : Act Deed) (note : Option Note) (more : List 
 one_shown wiring act None more = refl
 one_shown wiring act (Some note) more = refl
 
-acts_shown : (wiring : Parts) (acts : List (Act Deed)) → map item_of (flat_map act_shown acts) ≡ visible (entries_of wiring acts)
-acts_shown wiring [] = refl
-acts_shown wiring (act ∷ acts) =
-    items_append (act_shown act) (flat_map act_shown acts)
-    ∙ ((λ i. items_stamped act.stamp (note_shown act.seat act.note.note) i ++ acts_shown wiring acts i) ∙ one_shown wiring act act.note.note (entries_of wiring acts))
+-- the acts show what their entries show
+pub visible_acts : (wiring : Parts) (acts : List (Act Deed)) → acts_shown acts ≡ visible (entries_of wiring acts)
+visible_acts wiring [] = refl
+visible_acts wiring (act ∷ acts) = ap (λ l. act_shown act ++ l) (visible_acts wiring acts) ∙ one_shown wiring act act.note.note (entries_of wiring acts)
 
--- in the order of the stamps
-pub history_is : (wiring : Parts) (kept : List Kept) → map item_of (in_order (λ (one : Stamped Event). one.stamp) (kept_shown kept)) ≡ visible (entries_of wiring (merged kept))
-history_is wiring kept =
-    ap (λ (l : List (Stamped Event)). map item_of (in_order (λ (one : Stamped Event). one.stamp) l)) (all_tagged 0 kept)
-    ∙ (ap (map item_of) (sym (shown_in_order (λ (act : Act Deed). act.stamp) (λ (one : Stamped Event). one.stamp) act_shown (λ act. each_stamped act.stamp (note_shown act.seat act.note.note)) (tagged 0 kept)))
-    ∙ acts_shown wiring (merged kept))
+-- the first of the acts, and the others
+first_of : (acts : List (Act Deed)) (act : Act Deed) → Some act ≡ slice_get acts 0 → acts ≡ act ∷ drop 1 acts
+first_of [] act is = absurd (cc)
+first_of (other ∷ acts) act is = ap (λ a. a ∷ acts) (ap (λ o. unwrap_or o act) (sym is))
+
+-- what an act shows is added, and the others are left
+pub one_added : (history more : List Event) (acts left : List (Act Deed)) (act : Act Deed) → more ≡ history ++ act_shown act → Some act ≡ slice_get acts 0 → left ≡ drop 1 acts → more ++ acts_shown left ≡ history ++ acts_shown acts
+one_added history more acts left act added first rest =
+    ap (λ h. h ++ acts_shown left) added
+    ∙ (append_assoc history (act_shown act) (acts_shown left)
+    ∙ ap (λ l. history ++ l) (ap (λ l. act_shown act ++ acts_shown l) rest ∙ sym (ap acts_shown (first_of acts act first))))
 
 -- ---- what isn't kept in memory shows nothing
 
@@ -99,24 +76,70 @@ no_event actor (notes.Draw given) none = refl
 no_event actor notes.Leave none = refl
 no_event actor (notes.Left count) none = refl
 
-shows_nothing : (keep : Keep) (entry : Held Deed) → keeps keep has_event entry.note ≡ false → held_shown entry ≡ []
-shows_nothing Every entry none = absurd (cc)
-shows_nothing Seen entry none = by entry.note.note none
+shows_nothing : (keep : Keep) (act : Act Deed) → keeps keep has_event act.note ≡ false → act_shown act ≡ []
+shows_nothing Every act none = absurd (cc)
+shows_nothing Seen act none = by act.note.note none
   where
-    by : (note : Option Note) → has_event (record entry.note { note = note }) ≡ false → map (stamped entry.stamp) (note_shown entry.seat note) ≡ []
+    by : (note : Option Note) → has_event (record act.note { note = note }) ≡ false → note_shown act.seat note ≡ []
     by None none = refl
-    by (Some note) none = ap (map (stamped entry.stamp)) (no_event entry.seat note none)
+    by (Some note) none = no_event act.seat note none
 
-sifted_shows : (keep : Keep) (history : List (Held Deed)) → flat_map held_shown (sifted (keeps keep has_event) history) ≡ flat_map held_shown history
-sifted_shows keep [] = refl
-sifted_shows keep (h ∷ history) = by (keeps keep has_event h.note) refl (sifted_shows keep history)
-  where
-    by : (b : Bool) → keeps keep has_event h.note ≡ b → flat_map held_shown (sifted (keeps keep has_event) history) ≡ flat_map held_shown history
-        → flat_map held_shown (cond b (h ∷ sifted (keeps keep has_event) history) (sifted (keeps keep has_event) history)) ≡ held_shown h ++ flat_map held_shown history
-    by true is again = ap (λ (l : List (Stamped Event)). held_shown h ++ l) again
-    by false is again = again ∙ sym (ap (λ (l : List (Stamped Event)). l ++ flat_map held_shown history) (shows_nothing keep h is))
+-- ---- of the merged entries those are merged that are kept
 
--- so what is kept shows what the whole histories show
-pub kept_shows : (keep : Keep) (whole : List Kept) → kept_shown (map (sifted_of (keeps keep has_event)) whole) ≡ kept_shown whole
-kept_shows keep [] = refl
-kept_shows keep (left ∷ whole) = λ i. sifted_shows keep left.1 i ++ kept_shows keep whole i
+module _ (keep : Keep) where
+  abbrev sees : Deed → Bool
+  sees deed = keeps keep has_event deed
+
+  abbrev kept_one : Act Deed → List (Act Deed)
+  kept_one act = cond (sees act.note) (act ∷ []) []
+
+  one_stamped : (act : Act Deed) → Each (λ (a : Act Deed). a.stamp ≡ act.stamp) (kept_one act)
+  one_stamped act = by (sees act.note)
+    where
+      by : (b : Bool) → Each (λ (a : Act Deed). a.stamp ≡ act.stamp) (cond b (act ∷ []) [])
+      by true = (refl, tt)
+      by false = tt
+
+  tagged_sifted : (place : ℕ) (history : List (Held Deed)) → map (tag place) (sifted sees history) ≡ flat_map kept_one (map (tag place) history)
+  tagged_sifted place [] = refl
+  tagged_sifted place (h ∷ history) = by (sees h.note) (tagged_sifted place history)
+    where
+      by : (b : Bool) → map (tag place) (sifted sees history) ≡ flat_map kept_one (map (tag place) history)
+          → map (tag place) (cond b (h ∷ sifted sees history) (sifted sees history)) ≡ cond b (tag place h ∷ []) [] ++ flat_map kept_one (map (tag place) history)
+      by true again = ap (λ l. tag place h ∷ l) again
+      by false again = again
+
+  all_sifted : (place : ℕ) (whole : List Kept) → tagged place (map (sifted_of sees) whole) ≡ flat_map kept_one (tagged place whole)
+  all_sifted place [] = refl
+  all_sifted place (left ∷ whole) =
+      (λ i. tagged_sifted place left.1 i ++ all_sifted (suc place) whole i) ∙ sym (flat_map-append kept_one (map (tag place) left.1) (tagged (suc place) whole))
+
+  merged_sifted : (whole : List Kept) → merged (map (sifted_of sees) whole) ≡ flat_map kept_one (merged whole)
+  merged_sifted whole =
+      ap (in_order (λ (act : Act Deed). act.stamp)) (all_sifted 0 whole)
+      ∙ sym (shown_in_order (λ (act : Act Deed). act.stamp) (λ (act : Act Deed). act.stamp) kept_one one_stamped (tagged 0 whole))
+
+  kept_show : (acts : List (Act Deed)) → acts_shown (flat_map kept_one acts) ≡ acts_shown acts
+  kept_show [] = refl
+  kept_show (act ∷ acts) = by (sees act.note) refl (kept_show acts)
+    where
+      by : (b : Bool) → sees act.note ≡ b → acts_shown (flat_map kept_one acts) ≡ acts_shown acts → acts_shown (cond b (act ∷ []) [] ++ flat_map kept_one acts) ≡ act_shown act ++ acts_shown acts
+      by true is again = ap (λ l. act_shown act ++ l) again
+      by false is again = again ∙ sym (ap (λ l. l ++ acts_shown acts) (shows_nothing keep act is))
+
+  -- so what is kept shows what the whole histories show
+  pub history_is : (wiring : Parts) (whole : List Kept) → acts_shown (merged (map (sifted_of sees) whole)) ≡ visible (entries_of wiring (merged whole))
+  history_is wiring whole = ap acts_shown (merged_sifted whole) ∙ (kept_show (merged whole) ∙ visible_acts wiring (merged whole))
+
+  rises_from : (a b : ℕ) (stamps : List ℕ) → a ≤ b → Rises b stamps → Rises a stamps
+  rises_from a b [] low rises = tt
+  rises_from a b (stamp ∷ stamps) low rises = (let first = rises.0 in omega (arith, first, low), rises.1)
+
+  -- the stamps of what is kept rise
+  pub sifted_rises : (a : ℕ) (history : List (Held Deed)) → Rises a (history_stamps history) → Rises a (history_stamps (sifted sees history))
+  sifted_rises a [] rises = tt
+  sifted_rises a (h ∷ history) rises = by (sees h.note) (sifted_rises h.stamp history rises.1)
+    where
+      by : (b : Bool) → Rises h.stamp (history_stamps (sifted sees history)) → Rises a (history_stamps (cond b (h ∷ sifted sees history) (sifted sees history)))
+      by true again = (rises.0, again)
+      by false again = let first = rises.0 in rises_from a h.stamp (history_stamps (sifted sees history)) (omega (arith, first)) again

@@ -9,7 +9,6 @@ ghost use Rattle.ccr_steady.specs.Flow.{at_port, each, sends, weigh, lines, scri
 ghost use Rattle.ccr_steady.specs.Counting.{is_short, AreStuck, IsReady, IsCounting, HasFlow};
 ghost use Rattle.ccr_steady.specs.Agreement.{IsDear};
 
-use crate::rules::actions_of;
 use ccr_base::{Action, OutOfMemory, Pattern, PortNo, Slot};
 use ccr_wiring::{PlacementOf, PosterPart, ScriptPost, Wiring};
 use std::alloc::Global;
@@ -160,7 +159,7 @@ pub fn find_flow(
     let budget = u64::from(wiring.parts().budget);
     let mut counters = start(alloc, wiring, all.len())?;
     while let Some(branch) = counters.ready(all) {
-        counters.fire(branch, actions_of(wiring, all[branch].branch.handler));
+        counters.fire(branch, wiring.actions_of(all[branch].branch.handler));
         if counters.spent > budget {
             return Ok(None);
         }

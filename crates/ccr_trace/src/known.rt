@@ -11,7 +11,6 @@ use crate::cursor::Cursor;
 use crate::numbers::Numbers;
 use crate::stop::Stop;
 use ccr_base::{CauseNo, List, Name, OutOfMemory, PortNo, Spot};
-use ccr_model::placements::site_port;
 use ccr_wiring::{ArbiterPart, CausePart, Parts, Wiring, valid_wirings_are_sound};
 use std::alloc::Global;
 use std::marker::Model;
@@ -140,7 +139,7 @@ impl<'w> Known<'w> {
         let Some(site) = site else {
             return Ok(Spot::Branch(branch));
         };
-        if site_port(self.wiring, branch, site).is_none() {
+        if self.wiring.site_port(branch, site).is_none() {
             return Err(Stop::Unknown);
         }
         Ok(Spot::Site(branch, site))

@@ -4,5 +4,7 @@ pub mod Crowds
 pub mod SpotLemmas
 pub mod Validity
 pub mod Positions
+pub mod Noted
+pub mod Untaken
 pub mod DomainLemmas
 pub mod Soundness

@@ -11,7 +11,7 @@ use Rattle.ccr_wiring.specs.declared.parts.Parts.{Parts}
 use Rattle.ccr_wiring.specs.declared.placements.Position.{Position}
 use Rattle.ccr_wiring.specs.Domains.{domain_of}
 use Rattle.ccr_wiring.specs.Placements.{positions_in, positions_from, positions, placement_among, placement_at}
-use Rattle.ccr_wiring.specs.Wirings.{Placement, placement, placements_of, placements_from, in_domain}
+use Rattle.ccr_wiring.specs.Wirings.{placement, placements_of, placements_from, in_domain}
 
 pub get-front : {X : Type 0} (xs ys : List X) (k : ℕ) (x : X) → slice_get xs k ≡ Some x → slice_get (xs ++ ys) k ≡ Some x
 get-front [] ys k x is = absurd cc

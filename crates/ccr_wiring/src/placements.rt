@@ -3,11 +3,12 @@
 ghost use Rattle.std.specs.Prelude.{◌≡◌, false, ◌<◌, ◌^◌, ◌++◌, IfOk, OnOk, length};
 ghost use Rattle.std.specs.Option.{option_map};
 ghost use Rattle.ccr_wiring.specs.Limits.{has_outside};
-ghost use Rattle.ccr_wiring.specs.Placements.{positions, positions_in, positions_from, placement_at, placement_seen};
+ghost use Rattle.ccr_wiring.specs.Wirings.{placement};
+ghost use Rattle.ccr_wiring.specs.Placements.{positions as positions_of, positions, positions_in, positions_from, placement_at, placement_seen};
 
 use crate::domains::domain_of;
 use crate::{ArbiterPart, BranchPart, DomainPart, Kind, Parts};
-use ccr_base::{ArbiterNo, OutOfMemory};
+use ccr_base::{ArbiterNo, BranchNo, OutOfMemory};
 use std::alloc::Global;
 
 /// A branch with the number of its arbiter's domain and the arbiter's kind.
@@ -73,6 +74,19 @@ pub(crate) fn all_positions(alloc: Global, parts: &Parts) -> Result<Vec<Position
         parts.arbiters.as_slice(),
     )?;
     Ok(listed)
+}
+
+/// The branch of this number.
+pub(crate) fn placement_of<'p>(
+    parts: &'p Parts,
+    positions: &[Position],
+    branch: BranchNo,
+) -> Option<PlacementOf<'p>>
+    requires { positions.now ≡ positions_of parts.now }
+    ensures { option_map placement_seen result ≡ placement parts.now branch }
+{
+    let position = positions.get(branch as usize)?;
+    placement_at(parts.arbiters.as_slice(), *position)
 }
 
 /// The branch at the position.

@@ -1,7 +1,7 @@
 //! The spots of a wiring, and the ports that they name.
 
-ghost use Rattle.std.specs.Prelude.{◌≡◌, false, ◌<◌, ◌+◌, ◌^◌, ◌++◌, IfOk, OnOk, length, map};
-ghost use Rattle.ccr_wiring.specs.Wirings.{sites_from, spots, awaited, actions_of};
+ghost use Rattle.std.specs.Prelude.{◌≡◌, false, ◌<◌, ◌≤◌, ◌+◌, ◌^◌, ◌++◌, IfOk, IfSome, IfNone, OnOk, length, map};
+ghost use Rattle.ccr_wiring.specs.Wirings.{sites_from, spots, awaited, actions_of, branch_of, segment_of};
 ghost use Rattle.ccr_wiring.specs.Repeats.{slot_ports};
 ghost use Rattle.ccr_wiring.specs.Spots.{pattern_ports, branch_named, branches_named, arbiters_named, named_ports, has_crowded, branch_spots, all_branches};
 ghost use Rattle.ccr_wiring.specs.Limits.{has_outside};
@@ -12,7 +12,7 @@ use ccr_base::{Action, BranchNo, HandlerNo, OutOfMemory, Pattern, PortNo, Slot, 
 use indexmap::IndexMap;
 use std::alloc::Global;
 
-fn actions_of(parts: &Parts, handler: HandlerNo) -> &[Action]
+pub(crate) fn actions_of(parts: &Parts, handler: HandlerNo) -> &[Action]
     ensures { result.now ≡ actions_of parts.now handler }
 {
     match parts.handlers.as_slice().get(handler as usize) {
@@ -182,4 +182,24 @@ pub(crate) fn all_spots(alloc: Global, parts: &Parts) -> Result<Vec<Spot>, OutOf
     let mut listed = Vec::new(alloc);
     add_all_spots(&mut listed, parts, parts.arbiters.as_slice())?;
     Ok(listed)
+}
+
+/// The branch of which the spot is, or is a site.
+pub fn branch_of(spot: Spot) -> BranchNo
+    ensures { result ≡ branch_of spot }
+{
+    match spot {
+        Spot::Branch(branch) | Spot::Site(branch, _) => branch,
+    }
+}
+
+/// The number of the segment that a task fired at the spot runs; none where it has none of 32 bits.
+pub fn segment_of(spot: Spot) -> Option<u32>
+    ensures number { IfSome result (λ segment. segment ≡ segment_of spot) }
+    ensures none { IfNone result (2 ^ 32 ≤ segment_of spot) }
+{
+    match spot {
+        Spot::Branch(_) => Some(0),
+        Spot::Site(_, site) => site.checked_add(1),
+    }
 }

@@ -1,19 +1,21 @@
 //! Checked wirings.
 
-ghost use Rattle.std.specs.Prelude.{◌≡◌, ◌<◌, OnOk, IfOk, IfErr, length};
-ghost use Rattle.std.specs.Option.{option_map};
+ghost use Rattle.std.specs.Prelude.{◌≡◌, ◌<◌, [], OnOk, IfOk, IfErr, length};
+ghost use Rattle.std.specs.Option.{option_map, option_map_or};
 ghost use Rattle.ccr_wiring.specs.Answers.{IsCause};
 ghost use Rattle.ccr_wiring.specs.Placements.{placement_seen};
-ghost use Rattle.ccr_wiring.specs.Wirings.{placement, spots as spots_of};
+ghost use Rattle.ccr_wiring.specs.Wirings.{Placement, actions_of, placement, policy_of, site_port, spots as spots_of};
+ghost use Rattle.ccr_wiring.specs.Takers.{branches_of, spots_at};
 ghost use Rattle.ccr_wiring.specs.Valid.{IsValid};
 ghost use Rattle.ccr_wiring.specs.Domains.{domain_of};
 
 use crate::codes::code_of;
 use crate::domains::domain_of;
-use crate::placements::{Position, all_positions, placement_at};
-use crate::spots::all_spots;
+use crate::placements::{Position, all_positions, placement_of};
+use crate::spots::{actions_of, all_spots};
+use crate::takers::{Takers, all_takers, list_of, site_port};
 use crate::{Parts, PlacementOf, Unfit};
-use ccr_base::{ArbiterNo, BranchNo, Spot};
+use ccr_base::{Action, ArbiterNo, BranchNo, Handler, HandlerNo, Policy, PortNo, QueueNo, Spot};
 use std::alloc::Global;
 use std::marker::Model;
 
@@ -24,6 +26,7 @@ pub struct Wiring {
     spots: Vec<Spot>,
     /// Where the branch of each number stands.
     positions: Vec<Position>,
+    takers: Takers,
 }
 
 impl Model for Wiring {
@@ -31,13 +34,14 @@ impl Model for Wiring {
     ghost use Rattle.ccr_wiring.specs.declared.parts.Parts.{Parts};
     ghost use Rattle.ccr_wiring.specs.Placements.{positions as positions_of};
     ghost use Rattle.ccr_wiring.specs.Wirings.{spots as spots_of};
+    ghost use Rattle.ccr_wiring.specs.Takers.{AreTaken};
     ghost use Rattle.ccr_wiring.specs.Valid.{IsValid};
 
     ghost Value = { Parts };
 
     ghost view = { λ wiring. wiring.parts };
 
-    ghost invariant = { λ wiring. IsValid wiring.parts × (wiring.spots.items ≡ spots_of wiring.parts) × (wiring.positions.items ≡ positions_of wiring.parts) };
+    ghost invariant = { λ wiring. IsValid wiring.parts × (wiring.spots.items ≡ spots_of wiring.parts) × (wiring.positions.items ≡ positions_of wiring.parts) × AreTaken wiring.parts wiring.spots.items wiring.takers.ports.items wiring.takers.queues.items };
 }
 
 impl Wiring {
@@ -53,10 +57,12 @@ impl Wiring {
             None => {
                 let spots = all_spots(alloc, &parts)?;
                 let positions = all_positions(alloc, &parts)?;
+                let takers = all_takers(alloc, &parts, &positions, &spots)?;
                 Ok(Wiring {
                     parts,
                     spots,
                     positions,
+                    takers,
                 })
             }
         }
@@ -90,7 +96,57 @@ impl Wiring {
     pub fn placement(&self, branch: BranchNo) -> Option<PlacementOf<'_>>
         ensures placement { option_map placement_seen result ≡ placement self.now branch }
     {
-        let position = self.positions.get(branch as usize)?;
-        placement_at(self.parts.arbiters.as_slice(), *position)
+        placement_of(&self.parts, &self.positions, branch)
+    }
+
+    /// The queue's policy; a number that names no queue counts as an unbounded one.
+    pub fn policy_of(&self, queue: QueueNo) -> Policy
+        ensures { result ≡ policy_of self.now queue }
+    {
+        match self.parts().queues.as_slice().get(queue as usize) {
+            Some(part) => part.policy,
+            None => Policy::Unbounded,
+        }
+    }
+
+    /// The handler's actions; none where the number names no handler.
+    pub fn actions_of(&self, handler: HandlerNo) -> &[Action]
+        ensures { result.now ≡ actions_of self.now handler }
+    {
+        actions_of(self.parts(), handler)
+    }
+
+    /// The handler of the branch.
+    pub fn handler_of(&self, branch: BranchNo) -> Option<&Handler>
+        ensures { option_map_or (λ handler. handler.now.actions) result [] ≡ option_map_or (λ (s : Placement). actions_of self.now s.branch.handler) (placement self.now branch) [] }
+    {
+        let placement = self.placement(branch)?;
+        let part = self
+            .parts()
+            .handlers
+            .as_slice()
+            .get(placement.branch.handler as usize)?;
+        Some(&part.handler)
+    }
+
+    /// The port that is awaited at this site of the branch.
+    pub fn site_port(&self, branch: BranchNo, site: u32) -> Option<PortNo>
+        ensures { result ≡ site_port self.now branch site }
+    {
+        site_port(&self.parts, &self.positions, branch, site)
+    }
+
+    /// The spots that take from the port, in order; none where the wiring has no such port. At most 16 do.
+    pub fn spots_at(&self, port: PortNo) -> &[Spot]
+        ensures spots { result.now ≡ spots_at self.now port }
+    {
+        list_of(&self.takers.ports, port)
+    }
+
+    /// The branches of the queue, in order; none where the wiring has no such queue.
+    pub fn branches_of(&self, queue: QueueNo) -> &[Spot]
+        ensures branches { result.now ≡ branches_of self.now queue }
+    {
+        list_of(&self.takers.queues, queue)
     }
 }

@@ -1,18 +1,17 @@
-//! Closing the space for the history alone: what shows nothing is left out before the entries are put in order.
+//! Closing the space for the history alone: each entry is dealt out in its turn, and what shows nothing is left out.
 
-ghost use Rattle.std.specs.Prelude.{◌≡◌, ◌++◌, ◌∷◌, [], length, map, flat_map, All, IfOk, OnOk, option_to_list};
+ghost use Rattle.std.specs.Prelude.{◌≡◌, ◌++◌, length, All, IfOk, OnOk, option_to_list};
 ghost use Rattle.ccr_space.specs.Spaces.{HasPlaces, IsPassOf, actor_count, stopped_of};
 ghost use Rattle.ccr_space.specs.Closes.{IsShownOf};
-ghost use Rattle.ccr_space.specs.Shows.{held_shown, kept_shown, note_shown};
+ghost use Rattle.ccr_space.specs.Shows.{act_shown, acts_shown, note_shown};
 
-use super::close::{Left, seats_of, short_of};
+use super::close::{seats_of, short_of};
 use super::{Pass, Space};
 use ccr_base::{ActorNo, List, OutOfMemory};
 use ccr_model::{Event, History};
 use ccr_net::event_of;
 use ccr_object::Deed;
-use ccr_runs::{Stamped, in_order};
-use ccr_turns::Held;
+use ccr_runs::{Act, Deal};
 use std::alloc::Global;
 
 /// The history that the closed locks show, and the actors whose passes are stopped.
@@ -36,47 +35,10 @@ impl<'w> Space<'w> {
         let seats = Vec::with_capacity(alloc, passes.len())?;
         let seats = seats_of(passes, seats);
         let kept = self.unlock(alloc, List::from_vec(seats))?;
-        let events = all_shown(alloc, kept.into_vec())?;
-        let events = in_order(events)?;
-        let history = history_of(alloc, events)?;
+        let entries = Deal::of(alloc, kept)?;
+        let history = history_of(alloc, entries)?;
         Ok(Seen { history, short })
     }
-}
-
-/// What the histories show, one after the other.
-fn all_shown(alloc: Global, kept: Vec<Left>) -> Result<Vec<Stamped<Event>>, OutOfMemory>
-    ensures { IfOk result (λ events. events.items ≡ kept_shown kept.items) }
-{
-    let mut events = Vec::new(alloc);
-    for (_, history) in kept {
-        add_all(&mut events, history.into_vec())?;
-    }
-    Ok(events)
-}
-
-/// Adds what the history shows.
-fn add_all(events: &mut Vec<Stamped<Event>>, history: Vec<Held<Deed>>) -> Result<(), OutOfMemory>
-    ensures { OnOk result (events.new.items ≡ events.old.items ++ flat_map held_shown history.items) }
-{
-    for held in history {
-        add(events, held)?;
-    }
-    Ok(())
-}
-
-/// Adds what the entry shows.
-fn add(events: &mut Vec<Stamped<Event>>, held: Held<Deed>) -> Result<(), OutOfMemory>
-    ensures { OnOk result (events.new.items ≡ events.old.items ++ held_shown held) }
-{
-    let Held {
-        seat,
-        stamp,
-        note: deed,
-    } = held;
-    if let Some(item) = event_in(seat, deed) {
-        events.push(Stamped { stamp, item })?;
-    }
-    Ok(())
 }
 
 /// What the deed of this actor shows.
@@ -88,23 +50,30 @@ fn event_in(actor: ActorNo, deed: Deed) -> Option<Event>
     event_of(actor, note)
 }
 
-/// The events in this order, without their stamps.
-fn history_of(alloc: Global, events: Vec<Stamped<Event>>) -> Result<History, OutOfMemory>
-    ensures { IfOk result (λ history. history ≡ map (λ event. event.item) events.items) }
+/// What the entries show, one after the other.
+fn history_of(alloc: Global, entries: Deal<Deed>) -> Result<History, OutOfMemory>
+    ensures { IfOk result (λ history. history ≡ acts_shown entries) }
 {
     let mut history = History::new(alloc);
-    for event in events {
-        append(&mut history, event)?;
+    let mut left = entries;
+    'entries: while let Some(act) = left.next() {
+        add(&mut history, act)?;
     }
     Ok(history)
 }
 
-fn append(history: &mut History, event: Stamped<Event>) -> Result<(), OutOfMemory>
-    ensures ok { OnOk result (history.new ≡ history.old ++ event.item ∷ []) }
+/// Adds what the entry shows.
+fn add(history: &mut History, act: Act<Deed>) -> Result<(), OutOfMemory>
+    ensures { OnOk result (history.new ≡ history.old ++ act_shown act) }
 {
-    let Stamped { stamp: _, item } = event;
-    match history.push(item) {
-        Ok(()) => Ok(()),
-        Err((error, _)) => Err(error),
+    let Act {
+        place: _,
+        seat,
+        stamp: _,
+        note: deed,
+    } = act;
+    if let Some(event) = event_in(seat, deed) {
+        history.append(event)?;
     }
+    Ok(())
 }

@@ -13,7 +13,7 @@ returns-in-Drive-clause-step c =
     let old = c.args.self.now in
     let new = state_of c.hear.new.self in
     let answered : IsAnswered old parts.Drive c.args.reply = subst (λ (p : Part). IsAnswered old p c.args.reply) c.in-Drive.is c.requires.answered in
-    let first = first_spot old.wiring.now (record { actor = old.number; attempt = old.count }) old.spots.items old.attempt answered.0.runs in
+    let first = first_spot old.wiring.now (record { actor = old.number; attempt = old.count }) old.spots old.attempt answered.0.runs in
     let same = driven_target old first.0 first.1 c.args.reply answered.0 answered.1.0 first.2 in
     subst (λ (p : Part). IsStep c.hear.result old.wiring.now old.number (target p old.wiring.now old.number (state_of old) c.args.reply) new) (sym c.in-Drive.is)
     (subst (λ (s : State). IsStep c.hear.result old.wiring.now old.number s new) (sym same) (c.hear.ensures.step first.0 first.1 first.2))

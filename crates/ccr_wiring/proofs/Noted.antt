@@ -1,0 +1,162 @@
+-- Lists of spots, one for each number, and what they gain.
+use Rattle.std.proofs.Common.{◌≡◌, ◌∙◌, ℕ, zero, suc, ◌+◌, ◌<◌, ◌≤◌, Bool, true, false, List, [], ◌∷◌, ◌++◌, length, take, Option, None, Some, refl, ap, sym, arith, length-set}
+use Rattle.std.specs.Prelude.{◌==◌, ◌||◌, ◌&&◌, not, filter, if◌then◌else◌, slice_set}
+use Rattle.std.specs.List.{slice_get}
+use Rattle.std.proofs.Math.ListN.{get_or}
+use Rattle.std.proofs.lemmas.Bool.Decides.{nat_tests}
+use Rattle.std.proofs.lemmas.Option.{slice_get-get_or}
+use Rattle.ccr_base.specs.declared.names.Spot.{Spot}
+use Rattle.ccr_base.specs.declared.patterns.Slot.{Slot}
+use Rattle.ccr_wiring.specs.Repeats.{has_port, are_apart, slot_ports}
+use Rattle.ccr_wiring.specs.Takers.{more_for, IsNoted, AreListed}
+
+-- one list in the place of another
+set_at : (lists : List (List Spot)) (k n : ℕ) (list : List Spot) → k < length lists → slice_get (slice_set lists k list) n ≡ (if k == n then Some list else slice_get lists n)
+set_at [] k n list low = absurd (omega (arith, low))
+set_at (other ∷ lists) zero zero list low = refl
+set_at (other ∷ lists) zero (suc n) list low = grind (arith, nat_tests)
+set_at (other ∷ lists) (suc k) zero list low = grind (arith, nat_tests)
+set_at (other ∷ lists) (suc k) (suc n) list low = set_at lists k n list (omega (arith, low)) ∙ grind (arith, nat_tests)
+
+nothing_more : (list : List Spot) → list ++ [] ≡ list
+nothing_more [] = refl
+nothing_more (spot ∷ list) = ap (λ l. spot ∷ l) (nothing_more list)
+
+append_assoc : (xs ys zs : List Spot) → (xs ++ ys) ++ zs ≡ xs ++ (ys ++ zs)
+append_assoc [] ys zs = refl
+append_assoc (x ∷ xs) ys zs = ap (λ l. x ∷ l) (append_assoc xs ys zs)
+
+-- the spot at the end of the list of one number
+pub noted_one : (lists : List (List Spot)) (k : ℕ) (spot : Spot) (d now : List Spot) → k < length lists → now ≡ get_or lists k d ++ spot ∷ [] → IsNoted (λ n. k == n) spot lists (slice_set lists k now)
+noted_one lists k spot d now within more = record {
+  size = length-set lists k now;
+  each = λ n list there. set_at lists k n now within ∙ of_test n list there (k == n) refl;
+}
+  where
+    of_test : (n : ℕ) (list : List Spot) → slice_get lists n ≡ Some list → (b : Bool) → (k == n) ≡ b → (if b then Some now else slice_get lists n) ≡ Some (list ++ (if b then spot ∷ [] else []))
+    of_test n list there true same =
+        let one : k ≡ n = grind (arith, nat_tests, same) in
+        let was : Some (get_or lists k d) ≡ Some list = sym (slice_get-get_or lists k d within) ∙ (ap (λ i. slice_get lists i) one ∙ there) in
+        ap Some more ∙ ap (λ o. grown o) was
+      where
+        grown : Option (List Spot) → Option (List Spot)
+        grown None = None
+        grown (Some l) = Some (l ++ spot ∷ [])
+    of_test n list there false differs = there ∙ ap Some (sym (nothing_more list))
+
+-- into no list
+pub noted_none : (test : ℕ → Bool) (spot : Spot) (lists : List (List Spot)) → ((n : ℕ) → n < length lists → test n ≡ false) → IsNoted test spot lists lists
+noted_none test spot lists never = record {
+  size = refl;
+  each = λ n list there. there ∙ ap Some (sym (nothing_more list) ∙ ap (λ b. list ++ (if b then spot ∷ [] else [])) (sym (never n (within lists n list there))));
+}
+  where
+    within : (lists : List (List Spot)) (n : ℕ) (list : List Spot) → slice_get lists n ≡ Some list → n < length lists
+    within [] n list there = grind (arith, there)
+    within (other ∷ lists) zero list there = omega arith
+    within (other ∷ lists) (suc n) list there = let low = within lists n list there in omega (arith, low)
+
+pub noted_past : (lists : List (List Spot)) (k : ℕ) (spot : Spot) → length lists ≤ k → IsNoted (λ n. k == n) spot lists lists
+noted_past lists k spot past = noted_none (λ n. k == n) spot lists (λ n low. grind (arith, nat_tests, low, past))
+
+-- one after the other, where no number passes both tests
+pub noted_or : (p q r : ℕ → Bool) (spot : Spot) (old mid new : List (List Spot)) → ((n : ℕ) → r n ≡ p n || q n) → ((n : ℕ) → p n && q n ≡ false) → IsNoted p spot old mid → IsNoted q spot mid new → IsNoted r spot old new
+noted_or p q r spot old mid new both apart first second = record {
+  size = second.size ∙ first.size;
+  each = λ n list there. second.each n (list ++ more_for p spot n) (first.each n list there) ∙ ap Some (append_assoc list (more_for p spot n) (more_for q spot n) ∙ ap (λ l. list ++ l) (of_tests (p n) (q n) (apart n) ∙ ap (λ b. if b then spot ∷ [] else []) (sym (both n))));
+}
+  where
+    of_tests : (a b : Bool) → a && b ≡ false → (if a then spot ∷ [] else []) ++ (if b then spot ∷ [] else []) ≡ (if a || b then spot ∷ [] else [])
+    of_tests true true apart = grind (arith, apart)
+    of_tests true false apart = refl
+    of_tests false b apart = refl
+
+-- the same test, told otherwise
+pub noted_as : (p q : ℕ → Bool) (spot : Spot) (old new : List (List Spot)) → ((n : ℕ) → p n ≡ q n) → IsNoted p spot old new → IsNoted q spot old new
+noted_as p q spot old new same noted = record { size = noted.size; each = λ n list there. noted.each n list there ∙ ap (λ b. Some (list ++ (if b then spot ∷ [] else []))) (same n) }
+
+-- the ports up to one more
+any_more : (ports : List ℕ) (i port n : ℕ) → slice_get ports i ≡ Some port → has_port (take (suc i) ports) n ≡ has_port (take i ports) n || (port == n)
+any_more [] i port n there = grind (arith, there)
+any_more (other ∷ ports) zero port n there = grind (arith, there)
+any_more (other ∷ ports) (suc i) port n there = ap (λ b. (other == n) || b) (any_more ports i port n there) ∙ or_assoc (other == n) (has_port (take i ports) n) (port == n)
+  where
+    or_assoc : (a b c : Bool) → a || (b || c) ≡ (a || b) || c
+    or_assoc true b c = refl
+    or_assoc false b c = refl
+
+-- a number that comes later isn't among those before it
+never_before : (ports : List ℕ) (i port : ℕ) → are_apart ports ≡ true → slice_get ports i ≡ Some port → has_port (take i ports) port ≡ false
+never_before [] i port apart there = grind (arith, there)
+never_before (other ∷ ports) zero port apart there = refl
+never_before (other ∷ ports) (suc i) port apart there = of_test (other == port) refl (never_before ports i port (grind (arith, apart)) there)
+  where
+    found : (ports : List ℕ) (i port : ℕ) → slice_get ports i ≡ Some port → has_port ports port ≡ true
+    found [] i port there = grind (arith, there)
+    found (other ∷ ports) zero port there = grind (arith, nat_tests, there)
+    found (other ∷ ports) (suc i) port there = let rest = found ports i port there in grind (arith, rest)
+
+    of_test : (b : Bool) → (other == port) ≡ b → has_port (take i ports) port ≡ false → b || has_port (take i ports) port ≡ false
+    of_test true same rest =
+        let one : other ≡ port = grind (arith, nat_tests, same) in
+        let among : has_port ports other ≡ true = ap (λ n. has_port ports n) one ∙ found ports i port there in
+        grind (arith, apart, among)
+    of_test false differs rest = rest
+
+pub slots_next : (ports : List ℕ) (i port : ℕ) (spot : Spot) (old mid new : List (List Spot)) → are_apart ports ≡ true → slice_get ports i ≡ Some port → IsNoted (has_port (take i ports)) spot old mid → IsNoted (λ n. port == n) spot mid new → IsNoted (has_port (take (suc i) ports)) spot old new
+slots_next ports i port spot old mid new apart there first second =
+    noted_or (has_port (take i ports)) (λ n. port == n) (has_port (take (suc i) ports)) spot old mid new (λ n. any_more ports i port n there) (λ n. once n (port == n) refl) first second
+  where
+    once : (n : ℕ) (b : Bool) → (port == n) ≡ b → has_port (take i ports) n && b ≡ false
+    once n true same =
+        let one : port ≡ n = grind (arith, nat_tests, same) in
+        let never : has_port (take i ports) n ≡ false = ap (λ m. has_port (take i ports) m) (sym one) ∙ never_before ports i port apart there in
+        rw never refl
+    once n false differs = and_false (has_port (take i ports) n)
+      where
+        and_false : (a : Bool) → a && false ≡ false
+        and_false true = refl
+        and_false false = refl
+
+-- the same of the port of a slot
+pub slot_next : (slots : List Slot) (i : ℕ) (d : Slot) (spot : Spot) (old mid new : List (List Spot)) → are_apart (slot_ports slots) ≡ true → i < length slots → IsNoted (has_port (take i (slot_ports slots))) spot old mid → IsNoted (λ n. (get_or slots i d).port == n) spot mid new → IsNoted (has_port (take (i + 1) (slot_ports slots))) spot old new
+slot_next slots i d spot old mid new apart low first second = rw (next i) (slots_next (slot_ports slots) i (get_or slots i d).port spot old mid new apart (there slots i low) first second)
+  where
+    next : (i : ℕ) → i + 1 ≡ suc i
+    next i = omega arith
+
+    there : (slots : List Slot) (i : ℕ) → i < length slots → slice_get (slot_ports slots) i ≡ Some (get_or slots i d).port
+    there [] i low = absurd (omega (arith, low))
+    there (slot ∷ slots) zero low = refl
+    there (slot ∷ slots) (suc i) low = there slots i (omega (arith, low))
+
+-- the two ports of a gather
+pub gather_noted : (a b : ℕ) (spot : Spot) (old mid new : List (List Spot)) → not (a == b) ≡ true → IsNoted (λ n. a == n) spot old mid → IsNoted (λ n. b == n) spot mid new → IsNoted (has_port (a ∷ b ∷ [])) spot old new
+gather_noted a b spot old mid new differ first second = noted_or (λ n. a == n) (λ n. b == n) (has_port (a ∷ b ∷ [])) spot old mid new (λ n. both (a == n) (b == n)) (λ n. once n (a == n) (b == n) refl refl) first second
+  where
+    both : (p q : Bool) → p || (q || false) ≡ p || q
+    both true q = refl
+    both false true = refl
+    both false false = refl
+
+    once : (n : ℕ) (p q : Bool) → (a == n) ≡ p → (b == n) ≡ q → p && q ≡ false
+    once n true true one other =
+        let same : a ≡ b = grind (arith, nat_tests, one, other) in
+        absurd (grind (arith, nat_tests, differ, same))
+    once n true false one other = refl
+    once n false q one other = refl
+
+-- a spot more
+pub listed_more : (test : ℕ → Spot → Bool) (count : ℕ) (seen : List Spot) (spot : Spot) (old new : List (List Spot)) → AreListed test count seen old → IsNoted (λ n. test n spot) spot old new → AreListed test count (seen ++ spot ∷ []) new
+listed_more test count seen spot old new listed noted = record {
+  size = noted.size ∙ listed.size;
+  each = λ n low. noted.each n (filter (test n) seen) (listed.each n low) ∙ ap Some (sym (filter_more (test n) seen));
+}
+  where
+    filter_more : (f : Spot → Bool) (seen : List Spot) → filter f (seen ++ spot ∷ []) ≡ filter f seen ++ (if f spot then spot ∷ [] else [])
+    filter_more f [] = refl
+    filter_more f (one ∷ seen) = of_test (f one) (filter_more f seen)
+      where
+        of_test : (b : Bool) → filter f (seen ++ spot ∷ []) ≡ filter f seen ++ (if f spot then spot ∷ [] else []) → (if b then one ∷ filter f (seen ++ spot ∷ []) else filter f (seen ++ spot ∷ [])) ≡ (if b then one ∷ filter f seen else filter f seen) ++ (if f spot then spot ∷ [] else [])
+        of_test true rest = ap (λ l. one ∷ l) rest
+        of_test false rest = rest
