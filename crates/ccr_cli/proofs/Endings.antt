@@ -2,10 +2,11 @@
 use Rattle.std.proofs.Common.{◌≡◌, true, refl, arith, inl, inr}
 use Rattle.std.specs.Prelude.{Contains}
 use Rattle.ccr_io.specs.Faults.{Rose}
-use Rattle.ccr_cli.specs.declared.status.Status.TheVariants.{Shed, Illegal}
+use Rattle.ccr_commands.specs.declared.status.Status.TheVariants.{Shed, Illegal}
 use Rattle.ccr_words.specs.declared.requests.Command.{Command}
 use Rattle.ccr_words.specs.declared.requests.Command.TheVariants.{Check, Run, Verify, Record, Replay, Steps, Steady, Service, Expand}
-use Rattle.ccr_cli.specs.Answers.{may_end, statuses_of}
+use Rattle.ccr_commands.specs.Answers.{may_end}
+use Rattle.ccr_cli.specs.Ends.{statuses_of}
 
 pub shed_may_come : (command : Command) → may_end command Shed ≡ true → Contains (statuses_of command) 6
 shed_may_come Check may = absurd cc

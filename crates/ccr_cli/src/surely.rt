@@ -5,8 +5,9 @@ ghost use Rattle.ccr_io.specs.Memory.{told};
 ghost use Rattle.ccr_words.specs.Said.{asked_for};
 ghost use Rattle.ccr_words.specs.declared.requests.Command.{Command};
 ghost use Rattle.ccr_words.specs.declared.requests.Request.TheVariants.{Read, Load};
-ghost use Rattle.ccr_cli.specs.Answers.{IsAccepted, IsAnswered, statuses_of};
-ghost use Rattle.ccr_cli.specs.declared.status.Status.TheVariants.{Done};
+ghost use Rattle.ccr_commands.specs.Answers.{IsAccepted};
+ghost use Rattle.ccr_commands.specs.declared.status.Status.TheVariants.{Done};
+ghost use Rattle.ccr_cli.specs.Ends.{IsAnswered, statuses_of};
 
 use crate::top::run_ccr;
 use ccr_base::{Gate, Name};

@@ -6,15 +6,18 @@ ghost use Rattle.ccr_words.specs.Said.{asked_for};
 ghost use Rattle.ccr_words.specs.declared.requests.Command.{Command};
 ghost use Rattle.ccr_words.specs.declared.requests.Command.TheVariants.{Verify};
 ghost use Rattle.ccr_words.specs.declared.requests.Request.TheVariants.{Read, Load};
-ghost use Rattle.ccr_cli.specs.Answers.{IsAccepted, IsDeclined, IsExcessive, IsVerified, IsExhausted, IsAnswered, IsBegun, statuses_of};
-ghost use Rattle.ccr_cli.specs.declared.status.Status.TheVariants.{Done, Usage, Refused, Shed, Illegal, TooLong};
+ghost use Rattle.ccr_commands.specs.Answers.{IsAccepted, IsDeclined, IsExcessive, IsVerified, IsExhausted};
+ghost use Rattle.ccr_commands.specs.declared.status.Status.TheVariants.{Done, Usage, Refused, Shed, Illegal, TooLong};
+ghost use Rattle.ccr_cli.specs.Ends.{IsAnswered, IsBegun, statuses_of};
 
-use crate::answering::answer_words;
-use crate::status::WRITE_FAULT;
 use ccr_base::{Gate, Name};
+use ccr_commands::answer_words;
 use ccr_io::{Failed, Sink, Source, write_all};
 use std::sync::Wait;
 use std::thread::Threads;
+
+/// The exit status where the sink failed.
+const WRITE_FAULT: u8 = 4;
 
 /// Does what the words say and answers the exit status. The words are those behind the program's name.
 pub fn run_ccr<R: AllocGlobal + Threads + Wait + Sync, S: Source, K: Sink, G: Gate + Sync>(

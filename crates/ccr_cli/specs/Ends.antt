@@ -1,0 +1,25 @@
+-- How a call ends: what it has written, and with which statuses it may end.
+use Rattle.std.specs.Prelude.{ℕ, List, [], ◌∷◌, Option}
+use Rattle.ccr_io.specs.Bytes.{IsAdded, IsPrefixAdded}
+use Rattle.ccr_words.specs.declared.requests.Command.{Command}
+use Rattle.ccr_words.specs.declared.requests.Command.TheVariants.{Run, Verify}
+use Rattle.ccr_commands.specs.declared.status.Status.{Status}
+use Rattle.ccr_commands.specs.Answers.{IsDue}
+
+-- what may come beside 0
+abbrev pub further_statuses : Command → List ℕ
+further_statuses (Run workers schedule) = 6 ∷ []
+further_statuses Verify = 7 ∷ []
+further_statuses _ = []
+
+-- the exit statuses where a wiring is read and no fault comes; 5 is running out of memory
+abbrev pub statuses_of : Command → List ℕ
+statuses_of command = 0 ∷ 5 ∷ further_statuses command
+
+-- the due text was written whole
+abbrev pub IsAnswered : Status → List (List ℕ) → Option (List ℕ) → Option (List ℕ) → Option (List ℕ) → Type 0
+IsAnswered status words rest before after = (text : List ℕ) × IsDue status words rest text × IsAdded text before after
+
+-- a prefix of the text that is due was written
+abbrev pub IsBegun : List (List ℕ) → Option (List ℕ) → Option (List ℕ) → Option (List ℕ) → Type 0
+IsBegun words rest before after = (status : Status) × (text : List ℕ) × IsDue status words rest text × IsPrefixAdded text before after

@@ -1,0 +1,8 @@
+use Rattle.std.proofs.Common.{subst}
+use Rattle.ccr_wiring.specs.declared.parts.Parts.{Parts}
+use Rattle.ccr_steady.specs.Agreement.{Agrees}
+use Rattle.ccr_commands.proofs.Due.{if_ok}
+use Rattle.ccr_commands.proofs.load.agreed_counts.Goals as goal
+
+pub returns-clause-counts : goal.returns-clause-counts
+returns-clause-counts c = if_ok _ _ (λ told agrees. c.generated_wirings_agree.ensures c.args.size c.requires.many told (subst (λ (w : Parts). Agrees w told) c.requires.generated agrees)) c.agreed.result c.agreed.ensures

@@ -1,0 +1,5 @@
+use Rattle.ccr_commands.proofs.Due.{if_ok, expand_is_due}
+use Rattle.ccr_commands.proofs.serving.answer_expand.Goals as goal
+
+pub returns-in-Ok : goal.returns-in-Ok
+returns-in-Ok c = λ json. if_ok _ _ (λ due gives. expand_is_due json c.args.text.now c.in-Ok.service due.status due.text c.in-Ok.ensures.reading gives) c.expanded.result c.expanded.ensures

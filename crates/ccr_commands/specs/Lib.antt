@@ -1,0 +1,9 @@
+pub mod Inputs
+pub mod Accounts
+pub mod Runs
+pub mod Loads
+pub mod Records
+pub mod Steady
+pub mod Services
+pub mod Findings
+pub mod Answers

@@ -1,0 +1,113 @@
+//! A run, as text: what the actors do, and what the serial order does behind it.
+
+ghost use Rattle.std.specs.Prelude.{◌≡◌, ◌<◌, ◌≤◌, ◌+◌, ◌++◌, List as Listed, length, All, IfOk, IfSome, option_map};
+ghost use Rattle.ccr_model.specs.declared.history.Event.{Event};
+ghost use Rattle.ccr_report.specs.Counted.{HasRows, IsCounted};
+ghost use Rattle.ccr_commands.specs.Runs.{report_of, IsToldOf, RunGives};
+
+use crate::accounting::complete_histories_account_for_all;
+use crate::answers::Answer;
+use crate::sheds::sheds;
+use crate::status::Status;
+use ccr_base::{ActorNo, Gate, List, OutOfMemory};
+use ccr_json::counted_json;
+use ccr_opening::first_history;
+use ccr_report::{Counts, counted_text};
+use ccr_telling::{Told, tell_to_end};
+use ccr_text::put_bytes;
+use ccr_wiring::{Wiring, valid_wirings_are_sound};
+use std::alloc::Global;
+use std::sync::Wait;
+use std::thread::Threads;
+
+/// The number of the actor that finishes the run: the first behind the posters and the workers.
+pub(crate) fn closer_of(wiring: &Wiring, workers: u32) -> ActorNo
+    requires { workers ≤ 16 }
+    ensures number { result ≡ length wiring.now.posters + workers }
+    ensures low { result ≤ 32 }
+{
+    valid_wirings_are_sound();
+    wiring.parts().posters.as_slice().len() as ActorNo + workers
+}
+
+/// The report as lines, or as one line of JSON, on each history whose counts these are.
+fn report_of(
+    alloc: Global,
+    wiring: &Wiring,
+    counts: &Counts,
+    json: bool,
+) -> Result<List<u8>, OutOfMemory>
+    requires { HasRows wiring.now counts.now }
+    ensures { IfOk result (λ text. (history : Listed Event) → IsCounted wiring.now history counts.now → text ≡ report_of json wiring.now history) }
+{
+    if json {
+        counted_json(alloc, wiring, counts)
+    } else {
+        counted_text(alloc, wiring, counts)
+    }
+}
+
+/// The history's text, its report and the last line.
+fn run_text(
+    alloc: Global,
+    wiring: &Wiring,
+    told: Told,
+    json: bool,
+    last: &[u8],
+) -> Result<List<u8>, OutOfMemory>
+    requires { HasRows wiring.now told.counts }
+    ensures { IfOk result (λ text. (history : Listed Event) → IsCounted wiring.now history told.counts → text ≡ told.text ++ report_of json wiring.now history ++ last.now) }
+{
+    let Told { mut text, counts } = told;
+    let report = report_of(alloc, wiring, &counts, json)?;
+    put_bytes(&mut text, report.as_slice())?;
+    put_bytes(&mut text, last)?;
+    Ok(text)
+}
+
+/// What is told of the history of a run from its beginning to its end, which the serial order makes.
+fn tell_run<R: AllocGlobal + Threads + Wait + Sync, G: Gate + Sync>(
+    rt: &R,
+    gate: &G,
+    wiring: &Wiring,
+    workers: u32,
+    turns: Option<&[ActorNo]>,
+) -> Result<Told, OutOfMemory>
+    requires workers { workers ≤ 16 }
+    requires turns { IfSome turns (λ turns. All (λ actor. actor < length wiring.now.posters + workers) turns.now) }
+    ensures { IfOk result (IsToldOf wiring.now workers (option_map (λ t. t.now) turns.entry)) }
+{
+    complete_histories_account_for_all();
+    let _valid = wiring.parts();
+    let first = first_history(rt, gate, wiring, workers, turns)?;
+    let told = tell_to_end(rt.alloc(), wiring, closer_of(wiring, workers), first)?;
+    Ok(told)
+}
+
+/// What a run of the wiring writes.
+pub fn run<R: AllocGlobal + Threads + Wait + Sync, G: Gate + Sync>(
+    rt: &R,
+    gate: &G,
+    wiring: &Wiring,
+    workers: u32,
+    turns: Option<&[ActorNo]>,
+    json: bool,
+) -> Result<Answer, OutOfMemory>
+    requires workers { workers ≤ 16 }
+    requires turns { IfSome turns (λ turns. All (λ actor. actor < length wiring.now.posters + workers) turns.now) }
+    ensures { IfOk result (λ due. RunGives json wiring.now workers (option_map (λ t. t.now) turns.entry) due.status due.text) }
+{
+    let alloc = rt.alloc();
+    let told = tell_run(rt, gate, wiring, workers, turns)?;
+    if sheds(&told.counts) {
+        Ok(Answer {
+            status: Status::Shed,
+            text: run_text(alloc, wiring, told, json, b"done 6\n")?,
+        })
+    } else {
+        Ok(Answer {
+            status: Status::Done,
+            text: run_text(alloc, wiring, told, json, b"done 0\n")?,
+        })
+    }
+}

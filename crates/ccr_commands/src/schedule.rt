@@ -1,0 +1,58 @@
+//! An input that is a wiring with turns behind it.
+
+ghost use Rattle.std.specs.Prelude.{◌≡◌, ◌<◌, ◌≤◌, ◌+◌, All, IfErr, IfOk, Err, Ok, Some, length, true};
+ghost use Rattle.ccr_wiretext.specs.Answers.{IsReading};
+ghost use Rattle.ccr_commands.specs.Answers.{AnswersText};
+ghost use Rattle.ccr_commands.specs.Inputs.{reading_run, turns_of};
+ghost use Rattle.ccr_words.specs.declared.requests.Command.TheVariants.{Run};
+
+use crate::answers::{Answer, refused};
+use crate::run::{closer_of, run};
+use ccr_base::{ActorNo, Gate, List, OutOfMemory};
+use ccr_schedule::read_turns;
+use ccr_text::line_of;
+use ccr_wiretext::{ReadRefused, read_wiring};
+use ccr_wiring::Wiring;
+use std::alloc::Global;
+use std::sync::Wait;
+use std::thread::Threads;
+
+/// The wiring and the turns behind it. The wiring is what stands before the first line whose first word is `turn`.
+fn read_schedule(
+    alloc: Global,
+    text: &[u8],
+    workers: u32,
+) -> Result<(Wiring, List<ActorNo>), ReadRefused>
+    requires workers { workers ≤ 16 }
+    requires length { length text.now ≤ 1048576 }
+    ensures wiring { IfOk result (λ read. reading_run true workers text.now ≡ Ok read.0) }
+    ensures turns { IfOk result (λ read. turns_of true read.0 workers text.now ≡ Some read.1) }
+    ensures actors { IfOk result (λ read. All (λ actor. actor < length read.0.posters + workers) read.1) }
+    ensures refused { IfErr result (λ why. IsReading (Err why) (reading_run true workers text.now)) }
+{
+    let (place, before) = line_of(text, b"turn");
+    let wiring = read_wiring(alloc, &text[..place])?;
+    let actors = closer_of(&wiring, workers);
+    match read_turns(alloc, &text[place..], before, actors) {
+        Ok(turns) => Ok((wiring, turns)),
+        Err(why) => Err(why),
+    }
+}
+
+/// What a scheduled run writes.
+pub fn answer_schedule<R: AllocGlobal + Threads + Wait + Sync, G: Gate + Sync>(
+    rt: &R,
+    gate: &G,
+    text: &[u8],
+    workers: u32,
+    json: bool,
+) -> Result<Answer, OutOfMemory>
+    requires workers { workers ≤ 16 }
+    requires length { length text.now ≤ 1048576 }
+    ensures { IfOk result (λ due. AnswersText (Run workers true) json text.now due.status due.text) }
+{
+    match read_schedule(rt.alloc(), text, workers) {
+        Ok((wiring, turns)) => run(rt, gate, &wiring, workers, Some(turns.as_slice()), json),
+        Err(why) => refused(rt.alloc(), why),
+    }
+}

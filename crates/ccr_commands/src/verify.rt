@@ -1,0 +1,58 @@
+//! An input that is a wiring with an output behind it.
+
+ghost use Rattle.std.specs.Prelude.{◌≡◌, ◌≤◌, ◌<◌, Bool, IfOk, length};
+ghost use Rattle.ccr_commands.specs.Findings.{IsFound, VerifyGives, status_of};
+ghost use Rattle.ccr_commands.specs.Answers.{AnswersText, RefusedGives};
+ghost use Rattle.ccr_words.specs.declared.requests.Command.TheVariants.{Verify};
+
+use crate::answers::{Answer, refused};
+use crate::findings::{Finding, finding_text};
+use crate::judging::finding_of;
+use crate::status::Status;
+use ccr_base::OutOfMemory;
+use ccr_replay::read_part;
+use ccr_text::line_of;
+use ccr_wiring::Wiring;
+use std::alloc::Global;
+
+/// With what the program ends where this is found.
+fn status_of(finding: Finding) -> Status
+    ensures { result ≡ status_of finding }
+{
+    match finding {
+        Finding::Legal { .. } => Status::Done,
+        Finding::Malformed { .. } | Finding::Illegal { .. } | Finding::Misreported { .. } => {
+            Status::Illegal
+        }
+    }
+}
+
+/// What is found of an output behind so many lines.
+fn judge_output(
+    alloc: Global,
+    wiring: &Wiring,
+    before: u32,
+    output: &[u8],
+) -> Result<Answer, OutOfMemory>
+    requires before { before ≤ 33554432 }
+    requires length { length output.now ≤ 33554432 }
+    ensures { IfOk result (λ due. VerifyGives wiring.now before output.now due.status due.text) }
+{
+    let finding = finding_of(alloc, wiring, before, output)?;
+    Ok(Answer {
+        status: status_of(finding),
+        text: finding_text(alloc, finding)?,
+    })
+}
+
+/// What `verify` writes. The wiring is what stands before the first line whose first word is `history`.
+pub fn verify(alloc: Global, text: &[u8]) -> Result<Answer, OutOfMemory>
+    requires { length text.now ≤ 33554432 }
+    ensures { (json : Bool) → IfOk result (λ due. AnswersText Verify json text.now due.status due.text) }
+{
+    let (place, before) = line_of(text, b"history");
+    match read_part(alloc, &text[..place]) {
+        Ok(wiring) => judge_output(alloc, &wiring, before, &text[place..]),
+        Err(why) => refused(alloc, why),
+    }
+}
