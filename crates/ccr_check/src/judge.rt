@@ -8,7 +8,7 @@ ghost use Rattle.ccr_check.specs.Verdicts.{MeansQuiet};
 use crate::checker::Checker;
 use crate::complete::is_complete;
 use ccr_base::OutOfMemory;
-use ccr_bounds::valid_histories_are_short;
+use ccr_laws::valid_histories_are_short;
 use ccr_model::{Event, History};
 use ccr_wiring::Wiring;
 use std::alloc::Global;

@@ -11,7 +11,7 @@ ghost use Rattle.ccr_ledger.specs.Kept.{Keeps};
 ghost use Rattle.ccr_counts.specs.Tallies.{HasRoom, IsCounting, after_end, after_event, after_fire, after_post, after_put, more_at, more_for, more_if_some, no_tallies, place_of};
 
 use ccr_base::{MsgId, OutOfMemory, PortNo, Spot, TaskId};
-use ccr_bounds::valid_histories_are_short;
+use ccr_laws::valid_histories_are_short;
 use ccr_ledger::Ledger;
 use ccr_model::{EndHow, Event};
 use std::alloc::Global;

@@ -14,3 +14,8 @@ pub mod ScriptLines
 pub mod TasksOnce
 pub mod HeldTaken
 pub mod FewCut
+pub mod Counting
+pub mod Taking
+pub mod Lines
+pub mod Ending
+pub mod Valid

@@ -5,3 +5,4 @@ pub mod OneFate
 pub mod Drops
 pub mod Queues
 pub mod Scripts
+pub mod Potential

@@ -1,10 +1,11 @@
-//! What follows for every legal history: the fate of each message, and the laws of firings, drops, queues and Interleaves.
+//! What follows for every legal history: the fate of each message, and the laws of firings, drops, queues and Interleaves, and how long it is.
 #![tactic(auto)]
 
 mod drops;
 mod fates;
 mod firings;
 mod interleaves;
+mod lengths;
 mod queues;
 mod scripts;
 
@@ -19,5 +20,6 @@ pub use interleaves::{
     no_branch_fires_after_a_teardown, no_other_starts_after_a_teardown_task,
     roots_have_one_segment_at_work, tasks_at_work_have_admitted_roots,
 };
+pub use lengths::{histories_are_short, valid_histories_are_short};
 pub use queues::{earlier_puts_start_earlier, tasks_start_in_the_order_of_their_puts};
 pub use scripts::posters_follow_their_scripts;

@@ -26,7 +26,7 @@ use Rattle.ccr_model.proofs.PostNames.{times, posted_once}
 use Rattle.ccr_model.proofs.SameNames.{same_message-is, same_message-self}
 use Rattle.ccr_model.proofs.TakenOnce.{joined_some, choice_some, times-filter, times-two}
 use Rattle.ccr_rows.specs.Rows.{row, with_row}
-use Rattle.ccr_held.specs.Taken.{shared}
+use Rattle.ccr_rows.specs.Taken.{shared}
 use Rattle.ccr_ledger.specs.Books.{Books}
 use Rattle.ccr_ledger.specs.Taking.{take_slot, take_slots, take_pattern, take_site}
 use Rattle.ccr_ledger.specs.Kept.{HasSizes, KeepsPorts}

@@ -10,7 +10,7 @@ ghost use Rattle.ccr_model.specs.Enough.{has_enough};
 ghost use Rattle.ccr_ledger.specs.Taking.{slot_takes};
 
 use ccr_base::{MsgId, OutOfMemory, Pattern, PortNo, Slot};
-use ccr_held::HeldMessages;
+use ccr_rows::HeldMessages;
 use std::alloc::Global;
 
 /// How many messages the port holds.

@@ -16,10 +16,9 @@ use crate::ports::{take_pattern, take_site};
 use crate::tasks::{first_suspended, move_to, resume};
 use crate::{Card, KeptPlay, KeptValues, Ledger, Stage};
 use ccr_base::{BranchNo, MsgId, OutOfMemory, Spot, TaskId};
-use ccr_held::HeldMessages;
 use ccr_model::data::{TaskLoad, play_at_spot};
 use ccr_model::placements::{PlacementOf, is_concurrent, is_interleave, is_teardown};
-use ccr_rows::Rows;
+use ccr_rows::{HeldMessages, Rows};
 use ccr_wiring::Wiring;
 use std::alloc::Global;
 

@@ -16,9 +16,8 @@ use crate::tasks::{
 };
 use crate::{Card, Runner, Stage};
 use ccr_base::{ActorNo, Msg, MsgId, OutOfMemory, QueueNo, Spot, TaskId};
-use ccr_held::HeldMessages;
 use ccr_model::{EndHow, Event};
-use ccr_rows::Rows;
+use ccr_rows::{HeldMessages, Rows};
 use ccr_wiring::{ArbiterPart, Wiring};
 use indexmap::IndexMap;
 use std::alloc::Global;

@@ -9,7 +9,7 @@ ghost use Rattle.ccr_ledger.specs.Fronts.{are_front, are_fronts};
 
 use crate::choices::{names_of_slots, oldest_names};
 use ccr_base::{MsgId, OutOfMemory, Pattern, PortNo, Slot};
-use ccr_held::HeldMessages;
+use ccr_rows::HeldMessages;
 use std::alloc::Global;
 
 /// Whether two lists of names are the same.

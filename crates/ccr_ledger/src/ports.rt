@@ -3,11 +3,11 @@
 ghost use Rattle.std.specs.Prelude.{◌≡◌, ◌++◌, IfOk, OnErr, OnOk};
 ghost use Rattle.ccr_rows.specs.Rows.{empty_rows, row};
 ghost use Rattle.ccr_ledger.specs.Posting.{posted_to};
-ghost use Rattle.ccr_held.specs.Taken.{shared};
+ghost use Rattle.ccr_rows.specs.Taken.{shared};
 ghost use Rattle.ccr_ledger.specs.Taking.{AreLeftOf, take_gather, take_oldest, take_pattern, take_site, take_slot, take_slots};
 
 use ccr_base::{Msg, MsgId, OutOfMemory, Pattern, PortNo, Slot};
-use ccr_held::HeldMessages;
+use ccr_rows::HeldMessages;
 use std::alloc::Global;
 
 /// So many empty ports.

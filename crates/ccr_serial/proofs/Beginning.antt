@@ -17,8 +17,8 @@ use Rattle.ccr_model.specs.Posts.{held}
 use Rattle.ccr_model.specs.Live.{is_live_in}
 use Rattle.ccr_model.specs.Enough.{has_enough}
 use Rattle.ccr_model.proofs.Booleans.{and_false}
-use Rattle.ccr_bounds.specs.Potential.{takes_some}
-use Rattle.ccr_bounds.proofs.Valid.{TakesSome-valid}
+use Rattle.ccr_laws.specs.Potential.{takes_some}
+use Rattle.ccr_laws.proofs.Valid.{TakesSome-valid}
 use Rattle.ccr_serial.specs.Cursor.{could_fire}
 
 -- a slot that takes something finds nothing

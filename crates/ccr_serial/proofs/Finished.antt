@@ -5,7 +5,7 @@ use Rattle.ccr_wiring.specs.declared.parts.Parts.{Parts}
 use Rattle.ccr_model.specs.declared.history.Event.{Event}
 use Rattle.ccr_model.specs.Legal.{IsLegal}
 use Rattle.ccr_model.specs.Order.{first, IsOrderedAfter, IsFinished}
-use Rattle.ccr_bounds.specs.Potential.{TakesSome, potential}
+use Rattle.ccr_laws.specs.Potential.{TakesSome, potential}
 use Rattle.ccr_serial.proofs.Runs.{IsLegal-first, potential-push}
 
 if_some : (P : Event → Type 0) (o : Option Event) → ((e : Event) → o ≡ Some e → P e) → IfSome o P

@@ -10,10 +10,10 @@ use Rattle.ccr_model.specs.Order.{first, next_attempt, with_first, IsOrderedAfte
 use Rattle.ccr_model.proofs.Allowing.{first_allowed}
 use Rattle.ccr_model.proofs.Quiet.{IsQuiet-first}
 use Rattle.ccr_model.proofs.LegalParts.{legal_push}
-use Rattle.ccr_bounds.specs.Potential.{TakesSome, potential}
+use Rattle.ccr_laws.specs.Potential.{TakesSome, potential}
 use Rattle.ccr_serial.specs.Engine.{Engine, next_event, next_engine, IsSound}
-use Rattle.ccr_bounds.proofs.Ending.{few_events}
-use Rattle.ccr_bounds.proofs.Valid.{TakesSome-valid, HasQueues-valid, most_events-valid}
+use Rattle.ccr_laws.proofs.Ending.{few_events}
+use Rattle.ccr_laws.proofs.Valid.{TakesSome-valid, HasQueues-valid, most_events-valid}
 use Rattle.ccr_serial.proofs.Complete.{is_complete-first}
 use Rattle.ccr_serial.proofs.Attempts.{next_attempt-first}
 

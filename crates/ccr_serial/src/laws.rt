@@ -6,7 +6,7 @@ ghost use Rattle.ccr_wiring.specs.Valid.{IsValid};
 ghost use Rattle.ccr_model.specs.declared.history.Event.{Event};
 ghost use Rattle.ccr_model.specs.Legal.{IsLegal, IsQuiet, is_complete};
 ghost use Rattle.ccr_model.specs.Order.{first, IsFinished};
-ghost use Rattle.ccr_bounds.specs.Potential.{TakesSome, potential};
+ghost use Rattle.ccr_laws.specs.Potential.{TakesSome, potential};
 
 /// After each event that one thread puts first fewer events are to come.
 pub fn the_end_comes_nearer()

@@ -19,7 +19,7 @@ mod serial;
 mod standing;
 mod touched;
 
-pub use ccr_bounds::{histories_are_short, valid_histories_are_short};
+pub use ccr_laws::{histories_are_short, valid_histories_are_short};
 pub use cursor_laws::{
     domains_stay_closed, done_posters_stay_done, posts_go_on, queues_stay_empty, spots_stay_still,
     the_search_goes_on, touched_spots_are_kept,

@@ -9,7 +9,7 @@ use ccr_actor::Net;
 use ccr_base::{ActorNo, List, Msg, MsgId, OutOfMemory, Place, Spot, Task, TaskId, Value};
 use ccr_claim::{Ask, Asked, Reply, due_of, fits, settles};
 use ccr_object::Numbers;
-use ccr_samples::only;
+use ccr_try::only;
 use ccr_wiring::Wiring;
 use std::alloc::Global;
 use std::cell::Cell;

@@ -1,12 +1,17 @@
-//! The rows that programs of cases read from standard input, and what their answers are written with. README.md says how a row is written.
+//! The rows that programs of cases read from standard input, and what their answers are written with (README.md says how a row is written); and the small
+//! wirings that rows and tests start from.
 #![tactic(auto)]
 
+mod lists;
 mod rows;
 mod texts;
+mod wirings;
 mod writing;
 
+pub use lists::{name, only};
 pub use rows::{Line, Row, read_line};
 pub use texts::{first_number, numbers_of, text_of};
+pub use wirings::{one_cause, one_handler, one_post, one_queue, one_receiver};
 pub use writing::{
     is_due, put, put_message, put_number, put_numbers, put_refused, put_spot, put_task, put_truth,
     put_word,

@@ -2,8 +2,9 @@
 
 use crate::making::add;
 use ccr_base::{Action, Expr, List, OutOfMemory, Policy};
-use ccr_samples::{one_cause, one_handler, one_post, one_queue, one_receiver};
-use ccr_try::{put_number, put_spot, put_word};
+use ccr_try::{
+    one_cause, one_handler, one_post, one_queue, one_receiver, put_number, put_spot, put_word,
+};
 use ccr_wiring::{Parts, Unfit, Wiring};
 use std::alloc::Global;
 

@@ -1,7 +1,7 @@
 use Rattle.std.proofs.Common.{◌≡◌, subst, arith}
 use Rattle.std.specs.Prelude.{IfSome, IfNone}
 use Rattle.ccr_wiring.specs.declared.parts.Parts.{Parts}
-use Rattle.ccr_bounds.proofs.Valid.{HasFewParts-valid}
+use Rattle.ccr_laws.proofs.Valid.{HasFewParts-valid}
 use Rattle.ccr_model.specs.Legal.{IsAllowed, IsQuiet}
 use Rattle.ccr_serial.specs.Desk.{IsAhead, IsRead, first_in}
 use Rattle.ccr_serial.specs.Engine.{Engine, IsSound, next_event}

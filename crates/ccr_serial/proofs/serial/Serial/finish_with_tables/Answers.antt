@@ -1,5 +1,5 @@
 use Rattle.std.proofs.Common.{◌<◌, arith, subst}
-use Rattle.ccr_bounds.specs.Potential.{potential}
+use Rattle.ccr_laws.specs.Potential.{potential}
 use Rattle.ccr_serial.specs.Engine.{IsSound}
 use Rattle.ccr_serial.proofs.Runs.{GoesFrom, GoesFrom-next, IsDone-next}
 use Rattle.ccr_serial.proofs.serial.Serial.finish_with_tables.Goals as goal

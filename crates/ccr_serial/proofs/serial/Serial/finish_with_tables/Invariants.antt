@@ -1,4 +1,4 @@
-use Rattle.ccr_bounds.specs.Potential.{potential}
+use Rattle.ccr_laws.specs.Potential.{potential}
 use Rattle.ccr_serial.proofs.Runs.{GoesFrom}
 use Rattle.ccr_serial.proofs.serial.Serial.finish_with_tables.Given as goal
 

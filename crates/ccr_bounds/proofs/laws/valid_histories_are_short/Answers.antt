@@ -1,5 +1,0 @@
-use Rattle.ccr_bounds.proofs.Valid.{few_events-valid}
-use Rattle.ccr_bounds.proofs.laws.valid_histories_are_short.Goals as goal
-
-pub returns : goal.returns
-returns c = few_events-valid
