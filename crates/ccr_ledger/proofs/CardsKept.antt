@@ -23,6 +23,7 @@ use Rattle.ccr_ledger.proofs.CardSteps.{card_told, tasks-post, tasks-admit, task
 use Rattle.ccr_ledger.proofs.NewCards.{tasks-branch, tasks-site}
 use Rattle.ccr_ledger.proofs.TakenMessages.{branch-takes, site-takes}
 
+-- after each allowed event the cards still say what the model says of each task that fired
 pub tasks-event : (w : Parts) → IsValid w → (h : List Event) (e : Event) (b : Books) → IsLegal w h → IsAllowed w h e → Keeps w h b → KeepsTasks w (h ++ e ∷ []) (after_event w e b)
 tasks-event w valid h (Post m) b legal allowed keeps = let done = tasks-post w h m m.id b refl legal keeps.tasks in record { names = done.names; cards = done.cards }
 tasks-event w valid h (Admit t) b legal allowed keeps = tasks-admit w h t b legal allowed keeps.tasks

@@ -24,7 +24,7 @@ filter_all w h i = filter_on (counts_as true w h i) (λ t. is_in_arbiter w h i t
 filter_alone : (w : Parts) (h : List Event) (i : ℕ) → filter (counts_as false w h i) (ever_admitted h) ≡ filter (λ t. not (is_concurrent_task w h t)) (admitted w h i)
 filter_alone w h i = sym (filter_twice (λ t. not (is_concurrent_task w h t)) (λ t. is_in_arbiter w h i t && not (is_over h t)) (ever_admitted h))
 
--- each event keeps the counts
+-- after each allowed event the counts are still those of the tasks on their way to each queue, and of the roots admitted to each domain
 pub counts-event : (w : Parts) (h : List Event) (e : Event) (b : Books) → IsLegal w h → IsAllowed w h e → Keeps w h b → KeepsCounts w (h ++ e ∷ []) (after_event w e b)
 counts-event w h e b legal allowed keeps =
     let g : List Event = h ++ e ∷ [] in

@@ -147,7 +147,7 @@ flags-site w h t n k ms cs b c same keeps = record {
   torn = λ i low. ap (λ (fs : Flags). flag fs.torn i) same ∙ (keeps.torn i low ∙ sym (fired_more h t (Site n k) ms cs (λ (f : Firing). is_branch_where w (λ z. (z.arbiter == i) && is_teardown z.branch.group) f.spot)));
 }
 
--- each event keeps what the flags say
+-- after each event the flags still say which branches and domains fired, and in which a teardown fired
 pub flags-event : (w : Parts) (h : List Event) (e : Event) (b : Books) → HasSizes w b → KeepsFlags w h b → KeepsFlags w (h ++ e ∷ []) (after_event w e b)
 flags-event w h (Post m) b sizes keeps = flags-other w h (Post m) b (after_post m b) refl (same-post m.id b) keeps
 flags-event w h (Fire t (Branch n) ms cs) b sizes keeps = of_placement (placement w n) refl

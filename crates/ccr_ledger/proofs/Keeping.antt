@@ -16,6 +16,7 @@ use Rattle.ccr_ledger.proofs.Places.{places-event, places-none}
 use Rattle.ccr_ledger.proofs.Counted.{counts-event, counts-none}
 use Rattle.ccr_ledger.proofs.Empty.{sizes-none, script_posts-none, flags-none}
 
+-- each allowed event of a legal history of a valid wiring keeps what all tables say
 pub keeps-event : (w : Parts) → IsValid w → (h : List Event) (e : Event) (b : Books) → IsLegal w h → IsAllowed w h e → Keeps w h b → Keeps w (h ++ e ∷ []) (after_event w e b)
 keeps-event w valid h e b legal allowed keeps = record {
   sizes = sizes-event w e b keeps.sizes;
@@ -27,6 +28,7 @@ keeps-event w valid h e b legal allowed keeps = record {
   counts = counts-event w h e b legal allowed keeps;
 }
 
+-- the tables of the empty history are right
 pub keeps-none : (w : Parts) → Keeps w [] (empty_books w)
 keeps-none w = record {
   sizes = sizes-none w;

@@ -18,6 +18,7 @@ use Rattle.ccr_ledger.proofs.Running.{running-event}
 use Rattle.ccr_ledger.proofs.RunningBy.{running_by-event}
 use Rattle.ccr_ledger.proofs.Empty.{row-none}
 
+-- after each allowed event the rows of tasks say who is queued, who waits for an admission, who is suspended at a site, and which actor runs what
 pub places-event : (w : Parts) → IsValid w → (h : List Event) (e : Event) (b : Books) → IsLegal w h → IsAllowed w h e → Keeps w h b → KeepsPlaces w (h ++ e ∷ []) (after_event w e b)
 places-event w valid h e b legal allowed keeps = record {
   queued = queued-event w h e b legal allowed keeps.sizes keeps.tasks keeps.places.queued;

@@ -108,7 +108,7 @@ ports-site w h t n k ms cs b legal allowed keeps =
       ports = λ port low. site_left made.0 ms b.ports (held h) (are_held w h b legal keeps.sizes keeps.ports) made.2 port (omega (arith, low, keeps.sizes.ports)) ∙ sym (held-fire h t (Site n k) ms cs port);
     })
 
--- each event of a legal history keeps what each port holds
+-- after each allowed event of a legal history the rows of the ports are still what they hold
 pub ports-event : (w : Parts) → IsValid w → (h : List Event) (e : Event) (b : Books) → IsLegal w h → IsAllowed w h e → Keeps w h b → KeepsPorts w (h ++ e ∷ []) (after_event w e b)
 ports-event w valid h (Post m) b legal allowed keeps = ports-post w (sound w valid) h m b legal allowed keeps.sizes keeps.ports
 ports-event w valid h (Fire t (Branch n) ms cs) b legal allowed keeps = ports-branch w (sound w valid) h t n ms cs b legal allowed keeps.sizes keeps.ports

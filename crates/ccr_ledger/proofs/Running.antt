@@ -88,6 +88,7 @@ unended w h t a legal allowed =
     let queued = StartFacts-queued w h t (StartFacts-allowed w h t a allowed) in
     refuted (has_task (ended h) t) (λ is. no_both ((AreEnded-legal w h legal).started_ended t is) queued.not_started)
 
+-- after each allowed event those that run are the running tasks, by their starts
 pub running-event : (w : Parts) (h : List Event) (e : Event) (b : Books) → IsLegal w h → IsAllowed w h e → KeepsTasks w h b → runners b.running ≡ running h → runners (after_event w e b).running ≡ running (h ++ e ∷ [])
 running-event w h (Post m) b legal allowed tasks keeps = ap runners (same-post m.id b) ∙ (keeps ∙ sym (running-post h m))
 running-event w h (Fire t s ms cs) b legal allowed tasks keeps = ap runners (same-fire w t s ms cs b) ∙ (keeps ∙ sym (running-fire h t s ms cs))

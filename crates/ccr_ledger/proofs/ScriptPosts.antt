@@ -103,6 +103,7 @@ script_posts-post w h m (Task task place) b is sizes keeps = record {
   task_posts = ap (λ n. n + 1) keeps.task_posts ∙ sym (counted-post h m _ is_task_message is);
 }
 
+-- after each event the counts are those of the posts of each poster, and of all tasks
 pub script_posts-event : (w : Parts) (h : List Event) (e : Event) (b : Books) → HasSizes w b → KeepsScriptPosts w h b → KeepsScriptPosts w (h ++ e ∷ []) (after_event w e b)
 script_posts-event w h (Post m) b sizes keeps = let done = script_posts-post w h m m.id b refl sizes keeps in record { script_posts = done.script_posts; task_posts = done.task_posts }
 script_posts-event w h (Fire t s ms cs) b sizes keeps = script_posts-other w h (Fire t s ms cs) b (after_fire w t s ms cs b) refl (same-fire w t s ms cs b) keeps

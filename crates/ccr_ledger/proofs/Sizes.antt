@@ -172,6 +172,7 @@ alike-event w (Put t d) b = by_card b (card_at b.tasks t) _ (λ c. alike-enter t
 alike-event w (Start t a) b = by_card b (card_at b.tasks t) _ (λ c i. record (sizes_of b) { queued = length-with_row b.queued c.queue (drop 1 (row b.queued c.queue)) i; coming = numbers_if (is_branch c.spot) c.queue b.coming i })
 alike-event w (End t how) b = by_card b (card_at b.tasks t) _ (λ c. alike-end t how c b)
 
+-- no event changes how many rows a table has
 pub sizes-event : (w : Parts) (e : Event) (b : Books) → HasSizes w b → HasSizes w (after_event w e b)
 sizes-event w e b sizes =
     let alike = alike-event w e b in

@@ -239,7 +239,7 @@ module _ (w : Parts) (h : List Event) (legal : IsLegal w h) where
         of_list [] at was = refl
         of_list (t ∷ ts) at was = rw (may_same t (has_oldest (waiting w h d) ts t at)) was
 
-  -- the law
+  -- a domain that can admit no task cannot after an event that does not touch it
   pub admission_stays : (e : Event) (d : ℕ) → IsAllowed w h e → touches_domain w h e d ≡ false → admission w h d ≡ None → admission w (h ++ e ∷ []) d ≡ None
   admission_stays e d allowed none was =
       let outs = neither (fires_for w e d) (list_any (is_in_arbiter w h d) (last_by e)) none in

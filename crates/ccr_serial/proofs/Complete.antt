@@ -64,5 +64,6 @@ none_if_quiet w h (Some e) allowed quiet = absurd (quiet e allowed)
 pub none_first-quiet : (w : Parts) (c : ℕ) (h : List Event) → length w.posters ≤ c → c ≤ 32 → IsLegal w h → IsQuiet w h → first w c h ≡ None
 none_first-quiet w c h high low legal quiet = none_if_quiet w h (first w c h) (first_allowed w c h high low legal) quiet
 
+-- a legal history after which nothing is allowed is complete: no script has a line left, and where a task was shed the budget is spent
 pub is_complete-quiet : (w : Parts) (h : List Event) → length w.posters ≤ 32 → IsLegal w h → IsQuiet w h → is_complete w h ≡ true
 is_complete-quiet w h few legal quiet = is_complete-first w 32 h legal (none_first-quiet w 32 h few (omega arith) legal quiet)

@@ -82,6 +82,7 @@ module _ (w : Parts) (h : List Event) (b : Books) (keeps : Keeps w h b) where
   ready_kept (Start t a) old new legal allowed known changed = λ place. changed place ∙ ready-other w h (Start t a) old refl refl refl known place
   ready_kept (End t how) old new legal allowed known changed = λ place. changed place ∙ ready-other w h (End t how) old refl refl refl known place
 
+-- after each allowed event the desk still says what the model says
 pub stands-event : (w : Parts) (c : ℕ) (h : List Event) (e : Event) (old new : Desk) → IsLegal w h → IsAllowed w h e → TablesTell w h old.books → Keeps w (h ++ e ∷ []) (after_event w e old.books) → Stands w c h old → Follows w c e old new → Stands w c (h ++ e ∷ []) new
 stands-event w c h e old new legal allowed told keeps stands follows = record {
   books = rw follows.books keeps;

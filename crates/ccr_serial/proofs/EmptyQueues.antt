@@ -47,7 +47,7 @@ put_now w h (Put t d) q allowed none u among =
     let facts = PutFacts-allowed w h t d allowed in
     subst (λ x. IsFired h x × (is_for_queue w h q x ≡ false)) (sym (of_one t u among)) ((facts.firing, facts.is_firing), (neither (is_for_queue w h q t) false none).0)
 
--- the law
+-- a queue that has no task has none after an event that puts none into it
 pub start_stays : (w : Parts) (h : List Event) → IsLegal w h → (c : ℕ) (e : Event) (q : ℕ) → IsAllowed w h e → touches_queue w h e q ≡ false → start_at w c h q ≡ None → start_at w c (h ++ e ∷ []) q ≡ None
 start_stays w h legal c e q allowed none was = of_list (queued w (h ++ e ∷ []) q) refl
   where

@@ -12,6 +12,7 @@ if_some : (P : Event → Type 0) (o : Option Event) → ((e : Event) → o ≡ S
 if_some P None each = tt
 if_some P (Some e) each = each e refl
 
+-- after each event that one thread puts first fewer events are to come
 pub nearer-first : (w : Parts) (c : ℕ) (h : List Event) → TakesSome w → length w.posters ≤ c → c ≤ 32 → IsLegal w h → IfSome (first w c h) (λ e. potential w (h ++ e ∷ []) < potential w h)
 nearer-first w c h some high low legal = if_some (λ e. potential w (h ++ e ∷ []) < potential w h) (first w c h) (λ e is. potential-push w some h e (IsLegal-first w c h e high low legal is))
 
@@ -31,6 +32,7 @@ finished_within w c some high low (suc n) h few legal = of_option (first w c h) 
         let found = rest e (omega (arith, few, less)) next in
         (found.0, later_finished w c h found.0 e is found.1)
 
+-- the one-thread order ends from each legal history
 pub some_finished : (w : Parts) (c : ℕ) (h : List Event) → TakesSome w → length w.posters ≤ c → c ≤ 32 → IsLegal w h → (f : List Event) × IsFinished w c h f
 some_finished w c h some high low legal = finished_within w c some high low (suc (potential w h)) h (omega arith) legal
 
@@ -49,6 +51,7 @@ same_runs w c past (x ∷ one) (y ∷ other) ordered ordered' ended ended' =
     let rest = same_runs w c (past ++ x ∷ []) one other ordered.1 rest' end end' in
     rw (same, rest) refl
 
+-- it ends at one history alone
 pub one_finished : (w : Parts) (c : ℕ) (h one other : List Event) → IsFinished w c h one → IsFinished w c h other → one ≡ other
 one_finished w c h one other a b =
     let ended_a : first w c (h ++ a.more) ≡ None = subst (λ g. first w c g ≡ None) a.begins a.ended in
@@ -60,5 +63,6 @@ legal_run : (w : Parts) (c : ℕ) (past more : List Event) → length w.posters 
 legal_run w c past [] high low legal ordered = rw (append-nil past) legal
 legal_run w c past (e ∷ more) high low legal ordered = subst (IsLegal w) (append_assoc past (e ∷ []) more) (legal_run w c (past ++ e ∷ []) more high low (IsLegal-first w c past e high low legal ordered.0) ordered.1)
 
+-- what it ends at is legal
 pub IsLegal-finished : (w : Parts) (c : ℕ) (h f : List Event) → length w.posters ≤ c → c ≤ 32 → IsLegal w h → IsFinished w c h f → IsLegal w f
 IsLegal-finished w c h f high low legal finished = rw finished.begins (legal_run w c h finished.more high low legal finished.ordered)

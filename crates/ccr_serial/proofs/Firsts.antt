@@ -37,6 +37,7 @@ module _ (w : Parts) (c : ℕ) (h : List Event) (d : Desk) (told : TablesTell w 
   could_so : (k : ℕ) → passes_at (could_fire_in w d.books) (spots w) k ≡ passes_at (could_fire w h) (spots w) k
   could_so k = passes-same (could_fire_in w d.books) (could_fire w h) (spots w) (λ s. rw (told.lives_so s, told.choice_so s) (could_choose w h s)) k
 
+  -- before the desk's poster, and but for its touched spots and its blocked ones, nothing is left by the tables too
   pub idle_stands : Stands w c h d → IsIdle w c d
   idle_stands stands = record {
     posters = done_so d.poster ∙ stands.poster;
@@ -51,11 +52,13 @@ module _ (w : Parts) (c : ℕ) (h : List Event) (d : Desk) (told : TablesTell w 
   put_so [] ready least = sym (none_put_told w c h d.books told ready)
   put_so (n ∷ ns) ready least = put_told w c h d.books told (n ∷ ns) n ready (least n refl)
 
+  -- the event that comes first is read from the desk
   pub first_told : Stands w c h d → first_in w c d ≡ first w c h
   first_told stands =
       let fires : first_fire_in w (record { actor = c; attempt = d.attempt }) d.books (spots w) ≡ fire_from w c h (spots w) = rw stands.attempt (first_fire_told w c h d.books told (spots w)) in
       rw (post_told w c h d.books told 0 w.posters (omega arith), fires, first_admit_told w c h d.books told 0 w.arbiters (omega arith), put_so d.ready stands.ready stands.least, first_run_told w c h d.books told _ told.runs_so, start_told w c h d.books told 0 w.queues (omega arith)) refl
 
+-- the desk may go on past what was asked in vain
 pub stands_ahead : (w : Parts) (c : ℕ) (h : List Event) (old new : Desk) → TablesTell w h old.books → Stands w c h old → IsAhead w c old new → Stands w c h new
 stands_ahead w c h old new told stands ahead =
     let told_now : TablesTell w h new.books = rw ahead.books told in

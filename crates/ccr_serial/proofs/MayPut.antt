@@ -72,7 +72,7 @@ cut_more a b true d none = rw (none refl) (of_b b)
         of_a true = refl
         of_a false = refl
 
--- a firing changes nothing for those that fired before
+-- a firing changes nothing for the tasks that fired before it, whomever it cuts
 pub may_put-fire : (w : Parts) (h : List Event) (t : TaskId) (s : Spot) (ms : List MsgId) (cs : List TaskId) (u : TaskId) → IsLegal w h → IsAllowed w h (Fire t s ms cs) → has_task (fired h) u ≡ true → may_put w (h ++ Fire t s ms cs ∷ []) u ≡ may_put w h u
 may_put-fire w h t s ms cs u legal allowed among =
     rw (put-push, ever_admitted-push, cut-push, append-nil (put h), append-nil (ever_admitted h), firing_named-fire h t u s ms cs (other_task h t u facts.new_name among), has_task-append (cut h) (cs ++ []) u, append-nil cs)
@@ -113,7 +113,7 @@ only_needs : (a b : Bool) → b ≡ false → a || b ≡ a
 only_needs true b none = refl
 only_needs false b none = none
 
--- the new task may be put where it needs no admission
+-- a task that fires may be put at once where it needs no admission
 pub may_put-new : (w : Parts) (h : List Event) (t : TaskId) (s : Spot) (ms : List MsgId) (cs : List TaskId) → IsLegal w h → IsAllowed w h (Fire t s ms cs) → may_put w (h ++ Fire t s ms cs ∷ []) t ≡ needs_no_admission w s
 may_put-new w h t s ms cs legal allowed =
     rw (firing_named-new h t s ms cs new, put-push, ever_admitted-push, cut-push, append-nil (put h), append-nil (ever_admitted h), not_put, has_task-append (cut h) (cs ++ []) t, not_cut, append-nil cs, not_now)
@@ -137,7 +137,7 @@ may_put-new w h t s ms cs legal allowed =
     not_now : has_task cs t ≡ false
     not_now = unused cs h t new (λ is. (let waits = cuts_wait w h s t (subst (λ ts. has_task ts t ≡ true) facts.cuts is) in let so = WaitingFacts-waiting w h waits.0 t (OneName-legal w h legal) waits.1 in fired_has h t (so.firing, so.is_firing)))
 
--- an admission lets its task be put, and changes nothing for others
+-- an admission lets its task be put, and no other
 pub may_put-admit : (w : Parts) (h : List Event) (t u : TaskId) → IsLegal w h → IsAllowed w h (Admit t) → may_put w (h ++ Admit t ∷ []) u ≡ same_task u t || may_put w h u
 may_put-admit w h t u legal allowed = of_test (same_task u t) refl
   where
@@ -163,7 +163,7 @@ may_put-admit w h t u legal allowed = of_test (same_task u t) refl
         or_nothing true = refl
         or_nothing false = refl
 
--- a put takes its task out
+-- a put takes its task out, and no other
 pub may_put-put : (w : Parts) (h : List Event) (t u : TaskId) (d : Option TaskId) → may_put w (h ++ Put t d ∷ []) u ≡ not (same_task u t) && may_put w h u
 may_put-put w h t u d = rw (put-push, ever_admitted-push, firings-other h (Put t d) refl, append-nil (ever_admitted h)) (over (put h))
   where

@@ -20,6 +20,7 @@ more_kept p (x ∷ xs) ys = grind (arith, common_steps, more_kept p xs ys)
 more_lines : (h : List Event) (e : Event) (n : ℕ) → posts_of_poster h n ≤ posts_of_poster (h ++ e ∷ []) n
 more_lines h e n = rw posts-push (more_kept (λ (m : Msg). is_script_of n m.id) (posts h) (post_of e))
 
+-- a poster that has no line left never has one again
 pub done-event : (h : List Event) (e : Event) (n : ℕ) (ps : List PosterPart) → are_done h n ps ≡ true → are_done (h ++ e ∷ []) n ps ≡ true
 done-event h e n [] is = refl
 done-event h e n (p ∷ ps) is =
@@ -35,6 +36,7 @@ past [] n few = refl
 past (x ∷ xs) zero few = absurd (omega arith)
 past (x ∷ xs) (suc n) few = past xs n (omega arith)
 
+-- the next line is of a poster behind those that are done
 pub post_from-place : (h : List Event) (n k : ℕ) (ps : List PosterPart) → are_done h n (take k ps) ≡ true → post_from h n ps ≡ post_from h (n + k) (drop k ps)
 post_from-place h n zero [] is = refl
 post_from-place h n (suc k) [] is = refl

@@ -92,12 +92,12 @@ at_left p q ts n m t apart there tests = of_option (slice_get ts n) refl
     of_option None at = none_left (n == m)
     of_option (Some u) at = rw (← same_place ts n m u t apart at there) (tests u)
 
--- an admission
+-- an admission brings the number of its task in
 pub ready-admit : (w : Parts) (h : List Event) (t : TaskId) (m : ℕ) (old new : List ℕ) → IsLegal w h → IsAllowed w h (Admit t) → slice_get (fired h) m ≡ Some t → AreReady w h old → ((n : ℕ) → has_number new n ≡ (n == m) || has_number old n) → AreReady w (h ++ Admit t ∷ []) new
 ready-admit w h t m old new legal allowed there known changed n =
     rw (firings-other h (Admit t) refl, changed n, known n) (sym (at_entered (may_put w h) (may_put w (h ++ Admit t ∷ [])) (fired h) n m t (fired_apart w h legal) there (λ u. may_put-admit w h t u legal allowed)))
 
--- a put
+-- a put takes the number of its task out
 pub ready-put : (w : Parts) (h : List Event) (t : TaskId) (d : Option TaskId) (m : ℕ) (old new : List ℕ) → IsLegal w h → slice_get (fired h) m ≡ Some t → AreReady w h old → ((n : ℕ) → has_number new n ≡ not (n == m) && has_number old n) → AreReady w (h ++ Put t d ∷ []) new
 ready-put w h t d m old new legal there known changed n =
     rw (firings-other h (Put t d) refl, changed n, known n) (sym (at_left (may_put w h) (may_put w (h ++ Put t d ∷ [])) (fired h) n m t (fired_apart w h legal) there (λ u. may_put-put w h t u d)))
@@ -110,7 +110,7 @@ ready-other w h e old no_fire no_put no_admit known n = rw (firings-other h e no
     of_option None = refl
     of_option (Some u) = sym (may_put-other w h e u no_fire no_put no_admit)
 
--- a firing: its number comes in where the task needs no admission
+-- a firing brings the number of its task in where it needs no admission
 pub ready-fire : (w : Parts) (h : List Event) (t : TaskId) (s : Spot) (ms : List MsgId) (cs : List TaskId) (old new : List ℕ) → IsLegal w h → IsAllowed w h (Fire t s ms cs) → AreReady w h old → ((n : ℕ) → has_number new n ≡ (n == length (fired h)) && needs_no_admission w s || has_number old n) → AreReady w (h ++ Fire t s ms cs ∷ []) new
 ready-fire w h t s ms cs old new legal allowed known changed n = rw (fired-fire, changed n, known n) (over (fired h) (may_put w h) (may_put w (h ++ Fire t s ms cs ∷ [])) n (λ u among. may_put-fire w h t s ms cs u legal allowed among) (may_put-new w h t s ms cs legal allowed))
   where
@@ -138,8 +138,10 @@ none_first p (x ∷ ts) none =
     let here : p x ≡ false = none zero in
     rw here (none_first p ts (λ m. none (suc m)))
 
+-- the least of the numbers is that of the task that is put next
 pub first_ready : (w : Parts) (h : List Event) (ns : List ℕ) (n : ℕ) → AreReady w h ns → IsLeast ns n → slice_get (fired h) n ≡ find (may_put w h) (fired h)
 first_ready w h ns n known least = first_of_least (may_put w h) (fired h) n (sym (known n) ∙ least.among) (λ m less. sym (known m) ∙ least.low m less)
 
+-- where there are no numbers no task is put
 pub none_ready : (w : Parts) (h : List Event) → AreReady w h [] → find (may_put w h) (fired h) ≡ None
 none_ready w h known = none_first (may_put w h) (fired h) (λ m. sym (known m))

@@ -32,7 +32,7 @@ still-gains was is touched xs old new keeps n known gains out =
     of_option None none before = refl
     of_option (Some x) none before = keeps x none before
 
--- each event keeps it that none but the touched spots and the blocked ones can fire, room aside
+-- each event keeps it that no spots can fire, room aside, but the touched ones and the blocked ones, where those that it touches come in
 pub still-event : (w : Parts) (h : List Event) (e : Event) (old new : List ℕ) (blocked : List (List ℕ)) → IsLegal w h → IsStill w h old blocked → Gains (passes_at (touches w h e) (spots w)) old new → IsStill w (h ++ e ∷ []) new blocked
 still-event w h e old new blocked legal known gains = λ place out unblocked. still-gains (could_fire w h) (could_fire w (h ++ e ∷ [])) (touches w h e) (spots w) old new (λ s none was. still w h e s legal none was) place (λ free. known place free unblocked) gains out
 
@@ -52,6 +52,7 @@ fire_from-drop w c h (s ∷ ss) (suc n) none =
     let outs = neither (can_fire w h s) (list_any (can_fire w h) (take n ss)) none in
     rw (no_fire w c h s outs.0) (fire_from-drop w c h ss n outs.1)
 
+-- the first firing is at no place before which no spot is touched and no blocked one has room
 pub search_on : (w : Parts) (c : ℕ) (h : List Event) (touched : List ℕ) (blocked : List (List ℕ)) (n : ℕ) → IsStill w h touched blocked → ((place : ℕ) → place < n → has_number touched place ≡ false)
     → ((place : ℕ) → place < n → is_blocked blocked place ≡ true → passes_at (has_room w h) (spots w) place ≡ false) → fire_from w c h (spots w) ≡ fire_from w c h (drop n (spots w))
 search_on w c h touched blocked n known above full = fire_from-drop w c h (spots w) n (none_before (can_fire w h) (spots w) n (λ place low. cannot place low (is_blocked blocked place) refl))

@@ -50,6 +50,7 @@ module _ (w : Parts) (valid : IsValid w) (h : List Event) (legal : IsLegal w h) 
       let own : facts.card.queue ≡ queue = facts.queue ∙ same_number facts.place.branch.queue queue (sym (ap (λ o. option_map_or (λ (s : Placement). s.branch.queue == queue) o false) facts.is_placement) ∙ goes) in
       rw (facts.is_card, own) (eq-self queue)
 
+  -- what the order asks of the tables is what the model says, where they keep what it says
   pub TablesTell-keeps : TablesTell w h b
   TablesTell-keeps = record {
     script_posts = keeps.script_posts.script_posts;

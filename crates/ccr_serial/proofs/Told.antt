@@ -50,6 +50,7 @@ none_narrower narrow wide (x ∷ xs) within none =
     rw here (none_narrower narrow wide xs within outs.1)
 
 module _ (w : Parts) (c : ℕ) (h : List Event) (b : Books) (told : TablesTell w h b) where
+  -- the next line by the tables
   pub post_told : (n : ℕ) (ps : List PosterPart) → n + length ps ≤ length w.posters → post_in b n ps ≡ post_from h n ps
   post_told n [] low = refl
   post_told n (p ∷ ps) low = rw (told.script_posts n (omega (arith, low)), post_told (n + 1) ps (omega (arith, low))) refl
@@ -57,6 +58,7 @@ module _ (w : Parts) (c : ℕ) (h : List Event) (b : Books) (told : TablesTell w
   pub fire_told : (s : Spot) → fire_in w (record { actor = c; attempt = next_attempt c (fired h) }) b s ≡ fire_at w c h s
   fire_told s = rw (told.lives_so s, told.room_so s, told.choice_so s, told.cuts_so s) refl
 
+  -- the next firing by the tables
   pub first_fire_told : (ss : List Spot) → first_fire_in w (record { actor = c; attempt = next_attempt c (fired h) }) b ss ≡ fire_from w c h ss
   first_fire_told [] = refl
   first_fire_told (s ∷ ss) = rw (fire_told s, first_fire_told ss) refl
@@ -68,10 +70,12 @@ module _ (w : Parts) (c : ℕ) (h : List Event) (b : Books) (told : TablesTell w
   pub admission_told : (domain : ℕ) → domain < length w.arbiters → admission_in b domain ≡ admission w h domain
   admission_told domain low = rw (told.waits_so domain low) (admit_told (waiting w h domain))
 
+  -- the next admission by the tables
   pub first_admit_told : (n : ℕ) (xs : List ArbiterPart) → n + length xs ≤ length w.arbiters → first_admit_in b n xs ≡ admit_from w h n xs
   first_admit_told n [] low = refl
   first_admit_told n (x ∷ xs) low = rw (told.waits_so n (omega (arith, low)), admit_told, first_admit_told (n + 1) xs (omega (arith, low))) refl
 
+  -- the next put by the tables
   pub put_told : (ns : List ℕ) (n : ℕ) → AreReady w h ns → IsLeast ns n → put_in w b n ≡ put_first w h
   put_told ns n ready least = of_entry (slice_get b.tasks n) ∙ ap (λ o. option_map (λ task. Put task (drop_at w h task)) o) (told.names n ∙ first_ready w h ns n ready least)
     where
@@ -89,6 +93,7 @@ module _ (w : Parts) (c : ℕ) (h : List Event) (b : Books) (told : TablesTell w
       of_option None = refl
       of_option (Some sent) = rw (told.budget_so, told.made_so t runs) refl
 
+  -- the next event of a running task by the tables
   pub first_run_told : (ts : List TaskId) → ts ≡ running h → option_map (run_in w b) (slice_get ts 0) ≡ option_map (run_task w h) (slice_get (running h) 0)
   first_run_told ts same = subst (λ us. option_map (run_in w b) (slice_get us 0) ≡ option_map (run_task w h) (slice_get (running h) 0)) (sym same) (of_list (running h) refl)
     where
@@ -99,6 +104,7 @@ module _ (w : Parts) (c : ℕ) (h : List Event) (b : Books) (told : TablesTell w
   pub start_at_told : (queue : ℕ) → queue < length w.queues → start_at_in c b queue ≡ start_at w c h queue
   start_at_told queue low = rw (told.queued_so queue low) refl
 
+  -- the next start by the tables
   pub start_told : (n : ℕ) (qs : List QueuePart) → n + length qs ≤ length w.queues → start_in c b n qs ≡ start_from w c h n qs
   start_told n [] low = refl
   start_told n (q ∷ qs) low = rw (told.queued_so n (omega (arith, low)), start_told (n + 1) qs (omega (arith, low))) refl
@@ -110,6 +116,7 @@ module _ (w : Parts) (c : ℕ) (h : List Event) (b : Books) (told : TablesTell w
       let outs = neither (option_map_or (posts_to e) (site_port w n k) false) (list_any (yields_in b (Site n k)) (yielded_by e)) none in
       rw outs.0 (none_narrower (yields_at h (Site n k)) (yields_in b (Site n k)) (yielded_by e) (λ t is. told.yields_so (Site n k) t ∙ is) outs.1)
 
+  -- it is enough that the spots come in that an event touches by the tables
   pub touched_kept : (e : Event) (old new : List ℕ) (blocked : List (List ℕ)) → IsLegal w h → IsStill w h old blocked → Gains (passes_at (touches_in w b e) (spots w)) old new → IsStill w (h ++ e ∷ []) new blocked
   touched_kept e old new blocked legal known gains = λ place out unblocked. still-gains (could_fire w h) (could_fire w (h ++ e ∷ [])) (touches_in w b e) (spots w) old new (λ s none was. still w h e s legal (untouched e s none) was) place (λ free. known place free unblocked) gains out
 

@@ -106,5 +106,6 @@ could_before w h e (Site n k) legal none is =
     let parts = both (is_live w (h ++ e ∷ []) (Site n k)) (can_take w (h ++ e ∷ []) (Site n k)) is in
     rw (site_live_before w h e (Site n k) legal outs.1 parts.0) (port_before h e (site_port w n k) outs.0 parts.1)
 
+-- a spot that cannot fire, room aside, cannot after an event that does not touch it
 pub still : (w : Parts) (h : List Event) (e : Event) (s : Spot) → IsLegal w h → touches w h e s ≡ false → could_fire w h s ≡ false → could_fire w (h ++ e ∷ []) s ≡ false
 still w h e s legal none was = refuted (could_fire w (h ++ e ∷ []) s) (λ is. no_both (could_before w h e s legal none is) was)
