@@ -9,3 +9,4 @@ pub mod Kept
 mod Acted
 mod Needed
 pub mod Followed
+pub mod Dues

@@ -9,3 +9,4 @@ pub mod Hands
 pub mod Nets
 pub mod Following
 pub mod Within
+pub mod Points

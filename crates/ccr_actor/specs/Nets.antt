@@ -1,5 +1,5 @@
 -- Lists of an actor's steps at a net: which are proper, and which ask may follow.
-use Rattle.std.specs.Prelude.{◌≡◌, ℕ, List, [], ◌∷◌, ◌++◌, map, Option, Some}
+use Rattle.std.specs.Prelude.{◌≡◌, ◌^◌, ◌-◌, ℕ, List, [], ◌∷◌, ◌++◌, map, Option, Some, nat_lt, if◌then◌else◌}
 use Rattle.ccr_wiring.specs.declared.parts.Parts.{Parts}
 use Rattle.ccr_claim.specs.declared.asks.Asked.{Asked}
 use Rattle.ccr_claim.specs.declared.asks.Reply.{Reply}
@@ -9,6 +9,10 @@ use Rattle.ccr_actor.specs.Actors.{next}
 pub record Step : Type 0 where
   pub asked : Asked
   pub reply : Reply
+
+-- so many steps by a counter of 64 bits: the number, or the last one of these bits where it is greater
+abbrev pub counted : ℕ → ℕ
+counted n = if nat_lt n (2 ^ 64) then n else 2 ^ 64 - 1
 
 -- the replies of the steps
 abbrev pub replies_of : List Step → List Reply

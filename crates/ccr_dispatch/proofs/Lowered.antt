@@ -16,13 +16,14 @@ use Rattle.ccr_actor.specs.Nets.{Step, replies_of}
 use Rattle.ccr_actor.specs.Following.{Follows}
 use Rattle.ccr_actor.proofs.Settled.{all_settle}
 use Rattle.ccr_claim.specs.Attempts.{attempt_ask}
-use Rattle.ccr_actor.specs.Acting.{Acting, asking_of, due_in, kept, kept_if, at_state, sent, next, answered, shortened, IsAfter}
+use Rattle.ccr_actor.specs.Acting.{Acting, due_in, kept, kept_if, at_state, sent, next, answered, shortened, IsAfter}
 use Rattle.ccr_actor.specs.Actors.{State, Turn, settle, admit, drive, go_on, stop, turn, turn_of, spots_left, name_at, ask_in, work_ask, settled, after_admit, after_attempt, after_work, after_in, after, in_attempt, shorten, state_after}
 use Rattle.ccr_actor.specs.Courses.{AreFew, owed}
 use Rattle.ccr_actor.specs.Plans.{plan_of}
 use Rattle.ccr_actor.specs.Within.{IsWithin}
 use Rattle.ccr_actor.proofs.Kept.{after_short, kept_hand, kept_short, kept_whole}
 use Rattle.ccr_actor.proofs.Followed.{step_is}
+use Rattle.ccr_actor.proofs.Dues.{due_sent}
 use Rattle.ccr_dispatch.specs.Ranks.{settles_in, admissions_left, drive_left, drive_most, owed_by, steps_left}
 use Rattle.ccr_dispatch.specs.Driving.{IsSettled}
 use Rattle.ccr_dispatch.proofs.Falls.{Fitting, all_work, admit_falls, attempt_waits, calm_drive, calm_waits, drive_falls, hand_falls, settles_append, work_calms, work_falls}
@@ -165,16 +166,6 @@ left-long a is = ap (λ b. cond b 0 (1 + rank a.wiring a.state)) is
 -- an actor in this state, as far as it counts
 abbrev as-kept : Acting → State → Acting
 as-kept a state = at_state a.wiring a.actor state
-
-due-same : (t : Turn) (one : Asked) → due_in (asking_of t (Some one)) ≡ due_of one.ask
-due-same (settle first more) one = refl
-due-same (admit arbiter more) one = refl
-due-same (drive spot more) one = refl
-due-same go_on one = refl
-due-same stop one = refl
-
-pub due_sent : (a : Acting) (one : Asked) → next a ≡ Some one → due_in (sent a).asking ≡ due_of one.ask
-due_sent a one asks = ap (λ o. due_in (asking_of (turn a.state) o)) asks ∙ due-same (turn a.state) one
 
 -- the state that a reply leads to
 reply-state : (a : Acting) (one : Asked) (reply : Reply) → next a ≡ Some one → answered (sent a) reply ≡ as-kept a (after a.wiring a.actor a.state reply)

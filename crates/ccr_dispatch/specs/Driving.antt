@@ -1,12 +1,8 @@
 -- What a drive does to a net and to its actor.
-use Rattle.std.specs.Prelude.{◌≡◌, ◌<◌, ◌≤◌, ◌^◌, ◌-◌, ℕ, List, ◌++◌, length, nat_lt, if◌then◌else◌}
+use Rattle.std.specs.Prelude.{◌≡◌, ◌<◌, ◌≤◌, List, ◌++◌, length, ℕ}
 use Rattle.ccr_actor.specs.Acting.{Acting}
-use Rattle.ccr_actor.specs.Nets.{Step}
+use Rattle.ccr_actor.specs.Nets.{Step, counted}
 use Rattle.ccr_dispatch.specs.Ranks.{owed_by, steps_left}
-
--- the number, or the last one of 64 bits where it is greater
-abbrev pub counted : ℕ → ℕ
-counted n = if nat_lt n (2 ^ 64) then n else 2 ^ 64 - 1
 
 -- so many steps were added
 abbrev pub Adds : List Step → List Step → ℕ → Type 0

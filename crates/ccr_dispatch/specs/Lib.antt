@@ -1,3 +1,2 @@
-pub mod Points
 pub mod Ranks
 pub mod Driving

@@ -6,8 +6,7 @@ ghost use Rattle.ccr_actor.specs.Following.{Follows};
 ghost use Rattle.ccr_dispatch.specs.Driving.{Adds, IsSettled};
 ghost use Rattle.ccr_dispatch.specs.Ranks.{steps_left};
 
-use crate::points::{point_after, point_before};
-use ccr_actor::{Actor, Net};
+use ccr_actor::{Actor, Net, point_after, point_before};
 use ccr_base::Gate;
 
 /// The next step: one, or none where the net found no memory for it.

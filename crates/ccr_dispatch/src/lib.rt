@@ -3,8 +3,6 @@
 
 mod driving;
 mod laws;
-mod points;
 
 pub use driving::drive;
 pub use laws::actors_rest;
-pub use points::{point_after, point_before};

@@ -15,10 +15,9 @@ use Rattle.ccr_places.specs.declared.notes.Note.{Note}
 use Rattle.ccr_claim.specs.declared.asks.Ask.{Ask}
 use Rattle.ccr_claim.specs.declared.asks.Asked.{Asked}
 use Rattle.ccr_claim.specs.declared.asks.Reply.{Reply}
-use Rattle.ccr_claim.specs.Asks.{due_of}
-use Rattle.ccr_actor.specs.Actors.{State, Turn, settle, admit, drive, go_on, stop, after, state_after, turn}
+use Rattle.ccr_actor.specs.Actors.{State, after, state_after, turn}
 use Rattle.ccr_actor.specs.Actors as actors
-use Rattle.ccr_actor.specs.Acting.{Acting, Asking, quiet, settling, going, answered, asking_by, asking_of, at_state, due_in, is_at_rest, kept, next, pair_of, rests_by, sent, shortened, started, IsAfter}
+use Rattle.ccr_actor.specs.Acting.{Acting, Asking, quiet, settling, going, answered, at_state, is_at_rest, kept, next, pair_of, rests_by, sent, shortened, started, IsAfter}
 use Rattle.ccr_actor.proofs.Followed.{state_more, step_is}
 use Rattle.ccr_actor.proofs.Kept.{after_short, kept_after, kept_asked, kept_short}
 use Rattle.ccr_object.specs.declared.deed.Answer.TheVariants.{Replied}
@@ -332,16 +331,6 @@ asks_of (Some one) place ask is =
     let same : pair_of one ≡ (place, ask) = cc in
     let P : (Place × Ask) → Option Asked = λ p. Some (record { place = p.0; ask = p.1 }) in
     ap P same
-
-due_same : (part : Turn) (one : Asked) → due_in (asking_by part one.ask) ≡ due_of one.ask
-due_same (settle first more) one = refl
-due_same (admit arbiter more) one = refl
-due_same (drive spot more) one = refl
-due_same go_on one = refl
-due_same stop one = refl
-
-pub due_sent : (a : Acting) (one : Asked) → next a ≡ Some one → due_in (sent a).asking ≡ due_of one.ask
-due_sent a one asks = ap (λ o. due_in (asking_of (turn a.state) o)) asks ∙ due_same (turn a.state) one
 
 -- a step, once what was asked is answered
 pub step_of : (stage later : Stage) (a before b : Acting) (entries more : List Entry) (place : Place) (ask : Ask) → next a ≡ Some (record { place = place; ask = ask }) → before ≡ sent a → IsAnswered stage before entries place ask later b more → IsStep stage a entries later b more

@@ -3,7 +3,7 @@ use Rattle.std.proofs.Common.{◌≡◌, ◌∙◌, ℕ, ◌+◌, Bool, true, fa
 use Rattle.std.specs.Prelude.{◌⊎◌}
 use Rattle.std.proofs.lemmas.Bool.Decides.{nat_tests}
 use Rattle.std.proofs.lemmas.List.{length-append}
-use Rattle.ccr_dispatch.specs.Driving.{counted}
+use Rattle.ccr_actor.specs.Nets.{counted}
 use Rattle.ccr_space.specs.declared.space.step.Step.{Step as Came}
 use Rattle.ccr_space.specs.declared.space.step.Step.TheVariants.{Made, Unmet}
 use Rattle.ccr_space.specs.Spaces.{Pass, IsLonger, IsMore, log}

@@ -24,7 +24,7 @@ use Rattle.ccr_actor.specs.Actors.{next, state_after as state_of}
 use Rattle.ccr_actor.specs.Following.{Follows}
 use Rattle.ccr_actor.specs.Nets.{Step, replies_of}
 use Rattle.ccr_actor.proofs.Followed.{follows_long, follows_next, follows_reply}
-use Rattle.ccr_dispatch.proofs.Lowered.{due_sent}
+use Rattle.ccr_actor.proofs.Dues.{due_sent}
 use Rattle.ccr_net.specs.Played.{Heard, heard, numbered, number_at, rules}
 use Rattle.ccr_net.specs.Runs.{never}
 use Rattle.ccr_space.specs.declared.space.step.Step.{Step as Came}

@@ -23,8 +23,7 @@ use Rattle.ccr_turns.specs.declared.turns.Turns.{Turns}
 use Rattle.ccr_runs.specs.Runs.{IsProper, state_after}
 use Rattle.ccr_actor.specs.Acting.{Acting, IsAfter, is_at_rest}
 use Rattle.ccr_actor.specs.Following.{Follows}
-use Rattle.ccr_actor.specs.Nets.{Step, replies_of}
-use Rattle.ccr_dispatch.specs.Driving.{counted}
+use Rattle.ccr_actor.specs.Nets.{Step, counted, replies_of}
 use Rattle.ccr_net.specs.Played.{Heard, rules}
 use Rattle.ccr_net.specs.Runs.{never}
 use Rattle.ccr_space.specs.declared.space.SpaceOf.{SpaceOf}

@@ -7,10 +7,9 @@ ghost use Rattle.ccr_space.specs.Spaces.{HasPlaces, IsPassOf, IsAtRest, IsHeard,
 
 use super::pausing::Pausing;
 use super::{Pass, Space};
-use ccr_actor::Actor;
+use ccr_actor::{Actor, point_after, point_before};
 use ccr_base::{ActorNo, Gate, OpenGate};
 use ccr_claim::Reply;
-use ccr_dispatch::{point_after, point_before};
 use ccr_object::Answer;
 use std::sync::Wait;
 

@@ -5,7 +5,8 @@ use Rattle.ccr_actor.specs.Acting.{Acting, due_in, next, sent, IsAfter}
 use Rattle.ccr_actor.specs.Nets.{IsProper}
 use Rattle.ccr_actor.specs.Following.{Follows}
 use Rattle.ccr_actor.proofs.Followed.{follows_proper}
-use Rattle.ccr_dispatch.proofs.Lowered.{due_sent, in_hand, less_left, settled_less}
+use Rattle.ccr_actor.proofs.Dues.{due_sent}
+use Rattle.ccr_dispatch.proofs.Lowered.{in_hand, less_left, settled_less}
 use Rattle.ccr_dispatch.proofs.Stepped.{actor_is, asks_of, may_answer, stepped}
 use Rattle.ccr_dispatch.proofs.driving.step.Goals as goal
 

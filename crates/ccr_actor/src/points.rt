@@ -1,7 +1,7 @@
 //! When the gate is asked.
 
 ghost use Rattle.std.specs.Prelude.{◌≡◌};
-ghost use Rattle.ccr_dispatch.specs.Points.{point_before, point_after};
+ghost use Rattle.ccr_actor.specs.Points.{point_before, point_after};
 
 use ccr_base::{How, Point};
 use ccr_claim::{Ask, Reply};
