@@ -55,7 +55,7 @@ struct Streams {
 
 /// How the program ended, and what it wrote.
 #[derive(Drop)]
-struct Answer {
+struct Outcome {
     status: u8,
     written: List<u8>,
 }
@@ -150,28 +150,28 @@ fn run_program<R: AllocGlobal + Threads + Wait + Sync>(
     words: &str,
     input: &[u8],
     streams: Streams,
-) -> Result<Answer, OutOfMemory> {
+) -> Result<Outcome, OutOfMemory> {
     let alloc = rt.alloc();
     let words = words_of(alloc, words)?;
     let mut source = MemorySource::new(listed(alloc, input)?, listed(alloc, &[streams.read])?);
     let mut sink = MemorySink::new(alloc, streams.room, listed(alloc, &[streams.write])?)?;
     let status = run_ccr(rt, words.as_slice(), &mut source, &mut sink, &OpenGate);
     let written = listed(alloc, sink.written())?;
-    Ok(Answer { status, written })
+    Ok(Outcome { status, written })
 }
 
 /// Runs the program on streams that never fail, and tells what it answered.
 fn run_sure<R: AllocGlobal + Threads + Wait + Sync>(
     rt: &R,
     case: &Case<'_>,
-) -> Result<Answer, OutOfMemory> {
+) -> Result<Outcome, OutOfMemory> {
     let alloc = rt.alloc();
     let words = words_of(alloc, case.words)?;
     let mut source = SureSource::new(listed(alloc, case.input.as_slice())?);
     let mut sink = SureSink::new(alloc, case.room)?;
     let status = run_surely(rt, words.as_slice(), &mut source, &mut sink, &OpenGate);
     let written = listed(alloc, sink.kept())?;
-    Ok(Answer { status, written })
+    Ok(Outcome { status, written })
 }
 
 /// Whether the part stands somewhere in the text.
@@ -241,7 +241,7 @@ fn run_failing<R: AllocGlobal + Threads + Wait + Sync>(
     case: &Case<'_>,
     read: u64,
     write: u64,
-) -> Result<Answer, OutOfMemory> {
+) -> Result<Outcome, OutOfMemory> {
     let streams = case.streams(read, write);
     run_program(rt, case.words, case.input.as_slice(), streams)
 }

@@ -11,8 +11,8 @@ ghost use Rattle.ccr_words.specs.declared.requests.Request.TheVariants.{Read, Lo
 ghost use Rattle.ccr_commands.specs.Inputs.{limit_of};
 ghost use Rattle.ccr_commands.specs.Answers.{AnswersText, AnswersInput, AnswersRequest, RefusedGives, IsDue, IsExhausted, IsExhaustedFor, IsAccepted, IsDeclined, IsExcessive, IsVerified, may_end, reads};
 
-use crate::answers::{Answer, check, refused, too_long, usage};
 use crate::load::load;
+use crate::outcomes::{Outcome, check, refused, too_long, usage};
 use crate::recording::answer_record;
 use crate::replaying::{answer_replay, answer_steps};
 use crate::run::run;
@@ -50,7 +50,7 @@ fn limit_of(command: Command) -> usize
     }
 }
 
-fn answer_check(alloc: Global, text: &[u8], json: bool) -> Result<Answer, OutOfMemory>
+fn answer_check(alloc: Global, text: &[u8], json: bool) -> Result<Outcome, OutOfMemory>
     requires { length text.now ≤ 1048576 }
     ensures { IfOk result (λ due. AnswersText Check json text.now due.status due.text) }
 {
@@ -66,7 +66,7 @@ fn answer_run<R: AllocGlobal + Threads + Wait + Sync, G: Gate + Sync>(
     text: &[u8],
     workers: u32,
     json: bool,
-) -> Result<Answer, OutOfMemory>
+) -> Result<Outcome, OutOfMemory>
     requires workers { workers ≤ 16 }
     requires length { length text.now ≤ 1048576 }
     ensures { IfOk result (λ due. AnswersText (Run workers false) json text.now due.status due.text) }
@@ -83,7 +83,7 @@ fn answer_text<R: AllocGlobal + Threads + Wait + Sync, G: Gate + Sync>(
     command: Command,
     text: &[u8],
     json: bool,
-) -> Result<Answer, OutOfMemory>
+) -> Result<Outcome, OutOfMemory>
     requires workers { HasFewWorkers command }
     requires length { length text.now ≤ limit_of command }
     ensures { IfOk result (λ due. AnswersText command json text.now due.status due.text) }
@@ -115,7 +115,7 @@ fn answer_input<R: AllocGlobal + Threads + Wait + Sync, S: Source, G: Gate + Syn
     command: Command,
     source: &mut S,
     json: bool,
-) -> Result<Answer, Failure>
+) -> Result<Outcome, Failure>
     requires { HasFewWorkers command }
     ensures due { IfOk result (λ due. AnswersInput command json (S.rest source.old) due.status due.text) }
     ensures exhausted { IfOk result (λ due. IsExhausted due.status (S.rest source.old) (S.rest source.new)) }
@@ -135,7 +135,7 @@ fn answer_request<R: AllocGlobal + Threads + Wait + Sync, S: Source, G: Gate + S
     gate: &G,
     request: Option<Request>,
     source: &mut S,
-) -> Result<Answer, Failure>
+) -> Result<Outcome, Failure>
     requires { IfSome request IsWithin }
     ensures due { IfOk result (λ due. AnswersRequest request (S.rest source.old) due.status due.text) }
     ensures exhausted { IfOk result (λ due. IsExhaustedFor request due.status (S.rest source.old) (S.rest source.new)) }
@@ -165,7 +165,7 @@ pub fn answer_words<R: AllocGlobal + Threads + Wait + Sync, S: Source, G: Gate +
     gate: &G,
     words: &[Name],
     source: &mut S,
-) -> Result<Answer, Failure>
+) -> Result<Outcome, Failure>
     ensures due { IfOk result (λ due. IsDue due.status words.now (S.rest source.old) due.text) }
     ensures usage { asked_for words.now ≡ None → IfOk result (λ due. due.status ≡ Status.Usage) }
     ensures refused { (command : Commands) → (json : Bool) → asked_for words.now ≡ Some (Read command json) → IsDeclined command (S.rest source.old) → IfOk result (λ due. due.status ≡ Status.Refused) }

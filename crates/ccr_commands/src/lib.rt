@@ -3,13 +3,13 @@
 
 mod accounting;
 mod answering;
-mod answers;
 mod comparing;
 mod findings;
 mod judging;
 mod kept_history;
 mod laws;
 mod load;
+mod outcomes;
 mod recording;
 mod replaying;
 mod run;
@@ -21,9 +21,9 @@ mod steady;
 mod verify;
 
 pub use answering::answer_words;
-pub use answers::Answer;
 pub use laws::{
     loads_write_one_text, records_are_read_as_recorded, runs_are_found_legal,
     threaded_runs_are_scheduled,
 };
+pub use outcomes::Outcome;
 pub use status::{Failure, Status};

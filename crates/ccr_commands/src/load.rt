@@ -6,7 +6,7 @@ ghost use Rattle.ccr_steady.specs.Agreement.{is_counts, Agrees};
 ghost use Rattle.ccr_commands.specs.Loads.{totals_of, IsLoad, LoadGives};
 
 use crate::accounting::complete_histories_account_for_all;
-use crate::answers::Answer;
+use crate::outcomes::Outcome;
 use crate::run::closer_of;
 use crate::status::Status;
 use ccr_base::{Gate, List, OutOfMemory};
@@ -91,13 +91,13 @@ pub fn load<R: AllocGlobal + Threads + Wait + Sync, G: Gate + Sync>(
     size: u32,
     workers: u32,
     json: bool,
-) -> Result<Answer, OutOfMemory>
+) -> Result<Outcome, OutOfMemory>
     requires some { 0 < size }
     requires many { size ≤ 10000 }
     requires workers { workers ≤ 16 }
     ensures { IfOk result (λ due. LoadGives size workers json due.status due.text) }
 {
-    Ok(Answer {
+    Ok(Outcome {
         status: Status::Done,
         text: load_text(rt, gate, size, workers, json)?,
     })

@@ -5,7 +5,7 @@ ghost use Rattle.ccr_commands.specs.Answers.{AnswersText};
 ghost use Rattle.ccr_commands.specs.Records.{AreTurnsToRest, RecordGives};
 ghost use Rattle.ccr_words.specs.declared.requests.Command.TheVariants.{Record};
 
-use crate::answers::{Answer, refused};
+use crate::outcomes::{Outcome, refused};
 use crate::status::Status;
 use ccr_base::{ActorNo, Gate, List, OutOfMemory};
 use ccr_net::Full;
@@ -74,12 +74,12 @@ fn record<R: AllocGlobal + Threads + Wait + Sync, G: Gate + Sync>(
     text: &[u8],
     wiring: &Wiring,
     workers: u32,
-) -> Result<Answer, OutOfMemory>
+) -> Result<Outcome, OutOfMemory>
     requires { workers ≤ 16 }
     ensures { IfOk result (λ due. RecordGives wiring.now workers text.now due.status due.text) }
 {
     let turns = turns_to_rest(rt, gate, wiring, workers)?;
-    Ok(Answer {
+    Ok(Outcome {
         status: Status::Done,
         text: write_record(rt.alloc(), text, workers, turns.as_slice())?,
     })
@@ -91,7 +91,7 @@ pub fn answer_record<R: AllocGlobal + Threads + Wait + Sync, G: Gate + Sync>(
     gate: &G,
     text: &[u8],
     workers: u32,
-) -> Result<Answer, OutOfMemory>
+) -> Result<Outcome, OutOfMemory>
     requires workers { workers ≤ 16 }
     requires length { length text.now ≤ 1048576 }
     ensures { (json : _) → IfOk result (λ due. AnswersText (Record workers) json text.now due.status due.text) }

@@ -5,7 +5,7 @@ ghost use Rattle.ccr_commands.specs.Answers.{AnswersText};
 ghost use Rattle.ccr_commands.specs.Records.{ReplayGives, StepsGives};
 ghost use Rattle.ccr_words.specs.declared.requests.Command.TheVariants.{Replay, Steps};
 
-use crate::answers::{Answer, refused};
+use crate::outcomes::{Outcome, refused};
 use crate::run::run;
 use crate::status::Status;
 use ccr_base::{Gate, OutOfMemory};
@@ -20,27 +20,27 @@ fn replay<R: AllocGlobal + Threads + Wait + Sync, G: Gate + Sync>(
     rt: &R,
     gate: &G,
     said: &Record,
-) -> Result<Answer, OutOfMemory>
+) -> Result<Outcome, OutOfMemory>
     requires workers { said.now.workers ≤ 16 }
     requires turns { All (λ actor. actor < length said.now.wiring.posters + said.now.workers) said.now.turns }
     ensures { IfOk result (λ due. ReplayGives said.now due.status due.text) }
 {
     let turns = Some(said.turns.as_slice());
-    let Answer { status: _, text } = run(rt, gate, &said.wiring, said.workers, turns, false)?;
-    Ok(Answer {
+    let Outcome { status: _, text } = run(rt, gate, &said.wiring, said.workers, turns, false)?;
+    Ok(Outcome {
         status: Status::Done,
         text,
     })
 }
 
 /// The steps of the run of the record's turns.
-fn steps(alloc: Global, said: &Record) -> Result<Answer, OutOfMemory>
+fn steps(alloc: Global, said: &Record) -> Result<Outcome, OutOfMemory>
     requires workers { said.now.workers ≤ 16 }
     requires turns { All (λ actor. actor < length said.now.wiring.posters + said.now.workers) said.now.turns }
     ensures { IfOk result (λ due. StepsGives said.now due.status due.text) }
 {
     let full = run_schedule(alloc, &said.wiring, said.workers, said.turns.as_slice())?;
-    Ok(Answer {
+    Ok(Outcome {
         status: Status::Done,
         text: steps_text(alloc, &said.wiring, &full)?,
     })
@@ -51,7 +51,7 @@ pub fn answer_replay<R: AllocGlobal + Threads + Wait + Sync, G: Gate + Sync>(
     rt: &R,
     gate: &G,
     text: &[u8],
-) -> Result<Answer, OutOfMemory>
+) -> Result<Outcome, OutOfMemory>
     requires { length text.now ≤ 33554432 }
     ensures { (json : _) → IfOk result (λ due. AnswersText Replay json text.now due.status due.text) }
 {
@@ -62,7 +62,7 @@ pub fn answer_replay<R: AllocGlobal + Threads + Wait + Sync, G: Gate + Sync>(
 }
 
 /// What `steps` writes.
-pub fn answer_steps(alloc: Global, text: &[u8]) -> Result<Answer, OutOfMemory>
+pub fn answer_steps(alloc: Global, text: &[u8]) -> Result<Outcome, OutOfMemory>
     requires { length text.now ≤ 33554432 }
     ensures { (json : _) → IfOk result (λ due. AnswersText Steps json text.now due.status due.text) }
 {

@@ -6,7 +6,7 @@ ghost use Rattle.ccr_report.specs.Counted.{HasRows, IsCounted};
 ghost use Rattle.ccr_commands.specs.Runs.{report_of, IsToldOf, RunGives};
 
 use crate::accounting::complete_histories_account_for_all;
-use crate::answers::Answer;
+use crate::outcomes::Outcome;
 use crate::sheds::sheds;
 use crate::status::Status;
 use ccr_base::{ActorNo, Gate, List, OutOfMemory};
@@ -92,7 +92,7 @@ pub fn run<R: AllocGlobal + Threads + Wait + Sync, G: Gate + Sync>(
     workers: u32,
     turns: Option<&[ActorNo]>,
     json: bool,
-) -> Result<Answer, OutOfMemory>
+) -> Result<Outcome, OutOfMemory>
     requires workers { workers ≤ 16 }
     requires turns { IfSome turns (λ turns. All (λ actor. actor < length wiring.now.posters + workers) turns.now) }
     ensures { IfOk result (λ due. RunGives json wiring.now workers (option_map (λ t. t.now) turns.entry) due.status due.text) }
@@ -100,12 +100,12 @@ pub fn run<R: AllocGlobal + Threads + Wait + Sync, G: Gate + Sync>(
     let alloc = rt.alloc();
     let told = tell_run(rt, gate, wiring, workers, turns)?;
     if sheds(&told.counts) {
-        Ok(Answer {
+        Ok(Outcome {
             status: Status::Shed,
             text: run_text(alloc, wiring, told, json, b"done 6\n")?,
         })
     } else {
-        Ok(Answer {
+        Ok(Outcome {
             status: Status::Done,
             text: run_text(alloc, wiring, told, json, b"done 0\n")?,
         })

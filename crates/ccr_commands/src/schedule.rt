@@ -6,7 +6,7 @@ ghost use Rattle.ccr_commands.specs.Answers.{AnswersText};
 ghost use Rattle.ccr_commands.specs.Inputs.{reading_run, turns_of};
 ghost use Rattle.ccr_words.specs.declared.requests.Command.TheVariants.{Run};
 
-use crate::answers::{Answer, refused};
+use crate::outcomes::{Outcome, refused};
 use crate::run::{closer_of, run};
 use ccr_base::{ActorNo, Gate, List, OutOfMemory};
 use ccr_schedule::read_turns;
@@ -46,7 +46,7 @@ pub fn answer_schedule<R: AllocGlobal + Threads + Wait + Sync, G: Gate + Sync>(
     text: &[u8],
     workers: u32,
     json: bool,
-) -> Result<Answer, OutOfMemory>
+) -> Result<Outcome, OutOfMemory>
     requires workers { workers ≤ 16 }
     requires length { length text.now ≤ 1048576 }
     ensures { IfOk result (λ due. AnswersText (Run workers true) json text.now due.status due.text) }

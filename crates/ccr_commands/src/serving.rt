@@ -9,8 +9,8 @@ ghost use Rattle.ccr_commands.specs.Answers.{AnswersText};
 ghost use Rattle.ccr_commands.specs.Services.{answer_words, ask_lines, client_lines, ExpandGives, ServiceGives};
 ghost use Rattle.ccr_words.specs.declared.requests.Command.TheVariants.{Expand, Service as Serving};
 
-use crate::answers::{Answer, refused};
 use crate::kept_history::{run_history, written_history};
+use crate::outcomes::{Outcome, refused};
 use crate::status::Status;
 use ccr_base::{Gate, List, Name, OutOfMemory};
 use ccr_model::History;
@@ -123,7 +123,7 @@ fn serve<R: AllocGlobal + Threads + Wait + Sync, G: Gate + Sync>(
     gate: &G,
     service: &Service,
     workers: u32,
-) -> Result<Answer, OutOfMemory>
+) -> Result<Outcome, OutOfMemory>
     requires { workers ≤ 16 }
     ensures { IfOk result (λ due. ServiceGives service.now workers due.status due.text) }
 {
@@ -133,20 +133,20 @@ fn serve<R: AllocGlobal + Threads + Wait + Sync, G: Gate + Sync>(
     let wiring = expand(alloc, service)?;
     let (_first, history) = run_history(rt, gate, &wiring, workers, None)?;
     let told = answers(alloc, service, &history)?;
-    Ok(Answer {
+    Ok(Outcome {
         status: Status::Done,
         text: served_text(alloc, service, &wiring, &history, told.as_slice())?,
     })
 }
 
 /// The wiring that a service stands for.
-fn expanded(alloc: Global, service: &Service) -> Result<Answer, OutOfMemory>
+fn expanded(alloc: Global, service: &Service) -> Result<Outcome, OutOfMemory>
     ensures { IfOk result (λ due. ExpandGives service.now due.status due.text) }
 {
     let wiring = expand(alloc, service)?;
     let mut text = write_wiring(alloc, &wiring)?;
     put_bytes(&mut text, b"done 0\n")?;
-    Ok(Answer {
+    Ok(Outcome {
         status: Status::Done,
         text,
     })
@@ -158,7 +158,7 @@ pub fn answer_service<R: AllocGlobal + Threads + Wait + Sync, G: Gate + Sync>(
     gate: &G,
     text: &[u8],
     workers: u32,
-) -> Result<Answer, OutOfMemory>
+) -> Result<Outcome, OutOfMemory>
     requires workers { workers ≤ 16 }
     requires length { length text.now ≤ 1048576 }
     ensures { (json : _) → IfOk result (λ due. AnswersText (Serving workers) json text.now due.status due.text) }
@@ -170,7 +170,7 @@ pub fn answer_service<R: AllocGlobal + Threads + Wait + Sync, G: Gate + Sync>(
 }
 
 /// What `expand` writes.
-pub fn answer_expand(alloc: Global, text: &[u8]) -> Result<Answer, OutOfMemory>
+pub fn answer_expand(alloc: Global, text: &[u8]) -> Result<Outcome, OutOfMemory>
     requires { length text.now ≤ 1048576 }
     ensures { (json : _) → IfOk result (λ due. AnswersText Expand json text.now due.status due.text) }
 {

@@ -7,7 +7,7 @@ ghost use Rattle.ccr_commands.specs.Answers.{AnswersText};
 ghost use Rattle.ccr_commands.specs.Steady.{agreed_text, SteadyGives};
 ghost use Rattle.ccr_words.specs.declared.requests.Command.TheVariants.{Steady};
 
-use crate::answers::{Answer, refused};
+use crate::outcomes::{Outcome, refused};
 use crate::status::Status;
 use ccr_base::{List, OutOfMemory};
 use ccr_model::Totals;
@@ -42,21 +42,21 @@ fn put_agreed(alloc: Global, out: &mut List<u8>, found: &Agreed) -> Result<(), O
     }
 }
 
-fn steady(alloc: Global, wiring: &Wiring) -> Result<Answer, OutOfMemory>
+fn steady(alloc: Global, wiring: &Wiring) -> Result<Outcome, OutOfMemory>
     ensures { IfOk result (λ due. SteadyGives wiring.now due.status due.text) }
 {
     let found = agreed(alloc, wiring)?;
     let mut text = List::new(alloc);
     put_agreed(alloc, &mut text, &found)?;
     put_bytes(&mut text, b"done 0\n")?;
-    Ok(Answer {
+    Ok(Outcome {
         status: Status::Done,
         text,
     })
 }
 
 /// What `steady` writes.
-pub fn answer_steady(alloc: Global, text: &[u8]) -> Result<Answer, OutOfMemory>
+pub fn answer_steady(alloc: Global, text: &[u8]) -> Result<Outcome, OutOfMemory>
     requires { length text.now ≤ 1048576 }
     ensures { (json : _) → IfOk result (λ due. AnswersText Steady json text.now due.status due.text) }
 {

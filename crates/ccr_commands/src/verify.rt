@@ -5,9 +5,9 @@ ghost use Rattle.ccr_commands.specs.Findings.{IsFound, VerifyGives, status_of};
 ghost use Rattle.ccr_commands.specs.Answers.{AnswersText, RefusedGives};
 ghost use Rattle.ccr_words.specs.declared.requests.Command.TheVariants.{Verify};
 
-use crate::answers::{Answer, refused};
 use crate::findings::{Finding, finding_text};
 use crate::judging::finding_of;
+use crate::outcomes::{Outcome, refused};
 use crate::status::Status;
 use ccr_base::OutOfMemory;
 use ccr_replay::read_part;
@@ -33,20 +33,20 @@ fn judge_output(
     wiring: &Wiring,
     before: u32,
     output: &[u8],
-) -> Result<Answer, OutOfMemory>
+) -> Result<Outcome, OutOfMemory>
     requires before { before ≤ 33554432 }
     requires length { length output.now ≤ 33554432 }
     ensures { IfOk result (λ due. VerifyGives wiring.now before output.now due.status due.text) }
 {
     let finding = finding_of(alloc, wiring, before, output)?;
-    Ok(Answer {
+    Ok(Outcome {
         status: status_of(finding),
         text: finding_text(alloc, finding)?,
     })
 }
 
 /// What `verify` writes. The wiring is what stands before the first line whose first word is `history`.
-pub fn verify(alloc: Global, text: &[u8]) -> Result<Answer, OutOfMemory>
+pub fn verify(alloc: Global, text: &[u8]) -> Result<Outcome, OutOfMemory>
     requires { length text.now ≤ 33554432 }
     ensures { (json : Bool) → IfOk result (λ due. AnswersText Verify json text.now due.status due.text) }
 {

@@ -13,35 +13,35 @@ use std::alloc::Global;
 
 /// A text that is to be written, and what for.
 #[derive(Drop)]
-pub struct Answer {
+pub struct Outcome {
     pub status: Status,
     pub text: List<u8>,
 }
 
 /// The usage line.
-pub fn usage(alloc: Global) -> Result<Answer, OutOfMemory>
+pub fn usage(alloc: Global) -> Result<Outcome, OutOfMemory>
     ensures status { IfOk result (λ due. due.status ≡ Status.Usage) }
     ensures text { IfOk result (λ due. due.text ≡ usage_text) }
 {
     let text =
         b"usage: ccr check|run|verify|load|record|replay|steps|steady|service|expand [--workers N] [--schedule] [--json] [--size N]\ndone 1\n";
-    Ok(Answer {
+    Ok(Outcome {
         status: Status::Usage,
         text: List::from_vec(Vec::from_slice(alloc, text)?),
     })
 }
 
-pub fn too_long(alloc: Global) -> Result<Answer, OutOfMemory>
+pub fn too_long(alloc: Global) -> Result<Outcome, OutOfMemory>
     ensures status { IfOk result (λ due. due.status ≡ Status.TooLong) }
     ensures text { IfOk result (λ due. due.text ≡ too_long_text) }
 {
-    Ok(Answer {
+    Ok(Outcome {
         status: Status::TooLong,
         text: List::from_vec(Vec::from_slice(alloc, b"too long\ndone 8\n")?),
     })
 }
 
-fn refusal(alloc: Global, line: u32, code: u8) -> Result<Answer, OutOfMemory>
+fn refusal(alloc: Global, line: u32, code: u8) -> Result<Outcome, OutOfMemory>
     ensures status { IfOk result (λ due. due.status ≡ Status.Refused) }
     ensures text { IfOk result (λ due. due.text ≡ refused_text line code) }
 {
@@ -50,7 +50,7 @@ fn refusal(alloc: Global, line: u32, code: u8) -> Result<Answer, OutOfMemory>
     put_bytes(&mut text, b" ")?;
     put_number(&mut text, u64::from(code))?;
     put_bytes(&mut text, b"\ndone 2\n")?;
-    Ok(Answer {
+    Ok(Outcome {
         status: Status::Refused,
         text,
     })
@@ -68,19 +68,19 @@ fn wiring_of(alloc: Global, wiring: &Wiring, json: bool) -> Result<List<u8>, Out
 }
 
 /// The wiring and the last line.
-pub fn check(alloc: Global, wiring: &Wiring, json: bool) -> Result<Answer, OutOfMemory>
+pub fn check(alloc: Global, wiring: &Wiring, json: bool) -> Result<Outcome, OutOfMemory>
     ensures { IfOk result (λ due. CheckGives json wiring.now due.status due.text) }
 {
     let mut text = wiring_of(alloc, wiring, json)?;
     put_bytes(&mut text, b"done 0\n")?;
-    Ok(Answer {
+    Ok(Outcome {
         status: Status::Done,
         text,
     })
 }
 
 /// The first line that offends, and its code.
-pub fn refused(alloc: Global, refused: ReadRefused) -> Result<Answer, OutOfMemory>
+pub fn refused(alloc: Global, refused: ReadRefused) -> Result<Outcome, OutOfMemory>
     ensures { IfOk result (λ due. RefusedGives refused due.status due.text) }
 {
     match refused {
