@@ -3,8 +3,8 @@
 
 mod laws;
 mod making;
+mod parts;
 mod scripts;
-mod standing;
 
 pub use laws::generated_wirings_never_shed;
 pub use making::generate;

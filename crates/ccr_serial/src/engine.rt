@@ -11,7 +11,7 @@ ghost use Rattle.ccr_serial.specs.Engine.{IsSound, next_event, next_engine};
 use crate::desk::Desk;
 use crate::listener::Listener;
 use crate::places::Places;
-use crate::standing::desk_of;
+use crate::resuming::desk_of;
 use ccr_base::{ActorNo, OutOfMemory};
 use ccr_ledger::Ledger;
 use ccr_model::{Event, GhostHistory};

@@ -10,9 +10,9 @@ mod numbers;
 mod parts;
 mod places;
 mod queues;
+mod resuming;
 mod search;
 mod serial;
-mod standing;
 mod touched;
 
 pub use engine::Engine;

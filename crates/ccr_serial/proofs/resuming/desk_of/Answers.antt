@@ -1,7 +1,7 @@
 use Rattle.std.proofs.Common.{length, refl}
 use Rattle.std.proofs.lemmas.Option.{slice_get_read}
 use Rattle.ccr_serial.proofs.Along.{attempt_fits_on, stands_none, stands_on}
-use Rattle.ccr_serial.proofs.standing.desk_of.Goals as goal
+use Rattle.ccr_serial.proofs.resuming.desk_of.Goals as goal
 
 pub loop-event-init : goal.loop-event-init
 loop-event-init c = rw (c.in_ok-desk.ensures, c.wiring.ensures) (stands_none c.args.places.now c.parts-valid.ensures.valid c.args.closer)
