@@ -22,7 +22,7 @@ use Rattle.ccr_commands.specs.Steady.{SteadyGives}
 use Rattle.ccr_commands.specs.Services.{ServiceGives, ExpandGives}
 use Rattle.ccr_commands.specs.Findings.{IsFound, VerifyGives, is_fault}
 use Rattle.ccr_replay.specs.declared.records.Record.{Record as Recorded}
-use Rattle.ccr_replay.specs.Reading.{reading_record}
+use Rattle.ccr_replay.specs.Reading.{reading_part, reading_record}
 use Rattle.ccr_service.specs.declared.parts.ServiceParts.{ServiceParts}
 use Rattle.ccr_service.specs.Reading.{reading_text as reading_service}
 
@@ -63,6 +63,11 @@ Answers Steps json wiring bytes status text = (said : Recorded) × (reading_reco
 Answers Steady json wiring bytes status text = SteadyGives wiring status text
 Answers (Service workers) json wiring bytes status text = (service : ServiceParts) × (reading_service bytes ≡ Ok service) × ServiceGives service workers status text
 Answers Expand json wiring bytes status text = (service : ServiceParts) × (reading_service bytes ≡ Ok service) × ExpandGives service status text
+
+-- the text that is due for what says a wiring, and for an output behind so many lines
+abbrev pub PartsGive : List ℕ → ℕ → List ℕ → Status → List ℕ → Type 0
+PartsGive part before output Refused text = (line : ℕ) × (code : ℕ) × (reading_part part ≡ Err (line, code)) × (text ≡ refused_text line code)
+PartsGive part before output status text = (wiring : Parts) × (reading_part part ≡ Ok wiring) × VerifyGives wiring before output status text
 
 -- the text that is due for the bytes of an input that isn't too long
 abbrev pub AnswersText : Command → Bool → List ℕ → Status → List ℕ → Type 0

@@ -2,7 +2,7 @@
 
 ghost use Rattle.std.specs.Prelude.{◌≡◌, ◌≤◌, ◌<◌, Bool, IfOk, length};
 ghost use Rattle.ccr_commands.specs.Findings.{IsFound, VerifyGives, status_of};
-ghost use Rattle.ccr_commands.specs.Answers.{AnswersText, RefusedGives};
+ghost use Rattle.ccr_commands.specs.Answers.{AnswersText, PartsGive, RefusedGives};
 ghost use Rattle.ccr_words.specs.declared.requests.Command.TheVariants.{Verify};
 
 use crate::findings::{Finding, finding_text};
@@ -45,14 +45,29 @@ fn judge_output(
     })
 }
 
+/// What is written of a wiring's part of an input, and the output behind so many lines.
+fn judge_parts(
+    alloc: Global,
+    part: &[u8],
+    before: u32,
+    output: &[u8],
+) -> Result<Outcome, OutOfMemory>
+    requires before { before ≤ 33554432 }
+    requires length { length output.now ≤ 33554432 }
+    ensures { IfOk result (λ due. PartsGive part.now before output.now due.status due.text) }
+{
+    match read_part(alloc, part) {
+        Ok(wiring) => judge_output(alloc, &wiring, before, output),
+        Err(why) => refused(alloc, why),
+    }
+}
+
 /// What `verify` writes. The wiring is what stands before the first line whose first word is `history`.
+#[tactic(auto, using(crate::proofs::Due::parts_are_due))]
 pub fn verify(alloc: Global, text: &[u8]) -> Result<Outcome, OutOfMemory>
     requires { length text.now ≤ 33554432 }
     ensures { (json : Bool) → IfOk result (λ due. AnswersText Verify json text.now due.status due.text) }
 {
     let (place, before) = line_of(text, b"history");
-    match read_part(alloc, &text[..place]) {
-        Ok(wiring) => judge_output(alloc, &wiring, before, &text[place..]),
-        Err(why) => refused(alloc, why),
-    }
+    judge_parts(alloc, &text[..place], before, &text[place..])
 }
