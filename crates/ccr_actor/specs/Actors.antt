@@ -143,6 +143,10 @@ add_arbiter wiring arbiter arbiters = if is_interleave_number wiring arbiter && 
 abbrev pub admit_too : Parts → State → Task → List ℕ
 admit_too wiring state task = if nat_lt state.admitted 32768 then add_arbiter wiring task.arbiter state.arbiters else state.arbiters
 
+-- a dropped task is noted over at once, and admissions follow at its Interleave
+abbrev pub dropping : Parts → State → Task → State
+dropping wiring state task = record state { hand = over_dropped task ∷ state.hand; arbiters = admit_too wiring state task }
+
 -- the asks in hand go on; a dropped task is noted over at once
 abbrev pub settled : Parts → State → List Asked → Reply → State
 settled wiring state more (replies.Dropped (Some task)) = record state { hand = over_dropped task ∷ more; arbiters = admit_too wiring state task }

@@ -67,6 +67,17 @@ impl<'w> Actor<'w> {
         begin(alloc, wiring, number)
     }
 
+    /// The poster of this number, or the worker where there is no such poster, before its first step.
+    pub fn start(
+        alloc: Global,
+        wiring: &'w Wiring,
+        number: ActorNo,
+    ) -> Result<Actor<'w>, OutOfMemory>
+        ensures started { IfOk result (λ actor. actor ≡ started wiring.now number) }
+    {
+        begin(alloc, wiring, number)
+    }
+
     /// Moves out the next ask and its place; none where the actor is at rest. Takes no memory.
     #[inline(always)]
     pub fn next(&mut self) -> Option<(Place, Ask)>

@@ -5,6 +5,7 @@ mod actor;
 mod answering;
 mod asking;
 mod attempting;
+mod cast;
 mod course;
 mod driven;
 mod driving;
@@ -17,6 +18,7 @@ mod work;
 mod working;
 
 pub use actor::Actor;
+pub use cast::actor_count;
 pub use laws::{actors_follow, actors_settle};
 pub use net::Net;
 pub use points::{point_after, point_before};

@@ -1,25 +1,23 @@
 //! What holds of every actor that has come to rest. Each law is the contract of a function that does nothing.
 
-ghost use Rattle.std.specs.Prelude.{◌≡◌, ℕ, List, [], Option, None};
+ghost use Rattle.std.specs.Prelude.{ℕ, List, [], Option};
 ghost use Rattle.ccr_wiring.specs.declared.parts.Parts.{Parts};
-ghost use Rattle.ccr_actor.specs.Actors.{next};
-ghost use Rattle.ccr_actor.specs.Nets.{Step, AreNext, replies_of};
+ghost use Rattle.ccr_actor.specs.Nets.{Step, AreNext};
 ghost use Rattle.ccr_net.specs.declared.entries.Entry.{Entry};
 ghost use Rattle.ccr_net.specs.Owed.{AreFitting};
-ghost use Rattle.ccr_net.specs.Runs.{Lacks, IsRunAfter, replies_of as replied};
-ghost use Rattle.ccr_attempts.specs.RunSteps.{steps_of};
-ghost use Rattle.ccr_attempts.specs.Trials.{AreSettled};
+ghost use Rattle.ccr_net.specs.Runs.{Lacks, IsRunAfter};
+ghost use Rattle.ccr_attempts.specs.Lawful.{SettlesAtRest, SettlesInRun};
 
 /// An actor that rests has settled each of its attempts, over whatever net it was driven, and wherever it found no memory. Its
 /// steps are attempts one after the other, with steps between them that belong to none. Of each attempt that was given up, each
 /// claim that it got was freed and its booking ended, and it never fired; of each that fired, each claim was consumed, each cut
 /// task unbooked, and its task put, unless it waits.
 pub fn attempts_of_actors_settle()
-    ensures { (wiring : Parts) (actor : ℕ) (lack : Option ℕ) (steps : List Step) → AreNext wiring actor lack [] steps → AreFitting steps → next wiring actor lack (replies_of steps) ≡ None → AreSettled wiring actor steps }
+    ensures { (wiring : Parts) (actor : ℕ) (lack : Option ℕ) (steps : List Step) → AreNext wiring actor lack [] steps → AreFitting steps → SettlesAtRest wiring actor lack steps }
 {}
 
 /// In every run, whichever of its asks found no memory, each actor that has nothing more to ask has settled each of its
 /// attempts so.
 pub fn attempts_of_runs_settle()
-    ensures { (wiring : Parts) (workers : ℕ) (lacks : Lacks) (entries : List Entry) (actor : ℕ) → IsRunAfter wiring workers lacks [] entries → next wiring actor (lacks actor) (replied wiring entries actor) ≡ None → AreSettled wiring actor (steps_of wiring lacks entries actor) }
+    ensures { (wiring : Parts) (workers : ℕ) (lacks : Lacks) (entries : List Entry) (actor : ℕ) → IsRunAfter wiring workers lacks [] entries → SettlesInRun wiring lacks entries actor }
 {}

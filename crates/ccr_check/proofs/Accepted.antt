@@ -1,22 +1,11 @@
 -- How far a verdict has come: each event so far was accepted.
-use Rattle.std.proofs.Common.{◌≡◌, ◌∙◌, ℕ, suc, ◌+◌, ◌≤◌, ◌<◌, List, [], ◌∷◌, ◌++◌, length, take, drop, get_or, Option, Some, None, refl, ap, sym, subst, arith, take-append-drop, drop-cons}
+use Rattle.std.proofs.Common.{◌≡◌, ◌∙◌, ℕ, suc, ◌+◌, ◌≤◌, ◌<◌, List, [], ◌∷◌, ◌++◌, length, take, drop, get_or, Option, Some, None, refl, ap, sym, arith, drop-cons}
 use Rattle.std.proofs.lemmas.List.{take_more, take_all, drop_all}
 use Rattle.ccr_wiring.specs.declared.parts.Parts.{Parts}
 use Rattle.ccr_model.specs.declared.history.Event.{Event}
 use Rattle.ccr_model.specs.Rules.{refusal}
-use Rattle.ccr_model.specs.Legal.{IsAllowed, IsLegal, first_refusal}
-use Rattle.ccr_model.proofs.LegalParts.{Parted-legal}
-use Rattle.ccr_check.specs.Judges.{Judged}
-
--- the events before the one at a place, that one, and those behind it
-parted : (es : List Event) (i : ℕ) (e : Event) → i < length es → e ≡ get_or es i e → es ≡ take i es ++ e ∷ drop (i + 1) es
-parted es i e low is =
-    let behind : suc i ≡ i + 1 = omega arith in
-    sym (take-append-drop i es) ∙ ap (λ back. take i es ++ back) (drop-cons es i e low ∙ (ap (λ x. x ∷ drop (suc i) es) (sym is) ∙ ap (λ n. e ∷ drop n es) behind))
-
--- each event of a legal history is allowed after those before it
-pub allowed_at : (w : Parts) (es : List Event) (i : ℕ) (e : Event) → IsLegal w es → i < length es → e ≡ get_or es i e → IsAllowed w (take i es) e
-allowed_at w es i e legal low at = (Parted-legal w (take i es) e (drop (i + 1) es) (subst (IsLegal w) (parted es i e low at) legal)).allowed
+use Rattle.ccr_model.specs.Legal.{first_refusal}
+use Rattle.ccr_checker.specs.Judges.{Judged}
 
 -- so many events were accepted, and the first refusal is that of those behind them
 pub record HasAccepted (start now : Judged) (es : List Event) (at : ℕ) : Type 0 where

@@ -1,8 +1,3 @@
-pub mod SameLists
-pub mod Numbered
+pub mod Judged
 pub mod Places
-pub mod Stillness
-pub mod Refusals
-pub mod StillTold
-pub mod Accepting
 pub mod Accepted

@@ -1,5 +1,2 @@
-pub mod Left
+pub mod Judge
 pub mod Verdicts
-pub mod Judging
-pub mod LeftInTables
-pub mod Judges

@@ -1,8 +1,9 @@
 -- What a verdict says of the history.
-use Rattle.std.specs.Prelude.{◌≡◌, ℕ, Bool, true, false, List, Option, Some, None}
+use Rattle.std.specs.Prelude.{◌≡◌, ℕ, List, Option, Some, None}
 use Rattle.ccr_wiring.specs.declared.parts.Parts.{Parts}
 use Rattle.ccr_model.specs.declared.history.Event.{Event}
-use Rattle.ccr_model.specs.Legal.{IsAllowed, IsLegal, IsQuiet, is_complete}
+use Rattle.ccr_model.specs.Legal.{IsLegal, is_complete}
+use Rattle.ccr_checker.specs.Quiet.{MeansQuiet}
 use Rattle.ccr_check.specs.declared.verdicts.Verdict.{Verdict}
 use Rattle.ccr_check.specs.declared.verdicts.Verdict.TheVariants.{Legal, Illegal}
 
@@ -20,15 +21,6 @@ TellsLegal wiring history (Illegal at rule) = IsLegal wiring history → ⊥
 abbrev pub TellsComplete : Parts → List Event → Verdict → Type 0
 TellsComplete wiring history (Legal complete quiet) = complete ≡ is_complete wiring history
 TellsComplete wiring history (Illegal at rule) = Unit {0}
-
--- some event is allowed after the history
-abbrev pub AllowsSome : Parts → List Event → Type 0
-AllowsSome wiring history = (event : Event) × IsAllowed wiring history event
-
--- true means that no event is allowed after the history, false that some event is
-abbrev pub MeansQuiet : Parts → List Event → Bool → Type 0
-MeansQuiet wiring history true = IsQuiet wiring history
-MeansQuiet wiring history false = AllowsSome wiring history
 
 -- whether a legal verdict says quiet is whether the history is
 abbrev pub TellsQuiet : Parts → List Event → Verdict → Type 0

@@ -3,11 +3,10 @@
 ghost use Rattle.std.specs.Prelude.{◌≡◌, ◌++◌, ◌∷◌, [], IfNone, IfOk, IfSome, OnErr, OnOk, length, true};
 ghost use Rattle.ccr_model.specs.Legal.{IsLegal, is_complete};
 ghost use Rattle.ccr_model.specs.Rules.{refusal};
-ghost use Rattle.ccr_check.specs.Verdicts.{MeansQuiet};
+ghost use Rattle.ccr_checker.specs.Quiet.{MeansQuiet};
 
-use crate::checker::Checker;
-use crate::complete::is_complete;
 use ccr_base::OutOfMemory;
+use ccr_checker::{Checker, is_complete};
 use ccr_laws::valid_histories_are_short;
 use ccr_model::{Event, History};
 use ccr_wiring::Wiring;
@@ -21,20 +20,21 @@ pub struct Judge<'w> {
     wiring: &'w Wiring,
     /// The events that were accepted.
     history: History,
-    /// The judge of them that keeps none.
-    checker: Checker<'w>,
+    /// The judge of them that keeps none, boxed, so that who drops it drops one value and not each of its tables.
+    checker: Box<Checker<'w>>,
     /// Whether it has come as far: where there was no memory it may not have.
     current: bool,
 }
 
 impl<'w> Model for Judge<'w> {
-    ghost use Rattle.ccr_check.specs.Judges.{IsJudge, Judged};
+    ghost use Rattle.ccr_check.specs.Judge.{IsJudge};
+    ghost use Rattle.ccr_checker.specs.Judges.{Judged};
 
     ghost Value = { Judged };
 
     ghost view = { λ j. record { wiring = j.wiring.now; history = j.history } };
 
-    ghost invariant = { λ j. IsJudge (record { wiring = j.wiring.now; history = j.history }) j.checker j.current };
+    ghost invariant = { λ j. IsJudge (record { wiring = j.wiring.now; history = j.history }) j.checker.value j.current };
 }
 
 /// Makes the inner judge anew where it hasn't come as far as the history.
@@ -42,18 +42,19 @@ fn make_current<'w>(
     alloc: Global,
     wiring: &'w Wiring,
     history: &History,
-    checker: &mut Checker<'w>,
+    checker: &mut Box<Checker<'w>>,
     current: bool,
 ) -> Result<(), OutOfMemory>
     requires legal { IsLegal wiring.now history.now }
-    requires so_far { current ≡ true → checker.old ≡ record { wiring = wiring.now; history = history.now } }
-    ensures so_far { OnOk result (checker.new ≡ record { wiring = wiring.now; history = history.now }) }
-    ensures err { OnErr result (checker.new ≡ checker.old) }
+    requires so_far { current ≡ true → checker.old.value ≡ record { wiring = wiring.now; history = history.now } }
+    ensures so_far { OnOk result (checker.new.value ≡ record { wiring = wiring.now; history = history.now }) }
+    ensures err { OnErr result (checker.new.value ≡ checker.old.value) }
 {
     if current {
         return Ok(());
     }
-    *checker = Checker::behind(alloc, wiring, history.events())?;
+    let made = Checker::behind(alloc, wiring, history.events())?;
+    *checker = Box::new(alloc, made)?;
     Ok(())
 }
 
@@ -63,7 +64,8 @@ impl<'w> Judge<'w> {
         ensures { IfOk result (λ judge. judge ≡ record { wiring = wiring.now; history = [] }) }
     {
         let _valid = wiring.parts();
-        let checker = Checker::new(alloc, wiring)?;
+        let made = Checker::new(alloc, wiring)?;
+        let checker = Box::new(alloc, made)?;
         Ok(Judge {
             alloc,
             wiring,
@@ -127,7 +129,8 @@ impl<'w> Judge<'w> {
     pub fn quiet(&self) -> Result<bool, OutOfMemory>
         ensures { IfOk result (MeansQuiet self.now.wiring self.now.history) }
     {
-        let mut checker = Checker::behind(self.alloc, self.wiring, self.history.events())?;
+        let made = Checker::behind(self.alloc, self.wiring, self.history.events())?;
+        let mut checker = Box::new(self.alloc, made)?;
         checker.quiet()
     }
 }

@@ -5,8 +5,8 @@ ghost use Rattle.ccr_model.specs.Legal.{first_refusal};
 ghost use Rattle.ccr_check.specs.Verdicts.{TellsLegal, TellsComplete, TellsQuiet, refusal_told};
 
 use crate::Verdict;
-use crate::checker::Checker;
 use ccr_base::OutOfMemory;
+use ccr_checker::Checker;
 use ccr_model::{Event, History};
 use ccr_wiring::Wiring;
 use std::alloc::Global;
@@ -38,7 +38,8 @@ pub fn verdict(alloc: Global, wiring: &Wiring, history: &History) -> Result<Verd
     ensures complete { IfOk result (TellsComplete wiring.now history.now) }
     ensures quiet { IfOk result (TellsQuiet wiring.now history.now) }
 {
-    let mut checker = Checker::new(alloc, wiring)?;
+    let made = Checker::new(alloc, wiring)?;
+    let mut checker = Box::new(alloc, made)?;
     if let Some((at, rule)) = first_refusal(&mut checker, history.events())? {
         return Ok(Verdict::Illegal { at, rule });
     }

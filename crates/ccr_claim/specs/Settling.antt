@@ -1,5 +1,5 @@
 -- The asks of an attempt with their answers, and what they settle.
-use Rattle.std.specs.Prelude.{ℕ, Bool, true, false, List, [], ◌∷◌, ◌++◌, length, map, filter, flat_map, take, drop, reverse, nat_le, Option, Some, None, Ok, if◌then◌else◌}
+use Rattle.std.specs.Prelude.{◌≡◌, ℕ, Bool, true, false, List, [], ◌∷◌, ◌++◌, length, map, filter, flat_map, take, drop, reverse, nat_le, Option, Some, None, Ok, if◌then◌else◌}
 use Rattle.std.specs.Bool.{IsTrue}
 use Rattle.ccr_base.specs.declared.names.Place.{Place}
 use Rattle.ccr_base.specs.declared.names.TaskId.{TaskId}
@@ -12,7 +12,7 @@ use Rattle.ccr_claim.specs.declared.outcomes.Next.{Next}
 use Rattle.ccr_claim.specs.declared.outcomes.Next.TheVariants as nexts
 use Rattle.ccr_claim.specs.declared.plan.ClaimPlan.{ClaimPlan}
 use Rattle.ccr_claim.specs.Asks.{Answer, is_settling, may_come}
-use Rattle.ccr_claim.specs.Attempts.{AttemptState, at_place, begun, next, sent, after, after_all, in_want, cut_ask, put_asks}
+use Rattle.ccr_claim.specs.Attempts.{AttemptState, at_place, begun, next, sent, after, after_all, in_want, attempt_after, cut_ask, put_asks, waits}
 
 -- an ask with its answer
 pub record Step : Type 0 where
@@ -124,3 +124,15 @@ shot_asks shot = map cut_ask shot.cuts ++ put_asks shot.task
 -- each claim is consumed, and then the firing completed
 abbrev pub completed : TaskId → List Step → List Asked
 completed task past = map (consume_at task) (claims past) ++ flat_map shot_asks (shots past)
+
+-- the law holds of each attempt that was so answered, by its steps and by what it is behind them
+abbrev pub OfAttempts : (ClaimPlan → TaskId → List Step → AttemptState → Type 0) → Type 0
+OfAttempts law = (plan : ClaimPlan) (task : TaskId) (lack : Option ℕ) (answers : List Answer) → AreAnswers plan task lack answers → law plan task (steps plan task lack answers) (attempt_after plan task lack answers)
+
+-- it never fired, and all that it settled is what it gives back
+abbrev pub IsReleased : TaskId → List Step → Type 0
+IsReleased task steps = (shots steps ≡ []) × (settling (asks_of steps) ≡ released task steps)
+
+-- it fired once, and all that it settled is what that firing settles
+abbrev pub IsCompleted : TaskId → List Step → Bool → Type 0
+IsCompleted task steps waiting = ((shot : Shot) × (shots steps ≡ shot ∷ []) × (waiting ≡ waits shot.task)) × (settling (asks_of steps) ≡ completed task steps)

@@ -3,9 +3,8 @@
 ghost use Rattle.std.specs.Prelude.{◌≡◌, ◌≢◌, ℕ, Bool, [], ◌∷◌, Some, Contains};
 ghost use Rattle.ccr_io.specs.Memory.{told};
 ghost use Rattle.ccr_words.specs.Said.{asked_for};
-ghost use Rattle.ccr_words.specs.declared.requests.Command.{Command};
-ghost use Rattle.ccr_words.specs.declared.requests.Request.TheVariants.{Read, Load};
-ghost use Rattle.ccr_commands.specs.Answers.{IsAccepted};
+ghost use Rattle.ccr_words.specs.declared.requests.Request.TheVariants.{Load};
+ghost use Rattle.ccr_commands.specs.Answers.{IsAccepted, OfCommand};
 ghost use Rattle.ccr_commands.specs.declared.status.Status.TheVariants.{Done};
 ghost use Rattle.ccr_cli.specs.Ends.{IsAnswered, statuses_of};
 
@@ -28,7 +27,7 @@ pub fn run_surely<R: AllocGlobal + Threads + Wait + Sync, G: Gate + Sync>(
     ensures done { result ≡ 0 → IsAnswered Done words.now (Some source.old.rest) (told sink.old) (told sink.new) }
 
     // Words and input of their forms.
-    ensures complete { (command : Command) → (json : Bool) → asked_for words.now ≡ Some (Read command json) → IsAccepted command (Some source.old.rest) → Contains (statuses_of command) result }
+    ensures complete { OfCommand words.now (λ command. IsAccepted command (Some source.old.rest) → Contains (statuses_of command) result) }
     ensures load_complete { (size workers : ℕ) → (json : Bool) → asked_for words.now ≡ Some (Load size workers json) → Contains (0 ∷ 5 ∷ []) result }
 {
     run_ccr(rt, words, source, sink, gate)

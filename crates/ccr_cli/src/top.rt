@@ -3,10 +3,9 @@
 ghost use Rattle.std.specs.Prelude.{◌≡◌, ℕ, Bool, [], ◌∷◌, true, Some, None, IsSome, Contains};
 ghost use Rattle.ccr_io.specs.Faults.{Rose};
 ghost use Rattle.ccr_words.specs.Said.{asked_for};
-ghost use Rattle.ccr_words.specs.declared.requests.Command.{Command};
 ghost use Rattle.ccr_words.specs.declared.requests.Command.TheVariants.{Verify};
 ghost use Rattle.ccr_words.specs.declared.requests.Request.TheVariants.{Read, Load};
-ghost use Rattle.ccr_commands.specs.Answers.{IsAccepted, IsDeclined, IsExcessive, IsVerified, IsExhausted};
+ghost use Rattle.ccr_commands.specs.Answers.{IsAccepted, IsDeclined, IsExcessive, IsVerified, IsExhausted, OfCommand};
 ghost use Rattle.ccr_commands.specs.declared.status.Status.TheVariants.{Done, Usage, Refused, Shed, Illegal, TooLong};
 ghost use Rattle.ccr_cli.specs.Ends.{IsAnswered, IsBegun, statuses_of};
 
@@ -28,7 +27,7 @@ pub fn run_ccr<R: AllocGlobal + Threads + Wait + Sync, S: Source, K: Sink, G: Ga
     gate: &G,
 ) -> u8
     ensures done { result ≡ 0 → IsAnswered Done words.now (S.rest source.old) (K.written sink.old) (K.written sink.new) }
-    ensures done_input { (command : Command) → (json : Bool) → asked_for words.now ≡ Some (Read command json) → result ≡ 0 → IsExhausted Done (S.rest source.old) (S.rest source.new) }
+    ensures done_input { OfCommand words.now (λ command. result ≡ 0 → IsExhausted Done (S.rest source.old) (S.rest source.new)) }
     ensures shed { result ≡ 6 → IsAnswered Shed words.now (S.rest source.old) (K.written sink.old) (K.written sink.new) }
     ensures shed_input { result ≡ 6 → IsExhausted Shed (S.rest source.old) (S.rest source.new) }
 
@@ -41,14 +40,14 @@ pub fn run_ccr<R: AllocGlobal + Threads + Wait + Sync, S: Source, K: Sink, G: Ga
 
     ensures refused { result ≡ 2 → IsAnswered Refused words.now (S.rest source.old) (K.written sink.old) (K.written sink.new) }
     ensures refused_input { result ≡ 2 → IsExhausted Refused (S.rest source.old) (S.rest source.new) }
-    ensures refused_due { (command : Command) → (json : Bool) → asked_for words.now ≡ Some (Read command json) → IsDeclined command (S.rest source.old) → Contains (2 ∷ 3 ∷ 4 ∷ 5 ∷ []) result }
+    ensures refused_due { OfCommand words.now (λ command. IsDeclined command (S.rest source.old) → Contains (2 ∷ 3 ∷ 4 ∷ 5 ∷ []) result) }
 
     ensures illegal { result ≡ 7 → IsAnswered Illegal words.now (S.rest source.old) (K.written sink.old) (K.written sink.new) }
     ensures illegal_input { result ≡ 7 → IsExhausted Illegal (S.rest source.old) (S.rest source.new) }
     ensures illegal_due { (json : Bool) → asked_for words.now ≡ Some (Read Verify json) → IsVerified true (S.rest source.old) → Contains (3 ∷ 4 ∷ 5 ∷ 7 ∷ []) result }
 
     ensures too_long { result ≡ 8 → IsAnswered TooLong words.now (S.rest source.old) (K.written sink.old) (K.written sink.new) }
-    ensures too_long_due { (command : Command) → (json : Bool) → asked_for words.now ≡ Some (Read command json) → IsExcessive command (S.rest source.old) → Contains (3 ∷ 4 ∷ 5 ∷ 8 ∷ []) result }
+    ensures too_long_due { OfCommand words.now (λ command. IsExcessive command (S.rest source.old) → Contains (3 ∷ 4 ∷ 5 ∷ 8 ∷ []) result) }
 
     ensures read_fault { result ≡ 3 → Rose (S.faults source.old) (S.faults source.new) }
     ensures read_words { result ≡ 3 → IsSome (asked_for words.now) }
@@ -61,9 +60,9 @@ pub fn run_ccr<R: AllocGlobal + Threads + Wait + Sync, S: Source, K: Sink, G: Ga
     ensures statuses { Contains (0 ∷ 1 ∷ 2 ∷ 3 ∷ 4 ∷ 5 ∷ 6 ∷ 7 ∷ 8 ∷ []) result }
 
     // Words and input of their forms, and no fault in this call.
-    ensures complete { (command : Command) → (json : Bool) → asked_for words.now ≡ Some (Read command json) → IsAccepted command (S.rest source.old) →
+    ensures complete { OfCommand words.now (λ command. IsAccepted command (S.rest source.old) →
         (Rose (S.faults source.old) (S.faults source.new) → ⊥) → (Rose (K.faults sink.old) (K.faults sink.new) → ⊥) →
-        Contains (statuses_of command) result }
+        Contains (statuses_of command) result) }
     ensures load_complete { (size workers : ℕ) → (json : Bool) → asked_for words.now ≡ Some (Load size workers json) →
         (Rose (K.faults sink.old) (K.faults sink.new) → ⊥) → Contains (0 ∷ 5 ∷ []) result }
 {

@@ -149,3 +149,7 @@ may_end command Done = true
 may_end (Run workers schedule) Shed = true
 may_end Verify Illegal = true
 may_end _ _ = false
+
+-- the law holds of the command that the words ask for, where it is one that reads an input
+abbrev pub OfCommand : List (List ℕ) → (Command → Type 0) → Type 0
+OfCommand words law = (command : Command) → (json : Bool) → asked_for words ≡ Some (Read command json) → law command

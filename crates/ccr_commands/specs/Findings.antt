@@ -3,7 +3,7 @@ use Rattle.std.specs.Prelude.{◌≡◌, ℕ, ◌+◌, max, Bool, true, false, L
 use Rattle.ccr_wiring.specs.declared.parts.Parts.{Parts}
 use Rattle.ccr_model.specs.declared.history.Event.{Event}
 use Rattle.ccr_model.specs.Legal.{IsLegal, first_refusal, has_shed, is_complete}
-use Rattle.ccr_check.specs.Verdicts.{MeansQuiet}
+use Rattle.ccr_checker.specs.Quiet.{MeansQuiet}
 use Rattle.ccr_trace.specs.declared.reading.ReadHistory.{ReadHistory}
 use Rattle.ccr_trace.specs.Reading.{reading}
 use Rattle.ccr_report.specs.Report.{report_text}

@@ -5,11 +5,10 @@ ghost use Rattle.ccr_io.specs.Faults.{Rose};
 ghost use Rattle.ccr_wiretext.specs.Answers.{IsReading};
 ghost use Rattle.ccr_words.specs.Said.{asked_for};
 ghost use Rattle.ccr_words.specs.Table.{HasFewWorkers, IsWithin};
-ghost use Rattle.ccr_words.specs.declared.requests.Command.{Command as Commands};
 ghost use Rattle.ccr_words.specs.declared.requests.Command.TheVariants.{Check, Run, Verify};
 ghost use Rattle.ccr_words.specs.declared.requests.Request.TheVariants.{Read, Load};
 ghost use Rattle.ccr_commands.specs.Inputs.{limit_of};
-ghost use Rattle.ccr_commands.specs.Answers.{AnswersText, AnswersInput, AnswersRequest, RefusedGives, IsDue, IsExhausted, IsExhaustedFor, IsAccepted, IsDeclined, IsExcessive, IsVerified, may_end, reads};
+ghost use Rattle.ccr_commands.specs.Answers.{AnswersText, AnswersInput, AnswersRequest, RefusedGives, IsDue, IsExhausted, IsExhaustedFor, IsAccepted, IsDeclined, IsExcessive, IsVerified, OfCommand, may_end, reads};
 
 use crate::load::load;
 use crate::outcomes::{Outcome, check, refused, too_long, usage};
@@ -168,9 +167,9 @@ pub fn answer_words<R: AllocGlobal + Threads + Wait + Sync, S: Source, G: Gate +
 ) -> Result<Outcome, Failure>
     ensures due { IfOk result (λ due. IsDue due.status words.now (S.rest source.old) due.text) }
     ensures usage { asked_for words.now ≡ None → IfOk result (λ due. due.status ≡ Status.Usage) }
-    ensures refused { (command : Commands) → (json : Bool) → asked_for words.now ≡ Some (Read command json) → IsDeclined command (S.rest source.old) → IfOk result (λ due. due.status ≡ Status.Refused) }
-    ensures excessive { (command : Commands) → (json : Bool) → asked_for words.now ≡ Some (Read command json) → IsExcessive command (S.rest source.old) → IfOk result (λ due. due.status ≡ Status.TooLong) }
-    ensures accepted { (command : Commands) → (json : Bool) → asked_for words.now ≡ Some (Read command json) → IsAccepted command (S.rest source.old) → IfOk result (λ due. may_end command due.status ≡ true) }
+    ensures refused { OfCommand words.now (λ command. IsDeclined command (S.rest source.old) → IfOk result (λ due. due.status ≡ Status.Refused)) }
+    ensures excessive { OfCommand words.now (λ command. IsExcessive command (S.rest source.old) → IfOk result (λ due. due.status ≡ Status.TooLong)) }
+    ensures accepted { OfCommand words.now (λ command. IsAccepted command (S.rest source.old) → IfOk result (λ due. may_end command due.status ≡ true)) }
     ensures faulty { (json : Bool) → asked_for words.now ≡ Some (Read Verify json) → IsVerified true (S.rest source.old) → IfOk result (λ due. due.status ≡ Status.Illegal) }
     ensures loaded { (size workers : ℕ) → (json : Bool) → asked_for words.now ≡ Some (Load size workers json) → IfOk result (λ due. due.status ≡ Status.Done) }
     ensures exhausted { IfOk result (λ due. IsExhaustedFor (asked_for words.now) due.status (S.rest source.old) (S.rest source.new)) }

@@ -11,7 +11,7 @@ ghost use Rattle.ccr_commands.specs.Accounts.{AccountsForAll};
 ghost use Rattle.ccr_opening.specs.Begins.{Begins};
 
 use crate::accounting::complete_histories_account_for_all;
-use crate::run::closer_of;
+use ccr_actor::actor_count;
 use ccr_base::{ActorNo, Gate, List, OutOfMemory};
 use ccr_model::History;
 use ccr_opening::first_history;
@@ -66,7 +66,7 @@ pub fn run_history<R: AllocGlobal + Threads + Wait + Sync, G: Gate + Sync>(
     let _valid = wiring.parts();
     let first = first_history(rt, gate, wiring, workers, turns)?;
     let told = Snapshot::of(&first);
-    let history = finish(rt.alloc(), wiring, closer_of(wiring, workers), first)?;
+    let history = finish(rt.alloc(), wiring, actor_count(wiring, workers), first)?;
     Ok((told, history))
 }
 

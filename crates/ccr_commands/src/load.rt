@@ -7,8 +7,8 @@ ghost use Rattle.ccr_commands.specs.Loads.{totals_of, IsLoad, LoadGives};
 
 use crate::accounting::complete_histories_account_for_all;
 use crate::outcomes::Outcome;
-use crate::run::closer_of;
 use crate::status::Status;
+use ccr_actor::actor_count;
 use ccr_base::{Gate, List, OutOfMemory};
 use ccr_gen::{generate, generated_wirings_never_shed};
 use ccr_json::totals_json;
@@ -79,7 +79,7 @@ fn load_text<R: AllocGlobal + Threads + Wait + Sync, G: Gate + Sync>(
     let _valid = wiring.parts();
     let _told = agreed_counts(alloc, &wiring, size)?;
     let first = first_history(rt, gate, &wiring, workers, None)?;
-    let counts = count_to_end(alloc, &wiring, closer_of(&wiring, workers), first)?;
+    let counts = count_to_end(alloc, &wiring, actor_count(&wiring, workers), first)?;
     let totals = totals_of(alloc, &counts.totals, json)?;
     sized_text(alloc, size, totals.as_slice())
 }

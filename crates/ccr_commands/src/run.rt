@@ -9,26 +9,17 @@ use crate::accounting::complete_histories_account_for_all;
 use crate::outcomes::Outcome;
 use crate::sheds::sheds;
 use crate::status::Status;
+use ccr_actor::actor_count;
 use ccr_base::{ActorNo, Gate, List, OutOfMemory};
 use ccr_json::counted_json;
 use ccr_opening::first_history;
 use ccr_report::{Counts, counted_text};
 use ccr_telling::{Told, tell_to_end};
 use ccr_text::put_bytes;
-use ccr_wiring::{Wiring, valid_wirings_are_sound};
+use ccr_wiring::Wiring;
 use std::alloc::Global;
 use std::sync::Wait;
 use std::thread::Threads;
-
-/// The number of the actor that finishes the run: the first behind the posters and the workers.
-pub(crate) fn closer_of(wiring: &Wiring, workers: u32) -> ActorNo
-    requires { workers ≤ 16 }
-    ensures number { result ≡ length wiring.now.posters + workers }
-    ensures low { result ≤ 32 }
-{
-    valid_wirings_are_sound();
-    wiring.parts().posters.as_slice().len() as ActorNo + workers
-}
 
 /// The report as lines, or as one line of JSON, on each history whose counts these are.
 fn report_of(
@@ -80,7 +71,7 @@ fn tell_run<R: AllocGlobal + Threads + Wait + Sync, G: Gate + Sync>(
     complete_histories_account_for_all();
     let _valid = wiring.parts();
     let first = first_history(rt, gate, wiring, workers, turns)?;
-    let told = tell_to_end(rt.alloc(), wiring, closer_of(wiring, workers), first)?;
+    let told = tell_to_end(rt.alloc(), wiring, actor_count(wiring, workers), first)?;
     Ok(told)
 }
 

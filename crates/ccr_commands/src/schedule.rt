@@ -7,7 +7,8 @@ ghost use Rattle.ccr_commands.specs.Inputs.{reading_run, turns_of};
 ghost use Rattle.ccr_words.specs.declared.requests.Command.TheVariants.{Run};
 
 use crate::outcomes::{Outcome, refused};
-use crate::run::{closer_of, run};
+use crate::run::run;
+use ccr_actor::actor_count;
 use ccr_base::{ActorNo, Gate, List, OutOfMemory};
 use ccr_schedule::read_turns;
 use ccr_text::line_of;
@@ -32,7 +33,7 @@ fn read_schedule(
 {
     let (place, before) = line_of(text, b"turn");
     let wiring = read_wiring(alloc, &text[..place])?;
-    let actors = closer_of(&wiring, workers);
+    let actors = actor_count(&wiring, workers);
     match read_turns(alloc, &text[place..], before, actors) {
         Ok(turns) => Ok((wiring, turns)),
         Err(why) => Err(why),

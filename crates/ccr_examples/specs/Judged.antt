@@ -3,7 +3,7 @@ use Rattle.std.specs.Prelude.{◌≡◌, ℕ, List, [], Some, Ok}
 use Rattle.ccr_wiring.specs.declared.parts.Parts.{Parts}
 use Rattle.ccr_model.specs.declared.history.Event.{Event}
 use Rattle.ccr_model.specs.Legal.{IsLegal, first_refusal, is_complete}
-use Rattle.ccr_check.specs.Verdicts.{MeansQuiet}
+use Rattle.ccr_checker.specs.Quiet.{MeansQuiet}
 use Rattle.ccr_trace.specs.declared.reading.ReadHistory.{ReadHistory}
 use Rattle.ccr_trace.specs.Reading.{reading}
 use Rattle.ccr_examples.specs.declared.judging.Found.{Found}

@@ -1,4 +1,5 @@
 pub mod Standing
+pub mod Lawful
 pub mod WholePattern
 pub mod Times
 pub mod OneFate

@@ -56,7 +56,7 @@ impl Directory {
         directory_of(alloc, places)
     }
 
-    #[tactic(auto, using(crate::proofs::Directories::position_below))]
+    #[tactic(auto, using(crate::proofs::Played::Directories::position_below))]
     /// The number of the place; where there is no such place, that of the last.
     pub fn number(&self, place: Place) -> u32
         ensures number { result ≡ position_of place self.now }
@@ -132,7 +132,7 @@ fn same_place(first: Place, second: Place) -> bool
 }
 
 /// Where the place stands in the list, found by going along it.
-#[tactic(auto, using(crate::proofs::Directories::position_on))]
+#[tactic(auto, using(crate::proofs::Played::Directories::position_on))]
 fn position(places: &[Place], place: Place) -> u32
     requires { length places.now ≤ 8192 }
     ensures { result ≡ position_of place places.now }

@@ -12,7 +12,7 @@ ghost use Rattle.ccr_net.specs.Schedules.{AreStarted, IsAnswered, IsMet, IsPlaye
 
 use crate::plain::PlainPlaces;
 use crate::{Entry, Full};
-use ccr_actor::Actor;
+use ccr_actor::{Actor, actor_count};
 use ccr_base::{ActorNo, List, OutOfMemory, Place};
 use ccr_claim::{Ask, Reply};
 use ccr_wiring::Wiring;
@@ -31,7 +31,7 @@ pub fn run_schedule(
     ensures scheduled { IfOk result (λ full. full.entries ≡ scheduled wiring.now turns.now) }
     ensures run { IfOk result (λ full. IsRunAfter wiring.now workers never [] full.entries) }
 {
-    let count = wiring.parts().posters.as_slice().len() as u32 + workers;
+    let count = actor_count(wiring, workers);
     let mut places = PlainPlaces::start(alloc, wiring)?;
     let mut actors = all_actors(alloc, wiring, count)?;
     let mut entries = Vec::new(alloc);
@@ -53,24 +53,9 @@ pub(crate) fn all_actors<'w>(
 {
     let mut actors = Vec::new(alloc);
     for number in 0..count {
-        actors.push(actor_of(alloc, wiring, number)?)?;
+        actors.push(Actor::start(alloc, wiring, number)?)?;
     }
     Ok(actors)
-}
-
-/// The poster of this number, or the worker where there is no such poster.
-fn actor_of<'w>(
-    alloc: Global,
-    wiring: &'w Wiring,
-    number: ActorNo,
-) -> Result<Actor<'w>, OutOfMemory>
-    ensures { IfOk result (λ actor. actor ≡ started wiring.now number) }
-{
-    if (number as usize) < wiring.parts().posters.as_slice().len() {
-        Actor::poster(alloc, wiring, number)
-    } else {
-        Actor::worker(alloc, wiring, number)
-    }
 }
 
 /// The actor's next step, or nothing where it is at rest.

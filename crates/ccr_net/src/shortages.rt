@@ -9,7 +9,7 @@ ghost use Rattle.ccr_net.specs.Shortages.{is_refused, shortened, turned, HasPlay
 use crate::plain::PlainPlaces;
 use crate::schedules::{all_actors, answer};
 use crate::{Entry, Full};
-use ccr_actor::Actor;
+use ccr_actor::{Actor, actor_count};
 use ccr_base::{ActorNo, List, OutOfMemory};
 use ccr_claim::settles;
 use ccr_wiring::Wiring;
@@ -31,7 +31,7 @@ pub fn run_short(
     ensures run { IfOk result (λ full. IsRun wiring.now workers full.entries) }
     ensures same { refused.now ≡ [] → IfOk result (λ full. full.entries ≡ scheduled wiring.now turns.now) }
 {
-    let count = wiring.parts().posters.as_slice().len() as u32 + workers;
+    let count = actor_count(wiring, workers);
     let mut places = PlainPlaces::start(alloc, wiring)?;
     let mut actors = all_actors(alloc, wiring, count)?;
     let mut entries = Vec::new(alloc);

@@ -1,5 +1,5 @@
 -- The schedule of a run.
-use Rattle.std.specs.Prelude.{◌≡◌, ℕ, List, [], ◌∷◌, ◌++◌, map, None}
+use Rattle.std.specs.Prelude.{◌≡◌, ◌<◌, ◌+◌, ℕ, List, [], ◌∷◌, ◌++◌, length, map, All, None}
 use Rattle.ccr_wiring.specs.declared.parts.Parts.{Parts}
 use Rattle.ccr_actor.specs.Actors.{next}
 use Rattle.ccr_net.specs.declared.entries.Entry.{Entry}
@@ -8,6 +8,10 @@ use Rattle.ccr_net.specs.Runs.{IsRunAfter, Lacks, never, replies_of}
 -- whose step each entry is
 abbrev pub schedule : List Entry → List ℕ
 schedule entries = map (λ (e : Entry). e.actor) entries
+
+-- each turn is that of a poster or of one of so many workers
+abbrev pub AreActors : Parts → ℕ → List ℕ → Type 0
+AreActors wiring workers turns = All (λ actor. actor < length wiring.posters + workers) turns
 
 -- a run of the posters and so many workers in which each step of each actor is its next one
 abbrev pub IsOfNextSteps : Parts → ℕ → List Entry → Type 0

@@ -1,15 +1,15 @@
 //! What holds of schedules and records. Each law is the contract of a function that does nothing.
 
-ghost use Rattle.std.specs.Prelude.{◌≡◌, ◌<◌, ◌≤◌, ◌+◌, ℕ, List, [], length, All, Ok};
+ghost use Rattle.std.specs.Prelude.{◌≡◌, ℕ, List, [], Ok};
 ghost use Rattle.ccr_wiring.specs.declared.parts.Parts.{Parts};
-ghost use Rattle.ccr_wiretext.specs.Reading.{reading_text};
 ghost use Rattle.ccr_net.specs.declared.entries.Entry.{Entry};
 ghost use Rattle.ccr_net.specs.Runs.{scheduled, IsRunAfter, Lacks};
 ghost use Rattle.ccr_replay.specs.declared.records.Record.{Record};
 ghost use Rattle.ccr_replay.specs.Grammar.{Says};
 ghost use Rattle.ccr_replay.specs.Reading.{reading_record};
 ghost use Rattle.ccr_replay.specs.Records.{record_text};
-ghost use Rattle.ccr_replay.specs.Schedules.{schedule, AskAlways, IsOfNextSteps};
+ghost use Rattle.ccr_replay.specs.Schedules.{schedule, AreActors, AskAlways, IsOfNextSteps};
+ghost use Rattle.ccr_replay.specs.Lawful.{OfRecords};
 
 /// The actors of a run's entries, in their order, are a schedule. Where each step of each actor is its next one, as where nobody
 /// asked anything else out of memory, the run of that schedule is that run again: the same actors at the same places, with
@@ -17,9 +17,9 @@ ghost use Rattle.ccr_replay.specs.Schedules.{schedule, AskAlways, IsOfNextSteps}
 /// And the run of any turns is given again by those that added an entry.
 pub fn schedules_give_runs_again()
     ensures next { (wiring : Parts) (workers : ℕ) (lacks : Lacks) (entries : List Entry) → IsRunAfter wiring workers lacks [] entries → AskAlways wiring lacks [] entries → IsOfNextSteps wiring workers entries }
-    ensures actors { (wiring : Parts) (workers : ℕ) (entries : List Entry) → IsOfNextSteps wiring workers entries → All (λ actor. actor < length wiring.posters + workers) (schedule entries) }
+    ensures actors { (wiring : Parts) (workers : ℕ) (entries : List Entry) → IsOfNextSteps wiring workers entries → AreActors wiring workers (schedule entries) }
     ensures again { (wiring : Parts) (workers : ℕ) (entries : List Entry) → IsOfNextSteps wiring workers entries → scheduled wiring (schedule entries) ≡ entries }
-    ensures only { (wiring : Parts) (workers : ℕ) (entries : List Entry) → All (λ actor. actor < length wiring.posters + workers) (schedule entries) → scheduled wiring (schedule entries) ≡ entries → IsOfNextSteps wiring workers entries }
+    ensures only { (wiring : Parts) (workers : ℕ) (entries : List Entry) → AreActors wiring workers (schedule entries) → scheduled wiring (schedule entries) ≡ entries → IsOfNextSteps wiring workers entries }
     ensures turns { (wiring : Parts) (turns : List ℕ) → scheduled wiring (schedule (scheduled wiring turns)) ≡ scheduled wiring turns }
 {}
 
@@ -32,5 +32,5 @@ pub fn records_are_read_exactly()
 
 /// A record that was written is read as the record that it was: the wiring that its text says, as many workers, and the same turns.
 pub fn records_are_read_again()
-    ensures { (text : List ℕ) (wiring : Parts) (workers : ℕ) (turns : List ℕ) → reading_text text ≡ Ok wiring → length text ≤ 1048576 → workers ≤ 16 → All (λ actor. actor < length wiring.posters + workers) turns → reading_record (record_text text workers turns) ≡ Ok (record { wiring = wiring; workers = workers; turns = turns }) }
+    ensures { OfRecords (λ text said. reading_record (record_text text said.workers said.turns) ≡ Ok said) }
 {}

@@ -1,7 +1,6 @@
 //! A run written down as its schedule, and the run that the schedule gives again.
 #![tactic(auto)]
 
-mod actors;
 mod laws;
 mod lines;
 mod reading;

@@ -6,10 +6,10 @@ ghost use Rattle.ccr_replay.specs.Answers.{IsReading, SaysNothing};
 ghost use Rattle.ccr_replay.specs.Grammar.{Says};
 ghost use Rattle.ccr_replay.specs.Reading.{after_feed, ending, line_at, part_before, reading_behind, reading_part, reading_record, record_behind, skipped_lines, turns_behind};
 
-use crate::actors::actor_count;
 use crate::lines::{done_on, skipped_on, workers_on};
 use crate::records::Record;
 use crate::refusals::{Code, refused};
+use ccr_actor::actor_count;
 use ccr_base::{ActorNo, List};
 use ccr_schedule::read_turns;
 use ccr_text::{cut_line, line_of, numbered_line};

@@ -3,9 +3,9 @@
 ghost use Rattle.std.specs.Prelude.{◌≡◌, ◌≤◌, ◌<◌, All, true, false, IfOk, IfSome, Ok, None};
 ghost use Rattle.ccr_replay.specs.Schedules.{schedule, IsOfNextSteps};
 
-use crate::actors::actor_count;
 use crate::laws::schedules_give_runs_again;
 use crate::same::are_same;
+use ccr_actor::actor_count;
 use ccr_base::{ActorNo, List, OutOfMemory};
 use ccr_net::{Entry, Full, run_schedule};
 use ccr_wiring::Wiring;

@@ -39,6 +39,14 @@ queue_lines wiring history queue (part ∷ parts) = queue_words wiring history q
 abbrev pub amount_text : List ℕ → ℕ → List ℕ
 amount_text word number = 32 ∷ (word ++ 32 ∷ decimal number)
 
+-- of the totals, what became of messages
+abbrev pub message_amounts : Totals → List ℕ
+message_amounts total = amount_text (codes "posted") total.posted ++ (amount_text (codes "taken") total.taken ++ (amount_text (codes "held") total.held ++ amount_text (codes "fired") total.fired))
+
+-- and how tasks ended
+abbrev pub end_amounts : Totals → List ℕ
+end_amounts total = amount_text (codes "done") total.done ++ (amount_text (codes "failed") total.failed ++ (amount_text (codes "shed") total.shed ++ amount_text (codes "yield") total.yielded))
+
 -- the line of the totals
 abbrev pub total_words : Totals → List (List ℕ)
 total_words total = codes "total" ∷ codes "posted" ∷ decimal total.posted ∷ codes "taken" ∷ decimal total.taken ∷ codes "held" ∷ decimal total.held

@@ -9,9 +9,13 @@ use Rattle.ccr_spots.specs.Words.{branch_names, spot_word}
 use Rattle.ccr_report.specs.Report.{total_words}
 use Rattle.ccr_report.specs.declared.counted.Counts.{Counts}
 
--- the line of a port: what isn't held was taken
+-- the line of a port
+abbrev pub port_fields : List ℕ → ℕ → ℕ → ℕ → List (List ℕ)
+port_fields name posted taken held = codes "port" ∷ name ∷ codes "posted" ∷ decimal posted ∷ codes "taken" ∷ decimal taken ∷ codes "held" ∷ decimal held ∷ []
+
+-- by its counts: what isn't held was taken
 abbrev pub port_row : List ℕ → ℕ → ℕ → List (List ℕ)
-port_row name posted held = codes "port" ∷ name ∷ codes "posted" ∷ decimal posted ∷ codes "taken" ∷ decimal (posted - held) ∷ codes "held" ∷ decimal held ∷ []
+port_row name posted held = port_fields name posted (posted - held) held
 
 -- the lines of the ports, of which the first has this number
 abbrev pub port_rows : List ℕ → List ℕ → ℕ → List (List ℕ) → List (List (List ℕ))

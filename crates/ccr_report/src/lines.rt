@@ -6,8 +6,8 @@ ghost use Rattle.ccr_model.specs.declared.history.Event.{Event as SomeEvent};
 ghost use Rattle.ccr_text.specs.Spelling.{line_text, text_of};
 ghost use Rattle.ccr_spots.specs.Words.{branch_names};
 ghost use Rattle.ccr_report.specs.Counted.{HasRows, IsCounted};
-ghost use Rattle.ccr_report.specs.Report.{amount_text, total_words, report_text};
-ghost use Rattle.ccr_report.specs.Rows.{port_rows, spot_rows, queue_rows, counted_text};
+ghost use Rattle.ccr_report.specs.Report.{amount_text, end_amounts, message_amounts, total_words, report_text};
+ghost use Rattle.ccr_report.specs.Rows.{port_fields, port_rows, spot_rows, queue_rows, counted_text};
 
 use crate::counted::{Counts, counts_of};
 use ccr_base::{List, Name, OutOfMemory, Spot};
@@ -99,7 +99,7 @@ fn put_port(
     taken: u64,
     held: u64,
 ) -> Result<(), OutOfMemory>
-    ensures { OnOk result (out.new ≡ out.old ++ line_text (codes "port" ∷ name.now ∷ codes "posted" ∷ decimal posted ∷ codes "taken" ∷ decimal taken ∷ codes "held" ∷ decimal held ∷ [])) }
+    ensures { OnOk result (out.new ≡ out.old ++ line_text (port_fields name.now posted taken held)) }
 {
     let taken = taken.to_string(alloc)?;
     let posted = posted.to_string(alloc)?;
@@ -204,7 +204,7 @@ fn total_line(alloc: Global, totals: &Totals) -> Result<List<u8>, OutOfMemory>
 }
 
 fn put_message_amounts(line: &mut List<u8>, totals: &Totals) -> Result<(), OutOfMemory>
-    ensures { OnOk result (line.new ≡ line.old ++ (amount_text (codes "posted") totals.now.posted ++ (amount_text (codes "taken") totals.now.taken ++ (amount_text (codes "held") totals.now.held ++ amount_text (codes "fired") totals.now.fired)))) }
+    ensures { OnOk result (line.new ≡ line.old ++ message_amounts totals.now) }
 {
     put_amount(line, b"posted", totals.posted)?;
     put_amount(line, b"taken", totals.taken)?;
@@ -213,7 +213,7 @@ fn put_message_amounts(line: &mut List<u8>, totals: &Totals) -> Result<(), OutOf
 }
 
 fn put_end_amounts(line: &mut List<u8>, totals: &Totals) -> Result<(), OutOfMemory>
-    ensures { OnOk result (line.new ≡ line.old ++ (amount_text (codes "done") totals.now.done ++ (amount_text (codes "failed") totals.now.failed ++ (amount_text (codes "shed") totals.now.shed ++ amount_text (codes "yield") totals.now.yielded)))) }
+    ensures { OnOk result (line.new ≡ line.old ++ end_amounts totals.now) }
 {
     put_amount(line, b"done", totals.done)?;
     put_amount(line, b"failed", totals.failed)?;

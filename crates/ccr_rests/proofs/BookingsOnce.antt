@@ -30,18 +30,18 @@ use Rattle.ccr_net.specs.declared.entries.Entry.{Entry}
 use Rattle.ccr_net.specs.Places.{note_of, queue_note}
 use Rattle.ccr_net.specs.Runs.{IsRunAfter, Lacks, made_by, notes_at, reply_of, reply_to, same_place, state_of}
 use Rattle.ccr_net.specs.Visible.{visible}
-use Rattle.ccr_net.proofs.Assembly.{Holds, begins, IsBegun}
-use Rattle.ccr_net.proofs.BookingPart.{in-less, in-more}
-use Rattle.ccr_net.proofs.Invariant.{IsOwed}
-use Rattle.ccr_net.proofs.MeterPart.{bit}
-use Rattle.ccr_net.proofs.Noted.{Given, given_some}
-use Rattle.ccr_net.proofs.NotedOvers.{is_over_ask}
-use Rattle.ccr_net.proofs.Owing.{is_quiet}
-use Rattle.ccr_net.proofs.OwedBookings.{is_booked_at}
-use Rattle.ccr_net.proofs.PlayedPlaces.{same_place-is}
-use Rattle.ccr_net.proofs.PlayedRuns.{run_on}
-use Rattle.ccr_net.proofs.PlayedWhole.{run_holds}
-use Rattle.ccr_net.proofs.Pushes.{IsNextState, Step, Step-made, along_run, queue_at, queue_at-push, state_of-own}
+use Rattle.ccr_net.proofs.Kept.Assembly.{Holds, begins, IsBegun}
+use Rattle.ccr_net.proofs.Parts.Booking.{in-less, in-more}
+use Rattle.ccr_net.proofs.Parts.Invariant.{IsOwed}
+use Rattle.ccr_net.proofs.Parts.Meter.{bit}
+use Rattle.ccr_net.proofs.Parts.Noted.{Given, given_some}
+use Rattle.ccr_net.proofs.Owed.NotedOvers.{is_over_ask}
+use Rattle.ccr_net.proofs.Owed.Owing.{is_quiet}
+use Rattle.ccr_net.proofs.Owed.Bookings.{is_booked_at}
+use Rattle.ccr_net.proofs.Played.Places.{same_place-is}
+use Rattle.ccr_net.proofs.Played.Runs.{run_on}
+use Rattle.ccr_net.proofs.Played.Whole.{run_holds}
+use Rattle.ccr_net.proofs.Parts.Pushes.{IsNextState, Step, Step-made, along_run, queue_at, queue_at-push, state_of-own}
 use Rattle.ccr_rests.specs.Ends.{EndsBooking, EndsOnce, MayPut, MayUnbook, booked_by, tells, unbooked_by}
 use Rattle.ccr_rests.specs.Keeping.{queue_in}
 use Rattle.ccr_rests.proofs.BroughtHands.{HandsBrought, IsBrought, hands_brought-kept}

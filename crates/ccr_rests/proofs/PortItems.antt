@@ -28,9 +28,9 @@ use Rattle.ccr_net.specs.declared.entries.Entry.{Entry}
 use Rattle.ccr_net.specs.Places.{note_of, port_note}
 use Rattle.ccr_net.specs.Runs.{IsRunAfter, Lacks, made_by, notes_at, port_at, same_place}
 use Rattle.ccr_net.specs.Visible.{event_of, shown, visible}
-use Rattle.ccr_net.proofs.Noted.{filter_among, given_some}
-use Rattle.ccr_net.proofs.PlayedPlaces.{same_place-is}
-use Rattle.ccr_net.proofs.Pushes.{Step, Step-made, along_run, port_at-push, visible-push}
+use Rattle.ccr_net.proofs.Parts.Noted.{filter_among, given_some}
+use Rattle.ccr_net.proofs.Played.Places.{same_place-is}
+use Rattle.ccr_net.proofs.Parts.Pushes.{Step, Step-made, along_run, port_at-push, visible-push}
 
 -- who is among the first is among all
 among_take : {X : Type 0} (k : ℕ) (xs : List X) (x : X) → Among x (take k xs) → Among x xs

@@ -58,18 +58,18 @@ use Rattle.ccr_net.specs.Places.{arbiter_after, commit_note, first_branch, inter
 use Rattle.ccr_net.specs.Runs.{IsRunAfter, Lacks, made_by, notes_at, port_at, reply_of, reply_to, state_of, waits}
 use Rattle.ccr_net.specs.Views.{cut_view, view}
 use Rattle.ccr_net.specs.Visible.{event_of, shown, visible}
-use Rattle.ccr_net.proofs.ArbiterPart.{fired_note, fired_there, is_of, kept_shape, none_at_first}
-use Rattle.ccr_net.proofs.Assembly.{Holds}
-use Rattle.ccr_net.proofs.DomainHistory.{cut_fired}
-use Rattle.ccr_net.proofs.KnownAsks.{IsNamed}
-use Rattle.ccr_net.proofs.KnownCauses.{AreFine, all_of, fine_causes, posted_fine}
-use Rattle.ccr_net.proofs.KnownRuns.{next_named}
-use Rattle.ccr_net.proofs.KnownTasks.{view_known, view_queue}
-use Rattle.ccr_net.proofs.Noted.{Given, filter_among, given_some}
-use Rattle.ccr_net.proofs.OwedOnce.{last_allowed}
-use Rattle.ccr_net.proofs.PlayedRuns.{run_on}
-use Rattle.ccr_net.proofs.PlayedWhole.{run_holds}
-use Rattle.ccr_net.proofs.Pushes.{Step, Step-made, visible-push}
+use Rattle.ccr_net.proofs.Parts.Arbiter.{fired_note, fired_there, is_of, kept_shape, none_at_first}
+use Rattle.ccr_net.proofs.Kept.Assembly.{Holds}
+use Rattle.ccr_net.proofs.Parts.DomainHistory.{cut_fired}
+use Rattle.ccr_net.proofs.Known.Asks.{IsNamed}
+use Rattle.ccr_net.proofs.Known.Causes.{AreFine, all_of, fine_causes, posted_fine}
+use Rattle.ccr_net.proofs.Known.Runs.{next_named}
+use Rattle.ccr_net.proofs.Known.Tasks.{view_known, view_queue}
+use Rattle.ccr_net.proofs.Parts.Noted.{Given, filter_among, given_some}
+use Rattle.ccr_net.proofs.Owed.Once.{last_allowed}
+use Rattle.ccr_net.proofs.Played.Runs.{run_on}
+use Rattle.ccr_net.proofs.Played.Whole.{run_holds}
+use Rattle.ccr_net.proofs.Parts.Pushes.{Step, Step-made, visible-push}
 use Rattle.ccr_rests.specs.Replies.{HasRetired, IsCutOf, IsHanded, IsItem, NamesKnown}
 use Rattle.ccr_rests.proofs.ClaimsOnce.{claimed_low}
 use Rattle.ccr_rests.proofs.NoteKinds.{kind_asked, kind_noted}

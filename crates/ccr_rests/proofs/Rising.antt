@@ -18,14 +18,14 @@ use Rattle.ccr_actor.specs.Actors.{State, Turn, settle, admit, drive, go_on, sto
 use Rattle.ccr_net.specs.declared.entries.Entry.{Entry}
 use Rattle.ccr_net.specs.Runs.{Lacks, notes_at, reply_of, state_of}
 use Rattle.ccr_net.specs.Visible.{visible}
-use Rattle.ccr_net.proofs.Assembly.{Holds, hand_settles}
-use Rattle.ccr_net.proofs.GoingOn.{Worked, worked}
-use Rattle.ccr_net.proofs.Invariant.{IsOwed}
-use Rattle.ccr_net.proofs.Moves.{Move, settles, drops, admits, strikes, books, claims, fires, gives_up, goes, moved, IsCommitNote, commit_notes}
-use Rattle.ccr_net.proofs.Noted.{Given, no_some}
-use Rattle.ccr_net.proofs.NotedOvers.{is_over_ask}
-use Rattle.ccr_net.proofs.Owing.{is_quiet, work_asks, WorkAsks}
-use Rattle.ccr_net.proofs.Pushes.{IsNextState, Step, state_of-own, state_of-other}
+use Rattle.ccr_net.proofs.Kept.Assembly.{Holds, hand_settles}
+use Rattle.ccr_net.proofs.Owed.GoingOn.{Worked, worked}
+use Rattle.ccr_net.proofs.Parts.Invariant.{IsOwed}
+use Rattle.ccr_net.proofs.Owed.Moves.{Move, settles, drops, admits, strikes, books, claims, fires, gives_up, goes, moved, IsCommitNote, commit_notes}
+use Rattle.ccr_net.proofs.Parts.Noted.{Given, no_some}
+use Rattle.ccr_net.proofs.Owed.NotedOvers.{is_over_ask}
+use Rattle.ccr_net.proofs.Owed.Owing.{is_quiet, work_asks, WorkAsks}
+use Rattle.ccr_net.proofs.Parts.Pushes.{IsNextState, Step, state_of-own, state_of-other}
 use Rattle.ccr_rests.proofs.NoteKinds.{kind_asked, kind_noted}
 use Rattle.ccr_rests.proofs.Turned.{Turned, quietly, admitting, driving, turned}
 

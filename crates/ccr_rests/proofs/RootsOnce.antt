@@ -41,17 +41,17 @@ use Rattle.ccr_net.specs.Places.{arbiter_after, arbiter_note, commit_note, first
 use Rattle.ccr_net.specs.Runs.{IsRunAfter, Lacks, made_by, notes_at, port_at, same_place, state_of}
 use Rattle.ccr_net.specs.Views.{arbiter_of}
 use Rattle.ccr_net.specs.Visible.{event_of, visible}
-use Rattle.ccr_net.proofs.ActorSteps.{unfired}
-use Rattle.ccr_net.proofs.ArbiterPart.{fired_note, fired_there, is_of, none_at_first}
-use Rattle.ccr_net.proofs.Assembly.{Holds}
-use Rattle.ccr_net.proofs.BookingPart.{in-less, in-more}
-use Rattle.ccr_net.proofs.MeterPart.{bit}
-use Rattle.ccr_net.proofs.Noted.{given_some}
-use Rattle.ccr_net.proofs.NotedOvers.{is_over_ask, noted_other, noted_over}
-use Rattle.ccr_net.proofs.PlayedPlaces.{same_place-is}
-use Rattle.ccr_net.proofs.PlayedRuns.{run_on}
-use Rattle.ccr_net.proofs.PlayedWhole.{run_holds}
-use Rattle.ccr_net.proofs.Pushes.{Step, Step-made, along_run, notes_at-push, visible-push}
+use Rattle.ccr_net.proofs.Parts.ActorSteps.{unfired}
+use Rattle.ccr_net.proofs.Parts.Arbiter.{fired_note, fired_there, is_of, none_at_first}
+use Rattle.ccr_net.proofs.Kept.Assembly.{Holds}
+use Rattle.ccr_net.proofs.Parts.Booking.{in-less, in-more}
+use Rattle.ccr_net.proofs.Parts.Meter.{bit}
+use Rattle.ccr_net.proofs.Parts.Noted.{given_some}
+use Rattle.ccr_net.proofs.Owed.NotedOvers.{is_over_ask, noted_other, noted_over}
+use Rattle.ccr_net.proofs.Played.Places.{same_place-is}
+use Rattle.ccr_net.proofs.Played.Runs.{run_on}
+use Rattle.ccr_net.proofs.Played.Whole.{run_holds}
+use Rattle.ccr_net.proofs.Parts.Pushes.{Step, Step-made, along_run, notes_at-push, visible-push}
 use Rattle.ccr_rests.specs.Ends.{EndsOnce, fired_by, over_by, tells, telling_of}
 use Rattle.ccr_rests.proofs.BookingsOnce.{less}
 use Rattle.ccr_rests.proofs.EntryCounts.{AreOwn, Parted, count, count-first, count-push, ends_once, none_else, own-push, parted}

@@ -16,10 +16,10 @@ use Rattle.ccr_actor.specs.Plans.{is_interleave_number}
 use Rattle.ccr_object.specs.declared.deed.Deed.{Deed}
 use Rattle.ccr_object.specs.declared.object.Object.{Object}
 use Rattle.ccr_runs.specs.declared.acts.Act.{Act}
-use Rattle.ccr_runs.specs.Runs.{IsRunFrom, cast}
 use Rattle.ccr_net.specs.declared.entries.Entry.{Entry}
 use Rattle.ccr_net.specs.Acted.{act_after}
-use Rattle.ccr_net.specs.Played.{entries_of, given_in, rules, scene}
+use Rattle.ccr_net.specs.Lawful.{IsPlayed}
+use Rattle.ccr_net.specs.Played.{entries_of, given_in}
 use Rattle.ccr_net.specs.Runs.{Lacks, IsRunAfter, replies_of}
 use Rattle.ccr_net.specs.Visible.{visible}
 use Rattle.ccr_rests.specs.Going.{GoesOn, AreAtRest, ComesToRest, first}
@@ -102,11 +102,7 @@ IsEndedOnce begins ends place task here = EndsOnce begins ends place task here.p
 abbrev pub IsEndless : Parts → ℕ → Lacks → (ℕ → Entry) → Type 0
 IsEndless wiring workers lacks entries = (count : ℕ) → IsRunAfter wiring workers lacks [] (first count entries)
 
--- the acts are a run as the objects of the places play it
-abbrev pub IsPlayed : Parts → ℕ → Lacks → List (Act Deed) → Type 0
-IsPlayed wiring workers lacks acts = IsRunFrom (rules wiring lacks) (length wiring.posters + workers) (scene wiring) (cast (rules wiring lacks)) acts
-
--- such a run, by its acts
+-- a run as the objects of the places play it, by its acts
 pub record PlayedRun : Type 0 where
   pub wiring : Parts
   pub workers : ℕ

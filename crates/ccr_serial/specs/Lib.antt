@@ -1,12 +1,2 @@
-pub mod Engine
+pub mod Made
 pub mod Steps
-pub mod Touched
-pub mod Places
-pub mod Ready
-pub mod Numbered
-pub mod Blocked
-pub mod Cursor
-pub mod Parts
-pub mod Candidates
-pub mod Desk
-pub mod Coming

@@ -1,20 +1,6 @@
-//! The engine on one thread.
+//! The engine on one thread with its history, which callers may stop and look at.
 #![tactic(auto)]
 
-mod blocked;
-mod desk;
-mod domains;
-mod engine;
-mod listener;
-mod numbers;
-mod parts;
-mod places;
-mod queues;
-mod resuming;
-mod search;
 mod serial;
-mod touched;
 
-pub use engine::Engine;
-pub use listener::Listener;
 pub use serial::{Serial, Stepped};

@@ -5,11 +5,11 @@ ghost use Rattle.ccr_model.specs.Firings.{fired};
 ghost use Rattle.ccr_model.specs.Legal.{IsAllowed, IsLegal, IsQuiet, is_complete};
 ghost use Rattle.ccr_model.specs.Order.{next_attempt, IsFinished};
 ghost use Rattle.ccr_ledger.specs.Kept.{Keeps};
-ghost use Rattle.ccr_serial.specs.Engine.{IsSound, next_event, next_engine};
+ghost use Rattle.ccr_engine.specs.Engine.{IsSound, next_event, next_engine};
 ghost use Rattle.ccr_serial.specs.Steps.{event_of};
 
-use crate::engine::Engine;
 use ccr_base::{ActorNo, OutOfMemory};
+use ccr_engine::Engine;
 use ccr_ledger::Ledger;
 use ccr_model::{Event, History};
 use ccr_wiring::Wiring;
@@ -30,20 +30,21 @@ pub struct Serial<'w> {
     wiring: &'w Wiring,
     closer: ActorNo,
     history: History,
-    /// The engine that makes the history.
-    engine: Engine<'w>,
+    /// The engine that makes the history, boxed, so that who drops it drops one value and not each of its tables.
+    engine: Box<Engine<'w>>,
     /// Whether it stands at the end of the history: where there was no memory it may not.
     current: bool,
 }
 
 impl<'w> Model for Serial<'w> {
-    ghost use Rattle.ccr_serial.specs.Engine.{Engine as Seen, IsMade};
+    ghost use Rattle.ccr_engine.specs.Engine.{Engine as Seen};
+    ghost use Rattle.ccr_serial.specs.Made.{IsMade};
 
     ghost Value = { Seen };
 
     ghost view = { λ s. record { wiring = s.wiring.now; closer = s.closer; history = s.history } };
 
-    ghost invariant = { λ s. IsMade (record { wiring = s.wiring.now; closer = s.closer; history = s.history }) s.engine s.current };
+    ghost invariant = { λ s. IsMade (record { wiring = s.wiring.now; closer = s.closer; history = s.history }) s.engine.value s.current };
 }
 
 /// Makes the engine anew where it doesn't stand at the end of the history.
@@ -52,19 +53,38 @@ fn make_current<'w>(
     wiring: &'w Wiring,
     closer: ActorNo,
     history: &History,
-    engine: &mut Engine<'w>,
+    engine: &mut Box<Engine<'w>>,
     current: bool,
 ) -> Result<(), OutOfMemory>
     requires sound { IsSound (record { wiring = wiring.now; closer = closer; history = history.now }) }
-    requires made { current ≡ true → engine.old ≡ record { wiring = wiring.now; closer = closer; history = history.now } }
-    ensures made { OnOk result (engine.new ≡ record { wiring = wiring.now; closer = closer; history = history.now }) }
-    ensures err { OnErr result (engine.new ≡ engine.old) }
+    requires made { current ≡ true → engine.old.value ≡ record { wiring = wiring.now; closer = closer; history = history.now } }
+    ensures made { OnOk result (engine.new.value ≡ record { wiring = wiring.now; closer = closer; history = history.now }) }
+    ensures err { OnErr result (engine.new.value ≡ engine.old.value) }
 {
     if current {
         return Ok(());
     }
-    *engine = Engine::behind(alloc, wiring, closer, history.events())?;
+    let made = Engine::behind(alloc, wiring, closer, history.events())?;
+    *engine = Box::new(alloc, made)?;
     Ok(())
+}
+
+/// An engine that goes on behind these events.
+fn resumed<'w>(
+    alloc: Global,
+    wiring: &'w Wiring,
+    closer: ActorNo,
+    events: &[Event],
+) -> Result<Box<Engine<'w>>, OutOfMemory>
+    requires no_poster { length wiring.now.posters ≤ closer }
+    requires low { closer ≤ 32 }
+    requires legal { IsLegal wiring.now events.now }
+    requires attempts { next_attempt closer (fired events.now) ≤ 2 ^ 31 }
+    ensures { IfOk result (λ engine. engine.value ≡ record { wiring = wiring.now; closer = closer; history = events.now }) }
+{
+    let made = Engine::resume(alloc, wiring, closer, events)?;
+    let engine = Box::new(alloc, made)?;
+    Ok(engine)
 }
 
 impl<'w> Serial<'w> {
@@ -75,7 +95,8 @@ impl<'w> Serial<'w> {
         ensures { IfOk result (λ engine. engine ≡ record { wiring = wiring.now; closer = closer; history = [] }) }
     {
         wiring.parts();
-        let engine = Engine::start(alloc, wiring, closer)?;
+        let made = Engine::start(alloc, wiring, closer)?;
+        let engine = Box::new(alloc, made)?;
         Ok(Serial {
             alloc,
             wiring,
@@ -101,7 +122,7 @@ impl<'w> Serial<'w> {
         ensures returned { IfErr result (λ refused. refused.1 ≡ history) }
     {
         wiring.parts();
-        match Engine::resume(alloc, wiring, closer, history.events()) {
+        match resumed(alloc, wiring, closer, history.events()) {
             Ok(engine) => Ok(Serial {
                 alloc,
                 wiring,
@@ -222,7 +243,7 @@ impl<'w> Serial<'w> {
             current,
         } = self;
         make_current(alloc, wiring, closer, &history, &mut engine, current)?;
-        let tables = engine.into_ledger()?;
+        let tables = Box::into_inner(engine).into_ledger()?;
         Ok((history, tables))
     }
 }

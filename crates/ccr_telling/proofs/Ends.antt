@@ -4,7 +4,7 @@ use Rattle.ccr_wiring.specs.declared.parts.Parts.{Parts}
 use Rattle.ccr_model.specs.declared.history.Event.{Event}
 use Rattle.ccr_model.specs.Legal.{IsLegal, IsQuiet, is_complete}
 use Rattle.ccr_model.specs.Order.{IsFinished}
-use Rattle.ccr_serial.specs.Engine.{Engine}
+use Rattle.ccr_engine.specs.Engine.{Engine}
 use Rattle.ccr_telling.specs.Telling.{IsEnd}
 
 pub end_of : (w : Parts) (closer : ℕ) (first history : List Event) (engine : Engine) → engine ≡ record { wiring = w; closer = closer; history = first } → IsFinished engine.wiring engine.closer engine.history history → IsLegal engine.wiring history → is_complete engine.wiring history ≡ true → IsQuiet engine.wiring history → IsEnd w closer first history

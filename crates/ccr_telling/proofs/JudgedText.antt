@@ -5,7 +5,7 @@ use Rattle.ccr_wiring.specs.declared.parts.Parts.{Parts}
 use Rattle.ccr_model.specs.declared.history.Event.{Event}
 use Rattle.ccr_model.specs.Rules.{refusal}
 use Rattle.ccr_model.specs.Legal.{first_refusal}
-use Rattle.ccr_check.specs.Judges.{Judged}
+use Rattle.ccr_checker.specs.Judges.{Judged}
 use Rattle.ccr_counts.specs.Tallies.{Tallies, IsCounting}
 use Rattle.ccr_trace.specs.declared.reading.ReadHistory.{ReadHistory}
 use Rattle.ccr_trace.specs.EventReaders.{Reader, HasRead, HasReadAll, reading_of}

@@ -2,8 +2,8 @@
 use Rattle.std.specs.Prelude.{◌≡◌, ℕ, List, [], Option, Some, None, Ok}
 use Rattle.ccr_wiring.specs.declared.parts.Parts.{Parts}
 use Rattle.ccr_model.specs.Legal.{IsLegal, first_refusal, is_complete}
-use Rattle.ccr_check.specs.Verdicts.{MeansQuiet}
-use Rattle.ccr_check.specs.Judges.{Judged}
+use Rattle.ccr_checker.specs.Quiet.{MeansQuiet}
+use Rattle.ccr_checker.specs.Judges.{Judged}
 use Rattle.ccr_trace.specs.declared.reading.ReadHistory.{ReadHistory}
 use Rattle.ccr_trace.specs.Reading.{reading}
 use Rattle.ccr_trace.specs.EventReaders.{Reader, reading_of}

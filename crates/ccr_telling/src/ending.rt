@@ -10,9 +10,9 @@ ghost use Rattle.ccr_telling.specs.Telling.{HasTold, IsCountedToEnd, IsToldToEnd
 use crate::telling::{Counting, Telling};
 use ccr_base::{ActorNo, List, OutOfMemory};
 use ccr_counts::Tally;
+use ccr_engine::Engine;
 use ccr_model::History;
 use ccr_report::Counts;
-use ccr_serial::Engine;
 use ccr_wiring::Wiring;
 use std::alloc::Global;
 
@@ -23,21 +23,24 @@ pub struct Told {
     pub counts: Counts,
 }
 
-/// An engine behind a history, and the history's numbers.
+/// An engine behind a history, boxed, so that who drops it drops one value; and the history's numbers.
 fn engine_behind<'w>(
     alloc: Global,
     wiring: &'w Wiring,
     closer: ActorNo,
     first: &History,
-) -> Result<(Engine<'w>, Tally), OutOfMemory>
+) -> Result<(Box<Engine<'w>>, Tally), OutOfMemory>
     requires no_poster { length wiring.now.posters ≤ closer }
     requires low { closer ≤ 32 }
     requires legal { IsLegal wiring.now first.now }
     requires attempts { next_attempt closer (fired first.now) ≤ 2 ^ 31 }
-    ensures engine { IfOk result (λ both. both.0 ≡ record { wiring = wiring.now; closer = closer; history = first.now }) }
+    ensures engine { IfOk result (λ both. both.0.value ≡ record { wiring = wiring.now; closer = closer; history = first.now }) }
     ensures tally { IfOk result (λ both. IsCounting wiring.now first.now both.1) }
 {
-    let engine = Engine::resume(alloc, wiring, closer, first.events())?;
+    let engine = Box::new(
+        alloc,
+        Engine::resume(alloc, wiring, closer, first.events())?,
+    )?;
     let tally = Tally::of(alloc, wiring, first.events(), engine.tables()?)?;
     Ok((engine, tally))
 }
@@ -48,12 +51,12 @@ fn telling_behind<'w>(
     wiring: &'w Wiring,
     closer: ActorNo,
     first: History,
-) -> Result<(Engine<'w>, Telling<'w>), OutOfMemory>
+) -> Result<(Box<Engine<'w>>, Telling<'w>), OutOfMemory>
     requires no_poster { length wiring.now.posters ≤ closer }
     requires low { closer ≤ 32 }
     requires legal { IsLegal wiring.now first }
     requires attempts { next_attempt closer (fired first) ≤ 2 ^ 31 }
-    ensures engine { IfOk result (λ both. both.0 ≡ record { wiring = wiring.now; closer = closer; history = first }) }
+    ensures engine { IfOk result (λ both. both.0.value ≡ record { wiring = wiring.now; closer = closer; history = first }) }
     ensures told { IfOk result (λ both. HasTold both.1 wiring.now first) }
 {
     let (engine, tally) = engine_behind(alloc, wiring, closer, &first)?;
@@ -67,12 +70,12 @@ fn counting_behind<'w>(
     wiring: &'w Wiring,
     closer: ActorNo,
     first: History,
-) -> Result<(Engine<'w>, Counting), OutOfMemory>
+) -> Result<(Box<Engine<'w>>, Counting), OutOfMemory>
     requires no_poster { length wiring.now.posters ≤ closer }
     requires low { closer ≤ 32 }
     requires legal { IsLegal wiring.now first }
     requires attempts { next_attempt closer (fired first) ≤ 2 ^ 31 }
-    ensures engine { IfOk result (λ both. both.0 ≡ record { wiring = wiring.now; closer = closer; history = first }) }
+    ensures engine { IfOk result (λ both. both.0.value ≡ record { wiring = wiring.now; closer = closer; history = first }) }
     ensures counting { IfOk result (λ both. IsCounting wiring.now first both.1.tally) }
 {
     let (engine, tally) = engine_behind(alloc, wiring, closer, &first)?;
@@ -95,7 +98,7 @@ pub fn tell_to_end(
 {
     let (mut engine, mut telling) = telling_behind(alloc, wiring, closer, first)?;
     engine.finish(&mut telling)?;
-    let tables = engine.into_ledger()?;
+    let tables = Box::into_inner(engine).into_ledger()?;
     let Telling { text, tally, .. } = telling;
     let counts = tally.into_counts(alloc, wiring, &tables)?;
     Ok(Told { text, counts })
@@ -116,7 +119,7 @@ pub fn count_to_end(
 {
     let (mut engine, mut counting) = counting_behind(alloc, wiring, closer, first)?;
     engine.finish(&mut counting)?;
-    let tables = engine.into_ledger()?;
+    let tables = Box::into_inner(engine).into_ledger()?;
     let Counting { tally } = counting;
     let counts = tally.into_counts(alloc, wiring, &tables)?;
     Ok(counts)

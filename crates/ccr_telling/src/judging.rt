@@ -9,7 +9,7 @@ ghost use Rattle.ccr_trace.specs.Reading.{reading};
 ghost use Rattle.ccr_telling.specs.Judging.{AgreesSoFar, IsJudged, IsJudgedHistory, IsJudgedSoFar, IsJudgedWhole, IsToldOf};
 
 use ccr_base::OutOfMemory;
-use ccr_check::Checker;
+use ccr_checker::Checker;
 use ccr_counts::Tally;
 use ccr_model::Event;
 use ccr_report::Counts;
@@ -93,12 +93,13 @@ fn judge_events(
     Ok(refusal)
 }
 
-/// A judge and a tally before all events.
-fn begin<'w>(alloc: Global, wiring: &'w Wiring) -> Result<(Checker<'w>, Tally), OutOfMemory>
-    ensures checker { IfOk result (λ both. both.0 ≡ record { wiring = wiring.now; history = [] }) }
+/// A judge, boxed, so that who drops it drops one value, and a tally before all events.
+fn begin<'w>(alloc: Global, wiring: &'w Wiring) -> Result<(Box<Checker<'w>>, Tally), OutOfMemory>
+    ensures checker { IfOk result (λ both. both.0.value ≡ record { wiring = wiring.now; history = [] }) }
     ensures tally { IfOk result (λ both. IsCounting wiring.now [] both.1) }
 {
-    let checker = Checker::new(alloc, wiring)?;
+    let made = Checker::new(alloc, wiring)?;
+    let checker = Box::new(alloc, made)?;
     let tally = Tally::of(alloc, wiring, &[], checker.tables()?)?;
     Ok((checker, tally))
 }

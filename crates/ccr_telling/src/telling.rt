@@ -6,9 +6,9 @@ ghost use Rattle.ccr_telling.specs.Telling.{HasTold};
 
 use ccr_base::{List, OutOfMemory};
 use ccr_counts::Tally;
+use ccr_engine::Listener;
 use ccr_ledger::Ledger;
 use ccr_model::{Event, History};
-use ccr_serial::Listener;
 use ccr_trace::{Names, add_event, write_history};
 use ccr_wiring::Wiring;
 use std::alloc::Global;

@@ -1,5 +1,6 @@
 -- The text of a history: a line for each event.
 use Rattle.std.specs.Prelude.{ℕ, List, [], ◌∷◌, ◌++◌, map, flat_map, codes, decimal, ◌==◌, Option, Some, None, if◌then◌else◌}
+use Rattle.ccr_base.specs.declared.messages.Msg.{Msg}
 use Rattle.ccr_base.specs.declared.names.TaskId.{TaskId}
 use Rattle.ccr_wiring.specs.declared.parts.Parts.{Parts}
 use Rattle.ccr_model.specs.declared.history.Event.{Event}
@@ -30,9 +31,13 @@ end_words (ends.Failed value) = codes "failed" ∷ value_word value ∷ []
 end_words ends.Yield = codes "yield" ∷ []
 end_words ends.Shed = codes "shed" ∷ []
 
+-- the words of a post's line
+abbrev pub post_words : Parts → Msg → List (List ℕ)
+post_words parts message = codes "post" ∷ message_word message.id ∷ name_at parts.ports message.port ∷ value_word message.value ∷ map (name_at (cause_names parts)) message.causes
+
 -- the words of an event's line
 abbrev pub event_words : Parts → Event → List (List ℕ)
-event_words parts (events.Post message) = codes "post" ∷ message_word message.id ∷ name_at parts.ports message.port ∷ value_word message.value ∷ map (name_at (cause_names parts)) message.causes
+event_words parts (events.Post message) = post_words parts message
 event_words parts (events.Fire task spot messages cuts) = codes "fire" ∷ task_word task ∷ spot_word (branch_names parts) spot ∷ (map message_word messages ++ cut_words cuts)
 event_words parts (events.Admit task) = codes "admit" ∷ task_word task ∷ []
 event_words parts (events.Put task dropped) = codes "put" ∷ task_word task ∷ dropped_words dropped

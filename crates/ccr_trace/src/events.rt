@@ -3,10 +3,10 @@
 ghost use Rattle.std.specs.Prelude.{◌≡◌, ◌++◌, ◌∷◌, [], OnOk, map, codes};
 ghost use Rattle.std.specs.List.{All};
 ghost use Rattle.ccr_text.specs.Spelling.{line_text};
-ghost use Rattle.ccr_trace.specs.Words.{task_word, message_word, value_word, spot_word, name_at, branch_names, cause_names};
+ghost use Rattle.ccr_trace.specs.Words.{task_word, message_word, value_word, spot_word, name_at, branch_names};
 ghost use Rattle.ccr_trace.specs.Said.{IsTask, IsMessage, IsDropped, HasNumbers};
 ghost use Rattle.ccr_trace.specs.Known.{IsShortSpot, IsShortEnd, IsShort};
-ghost use Rattle.ccr_trace.specs.HistoryText.{behind, cut_words, dropped_words, end_words, event_words};
+ghost use Rattle.ccr_trace.specs.HistoryText.{behind, cut_words, dropped_words, end_words, event_words, post_words};
 
 use crate::names::cause_name;
 use crate::plain::{
@@ -49,7 +49,7 @@ pub fn put_event(
 }
 
 fn put_post(out: &mut List<u8>, parts: &Parts, message: &Msg) -> Result<(), OutOfMemory>
-    ensures text { OnOk result (out.new ≡ out.old ++ line_text (codes "post" ∷ message_word message.now.id ∷ name_at parts.now.ports message.now.port ∷ value_word message.now.value ∷ map (name_at (cause_names parts.now)) message.now.causes)) }
+    ensures text { OnOk result (out.new ≡ out.old ++ line_text (post_words parts.now message.now)) }
     ensures numbers { OnOk result (IsMessage message.now.id × HasNumbers message.now.value) }
 {
     let port = name_at(parts.ports.as_slice(), message.port);
@@ -65,7 +65,7 @@ fn put_post(out: &mut List<u8>, parts: &Parts, message: &Msg) -> Result<(), OutO
 
 /// The line word by word.
 fn put_full_post(out: &mut List<u8>, parts: &Parts, message: &Msg) -> Result<(), OutOfMemory>
-    ensures text { OnOk result (out.new ≡ out.old ++ line_text (codes "post" ∷ message_word message.now.id ∷ name_at parts.now.ports message.now.port ∷ value_word message.now.value ∷ map (name_at (cause_names parts.now)) message.now.causes)) }
+    ensures text { OnOk result (out.new ≡ out.old ++ line_text (post_words parts.now message.now)) }
     ensures numbers { OnOk result (IsMessage message.now.id × HasNumbers message.now.value) }
 {
     put_bytes(out, b"post")?;

@@ -1,30 +1,15 @@
 //! Actors over scripted replies.
 
-ghost use Rattle.std.specs.Prelude.{◌≡◌, IfOk};
-ghost use Rattle.ccr_actor.specs.Acting.{quiet, started};
+ghost use Rattle.std.specs.Prelude.{◌≡◌};
+ghost use Rattle.ccr_actor.specs.Acting.{quiet};
 
 use crate::replies::{put_asked, reply_of};
 use ccr_actor::Actor;
-use ccr_base::{ActorNo, List, OutOfMemory};
+use ccr_base::List;
 use ccr_claim::may_come;
 use ccr_try::{first_number, put_truth, put_word};
 use ccr_wiring::Wiring;
 use std::alloc::Global;
-
-/// The actor of this number, before its first step.
-pub fn first<'w>(
-    alloc: Global,
-    wiring: &'w Wiring,
-    number: ActorNo,
-) -> Result<Actor<'w>, OutOfMemory>
-    ensures { IfOk result (λ actor. actor ≡ started wiring.now number) }
-{
-    if (number as usize) < wiring.parts().posters.as_slice().len() {
-        Actor::poster(alloc, wiring, number)
-    } else {
-        Actor::worker(alloc, wiring, number)
-    }
-}
 
 /// What the actor asks, reply by reply, and whether it is at rest behind the last, and short of memory.
 fn follow(alloc: Global, actor: &mut Actor<'_>, replies: &str, out: &mut List<u8>)
@@ -51,7 +36,7 @@ fn follow(alloc: Global, actor: &mut Actor<'_>, replies: &str, out: &mut List<u8
 /// For `ACTOR REPLY ..` the course of this actor.
 pub fn course(alloc: Global, wiring: &Wiring, input: &str, out: &mut List<u8>) {
     let (number, replies) = first_number(input);
-    if let Ok(mut actor) = first(alloc, wiring, number) {
+    if let Ok(mut actor) = Actor::start(alloc, wiring, number) {
         follow(alloc, &mut actor, replies, out);
     }
 }

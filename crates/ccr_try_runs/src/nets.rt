@@ -3,7 +3,7 @@
 ghost use Rattle.std.specs.Prelude.{◌≡◌, ◌≢◌, [], ℕ};
 ghost use Rattle.ccr_net.specs.Played.{steps_in};
 
-use crate::courses::first;
+use ccr_actor::Actor;
 use ccr_base::{ActorNo, List, OpenGate};
 use ccr_dispatch::drive;
 use ccr_net::{Full, PlainNet};
@@ -19,7 +19,7 @@ fn rest_one(alloc: Global, wiring: &Wiring, net: &mut PlainNet<'_>, number: Acto
     ensures wiring { net.new.wiring ≡ net.old.wiring }
     ensures others { (other : ℕ) → other ≢ number → steps_in net.new.wiring net.new.acts other ≡ steps_in net.old.wiring net.old.acts other }
 {
-    match first(alloc, wiring, number) {
+    match Actor::start(alloc, wiring, number) {
         Ok(mut actor) => drive(net, &mut actor, &OpenGate),
         Err(_) => 0,
     }

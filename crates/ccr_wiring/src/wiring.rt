@@ -15,13 +15,22 @@ use crate::placements::{Position, all_positions, placement_of};
 use crate::spots::{actions_of, all_spots};
 use crate::takers::{Takers, all_takers, list_of, site_port};
 use crate::{Parts, PlacementOf, Unfit};
-use ccr_base::{Action, ArbiterNo, BranchNo, Handler, HandlerNo, Policy, PortNo, QueueNo, Spot};
+use ccr_base::{
+    Action, ArbiterNo, BranchNo, Handler, HandlerNo, OutOfMemory, Policy, PortNo, QueueNo, Spot,
+};
 use std::alloc::Global;
 use std::marker::Model;
 
 /// A wiring in which no code of refusal stands. Contracts see its parts.
 #[derive(Drop)]
 pub struct Wiring {
+    /// Boxed, so that whoever owns a wiring drops one value and not each of its lists.
+    known: Box<Known>,
+}
+
+/// The parts, and what is looked up in them.
+#[derive(Drop)]
+struct Known {
     parts: Parts,
     spots: Vec<Spot>,
     /// Where the branch of each number stands.
@@ -39,9 +48,9 @@ impl Model for Wiring {
 
     ghost Value = { Parts };
 
-    ghost view = { λ wiring. wiring.parts };
+    ghost view = { λ wiring. wiring.known.value.parts };
 
-    ghost invariant = { λ wiring. IsValid wiring.parts × (wiring.spots.items ≡ spots_of wiring.parts) × (wiring.positions.items ≡ positions_of wiring.parts) × AreTaken wiring.parts wiring.spots.items wiring.takers.ports.items wiring.takers.queues.items };
+    ghost invariant = { λ wiring. IsValid wiring.known.value.parts × (wiring.known.value.spots.items ≡ spots_of wiring.known.value.parts) × (wiring.known.value.positions.items ≡ positions_of wiring.known.value.parts) × AreTaken wiring.known.value.parts wiring.known.value.spots.items wiring.known.value.takers.ports.items wiring.known.value.takers.queues.items };
 }
 
 impl Wiring {
@@ -54,18 +63,28 @@ impl Wiring {
     {
         match code_of(alloc, &parts)? {
             Some(code) => Err(Unfit::Code(code)),
-            None => {
-                let spots = all_spots(alloc, &parts)?;
-                let positions = all_positions(alloc, &parts)?;
-                let takers = all_takers(alloc, &parts, &positions, &spots)?;
-                Ok(Wiring {
-                    parts,
-                    spots,
-                    positions,
-                    takers,
-                })
-            }
+            None => Ok(Wiring::of_valid(alloc, parts)?),
         }
+    }
+
+    /// The wiring with these parts, in which no code of refusal stands.
+    fn of_valid(alloc: Global, parts: Parts) -> Result<Self, OutOfMemory>
+        requires { IsValid parts }
+        ensures { IfOk result (λ wiring. wiring ≡ parts) }
+    {
+        let spots = all_spots(alloc, &parts)?;
+        let positions = all_positions(alloc, &parts)?;
+        let takers = all_takers(alloc, &parts, &positions, &spots)?;
+        let known = Box::new(
+            alloc,
+            Known {
+                parts,
+                spots,
+                positions,
+                takers,
+            },
+        )?;
+        Ok(Wiring { known })
     }
 
     /// What the wiring says.
@@ -73,7 +92,7 @@ impl Wiring {
         ensures parts { result.now ≡ self.now }
         ensures valid { IsValid self.now }
     {
-        &self.parts
+        &self.known.parts
     }
 
     /// The number of the arbiter's domain: the least of the Interleaves that are combined with it; its own where none is.
@@ -81,7 +100,7 @@ impl Wiring {
         requires arbiter { arbiter < length self.now.arbiters }
         ensures domain { result ≡ domain_of self.now.domains arbiter }
     {
-        domain_of(self.parts.domains.as_slice(), arbiter)
+        domain_of(self.known.parts.domains.as_slice(), arbiter)
     }
 
     /// The spots in order: each branch of the wiring, followed by its sites.
@@ -89,14 +108,14 @@ impl Wiring {
         ensures spots { result.now ≡ spots_of self.now }
         ensures valid { IsValid self.now }
     {
-        &self.spots
+        &self.known.spots
     }
 
     /// The branch of this number, found in a time that doesn't grow with the wiring.
     pub fn placement(&self, branch: BranchNo) -> Option<PlacementOf<'_>>
         ensures placement { option_map placement_seen result ≡ placement self.now branch }
     {
-        placement_of(&self.parts, &self.positions, branch)
+        placement_of(&self.known.parts, &self.known.positions, branch)
     }
 
     /// The queue's policy; a number that names no queue counts as an unbounded one.
@@ -133,20 +152,20 @@ impl Wiring {
     pub fn site_port(&self, branch: BranchNo, site: u32) -> Option<PortNo>
         ensures { result ≡ site_port self.now branch site }
     {
-        site_port(&self.parts, &self.positions, branch, site)
+        site_port(&self.known.parts, &self.known.positions, branch, site)
     }
 
     /// The spots that take from the port, in order; none where the wiring has no such port. At most 16 do.
     pub fn spots_at(&self, port: PortNo) -> &[Spot]
         ensures spots { result.now ≡ spots_at self.now port }
     {
-        list_of(&self.takers.ports, port)
+        list_of(&self.known.takers.ports, port)
     }
 
     /// The branches of the queue, in order; none where the wiring has no such queue.
     pub fn branches_of(&self, queue: QueueNo) -> &[Spot]
         ensures branches { result.now ≡ branches_of self.now queue }
     {
-        list_of(&self.takers.queues, queue)
+        list_of(&self.known.takers.queues, queue)
     }
 }

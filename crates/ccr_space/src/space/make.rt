@@ -3,27 +3,16 @@
 ghost use Rattle.std.specs.Prelude.{◌≡◌, ◌+◌, ◌≤◌, [], length, map, All, IfOk};
 ghost use Rattle.std.specs.List.{range_with_len};
 ghost use Rattle.ccr_turns.specs.Locks.{IsSeatOf, keep_of, number_of, log_of};
-ghost use Rattle.ccr_actor.specs.Acting.{started};
 ghost use Rattle.ccr_space.specs.Spaces.{HasPlaces, IsPassOf, IsSpace, actor_count, log, number, wiring_of};
 
 use super::{Pass, PassOf, Space, SpaceOf};
-use ccr_actor::Actor;
-use ccr_base::{ActorNo, List, OutOfMemory};
+use ccr_actor::{Actor, actor_count};
+use ccr_base::{List, OutOfMemory};
 use ccr_net::Directory;
 use ccr_object::{PlaceObject, place_objects};
 use ccr_turns::{Keep, Seat, Turns};
-use ccr_wiring::{Wiring, valid_wirings_are_sound};
+use ccr_wiring::Wiring;
 use std::alloc::Global;
-
-/// How many actors there are with so many workers.
-fn actors_with(wiring: &Wiring, workers: u32) -> u32
-    requires { workers ≤ 16 }
-    ensures count { result ≡ length wiring.now.posters + workers }
-    ensures most { result ≤ 32 }
-{
-    valid_wirings_are_sound();
-    wiring.parts().posters.as_slice().len() as u32 + workers
-}
 
 impl<'w> Space<'w> {
     /// The places of the wiring under their locks, which keep every entry, and one pass for each poster and worker, in the order of the
@@ -64,7 +53,7 @@ impl<'w> Space<'w> {
     {
         let directory = Directory::of(alloc, wiring)?;
         let objects = place_objects(alloc, wiring)?;
-        let (turns, seats) = Turns::make(alloc, objects, actors_with(wiring, workers), keep)?;
+        let (turns, seats) = Turns::make(alloc, objects, actor_count(wiring, workers), keep)?;
         let space = SpaceOf {
             turns,
             directory,
@@ -101,22 +90,11 @@ impl<'w> Space<'w> {
         ensures number { IfOk result (λ pass. number pass ≡ number_of seat) }
         ensures log { IfOk result (λ pass. log pass ≡ []) }
     {
-        let actor = actor_at(alloc, self.wiring, seat.number())?;
+        let actor = Actor::start(alloc, self.wiring, seat.number())?;
         Ok(PassOf {
             actor,
             seat,
             stopped: false,
         })
-    }
-}
-
-/// The actor of this number, before its first step.
-fn actor_at(alloc: Global, wiring: &Wiring, number: ActorNo) -> Result<Actor<'_>, OutOfMemory>
-    ensures { IfOk result (λ actor. actor ≡ started wiring.now number) }
-{
-    if (number as usize) < wiring.parts().posters.as_slice().len() {
-        Actor::poster(alloc, wiring, number)
-    } else {
-        Actor::worker(alloc, wiring, number)
     }
 }

@@ -4,7 +4,7 @@ use Rattle.ccr_claim.proofs.Settled.{stands, gave_up, fired}
 use Rattle.ccr_claim.proofs.laws.attempts_settle.Goals as goal
 
 pub returns-clause-gave_up : goal.returns-clause-gave_up
-returns-clause-gave_up c = λ plan task lack answers why may. gave_up plan task (steps plan task lack answers) (attempt_after plan task lack answers) why (stands plan task lack answers may)
+returns-clause-gave_up c = λ plan task lack answers may why. gave_up plan task (steps plan task lack answers) (attempt_after plan task lack answers) why (stands plan task lack answers may)
 
 pub returns-clause-fired : goal.returns-clause-fired
-returns-clause-fired c = λ plan task lack answers waiting dropped may. fired plan task (steps plan task lack answers) (attempt_after plan task lack answers) waiting dropped (stands plan task lack answers may)
+returns-clause-fired c = λ plan task lack answers may waiting dropped. fired plan task (steps plan task lack answers) (attempt_after plan task lack answers) waiting dropped (stands plan task lack answers may)

@@ -1,5 +1,5 @@
 use Rattle.std.proofs.Common.{arith, sym, ◌∙◌}
-use Rattle.ccr_net.proofs.Directories.{position_at_end, position_here}
+use Rattle.ccr_net.proofs.Played.Directories.{position_at_end, position_here}
 use Rattle.ccr_net.proofs.directory.position.Goals as goal
 use Rattle.ccr_net.proofs.directory.position.Goals.{then-loop-number-test+else-not-same_place, else-loop-number-test}
 

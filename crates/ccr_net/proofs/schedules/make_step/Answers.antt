@@ -1,9 +1,9 @@
 use Rattle.std.proofs.Common.{◌<◌, sym, ap, ◌∙◌, subst}
 use Rattle.ccr_claim.specs.declared.asks.Asked.{Asked}
 use Rattle.ccr_actor.specs.Acting.{Acting, due_in, next}
-use Rattle.ccr_net.proofs.Acted.{ok_ok}
+use Rattle.ccr_net.proofs.Played.Acted.{ok_ok}
 use Rattle.ccr_actor.proofs.Dues.{due_sent}
-use Rattle.ccr_net.proofs.TakingTurns.{asks_of, step_of}
+use Rattle.ccr_net.proofs.Played.Turns.{asks_of, step_of}
 use Rattle.ccr_net.proofs.schedules.make_step.Goals as goal
 
 pub answer-requires-clause-seat : goal.answer-requires-clause-seat

@@ -7,19 +7,9 @@ use Rattle.ccr_actor.specs.Acting.{Acting}
 use Rattle.ccr_net.specs.declared.entries.Entry.{Entry}
 use Rattle.ccr_net.specs.Runs.{made_by, never, scheduled_from, with_made, IsRunAfter}
 use Rattle.ccr_net.specs.Schedules.{AreStarted, IsPlayed}
-use Rattle.ccr_net.proofs.Acted.{written}
-use Rattle.ccr_net.proofs.TakingTurns.{ahead_so, played_run, played_start}
+use Rattle.ccr_net.proofs.Played.Acted.{written}
+use Rattle.ccr_net.proofs.Played.Turns.{ahead_so, played_run, played_start}
 use Rattle.ccr_net.proofs.schedules.run_schedule.Goals as goal
-
-pub overflow_cast-count : goal.overflow_cast-count
-overflow_cast-count c =
-    let few = (sound c.args.wiring.now c.parts.ensures.valid).small.posters in
-    grind (arith, common_steps, few, c.parts.ensures.parts, c.as_slice.ensures)
-
-pub overflow_add-count : goal.overflow_add-count
-overflow_add-count c =
-    let few = (sound c.args.wiring.now c.parts.ensures.valid).small.posters in
-    grind (arith, common_steps, few, c.parts.ensures.parts, c.as_slice.ensures, c.requires.workers)
 
 pub loop-turn-init : goal.loop-turn-init
 loop-turn-init c =
@@ -27,11 +17,10 @@ loop-turn-init c =
     let places = c.in_ok-places.places in
     let team = c.in_ok-actors.actors.items in
     let workers = c.args.workers in
-    let posters : length c.as_slice.result.now ≡ length w.posters = ap length c.as_slice.ensures ∙ ap (λ (x : Parts). length x.posters) c.parts.ensures.parts in
-    let begun : AreStarted w (length w.posters + workers) team = subst (λ n. AreStarted w (n + workers) team) posters c.in_ok-actors.ensures in
+    let begun : AreStarted w (length w.posters + workers) team = subst (λ n. AreStarted w n team) c.actor_count-count.ensures.count c.in_ok-actors.ensures in
     let there = sym c.in_ok-places.ensures.wiring in
     record {
-      played = subst (IsPlayed workers never places team) (sym c.new-entries.ensures.items) (played_start workers places team (subst IsValid there c.parts.ensures.valid) c.in_ok-places.ensures.acts (subst (λ (x : Parts). AreStarted x (length x.posters + workers) team) there begun));
+      played = subst (IsPlayed workers never places team) (sym c.new-entries.ensures.items) (played_start workers places team (subst IsValid there c.actor_count-count.ensures.valid) c.in_ok-places.ensures.acts (subst (λ (x : Parts). AreStarted x (length x.posters + workers) team) there begun));
       wiring = c.in_ok-places.ensures.wiring;
       ahead = ap (λ es. scheduled_from w es c.args.turns.now) c.new-entries.ensures.items;
     }

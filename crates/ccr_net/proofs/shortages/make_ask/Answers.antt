@@ -4,9 +4,9 @@ use Rattle.ccr_claim.specs.Asks.{is_refusable}
 use Rattle.ccr_actor.specs.Acting.{Acting, due_in, next, shortened}
 use Rattle.ccr_net.specs.Schedules.{IsAnswered}
 use Rattle.ccr_net.specs.Shortages.{is_refused}
-use Rattle.ccr_net.proofs.Refusals.{refusable, taken_turn}
+use Rattle.ccr_net.proofs.Played.Refusals.{refusable, taken_turn}
 use Rattle.ccr_actor.proofs.Dues.{due_sent}
-use Rattle.ccr_net.proofs.TakingTurns.{asks_of}
+use Rattle.ccr_net.proofs.Played.Turns.{asks_of}
 use Rattle.ccr_net.proofs.shortages.make_ask.Goals as goal
 
 pub answer-requires-clause-due : goal.answer-requires-clause-due

@@ -1,8 +1,8 @@
 use Rattle.std.proofs.Common.{◌≡◌, true, arith, sym, subst, ◌∙◌, ap}
 use Rattle.ccr_model.specs.Legal.{IsLegal, is_covered}
 use Rattle.ccr_net.specs.Visible.{visible}
-use Rattle.ccr_net.proofs.Pushes.{take-whole}
-use Rattle.ccr_net.proofs.Refines.{visible_legal, visible_covered}
+use Rattle.ccr_net.proofs.Parts.Pushes.{take-whole}
+use Rattle.ccr_net.proofs.Kept.Refines.{visible_legal, visible_covered}
 use Rattle.ccr_net.proofs.showing.visible.Goals as goal
 
 pub returns-clause-legal : goal.returns-clause-legal

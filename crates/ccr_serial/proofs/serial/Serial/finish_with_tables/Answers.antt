@@ -1,7 +1,7 @@
 use Rattle.std.proofs.Common.{◌<◌, arith, subst}
 use Rattle.ccr_laws.specs.Potential.{potential}
-use Rattle.ccr_serial.specs.Engine.{IsSound}
-use Rattle.ccr_serial.proofs.Runs.{GoesFrom, GoesFrom-next, IsDone-next}
+use Rattle.ccr_engine.specs.Engine.{IsSound}
+use Rattle.ccr_engine.proofs.Runs.{GoesFrom, GoesFrom-next, IsDone-next}
 use Rattle.ccr_serial.proofs.serial.Serial.finish_with_tables.Goals as goal
 
 goes_on : (c : goal.Then-branch) → GoesFrom c.args.self c.advance.new.self × (potential c.args.self.wiring c.advance.new.self.history < potential c.args.self.wiring c.steps.self.history)

@@ -1,5 +1,5 @@
 use Rattle.ccr_laws.specs.Potential.{potential}
-use Rattle.ccr_serial.proofs.Runs.{GoesFrom}
+use Rattle.ccr_engine.proofs.Runs.{GoesFrom}
 use Rattle.ccr_serial.proofs.serial.Serial.finish_with_tables.Given as goal
 
 abbrev pub invariant-steps : goal.invariant-steps

@@ -7,8 +7,8 @@ use Rattle.ccr_wiring.proofs.wiring.Wiring.branches_of.Goals as goal
 
 pub returns : goal.returns
 returns c =
-    let parts = c.self.inside.parts in
+    let parts = c.self.inside.known.value.parts in
     let queue = c.args.queue in
     let kept = c.self.invariant in
     let spots = ap (filter (is_for parts queue)) kept.1 in
-    record { branches = c.list_of.ensures ∙ (ap (λ lists. unwrap_or (slice_get lists queue) []) c.deref.ensures.value ∙ (listed_at (is_for parts) (length parts.queues) c.self.inside.spots.items c.self.inside.takers.queues.items queue kept.3.by_queue (λ past. spots ∙ unqueued parts queue kept.0 past) ∙ (spots ∙ ap (λ w. branches_of w queue) c.self.view_is))) }
+    record { branches = c.list_of.ensures ∙ (ap (λ lists. unwrap_or (slice_get lists queue) []) c.deref-2.ensures.value ∙ (ap (λ known. unwrap_or (slice_get known.takers.queues.items queue) []) c.deref.ensures ∙ (listed_at (is_for parts) (length parts.queues) c.self.inside.known.value.spots.items c.self.inside.known.value.takers.queues.items queue kept.3.by_queue (λ past. spots ∙ unqueued parts queue kept.0 past) ∙ (spots ∙ ap (λ w. branches_of w queue) c.self.view_is)))) }

@@ -14,5 +14,5 @@ returns-clause-pass c =
     record {
       seat = c.requires.seat;
       proper = subst (IsProper (rules w never) (record { actor = k; given = [] }) 0) (sym c.requires.log) tt;
-      going = λ on. begun w k c.number.result _ c.in_ok-actor.actor c.requires.log c.in_ok-actor.ensures c.number.ensures;
+      going = λ on. begun w k c.number.result _ c.in_ok-actor.actor c.requires.log c.in_ok-actor.ensures.started c.number.ensures;
     }

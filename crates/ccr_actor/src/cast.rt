@@ -1,0 +1,17 @@
+//! How many actors a run has.
+
+ghost use Rattle.std.specs.Prelude.{◌≡◌, ◌≤◌, ◌+◌, length};
+ghost use Rattle.ccr_wiring.specs.Valid.{IsValid};
+
+use ccr_wiring::{Wiring, valid_wirings_are_sound};
+
+/// The posters and so many workers, which have the numbers behind them. So it is the number of the first actor that is neither.
+pub fn actor_count(wiring: &Wiring, workers: u32) -> u32
+    requires { workers ≤ 16 }
+    ensures count { result ≡ length wiring.now.posters + workers }
+    ensures most { result ≤ 32 }
+    ensures valid { IsValid wiring.now }
+{
+    valid_wirings_are_sound();
+    wiring.parts().posters.as_slice().len() as u32 + workers
+}

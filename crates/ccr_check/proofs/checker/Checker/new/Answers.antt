@@ -1,5 +1,0 @@
-use Rattle.ccr_check.proofs.Accepting.{IsChecker-none}
-use Rattle.ccr_check.proofs.checker.Checker.new.Goals as goal
-
-pub invariant_of-result : goal.invariant_of-result
-invariant_of-result c = IsChecker-none c.args.wiring.now c.new-2.result c.in_ok-ledger.ledger c.parts-valid.ensures.valid c.new-2.ensures c.in_ok-ledger.ensures

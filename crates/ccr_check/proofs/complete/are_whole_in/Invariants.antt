@@ -1,6 +1,0 @@
-use Rattle.std.proofs.Common.{◌≡◌, drop}
-use Rattle.ccr_check.specs.LeftInTables.{are_whole_in}
-use Rattle.ccr_check.proofs.complete.are_whole_in.Given as goal
-
-abbrev pub invariant-loop-number : goal.invariant-loop-number
-invariant-loop-number l = are_whole_in l.ledger l.number (drop l.number l.wiring.posters) ≡ are_whole_in l.ledger 0 l.wiring.posters

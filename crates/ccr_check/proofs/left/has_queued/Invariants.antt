@@ -1,6 +1,0 @@
-use Rattle.std.proofs.Common.{◌≡◌, drop}
-use Rattle.ccr_check.specs.LeftInTables.{has_queued_in}
-use Rattle.ccr_check.proofs.left.has_queued.Given as goal
-
-abbrev pub invariant-loop-number : goal.invariant-loop-number
-invariant-loop-number l = has_queued_in l.ledger l.number (drop l.number l.wiring.queues) ≡ has_queued_in l.ledger 0 l.wiring.queues

@@ -1,0 +1,7 @@
+pub mod SameLists
+pub mod Numbered
+pub mod Stillness
+pub mod Refusals
+pub mod StillTold
+pub mod Accepting
+pub mod Along

@@ -1,0 +1,5 @@
+pub mod Left
+pub mod Quiet
+pub mod Judging
+pub mod LeftInTables
+pub mod Judges

@@ -1,0 +1,218 @@
+//! The first rule that refuses an event, by the tables.
+
+ghost use Rattle.std.specs.Prelude.{◌≡◌, IfOk};
+ghost use Rattle.ccr_checker.specs.Judging.{is_ending, is_idle, is_next_line, is_next_post, is_unused, refusal_in, refusal_of_post_in, sheds};
+
+use crate::alike::{are_same_tasks, ends_so, is_post, is_same_drop};
+use ccr_base::{ActorNo, Msg, MsgId, OutOfMemory, Spot, TaskId};
+use ccr_handler::PlayEnd;
+use ccr_ledger::Ledger;
+use ccr_model::{EndHow, Event};
+use ccr_wiring::{MAX_ACTOR, Wiring};
+
+/// Whether the message is the poster's next line.
+fn is_next_line(wiring: &Wiring, ledger: &Ledger, actor: ActorNo, place: u32, message: &Msg) -> bool
+    ensures { result ≡ is_next_line wiring.now ledger.now actor place message.now }
+{
+    if place != ledger.script_posts(actor) {
+        return false;
+    }
+    let Some(poster) = wiring.parts().posters.as_slice().get(actor as usize) else {
+        return false;
+    };
+    match poster.posts.as_slice().get(place as usize) {
+        Some(sent) => is_post(message, sent.port(), &sent.value(), sent.causes()),
+        None => false,
+    }
+}
+
+/// Whether the message is the next post of the running task's play.
+fn is_next_post(ledger: &Ledger, task: TaskId, place: u32, message: &Msg) -> bool
+    ensures { result ≡ is_next_post ledger.now task place message.now }
+{
+    if !ledger.runs(task) {
+        return false;
+    }
+    let Some(card) = ledger.card(task) else {
+        return false;
+    };
+    if place != card.made {
+        return false;
+    }
+    match card.play.post(place as usize) {
+        Some(post) => is_post(message, post.port, &post.value, post.causes),
+        None => false,
+    }
+}
+
+fn is_unused(ledger: &Ledger, task: TaskId) -> bool
+    ensures { result ≡ is_unused ledger.now task }
+{
+    !ledger.has_fired(task) && task.actor <= MAX_ACTOR
+}
+
+fn is_idle(wiring: &Wiring, ledger: &Ledger, actor: ActorNo) -> bool
+    ensures { result ≡ is_idle wiring.now ledger.now actor }
+{
+    let posters = wiring.parts().posters.as_slice().len();
+    posters <= actor as usize && actor <= MAX_ACTOR && !ledger.is_busy(actor)
+}
+
+fn sheds(wiring: &Wiring, ledger: &Ledger, task: TaskId) -> bool
+    ensures { result ≡ sheds wiring.now ledger.now task }
+{
+    if !ledger.has_more(task) {
+        return false;
+    }
+    let others = ledger.unfinished().saturating_sub(1);
+    let left = wiring.parts().budget.saturating_sub(ledger.task_posts());
+    left as usize <= others
+}
+
+/// Whether the task may end so: shed, or as its play does.
+fn is_ending(wiring: &Wiring, ledger: &Ledger, task: TaskId, how: EndHow) -> bool
+    ensures { result ≡ is_ending wiring.now ledger.now task how }
+{
+    if how == EndHow::Shed {
+        return sheds(wiring, ledger, task);
+    }
+    if ledger.has_more(task) {
+        return false;
+    }
+    match ledger.card(task) {
+        Some(card) => ends_so(&how, &card.play.end()),
+        None => ends_so(&how, &PlayEnd::Done),
+    }
+}
+
+fn refusal_of_post(wiring: &Wiring, ledger: &Ledger, message: &Msg) -> Option<u8>
+    ensures { result ≡ refusal_of_post_in wiring.now ledger.now message.now message.now.id }
+{
+    match message.id {
+        MsgId::Script { actor, place } => {
+            if !is_next_line(wiring, ledger, actor, place, message) {
+                return Some(1);
+            }
+        }
+        MsgId::Task { task, place } => {
+            if !is_next_post(ledger, task, place, message) {
+                return Some(2);
+            }
+            if !ledger.budget_lasts(wiring) {
+                return Some(3);
+            }
+        }
+    }
+    None
+}
+
+fn refusal_of_fire(
+    wiring: &Wiring,
+    ledger: &mut Ledger,
+    task: TaskId,
+    spot: Spot,
+    messages: &[MsgId],
+    cuts: &[TaskId],
+) -> Result<Option<u8>, OutOfMemory>
+    ensures rule { IfOk result (λ rule. rule ≡ refusal_in wiring.now ledger.old (Event.Fire task spot messages.now cuts.now)) }
+    ensures kept { ledger.new ≡ ledger.old }
+{
+    if !is_unused(ledger, task) {
+        return Ok(Some(4));
+    }
+    if !ledger.lives(wiring, spot) {
+        return Ok(Some(5));
+    }
+    if !ledger.are_choice(wiring, spot, messages)? {
+        return Ok(Some(6));
+    }
+    if !ledger.room(wiring, spot) {
+        return Ok(Some(7));
+    }
+    let due = ledger.cuts(wiring, spot)?;
+    if !are_same_tasks(cuts, &due) {
+        return Ok(Some(8));
+    }
+    Ok(None)
+}
+
+fn refusal_of_admit(wiring: &Wiring, ledger: &Ledger, task: TaskId) -> Option<u8>
+    ensures { result ≡ refusal_in wiring.now ledger.now (Event.Admit task) }
+{
+    if !ledger.waits_first(task) {
+        return Some(9);
+    }
+    if !ledger.may_admit_task(task) {
+        return Some(10);
+    }
+    None
+}
+
+fn refusal_of_put(
+    wiring: &Wiring,
+    ledger: &Ledger,
+    task: TaskId,
+    dropped: Option<TaskId>,
+) -> Option<u8>
+    ensures { result ≡ refusal_in wiring.now ledger.now (Event.Put task dropped) }
+{
+    if !ledger.is_ready(task) {
+        return Some(11);
+    }
+    if !is_same_drop(dropped, ledger.drops(wiring, task)) {
+        return Some(12);
+    }
+    None
+}
+
+fn refusal_of_start(wiring: &Wiring, ledger: &Ledger, task: TaskId, actor: ActorNo) -> Option<u8>
+    ensures { result ≡ refusal_in wiring.now ledger.now (Event.Start task actor) }
+{
+    if !ledger.queued_first(task) {
+        return Some(13);
+    }
+    if !is_idle(wiring, ledger, actor) {
+        return Some(14);
+    }
+    None
+}
+
+fn refusal_of_end(wiring: &Wiring, ledger: &Ledger, task: TaskId, how: EndHow) -> Option<u8>
+    ensures { result ≡ refusal_in wiring.now ledger.now (Event.End task how) }
+{
+    if !ledger.runs(task) {
+        return Some(15);
+    }
+    if !is_ending(wiring, ledger, task, how) {
+        return Some(16);
+    }
+    None
+}
+
+/// The first rule of docs/MODEL.md that refuses the event, by the tables.
+pub(crate) fn refusal(
+    wiring: &Wiring,
+    ledger: &mut Ledger,
+    event: &Event,
+) -> Result<Option<u8>, OutOfMemory>
+    ensures rule { IfOk result (λ rule. rule ≡ refusal_in wiring.now ledger.old event.now) }
+    ensures kept { ledger.new ≡ ledger.old }
+{
+    ledger.seek(event);
+    Ok(match event {
+        Event::Post(message) => refusal_of_post(wiring, ledger, message),
+        Event::Fire {
+            task,
+            spot,
+            messages,
+            cuts,
+        } => {
+            let (messages, cuts) = (messages.as_slice(), cuts.as_slice());
+            return refusal_of_fire(wiring, ledger, *task, *spot, messages, cuts);
+        }
+        Event::Admit(task) => refusal_of_admit(wiring, ledger, *task),
+        Event::Put { task, dropped } => refusal_of_put(wiring, ledger, *task, *dropped),
+        Event::Start { task, actor } => refusal_of_start(wiring, ledger, *task, *actor),
+        Event::End { task, how } => refusal_of_end(wiring, ledger, *task, *how),
+    })
+}

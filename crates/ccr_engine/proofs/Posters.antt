@@ -1,0 +1,52 @@
+-- Posters that have no line left.
+use Rattle.std.proofs.Common.{◌≡◌, ℕ, zero, suc, ◌+◌, ◌≤◌, Bool, true, List, [], ◌∷◌, ◌++◌, length, filter, take, drop, None, refl, arith}
+use Rattle.std.specs.Prelude.{nat_le}
+use Rattle.std.specs.List.{slice_get}
+use Rattle.std.proofs.lemmas.Grind.{common_steps}
+use Rattle.std.proofs.lemmas.Bool.Decides.{nat_tests}
+use Rattle.ccr_base.specs.declared.messages.Msg.{Msg}
+use Rattle.ccr_wiring.specs.declared.parts.PosterPart.{PosterPart}
+use Rattle.ccr_model.specs.declared.history.Event.{Event}
+use Rattle.ccr_model.specs.Posts.{posts, post_of, is_script_of, posts_of_poster}
+use Rattle.ccr_model.specs.Order.{post_from}
+use Rattle.ccr_model.proofs.Pushes.{posts-push}
+use Rattle.ccr_model.proofs.Booleans.{both}
+use Rattle.ccr_engine.specs.Cursor.{are_done}
+
+more_kept : {X : Type 0} (p : X → Bool) (xs ys : List X) → length (filter p xs) ≤ length (filter p (xs ++ ys))
+more_kept p [] ys = omega arith
+more_kept p (x ∷ xs) ys = grind (arith, common_steps, more_kept p xs ys)
+
+more_lines : (h : List Event) (e : Event) (n : ℕ) → posts_of_poster h n ≤ posts_of_poster (h ++ e ∷ []) n
+more_lines h e n = rw posts-push (more_kept (λ (m : Msg). is_script_of n m.id) (posts h) (post_of e))
+
+-- a poster that has no line left never has one again
+pub done-event : (h : List Event) (e : Event) (n : ℕ) (ps : List PosterPart) → are_done h n ps ≡ true → are_done (h ++ e ∷ []) n ps ≡ true
+done-event h e n [] is = refl
+done-event h e n (p ∷ ps) is =
+    let parts = both (nat_le (length p.posts) (posts_of_poster h n)) (are_done h (n + 1) ps) is in
+    let here : nat_le (length p.posts) (posts_of_poster (h ++ e ∷ []) n) ≡ true = at_least (length p.posts) (posts_of_poster h n) (posts_of_poster (h ++ e ∷ []) n) (more_lines h e n) parts.0 in
+    rw here (done-event h e (n + 1) ps parts.1)
+  where
+    at_least : (a b c : ℕ) → b ≤ c → nat_le a b ≡ true → nat_le a c ≡ true
+    at_least a b c more is = grind (arith, nat_tests, more, is)
+
+past : {X : Type 0} (xs : List X) (n : ℕ) → length xs ≤ n → slice_get xs n ≡ None
+past [] n few = refl
+past (x ∷ xs) zero few = absurd (omega arith)
+past (x ∷ xs) (suc n) few = past xs n (omega arith)
+
+-- the next line is of a poster behind those that are done
+pub post_from-place : (h : List Event) (n k : ℕ) (ps : List PosterPart) → are_done h n (take k ps) ≡ true → post_from h n ps ≡ post_from h (n + k) (drop k ps)
+post_from-place h n zero [] is = refl
+post_from-place h n (suc k) [] is = refl
+post_from-place h n zero (p ∷ ps) is = let same : n + 0 ≡ n = omega arith in rw same refl
+post_from-place h n (suc k) (p ∷ ps) is =
+    let parts = both (nat_le (length p.posts) (posts_of_poster h n)) (are_done h (n + 1) (take k ps)) is in
+    let few : length p.posts ≤ posts_of_poster h n = low (length p.posts) (posts_of_poster h n) parts.0 in
+    let none : slice_get p.posts (posts_of_poster h n) ≡ None = past p.posts (posts_of_poster h n) few in
+    let same : n + suc k ≡ (n + 1) + k = omega arith in
+    rw (none, same) (post_from-place h (n + 1) k ps parts.1)
+  where
+    low : (a b : ℕ) → nat_le a b ≡ true → a ≤ b
+    low a b is = grind (arith, nat_tests, is)

@@ -1,0 +1,38 @@
+-- The spots among which the first that can fire is searched for.
+use Rattle.std.specs.Prelude.{◌≡◌, ℕ, ◌<◌, true, false, List, Option, Some, IfSome, option_map}
+use Rattle.std.specs.List.{slice_get}
+use Rattle.ccr_base.specs.declared.names.TaskId.{TaskId}
+use Rattle.ccr_wiring.specs.declared.parts.Parts.{Parts}
+use Rattle.ccr_wiring.specs.Wirings.{spots}
+use Rattle.ccr_rows.specs.Rows.{row}
+use Rattle.ccr_ledger.specs.Books.{Books}
+use Rattle.ccr_ledger.specs.Asked.{room}
+use Rattle.ccr_engine.specs.declared.search.Found.{Found}
+use Rattle.ccr_engine.specs.Ready.{has_number, IsLeastFirst}
+use Rattle.ccr_engine.specs.Numbered.{passes_at}
+use Rattle.ccr_engine.specs.Blocked.{AreBlocked, is_before}
+use Rattle.ccr_engine.specs.Parts.{fires_in, IsStillIn}
+
+-- no spot can fire, room aside, but the touched ones, of which the least is the first, and those that are blocked at their queues
+pub record AreCandidates (wiring : Parts) (books : Books) (touched : List ℕ) (blocked : List (List ℕ)) : Type 0 where
+  pub still : IsStillIn wiring books touched blocked
+  pub lowest : IsLeastFirst touched
+  pub by_queue : AreBlocked wiring blocked
+
+-- no spot before the limit can fire
+abbrev pub IsNoneBefore : Parts → TaskId → Books → Option ℕ → Type 0
+IsNoneBefore wiring task books limit = (place : ℕ) → is_before limit place ≡ true → passes_at (fires_in wiring task books) (spots wiring) place ≡ false
+
+-- its place, if there is one
+abbrev pub place_of : Option Found → Option ℕ
+place_of found = option_map (λ (one : Found). one.place) found
+
+-- the place is the least that is blocked at the queue, and its branch has room
+pub record IsOpen (wiring : Parts) (books : Books) (blocked : List (List ℕ)) (one : Found) : Type 0 where
+  pub least : slice_get (row blocked one.queue) 0 ≡ Some one.place
+  pub roomy : passes_at (room wiring books) (spots wiring) one.place ≡ true
+
+-- of the branches that are blocked at so many of the first queues, the first that has room, if any
+pub record IsFirstOpen (wiring : Parts) (books : Books) (blocked : List (List ℕ)) (count : ℕ) (found : Option Found) : Type 0 where
+  pub is_open : IfSome found (IsOpen wiring books blocked)
+  pub full : (queue place : ℕ) → queue < count → has_number (row blocked queue) place ≡ true → is_before (place_of found) place ≡ true → passes_at (room wiring books) (spots wiring) place ≡ false

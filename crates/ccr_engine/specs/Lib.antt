@@ -1,0 +1,11 @@
+pub mod Engine
+pub mod Touched
+pub mod Places
+pub mod Ready
+pub mod Numbered
+pub mod Blocked
+pub mod Cursor
+pub mod Parts
+pub mod Candidates
+pub mod Desk
+pub mod Coming

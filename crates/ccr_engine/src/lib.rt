@@ -1,0 +1,18 @@
+//! The engine on one thread, which keeps no event.
+#![tactic(auto)]
+
+mod blocked;
+mod desk;
+mod domains;
+mod engine;
+mod listener;
+mod numbers;
+mod parts;
+mod places;
+mod queues;
+mod resuming;
+mod search;
+mod touched;
+
+pub use engine::Engine;
+pub use listener::Listener;

@@ -1,0 +1,32 @@
+//! The desk of a history.
+
+ghost use Rattle.std.specs.Prelude.{◌<◌, ◌^◌, IfOk};
+ghost use Rattle.ccr_model.specs.Firings.{fired};
+ghost use Rattle.ccr_model.specs.Legal.{IsLegal};
+ghost use Rattle.ccr_model.specs.Order.{next_attempt};
+ghost use Rattle.ccr_engine.specs.Desk.{Stands};
+
+use crate::desk::Desk;
+use crate::places::Places;
+use ccr_base::{ActorNo, OutOfMemory};
+use ccr_model::Event;
+use std::alloc::Global;
+
+/// The desk of the events, made by going through them once.
+pub(crate) fn desk_of(
+    alloc: Global,
+    places: &Places<'_>,
+    closer: ActorNo,
+    events: &[Event],
+) -> Result<Desk, OutOfMemory>
+    requires legal { IsLegal places.now events.now }
+    requires attempts { next_attempt closer (fired events.now) < 2 ^ 32 }
+    ensures { IfOk result (Stands places.now closer events.now) }
+{
+    let _valid = places.parts();
+    let mut desk = Desk::new(alloc, places.wiring())?;
+    for event in events {
+        desk.push(places, closer, event)?;
+    }
+    Ok(desk)
+}

@@ -1,0 +1,58 @@
+//! What an event touches: the spots that are to be asked after it. Room that it makes touches none: those that lack it are blocked at their queue.
+
+ghost use Rattle.std.specs.Prelude.{OnOk, false, ◌==◌};
+ghost use Rattle.std.specs.Option.{option_map_or};
+ghost use Rattle.ccr_base.specs.declared.names.Spot.{Spot as SomeSpot};
+ghost use Rattle.ccr_wiring.specs.Wirings.{spots};
+ghost use Rattle.ccr_engine.specs.Numbered.{Gains, passes_at};
+ghost use Rattle.ccr_engine.specs.Parts.{touches_in, yields_in};
+
+use crate::numbers::Numbers;
+use crate::places::Places;
+use ccr_base::{OutOfMemory, TaskId};
+use ccr_ledger::Ledger;
+use ccr_model::{EndHow, Event};
+
+/// The place comes in, if there is one.
+fn note_place(place: Option<usize>, touched: &mut Numbers) -> Result<(), OutOfMemory>
+    ensures { OnOk result (Gains (λ number. option_map_or (λ one. number == one) place false) touched.old touched.new) }
+{
+    match place {
+        Some(place) => touched.enter(place),
+        None => Ok(()),
+    }
+}
+
+/// The site comes in at which the task is suspended.
+fn note_yield(
+    ledger: &Ledger,
+    places: &Places<'_>,
+    task: TaskId,
+    touched: &mut Numbers,
+) -> Result<(), OutOfMemory>
+    ensures { OnOk result (Gains (passes_at (λ (spot : SomeSpot). yields_in ledger.now spot task) (spots places.now)) touched.old touched.new) }
+{
+    match ledger.card(task) {
+        Some(card) => note_place(places.next_site(card.spot), touched),
+        None => Ok(()),
+    }
+}
+
+/// The spots come in that the event touches.
+pub(crate) fn note_touched(
+    ledger: &Ledger,
+    places: &Places<'_>,
+    event: &Event,
+    touched: &mut Numbers,
+) -> Result<(), OutOfMemory>
+    ensures { OnOk result (Gains (passes_at (touches_in places.now ledger.now event.now) (spots places.now)) touched.old touched.new) }
+{
+    match event {
+        Event::Post(message) => touched.enter_all(places.at_port(message.port)),
+        Event::End { task, how } => match how {
+            EndHow::Yield => note_yield(ledger, places, *task, touched),
+            _ => Ok(()),
+        },
+        _ => Ok(()),
+    }
+}

@@ -1,0 +1,21 @@
+-- What ties the notes of places and the course of actors to the visible history, part by part.
+pub mod Pushes
+pub mod Marks
+pub mod Invariant
+pub mod PortSteps
+pub mod ActorSteps
+pub mod HeldApart
+pub mod Patterns
+pub mod Starts
+pub mod Work
+pub mod Queue
+pub mod Room
+pub mod Arbiter
+pub mod Site
+pub mod DomainHistory
+pub mod Domain
+pub mod Meter
+pub mod Phases
+pub mod Booking
+pub mod Choices
+pub mod Noted

@@ -1,0 +1,25 @@
+-- That a run as the objects of the places play it is a run.
+pub mod Objects
+pub mod Directories
+pub mod Acted
+pub mod Fitting
+pub mod ToldTasks
+pub mod HandedTasks
+pub mod BuiltTasks
+pub mod Queues
+pub mod Elsewhere
+pub mod Starts
+pub mod Domains
+pub mod Sites
+pub mod Whole
+pub mod Places
+pub mod Steps
+pub mod Runs
+pub mod Lacks
+pub mod Ports
+pub mod Members
+pub mod Arbiters
+pub mod Asks
+pub mod Facts
+pub mod Turns
+pub mod Refusals

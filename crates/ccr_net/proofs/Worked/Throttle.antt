@@ -1,0 +1,125 @@
+-- A throttle queue with room for one: a poster's second firing finds it full, and the worker that takes the task drives the branch. Thirteen steps.
+use Rattle.std.proofs.Common.{◌≡◌, false, List, [], ◌∷◌, take, Some, None, refl, arith}
+use Rattle.ccr_base.specs.declared.names.MsgId.TheVariants.{Script}
+use Rattle.ccr_base.specs.declared.names.Place.TheVariants as places
+use Rattle.ccr_base.specs.declared.names.Spot.TheVariants.{Branch}
+use Rattle.ccr_base.specs.declared.patterns.Pattern.TheVariants.{Slots}
+use Rattle.ccr_base.specs.declared.policies.Policy.TheVariants.{Throttle}
+use Rattle.ccr_base.specs.declared.policies.Group.TheVariants as groups
+use Rattle.ccr_wiring.specs.declared.parts.Parts.{Parts}
+use Rattle.ccr_wiring.specs.declared.parts.Kind.TheVariants as kinds
+use Rattle.ccr_wiring.specs.Codes.{code_of}
+use Rattle.ccr_wiring.specs.Valid.{IsValid}
+use Rattle.ccr_model.specs.declared.history.Event.TheVariants.{Post, Fire, Put, Start}
+use Rattle.ccr_model.specs.Legal.{IsLegal, first_refusal}
+use Rattle.ccr_places.specs.declared.notes.Note.TheVariants as notes
+use Rattle.ccr_places.specs.declared.notes.ClaimNote.TheVariants.{Got}
+use Rattle.ccr_net.specs.declared.entries.Entry.{Entry}
+use Rattle.ccr_net.specs.Visible.{visible}
+use Rattle.ccr_net.specs.Runs.{made_by, never, IsRun}
+use Rattle.ccr_net.proofs.Kept.Refines.{visible_legal}
+use Rattle.ccr_net.proofs.Worked.Nets.{in-none, in-more, in-less, len-none, len-more, len-less, task, message, sent, one_of, queue, arbiter, handler_part, poster_part, parts, entry}
+
+ruleset sets = (in-none, in-more, in-less, len-none, len-more, len-less)
+
+abbrev net : Parts
+net = parts (queue 113 (Throttle 1) ∷ []) (97 ∷ []) (handler_part 104 [] ∷ []) (arbiter 114 kinds.Receive groups.Always (Slots (one_of 0 ∷ [])) ∷ []) (poster_part 112 (sent 0 7 ∷ sent 0 8 ∷ []) ∷ [])
+
+is_valid : IsValid net
+unfolding code_of
+is_valid = refl
+
+abbrev entry_0 : Entry
+entry_0 = entry 0 (places.Port 0) 1 (notes.Post (message (Script 0 0) 0 7))
+
+abbrev entry_1 : Entry
+entry_1 = entry 0 (places.Queue 0) 2 (notes.Book (task 0 0) false None)
+
+abbrev entry_2 : Entry
+entry_2 = entry 0 (places.Port 0) 3 (notes.Claim (task 0 0) (one_of 0) (Got 1))
+
+abbrev entry_3 : Entry
+entry_3 = entry 0 (places.Arbiter 0) 4 (notes.Fired (task 0 0) (Branch 0) (Script 0 0 ∷ []) [])
+
+abbrev entry_4 : Entry
+entry_4 = entry 0 (places.Port 0) 5 (notes.Consume (task 0 0))
+
+abbrev entry_5 : Entry
+entry_5 = entry 0 (places.Queue 0) 6 (notes.Put (task 0 0) None)
+
+abbrev entry_6 : Entry
+entry_6 = entry 0 (places.Queue 0) 7 (notes.Book (task 0 1) false (Some 1))
+
+abbrev entry_7 : Entry
+entry_7 = entry 0 (places.Port 0) 8 (notes.Post (message (Script 0 1) 0 8))
+
+abbrev entry_8 : Entry
+entry_8 = entry 1 places.Meter 1 (notes.Left 0)
+
+abbrev entry_9 : Entry
+entry_9 = entry 1 (places.Queue 0) 8 (notes.Take (Some (task 0 0)))
+
+abbrev entry_10 : Entry
+entry_10 = entry 1 (places.Queue 0) 9 (notes.Book (task 1 0) false None)
+
+abbrev entry_11 : Entry
+entry_11 = entry 1 (places.Port 0) 10 (notes.Claim (task 1 0) (one_of 0) (Got 1))
+
+abbrev entry_12 : Entry
+entry_12 = entry 1 (places.Arbiter 0) 11 (notes.Fired (task 1 0) (Branch 0) (Script 0 1 ∷ []) [])
+
+abbrev run : List Entry
+run = entry_0 ∷ entry_1 ∷ entry_2 ∷ entry_3 ∷ entry_4 ∷ entry_5 ∷ entry_6 ∷ entry_7 ∷ entry_8 ∷ entry_9 ∷ entry_10 ∷ entry_11 ∷ entry_12 ∷ []
+
+-- each step is its actor's next
+step_0 : made_by net never (take 0 run) 0 ≡ Some entry_0
+step_0 = refl
+
+step_1 : made_by net never (take 1 run) 0 ≡ Some entry_1
+step_1 = simp sets
+
+step_2 : made_by net never (take 2 run) 0 ≡ Some entry_2
+step_2 = refl
+
+step_3 : made_by net never (take 3 run) 0 ≡ Some entry_3
+step_3 = refl
+
+step_4 : made_by net never (take 4 run) 0 ≡ Some entry_4
+step_4 = refl
+
+step_5 : made_by net never (take 5 run) 0 ≡ Some entry_5
+step_5 = simp sets
+
+step_6 : made_by net never (take 6 run) 0 ≡ Some entry_6
+step_6 = simp sets
+
+step_7 : made_by net never (take 7 run) 0 ≡ Some entry_7
+step_7 = refl
+
+step_8 : made_by net never (take 8 run) 1 ≡ Some entry_8
+step_8 = refl
+
+step_9 : made_by net never (take 9 run) 1 ≡ Some entry_9
+step_9 = refl
+
+step_10 : made_by net never (take 10 run) 1 ≡ Some entry_10
+step_10 = simp sets
+
+step_11 : made_by net never (take 11 run) 1 ≡ Some entry_11
+step_11 = refl
+
+step_12 : made_by net never (take 12 run) 1 ≡ Some entry_12
+step_12 = refl
+
+is_run : IsRun net 1 run
+is_run = record { lacks = never; steps = (omega arith, step_0, (omega arith, step_1, (omega arith, step_2, (omega arith, step_3, (omega arith, step_4, (omega arith, step_5, (omega arith, step_6, (omega arith, step_7, (omega arith, step_8, (omega arith, step_9, (omega arith, step_10, (omega arith, step_11, (omega arith, step_12, tt))))))))))))) }
+
+shows : visible run ≡ Post (message (Script 0 0) 0 7) ∷ Fire (task 0 0) (Branch 0) (Script 0 0 ∷ []) [] ∷ Put (task 0 0) None ∷ Post (message (Script 0 1) 0 8) ∷ Start (task 0 0) 1 ∷ Fire (task 1 0) (Branch 0) (Script 0 1 ∷ []) [] ∷ []
+shows = refl
+
+is_legal : first_refusal net [] 0 (visible run) ≡ None
+is_legal = refl
+
+-- by the theorem too
+pub legal_by_theorem : IsLegal net (visible run)
+legal_by_theorem = visible_legal net 1 run is_valid (omega arith) is_run

@@ -1,6 +1,0 @@
-use Rattle.std.proofs.Common.{take}
-use Rattle.ccr_serial.specs.Desk.{Stands}
-use Rattle.ccr_serial.proofs.resuming.desk_of.Given as goal
-
-abbrev pub invariant-loop-event : goal.invariant-loop-event
-invariant-loop-event l = Stands l.places l.closer (take l.event-index l.events) l.desk
