@@ -2,7 +2,7 @@
 use crate::ccr_base::{List, OpenGate, OutOfMemory};
 use crate::ccr_model::History;
 use crate::ccr_report::{Counts, counted_text};
-use crate::ccr_space::run_threads;
+use crate::ccr_space::shown_threads;
 use crate::ccr_telling::{Judgement, Told, judge_text, tell_to_end};
 use crate::ccr_text::{line_of, put_bytes};
 use crate::ccr_wiretext::read_wiring;
@@ -28,7 +28,7 @@ fn first(wiring: &Wiring, workers: u32) -> Result<History, OutOfMemory> {
     if workers == 0 {
         return Ok(History::new(Global));
     }
-    Ok(run_threads(&Runtime, Global, wiring, workers, &OpenGate)?.history)
+    Ok(shown_threads(&Runtime, Global, wiring, workers, &OpenGate)?.history)
 }
 
 fn run(text: &[u8], workers: u32) -> Result<Text, OutOfMemory> {

@@ -20,7 +20,7 @@ use Rattle.ccr_actor.specs.declared.work.Work.{Work as Works}
 use Rattle.ccr_actor.specs.declared.work.Work.TheVariants as works
 use Rattle.ccr_actor.specs.Inside.{work_of}
 use Rattle.ccr_actor.specs.Within.{IsPaced, IsWithin}
-use Rattle.ccr_actor.specs.Courses.{IsAsked, IsBeside, IsBounded, IsCounted, IsReady, IsHeld, IsPast, IsUnderWay, phase_of, IsSettlingDue, IsStep, IsUnanswered, asking_at, asking_by, asking_in, due_at, seen, state_of, target}
+use Rattle.ccr_actor.specs.Courses.{IsAsked, IsBeside, IsBounded, IsCounted, IsReached, IsReady, IsHeld, IsPast, IsShortened, IsUnderWay, phase_of, IsSettlingDue, IsStep, IsUnanswered, asking_at, asking_by, asking_in, due_at, seen, state_of, target}
 use Rattle.ccr_actor.proofs.Kept.{kept_asked, kept_asking, kept_sent, kept_whole, kept_short, kept_settled, settled_short, after_short}
 use Rattle.ccr_actor.proofs.Steps.{past_phase, first_spot}
 use Rattle.ccr_actor.proofs.Bounds.{bounded_after, bounded_settled}
@@ -162,7 +162,7 @@ acted_short course new part due refused long wiring number short =
 -- ---- what stays within its bounds
 
 paced : (work : Works) (taken empty : ℕ) → IsCounted work taken empty → IsPaced (work_of work) taken empty
-paced (works.Lines place left) taken empty is = tt
+paced (works.Lines l) taken empty is = tt
 paced works.Round taken empty is = is
 paced (works.Taking left queue more) taken empty is = is.1
 paced (works.Playing p) taken empty is = (let few = is.0.few in omega (arith, few), is.1)
@@ -239,8 +239,8 @@ may_so old unanswered a part due answer view is may =
 
 -- what the end of a step says
 pub record IsFinished {E : Type 0} (made : Result E OutOfMemory) (old new : Course) : Type 0 where
-  pub state : (wanted : State) → wanted.is_short ≡ old.short → IsStep made old.wiring.now old.number wanted (state_of old) → (kept (state_of new) ≡ kept wanted) ⊎ ((wanted.is_short ≡ false) × (kept (state_of new) ≡ kept (shorten old.wiring.now old.number wanted)))
-  pub refused : (wanted : State) → OnErr made (old.short ≡ false → IsStep made old.wiring.now old.number wanted (state_of old) → kept (state_of new) ≡ kept (shorten old.wiring.now old.number wanted))
+  pub state : IsReached made old new
+  pub refused : IsShortened made old new
   pub same : (new.wiring ≡ old.wiring) × (new.number ≡ old.number)
 
 -- the same, seen from before the answer

@@ -25,7 +25,7 @@ tested : {A : Type 0} (b : Bool) (xs ys : List A) (count : ℕ) → nat_lt count
 tested true xs ys count is rest = any xs count (grind (arith, nat_tests, is))
 tested false xs ys count is rest = rest
 
-below : {A : Type 0} (xs : List A) (x : A) (more : List A) (count : ℕ) → xs ≡ x ∷ more → AreFew xs count → count < 32768
+pub below : {A : Type 0} (xs : List A) (x : A) (more : List A) (count : ℕ) → xs ≡ x ∷ more → AreFew xs count → count < 32768
 below xs x more count is few = subst (λ ys. AreFew ys count) is few
 
 zero-few : {A : Type 0} (xs : List A) → AreFew xs 0
@@ -154,7 +154,7 @@ bounded_work wiring state (shedding task) reply is = record { spots = is.spots; 
 bounded_work wiring state resting reply is = is
 
 -- what is left where spots are driven
-left-few : (b : Bool) (spots : List Spot) (spot : Spot) (more : List Spot) (count : ℕ) → cond b spots [] ≡ spot ∷ more → AreFew spots count → count < 32768
+pub left-few : (b : Bool) (spots : List Spot) (spot : Spot) (more : List Spot) (count : ℕ) → cond b spots [] ≡ spot ∷ more → AreFew spots count → count < 32768
 left-few true spots spot more count is few = below spots spot more count is few
 left-few false spots spot more count is few = cc is
 

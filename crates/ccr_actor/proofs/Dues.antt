@@ -1,9 +1,20 @@
--- What is due to an actor once it has sent what it asks next.
-use Rattle.std.proofs.Common.{◌≡◌, Some, refl, ap, ◌∙◌}
+-- What an actor asks next, and what is due to it once it has sent that.
+use Rattle.std.proofs.Common.{◌≡◌, Option, None, Some, refl, ap, ◌∙◌}
+use Rattle.std.specs.Option.{option_map}
+use Rattle.ccr_base.specs.declared.names.Place.{Place}
+use Rattle.ccr_claim.specs.declared.asks.Ask.{Ask}
 use Rattle.ccr_claim.specs.declared.asks.Asked.{Asked}
 use Rattle.ccr_claim.specs.Asks.{due_of}
 use Rattle.ccr_actor.specs.Actors.{Turn, settle, admit, drive, go_on, stop, turn}
-use Rattle.ccr_actor.specs.Acting.{Acting, asking_by, asking_of, due_in, next, sent}
+use Rattle.ccr_actor.specs.Acting.{Acting, asking_by, asking_of, due_in, next, pair_of, sent}
+
+-- the ask that was moved out with its place
+pub asks_of : (o : Option Asked) (place : Place) (ask : Ask) → Some (place, ask) ≡ option_map pair_of o → o ≡ Some (record { place = place; ask = ask })
+asks_of None place ask is = cc is
+asks_of (Some one) place ask is =
+    let same : pair_of one ≡ (place, ask) = cc is in
+    let P : (Place × Ask) → Option Asked = λ p. Some (record { place = p.0; ask = p.1 }) in
+    ap P same
 
 due_same : (part : Turn) (one : Asked) → due_in (asking_by part one.ask) ≡ due_of one.ask
 due_same (settle first more) one = refl

@@ -335,7 +335,7 @@ follows_settling wiring actor steps a one (Some n, (all, (is, from))) short asks
 
 -- ---- rest
 
-no-ask : (asking : Asking) (o : Option Asked) → rests_by asking o ≡ true → o ≡ None
+pub no-ask : (asking : Asking) (o : Option Asked) → rests_by asking o ≡ true → o ≡ None
 no-ask quiet None is = refl
 no-ask quiet (Some one) is = absurd cc
 no-ask (settling due) None is = refl

@@ -14,15 +14,16 @@ use Rattle.ccr_base.specs.declared.tasks.Task.{Task}
 use Rattle.ccr_handler.specs.declared.segments.Play.{Play}
 use Rattle.ccr_handler.specs.declared.segments.PlayEnd.{PlayEnd}
 use Rattle.ccr_handler.specs.declared.segments.PlayEnd.TheVariants as plays
-use Rattle.ccr_handler.specs.Playing.{play, actions_from}
+use Rattle.ccr_handler.specs.Playing.{branch_play}
 use Rattle.ccr_wiring.specs.declared.parts.Parts.{Parts}
 use Rattle.ccr_wiring.specs.declared.parts.PosterPart.{PosterPart}
 use Rattle.ccr_wiring.specs.declared.parts.QueuePart.{QueuePart}
-use Rattle.ccr_wiring.specs.Wirings.{Placement, placement, branch_of, segment_of, next_site, policy_of, actions_of, exception_port}
+use Rattle.ccr_wiring.specs.Wirings.{branch_of, segment_of, next_site, policy_of}
 use Rattle.ccr_claim.specs.declared.asks.Ask.TheVariants as asks
 use Rattle.ccr_claim.specs.declared.asks.Asked.{Asked}
 use Rattle.ccr_claim.specs.declared.asks.Reply.{Reply}
 use Rattle.ccr_claim.specs.declared.asks.Reply.TheVariants as replies
+use Rattle.ccr_claim.specs.Lines.{line_ask}
 use Rattle.ccr_claim.specs.Plans.{slots_in}
 use Rattle.ccr_claim.specs.Attempts.{at_place, Phase, booking, claiming, had_in, attempt_ask, release, firing_hand, put_ask, over_dropped, claimed}
 use Rattle.ccr_wiring.specs.Takers.{spots_at}
@@ -63,10 +64,6 @@ name_at actor state = record { actor = actor; attempt = state.attempt }
 abbrev pub task_message : TaskId → ℕ → Sent → Msg
 task_message task place sent = record { id = names.Task task place; port = sent.port; value = sent.value; causes = sent.causes }
 
--- the message that a poster's line is
-abbrev pub script_message : ℕ → ℕ → Sent → Msg
-script_message actor place sent = record { id = names.Script actor place; port = sent.port; value = sent.value; causes = sent.causes }
-
 -- how the end of a play is told: the root is over, or the task is suspended
 abbrev pub end_ask : Task → Play → PlayEnd → Asked
 end_ask task play plays.Done = at_place (places.Arbiter task.arbiter) (asks.Over task.id task.root hows.Done)
@@ -77,11 +74,6 @@ end_ask task play (plays.Yield site) = at_place (places.Site (branch_of task.spo
 abbrev pub play_ask : Task → Play → List Sent → Asked
 play_ask task play [] = end_ask task play play.end
 play_ask task play (sent ∷ posts) = at_place places.Meter asks.Draw
-
--- the next line's post; where none is left the poster leaves
-abbrev pub line_ask : ℕ → ℕ → List Sent → Asked
-line_ask actor place [] = at_place places.Meter asks.Leave
-line_ask actor place (sent ∷ sents) = at_place (places.Port sent.port) (asks.Post (script_message actor place sent))
 
 -- the post that was drawn for
 abbrev pub post_ask : Task → ℕ → Sent → Asked
@@ -210,7 +202,7 @@ take_from wiring state left queue (part ∷ parts) = record state { work = takin
 
 -- the play of the task's segment
 abbrev pub play_in : Parts → Task → Play
-play_in wiring task = play (exception_port wiring) task.values (segment_of task.spot) task.causes (actions_from (segment_of task.spot) (option_map_or (λ (s : Placement). actions_of wiring s.branch.handler) (placement wiring (branch_of task.spot)) []))
+play_in wiring task = branch_play wiring (branch_of task.spot) (segment_of task.spot) task.values task.causes
 
 -- the task that was taken is played
 abbrev pub begin_play : Parts → State → ℕ → Task → State
@@ -245,6 +237,10 @@ abbrev pub after_line : Parts → State → ℕ → List Sent → State
 after_line wiring state place [] = record state { work = resting }
 after_line wiring state place (sent ∷ sents) = record (driving state (spots_at wiring sent.port)) { work = lines (place + 1) sents }
 
+-- the spots at the port of the post are driven, and the play goes on behind it
+abbrev pub after_posting : Parts → State → Task → ℕ → Play → Sent → State
+after_posting wiring state task place play sent = record (driving state (spots_at wiring sent.port)) { work = playing task (place + 1) play }
+
 -- the queues are asked, where the meter said what is left
 abbrev pub after_round : Parts → State → Reply → State
 after_round wiring state (replies.Left n) = take_from wiring state n 0 wiring.queues
@@ -256,7 +252,7 @@ after_work wiring state (lines place sents) reply = after_line wiring state plac
 after_work wiring state round reply = after_round wiring state reply
 after_work wiring state (taking left queue more) reply = after_take wiring state left queue more reply
 after_work wiring state (playing task place play) reply = after_play wiring state task place play play.posts reply
-after_work wiring state (posting task place play sent) reply = record (driving state (spots_at wiring sent.port)) { work = playing task (place + 1) play }
+after_work wiring state (posting task place play sent) reply = after_posting wiring state task place play sent
 after_work wiring state (shedding task) reply = after_over wiring state task
 after_work wiring state resting reply = state
 

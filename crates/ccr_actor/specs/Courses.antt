@@ -1,7 +1,6 @@
 -- What the course of an actor stands for, and what holds of its attempt.
-use Rattle.std.specs.Prelude.{◌≡◌, ◌⊎◌, ◌==◌, not, ◌<◌, ◌+◌, ◌^◌, ℕ, Bool, true, false, List, [], ◌∷◌, ◌++◌, length, Option, Some, None, Result, Ok, Err, IsSome, if◌then◌else◌}
+use Rattle.std.specs.Prelude.{◌≡◌, ◌⊎◌, ◌==◌, not, ◌<◌, ◌+◌, ◌^◌, ℕ, Bool, true, false, List, [], ◌∷◌, ◌++◌, length, Option, Some, None, Result, Ok, Err, IsSome, OnErr, if◌then◌else◌}
 use Rattle.ccr_base.specs.declared.list.OutOfMemory.{OutOfMemory}
-use Rattle.ccr_base.specs.declared.messages.Sent.{Sent}
 use Rattle.ccr_base.specs.declared.names.Spot.{Spot}
 use Rattle.ccr_base.specs.declared.names.TaskId.{TaskId}
 use Rattle.ccr_base.specs.declared.tasks.Task.{Task}
@@ -20,6 +19,7 @@ use Rattle.ccr_claim.specs.declared.outcomes.Why.{Why}
 use Rattle.ccr_claim.specs.declared.outcomes.Why.TheVariants as whys
 use Rattle.ccr_claim.specs.Asks.{Answer, due_of, fits, may_come}
 use Rattle.ccr_claim.specs.Attempts.{AttemptState, Phase, booking, attempt_ask, put_asks, over_dropped}
+use Rattle.ccr_claim.specs.Lines.{IsLineOf}
 use Rattle.ccr_actor.specs.declared.course.Course.{Course}
 use Rattle.ccr_actor.specs.declared.course.Part.{Part}
 use Rattle.ccr_actor.specs.declared.course.Part.TheVariants as parts
@@ -27,7 +27,7 @@ use Rattle.ccr_actor.specs.declared.work.Playing.{Playing}
 use Rattle.ccr_actor.specs.declared.work.Work.{Work as Works}
 use Rattle.ccr_actor.specs.declared.work.Work.TheVariants as works
 use Rattle.ccr_actor.specs.Acting.{Acting, Asking, quiet, settling, going, kept}
-use Rattle.ccr_actor.specs.Actors.{State, spots_left, settled, after, in_attempt, end_attempt, driven_on, after_attempt}
+use Rattle.ccr_actor.specs.Actors.{State, spots_left, settled, after, in_attempt, end_attempt, driven_on, after_attempt, shorten}
 use Rattle.ccr_actor.specs.Inside.{work_of}
 use Rattle.ccr_actor.specs.Needs.{attempt_needs, settling_needs, work_needs, work_unnumbered}
 use Rattle.ccr_actor.specs.Plans.{plan_of, arbiter_at}
@@ -184,6 +184,31 @@ abbrev pub IsStep : {E : Type 0} → Result E OutOfMemory → Parts → ℕ → 
 IsStep (Ok done) wiring actor target new = kept new ≡ kept target
 IsStep (Err refused) wiring actor target new = new.hand ≡ owed wiring actor target
 
+-- it is this state as far as it counts; or that wasn't short, and it is short of it now
+abbrev pub IsThereOrShort : Parts → ℕ → State → State → Type 0
+IsThereOrShort wiring actor target new = (kept new ≡ kept target) ⊎ ((target.is_short ≡ false) × (kept new ≡ kept (shorten wiring actor target)))
+
+-- whichever state the step led to, if as short as the old one, it is this state, or short of it now
+abbrev pub IsReached : {E : Type 0} → Result E OutOfMemory → Course → Course → Type 0
+IsReached made old new =
+    (target : State) →
+    target.is_short ≡ old.short →
+    IsStep made old.wiring.now old.number target (state_of old) →
+    IsThereOrShort old.wiring.now old.number target (state_of new)
+
+-- where the step found no memory and the actor wasn't short, it is short of that state now
+abbrev pub IsShortened : {E : Type 0} → Result E OutOfMemory → Course → Course → Type 0
+IsShortened made old new =
+    (target : State) →
+    OnErr made (old.short ≡ false → IsStep made old.wiring.now old.number target (state_of old) → kept (state_of new) ≡ kept (shorten old.wiring.now old.number target))
+
+-- the attempt at the first spot heard this answer
+abbrev pub HasHeard : {E : Type 0} → Result E OutOfMemory → Course → Answer → Course → Type 0
+HasHeard made old answer new =
+    (spot : Spot) (more : List Spot) →
+    old.spots ≡ spot ∷ more →
+    IsStep made old.wiring.now old.number (heard old.wiring.now old.number (state_of old) spot more answer) (state_of new)
+
 -- ---- what is unanswered
 
 -- the replies that an ask that settles may have
@@ -284,14 +309,9 @@ answer_unnumbered _ wiring state answer = false
 
 -- ---- what is made ready
 
--- the causes are those of the line's first post, if it has one
-abbrev pub IsLineOf : List Sent → Option (List ℕ) → Type 0
-IsLineOf [] causes = Unit {0}
-IsLineOf (sent ∷ more) causes = causes ≡ Some sent.causes
-
 -- the causes of the post of the next line
 abbrev pub IsLine : Works → Option (List ℕ) → Type 0
-IsLine (works.Lines place left) causes = IsLineOf left.now causes
+IsLine (works.Lines l) causes = IsLineOf l.left causes
 IsLine _ causes = Unit {0}
 
 -- a spot is driven next
@@ -332,7 +352,7 @@ pub record IsPlayCounted (p : Playing) (posts : ℕ) : Type 0 where
 
 -- the counts of what an actor does stay within their types
 abbrev pub IsCounted : Works → ℕ → ℕ → Type 0
-IsCounted (works.Lines place left) taken empty = place + length left.now < 2 ^ 32
+IsCounted (works.Lines l) taken empty = l.place + length l.left < 2 ^ 32
 IsCounted works.Round taken empty = (taken < 32768) × (empty < 10000)
 IsCounted (works.Taking left queue more) taken empty = (queue + length more.now + 1 < 2 ^ 32) × ((taken < 32768) × (empty < 10000))
 IsCounted (works.Playing p) taken empty = IsPlayCounted p (length p.posts.items) × (empty < 10000)

@@ -4,7 +4,7 @@ use Rattle.ccr_wiring.specs.declared.parts.Parts.{Parts}
 use Rattle.ccr_base.specs.declared.list.OutOfMemory.{OutOfMemory}
 use Rattle.ccr_claim.specs.declared.asks.Asked.{Asked}
 use Rattle.ccr_claim.specs.declared.asks.Reply.{Reply}
-use Rattle.ccr_claim.specs.Asks.{may_come}
+use Rattle.ccr_claim.specs.Asks.{is_settling, may_come}
 use Rattle.ccr_actor.specs.Acting.{Acting, at_state, due_in, next, sent, IsAfter}
 use Rattle.ccr_actor.specs.Actors.{state_after}
 use Rattle.ccr_actor.specs.Nets.{Step, AreNext, replies_of}
@@ -35,6 +35,10 @@ StaysThere wiring actor steps a new one refused =
     may_come (due_in (sent a).asking) (Err refused) ≡ true →
     IsAfter (sent a) (Err refused) new →
     Follows wiring actor steps new
+
+-- a short actor asks only what settles
+abbrev pub OnlySettles : Parts → ℕ → List Step → Acting → Asked → Type 0
+OnlySettles wiring actor steps a one = Follows wiring actor steps a → a.state.is_short ≡ true → next a ≡ Some one → is_settling one.ask ≡ true
 
 -- each step was the next one where there was memory throughout, and the state is that behind their replies
 abbrev pub LacksNothing : Parts → ℕ → List Step → Acting → Type 0

@@ -48,7 +48,7 @@ posting_of p sent = posting p.task p.place (play_of p) sent
 
 -- what it does between drives
 abbrev pub work_of : Works → Work
-work_of (works.Lines place left) = lines place left.now
+work_of (works.Lines l) = lines l.place l.left
 work_of works.Round = round
 work_of (works.Taking left queue more) = taking left queue more.now
 work_of (works.Playing p) = playing_of p

@@ -15,7 +15,7 @@ use crate::course::{Course, Part};
 use crate::driven::Driven;
 use crate::work::Work;
 use ccr_base::{ActorNo, OutOfMemory, Place};
-use ccr_claim::{Ask, Due, Reply, due_of};
+use ccr_claim::{Ask, Due, Lines, Reply, due_of};
 use ccr_wiring::Wiring;
 use std::alloc::Global;
 use std::collections::VecDeque;
@@ -159,10 +159,7 @@ fn first_work(wiring: &Wiring, number: ActorNo) -> Work<'_>
     ensures valid { IsValid wiring.now }
 {
     match wiring.parts().posters.as_slice().get(number as usize) {
-        Some(poster) => Work::Lines {
-            place: 0,
-            lines: poster.posts.as_slice(),
-        },
+        Some(poster) => Work::Lines(Lines::of(poster.posts.as_slice())),
         None => Work::Round,
     }
 }

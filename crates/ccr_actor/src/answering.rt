@@ -2,9 +2,7 @@
 
 ghost use Rattle.std.specs.Prelude.{◌≡◌, ◌⊎◌, true, false, OnOk, OnErr, IsErr, IsTrue};
 ghost use Rattle.ccr_claim.specs.declared.asks.Due.TheVariants as dues;
-ghost use Rattle.ccr_actor.specs.Acting.{kept};
-ghost use Rattle.ccr_actor.specs.Actors.{State, shorten};
-ghost use Rattle.ccr_actor.specs.Courses.{answer_needs, answer_unnumbered, due_at, state_of, target, IsAnswered, IsBeside, IsBounded, IsCounted, IsPast, IsReady, IsStep, IsUnderWay};
+ghost use Rattle.ccr_actor.specs.Courses.{answer_needs, answer_unnumbered, due_at, state_of, target, IsAnswered, IsBeside, IsBounded, IsCounted, IsPast, IsReached, IsReady, IsShortened, IsStep, IsUnderWay};
 ghost use Rattle.ccr_actor.specs.Needs.{next_needs};
 
 use crate::course::{Course, Part};
@@ -55,8 +53,8 @@ impl Course<'_> {
         requires quiet { due_at self.old.attempt ≡ dues.Nothing }
         requires refused { OnErr made (self.old.short ≡ false) }
         requires counted { OnOk made (self.old.short ≡ false → IsCounted self.old.work self.old.taken self.old.empty) }
-        ensures state { (target : State) → target.is_short ≡ self.old.short → IsStep made self.old.wiring.now self.old.number target (state_of self.old) → (kept (state_of self.new) ≡ kept target) ⊎ ((target.is_short ≡ false) × (kept (state_of self.new) ≡ kept (shorten self.old.wiring.now self.old.number target))) }
-        ensures refused { (target : State) → OnErr made (self.old.short ≡ false → IsStep made self.old.wiring.now self.old.number target (state_of self.old) → kept (state_of self.new) ≡ kept (shorten self.old.wiring.now self.old.number target)) }
+        ensures state { IsReached made self.old self.new }
+        ensures refused { IsShortened made self.old self.new }
         ensures needs { OnOk made (self.old.short ≡ false → self.new.short ≡ true → IsTrue (next_needs (state_of self.old))) }
         ensures short { OnErr made (self.new.short ≡ true) }
         ensures ready { IsReady self.new }

@@ -3,8 +3,8 @@
 ghost use Rattle.std.specs.Prelude.{◌≡◌, ◌⊎◌, ◌==◌, true, false, [], not, is_some, length, IfOk, IsTrue, OnOk, OnErr, MatchOption, IfSome, IfNone, option_map};
 ghost use Rattle.ccr_claim.specs.declared.asks.Due.TheVariants as dues;
 ghost use Rattle.ccr_actor.specs.Acting.{asking_of, sent_state, sent_work};
-ghost use Rattle.ccr_actor.specs.Actors.{asked, line_ask, spots_left, turn, work_ask};
-ghost use Rattle.ccr_actor.specs.Courses.{asking_by, due_at, due_next, is_running, state_of, taken_due, IsAsked, IsBeside, IsCounted, IsIdle, IsLine, IsLineOf, IsPast, IsReady, IsUnderWay};
+ghost use Rattle.ccr_actor.specs.Actors.{asked, spots_left, turn, work_ask};
+ghost use Rattle.ccr_actor.specs.Courses.{asking_by, due_at, due_next, is_running, state_of, taken_due, IsAsked, IsBeside, IsCounted, IsIdle, IsLine, IsPast, IsReady, IsUnderWay};
 ghost use Rattle.ccr_actor.specs.Inside.{work_of};
 ghost use Rattle.ccr_actor.specs.Needs.{has_any, next_needs, next_work_needs};
 ghost use Rattle.ccr_claim.specs.Asks.{due_of};
@@ -14,44 +14,9 @@ use crate::attempting::take_ask;
 use crate::course::{Course, Part};
 use crate::wired::attempt_at;
 use crate::work::{Work, over};
-use ccr_base::{ActorNo, CauseNo, How, List, Msg, MsgId, OutOfMemory, Place, TaskId};
+use ccr_base::{CauseNo, How, List, OutOfMemory, Place, TaskId};
 use ccr_claim::{Ask, Asked, Progress};
-use ccr_wiring::ScriptPost;
 use std::alloc::Global;
-
-/// The post of the script's next line, or the poster leaves.
-fn line_ask(
-    number: ActorNo,
-    place: u32,
-    lines: &[ScriptPost],
-    causes: &mut Option<List<CauseNo>>,
-) -> Asked
-    requires { IsLineOf lines.now causes.old }
-    ensures { result ≡ line_ask number place lines.now }
-{
-    if lines.is_empty() {
-        return Asked {
-            place: Place::Meter,
-            ask: Ask::Leave,
-        };
-    }
-    let sent = &lines[0];
-    let Some(causes) = causes.take() else {
-        unreachable!();
-    };
-    Asked {
-        place: Place::Port(sent.port()),
-        ask: Ask::Post(Msg {
-            id: MsgId::Script {
-                actor: number,
-                place,
-            },
-            port: sent.port(),
-            value: sent.value(),
-            causes,
-        }),
-    }
-}
 
 /// The same causes. To copy none takes no memory.
 fn copied(alloc: Global, causes: &[CauseNo]) -> Result<List<CauseNo>, OutOfMemory>
@@ -77,9 +42,7 @@ impl Course<'_> {
         ensures beside { IsBeside self.old self.new }
     {
         match &mut self.work {
-            Work::Lines { place, lines } => {
-                Some(line_ask(self.number, *place, lines, &mut self.line))
-            }
+            Work::Lines(lines) => Some(lines.ask(self.number, &mut self.line)),
             Work::Round => Some(Asked {
                 place: Place::Meter,
                 ask: Ask::Left,
@@ -164,8 +127,8 @@ impl Course<'_> {
         ensures work { self.new.work ≡ self.old.work }
         ensures beside { IsBeside self.old self.new }
     {
-        if let Work::Lines { lines, .. } = &self.work {
-            if let Some(sent) = lines.first() {
+        if let Work::Lines(lines) = &self.work {
+            if let Some(sent) = lines.next() {
                 self.line = Some(copied(self.alloc, sent.causes())?);
             }
         }

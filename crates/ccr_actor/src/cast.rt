@@ -1,15 +1,16 @@
 //! How many actors a run has.
 
 ghost use Rattle.std.specs.Prelude.{◌≡◌, ◌≤◌, ◌+◌, length};
+ghost use Rattle.ccr_base.specs.Bounds.{most_actors, most_workers};
 ghost use Rattle.ccr_wiring.specs.Valid.{IsValid};
 
 use ccr_wiring::{Wiring, valid_wirings_are_sound};
 
 /// The posters and so many workers, which have the numbers behind them. So it is the number of the first actor that is neither.
 pub fn actor_count(wiring: &Wiring, workers: u32) -> u32
-    requires { workers ≤ 16 }
+    requires { workers ≤ most_workers }
     ensures count { result ≡ length wiring.now.posters + workers }
-    ensures most { result ≤ 32 }
+    ensures most { result ≤ most_actors }
     ensures valid { IsValid wiring.now }
 {
     valid_wirings_are_sound();

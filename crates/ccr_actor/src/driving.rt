@@ -1,12 +1,11 @@
 //! The drive of an actor: an attempt after the other at its spots.
 
-ghost use Rattle.std.specs.Prelude.{◌≡◌, ◌<◌, ◌==◌, ◌⊎◌, ◌^◌, ◌∷◌, drop, not, true, IsTrue, OnOk, OnErr, IsErr, length, List};
-ghost use Rattle.ccr_base.specs.declared.names.Spot.{Spot};
+ghost use Rattle.std.specs.Prelude.{◌≡◌, ◌<◌, ◌==◌, ◌⊎◌, ◌^◌, ◌∷◌, drop, not, true, IsTrue, OnOk, OnErr, IsErr, length};
 ghost use Rattle.ccr_claim.specs.declared.asks.Due.TheVariants as dues;
 ghost use Rattle.ccr_claim.specs.Asks.{may_come};
 ghost use Rattle.ccr_claim.specs.Attempts.{booking};
 ghost use Rattle.ccr_actor.specs.Actors.{end_attempt, spots_left};
-ghost use Rattle.ccr_actor.specs.Courses.{state_of, phase_of, due_at, due_next, fired_on, heard, heard_needs, IsBeside, IsPast, IsStep, IsUnderWay};
+ghost use Rattle.ccr_actor.specs.Courses.{state_of, phase_of, due_at, due_next, fired_on, heard_needs, HasHeard, IsBeside, IsPast, IsUnderWay};
 
 use crate::attempting::{answer, is_memory};
 use crate::course::{ATTEMPTS, Course, MOST};
@@ -71,7 +70,7 @@ impl Course<'_> {
         requires asked { due_at self.old.attempt ≡ due_next self.old.attempt }
         requires reply { IsTrue (may_come (due_at self.old.attempt) reply) }
         requires fired { self.old.fired < 32768 }
-        ensures step { (spot : Spot) (more : List Spot) → self.old.spots ≡ spot ∷ more → IsStep result self.old.wiring.now self.old.number (heard self.old.wiring.now self.old.number (state_of self.old) spot more reply) (state_of self.new) }
+        ensures step { HasHeard result self.old reply self.new }
         ensures attempt { OnOk result (IsPast self.new.attempt ⊎ IsUnderWay self.new) }
         ensures past { OnErr result (IsPast self.new.attempt) }
         ensures refused { OnErr reply (IsErr result) }

@@ -10,7 +10,7 @@ ghost use Rattle.ccr_actor.specs.Actors.{next, state_after};
 ghost use Rattle.ccr_actor.specs.Hands.{AreSettling};
 ghost use Rattle.ccr_actor.specs.Acting.{Acting, is_at_rest, next as asked_by, started};
 ghost use Rattle.ccr_actor.specs.Nets.{Step, IsProper, replies_of};
-ghost use Rattle.ccr_actor.specs.Following.{Follows, GoesOn, LacksNothing, OfLong, StaysThere};
+ghost use Rattle.ccr_actor.specs.Following.{Follows, GoesOn, LacksNothing, OfLong, OnlySettles, StaysThere};
 
 /// What an actor has in hand is to be settled, and once it found no memory it asks nothing else: only asks that settle
 /// follow, whatever was replied.
@@ -29,5 +29,5 @@ pub fn actors_follow()
     ensures refusal { (wiring : Parts) (actor : ℕ) (steps : List Step) (a new : Acting) (one : Asked) (refused : OutOfMemory) → StaysThere wiring actor steps a new one refused }
     ensures long { OfLong LacksNothing }
     ensures rest { OfLong (λ wiring actor steps a. (is_at_rest a ≡ true) ↔ (next wiring actor None (replies_of steps) ≡ None)) }
-    ensures short { (wiring : Parts) (actor : ℕ) (steps : List Step) (a : Acting) (one : Asked) → Follows wiring actor steps a → a.state.is_short ≡ true → asked_by a ≡ Some one → is_settling one.ask ≡ true }
+    ensures short { (wiring : Parts) (actor : ℕ) (steps : List Step) (a : Acting) (one : Asked) → OnlySettles wiring actor steps a one }
 {}

@@ -1,20 +1,16 @@
 //! What a wiring says that an actor goes by: the plan at a spot, the spots to drive, and the play of a task.
 
-ghost use Rattle.std.specs.Prelude.{◌≡◌, [], IfOk, map};
-ghost use Rattle.std.specs.Option.{option_map_or};
-ghost use Rattle.ccr_handler.specs.Playing.{actions_from, play};
-ghost use Rattle.ccr_wiring.specs.declared.parts.CausePart.{CausePart};
-ghost use Rattle.ccr_wiring.specs.Wirings.{Placement, placement, segment_of, actions_of, branch_of, exception_port, policy_of};
+ghost use Rattle.std.specs.Prelude.{◌≡◌, IfOk};
+ghost use Rattle.ccr_wiring.specs.Wirings.{segment_of, policy_of};
 ghost use Rattle.ccr_claim.specs.Attempts.{begun};
 ghost use Rattle.ccr_actor.specs.Actors.{play_in};
 ghost use Rattle.ccr_actor.specs.Plans.{one_of, pattern_at, queue_at, arbiter_at, plan_of, throttled, is_interleave_number};
 
 use ccr_base::{
-    ArbiterNo, CauseNo, Handler, List, OutOfMemory, Pattern, Policy, PortNo, Pred, QueueNo, Slot,
-    Spot, Task, TaskId,
+    ArbiterNo, List, OutOfMemory, Pattern, Policy, PortNo, Pred, QueueNo, Slot, Spot, Task, TaskId,
 };
 use ccr_claim::{Attempt, ClaimPlan};
-use ccr_handler::{Play, PlayEnd, plays};
+use ccr_handler::{Play, branch_play};
 use ccr_wiring::{Kind, Wiring, branch_of};
 use std::alloc::Global;
 
@@ -159,43 +155,6 @@ pub fn is_interleave_number(wiring: &Wiring, arbiter: ArbiterNo) -> bool
     }
 }
 
-/// The exception ports of the causes, by their numbers.
-fn exception_ports(alloc: Global, wiring: &Wiring) -> Result<Vec<PortNo>, OutOfMemory>
-    ensures { IfOk result (λ ports. ports.items ≡ map (λ (part : CausePart). part.port) wiring.now.causes) }
-{
-    let mut ports = Vec::new(alloc);
-    for cause in wiring.parts().causes.as_slice() {
-        ports.push(cause.port)?;
-    }
-    Ok(ports)
-}
-
-/// The play of no actions.
-fn idle(alloc: Global, causes: &List<CauseNo>) -> Result<Play, OutOfMemory>
-    ensures { IfOk result (λ found. found ≡ record { posts = []; end = PlayEnd.Done; causes = causes.now }) }
-{
-    Ok(Play {
-        posts: List::new(alloc),
-        end: PlayEnd::Done,
-        causes: causes.copy(alloc)?,
-    })
-}
-
-/// The play of this segment of the handler over the task's values and causes.
-fn play_with(
-    alloc: Global,
-    wiring: &Wiring,
-    handler: &Handler,
-    segment: u32,
-    task: &Task,
-) -> Result<Play, OutOfMemory>
-    ensures { IfOk result (λ found. found ≡ play (exception_port wiring.now) task.now.values segment task.now.causes (actions_from segment handler.now.actions)) }
-{
-    let ports = exception_ports(alloc, wiring)?;
-    let values = task.values.as_slice();
-    plays(alloc, handler, &ports, segment, values, &task.causes)
-}
-
 /// The play of the task's segment, which has this number.
 pub fn play_in(
     alloc: Global,
@@ -206,8 +165,13 @@ pub fn play_in(
     requires { segment ≡ segment_of task.now.spot }
     ensures { IfOk result (λ found. found ≡ play_in wiring.now task.now) }
 {
-    match wiring.handler_of(branch_of(task.spot)) {
-        Some(handler) => play_with(alloc, wiring, handler, segment, task),
-        None => idle(alloc, &task.causes),
-    }
+    let branch = branch_of(task.spot);
+    branch_play(
+        alloc,
+        wiring,
+        branch,
+        segment,
+        task.values.as_slice(),
+        &task.causes,
+    )
 }

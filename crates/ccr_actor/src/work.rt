@@ -7,9 +7,9 @@ ghost use Rattle.ccr_actor.specs.Acting.{sent_play};
 ghost use Rattle.ccr_actor.specs.Inside.{how_over, play_of, playing_of, over_ask, suspend_ask};
 
 use ccr_base::{CauseNo, How, List, Msg, MsgId, Place, Sent, Task};
-use ccr_claim::{Ask, Asked};
+use ccr_claim::{Ask, Asked, Lines};
 use ccr_handler::{Play, PlayEnd};
-use ccr_wiring::{QueuePart, ScriptPost, branch_of};
+use ccr_wiring::{QueuePart, branch_of};
 use std::alloc::Global;
 use std::collections::VecDeque;
 use std::mem::replace;
@@ -31,10 +31,7 @@ pub struct Playing {
 /// The rest of a script, a round, a take, a play, a post that was drawn, an end for want of budget, rest.
 #[derive(Drop)]
 pub enum Work<'w> {
-    Lines {
-        place: u32,
-        lines: &'w [ScriptPost],
-    },
+    Lines(Lines<'w>),
     Round,
     Taking {
         left: u32,

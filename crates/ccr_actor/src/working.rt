@@ -1,7 +1,8 @@
 //! The work of an actor: its script, its rounds, and the plays of its tasks.
 
 ghost use Rattle.std.specs.Prelude.{◌≡◌, [], ℕ, ◌<◌, ◌≤◌, ◌+◌, ◌^◌, false, IfNone, IfSome, IsTrue, OnOk, OnErr, length};
-ghost use Rattle.ccr_actor.specs.Actors.{after_end, after_line, after_over, after_play, after_round, after_take, after_work, round, begin_play, driving, next_round, playing as playing_on, rest_or_round, shedding, take_from};
+ghost use Rattle.ccr_base.specs.Bounds.{most_empty_rounds};
+ghost use Rattle.ccr_actor.specs.Actors.{after_end, after_line, after_over, after_play, after_posting, after_round, after_take, after_work, round, begin_play, next_round, rest_or_round, shedding, take_from};
 ghost use Rattle.ccr_actor.specs.Courses.{state_of, IsBeside, IsCounted, IsPlayCounted, IsStep};
 ghost use Rattle.ccr_actor.specs.Inside.{play_of, work_of};
 ghost use Rattle.ccr_actor.specs.Needs.{adds_arbiter, end_needs, has_any, is_unnumbered, line_needs, play_needs, take_needs, take_unnumbered, work_needs, work_unnumbered};
@@ -14,16 +15,16 @@ use crate::driven::Driven;
 use crate::wired::{play_in, throttled};
 use crate::work::{Playing, Work};
 use ccr_base::{OutOfMemory, Sent, Spot, Task};
-use ccr_claim::Reply;
+use ccr_claim::{Lines, Reply};
 use ccr_handler::{Play, PlayEnd};
-use ccr_wiring::{QueuePart, ScriptPost, branch_of, segment_of};
+use ccr_wiring::{QueuePart, branch_of, segment_of};
 use std::collections::VecDeque;
 use std::mem::replace;
 
 /// The task ends for want of budget.
 fn shed<'w>(playing: Playing) -> Work<'w>
     ensures work { work_of result ≡ shedding playing.task }
-    ensures counted { (taken empty : ℕ) → empty < 10000 → IsCounted result taken empty }
+    ensures counted { (taken empty : ℕ) → empty < most_empty_rounds → IsCounted result taken empty }
 {
     let Playing { task, .. } = playing;
     Work::Shedding(task)
@@ -32,7 +33,7 @@ fn shed<'w>(playing: Playing) -> Work<'w>
 impl<'w> Course<'w> {
     /// A worker takes no more after so many tasks.
     fn next_round(&mut self)
-        requires { self.old.empty < 10000 }
+        requires { self.old.empty < most_empty_rounds }
         ensures state { state_of self.new ≡ record (state_of self.old) { work = next_round self.old.taken } }
         ensures counted { IsCounted self.new.work self.new.taken self.new.empty }
         ensures attempt { self.new.attempt ≡ self.old.attempt }
@@ -46,32 +47,29 @@ impl<'w> Course<'w> {
     }
 
     /// The line was posted, or the poster has left.
-    pub fn line_made(&mut self, place: u32, lines: &'w [ScriptPost]) -> Result<(), OutOfMemory>
-        requires counted { place + length lines.now < 2 ^ 32 }
-        ensures ok { OnOk result (state_of self.new ≡ after_line self.old.wiring.now (state_of self.old) place lines.now) }
+    pub fn line_made(&mut self, lines: Lines<'w>) -> Result<(), OutOfMemory>
+        requires counted { lines.place + length lines.left < 2 ^ 32 }
+        ensures ok { OnOk result (state_of self.new ≡ after_line self.old.wiring.now (state_of self.old) lines.entry.place lines.entry.left) }
         ensures counted { OnOk result (IsCounted self.new.work self.new.taken self.new.empty) }
         ensures err { OnErr result ((state_of self.new).hand ≡ (state_of self.old).hand) }
-        ensures needs { OnErr result (IsTrue (line_needs self.old.wiring.now lines.now)) }
+        ensures needs { OnErr result (IsTrue (line_needs self.old.wiring.now lines.entry.left)) }
         ensures attempt { self.new.attempt ≡ self.old.attempt }
         ensures beside { IsBeside self.old self.new }
     {
-        if lines.is_empty() {
+        let Some(sent) = lines.next() else {
             self.work = Work::Resting;
             return Ok(());
-        }
-        self.spots = Driven::of(self.wiring.spots_at(lines[0].port()));
-        self.fired = 0;
-        self.work = Work::Lines {
-            place: place + 1,
-            lines: &lines[1..],
         };
+        self.spots = Driven::of(self.wiring.spots_at(sent.port()));
+        self.fired = 0;
+        self.work = Work::Lines(lines.behind());
         Ok(())
     }
 
     /// An empty round: rest where all posters have left, or after so many.
     fn rest_or_round(&mut self, left: u32)
         requires taken { self.old.taken < 32768 }
-        requires empty { self.old.empty < 10000 }
+        requires empty { self.old.empty < most_empty_rounds }
         ensures state { state_of self.new ≡ rest_or_round self.old.wiring.now (state_of self.old) left }
         ensures counted { IsCounted self.new.work self.new.taken self.new.empty }
         ensures attempt { self.new.attempt ≡ self.old.attempt }
@@ -90,7 +88,7 @@ impl<'w> Course<'w> {
     fn take_from(&mut self, left: u32, queue: u32, more: &'w [QueuePart])
         requires queues { queue + length more.now < 2 ^ 32 }
         requires taken { self.old.taken < 32768 }
-        requires empty { self.old.empty < 10000 }
+        requires empty { self.old.empty < most_empty_rounds }
         ensures state { state_of self.new ≡ take_from self.old.wiring.now (state_of self.old) left queue more.now }
         ensures counted { IsCounted self.new.work self.new.taken self.new.empty }
         ensures attempt { self.new.attempt ≡ self.old.attempt }
@@ -111,7 +109,7 @@ impl<'w> Course<'w> {
     /// running out of memory.
     fn begin_play(&mut self, queue: u32, task: Task) -> Result<(), OutOfMemory>
         requires taken { self.old.taken < 32768 }
-        requires empty { self.old.empty < 10000 }
+        requires empty { self.old.empty < most_empty_rounds }
         ensures ok { OnOk result (state_of self.new ≡ begin_play self.old.wiring.now (state_of self.old) queue task) }
         ensures counted { OnOk result (IsCounted self.new.work self.new.taken self.new.empty) }
         ensures err { OnErr result ((state_of self.new).hand ≡ (state_of self.old).hand) }
@@ -142,7 +140,7 @@ impl<'w> Course<'w> {
 
     /// The task is over: admissions at its Interleave, and a new round.
     pub fn task_over(&mut self, task: &Task) -> Result<(), OutOfMemory>
-        requires { self.old.empty < 10000 }
+        requires { self.old.empty < most_empty_rounds }
         ensures ok { OnOk result (state_of self.new ≡ after_over self.old.wiring.now (state_of self.old) task.now) }
         ensures counted { OnOk result (IsCounted self.new.work self.new.taken self.new.empty) }
         ensures err { OnErr result ((state_of self.new).hand ≡ (state_of self.old).hand) }
@@ -157,7 +155,7 @@ impl<'w> Course<'w> {
 
     /// The task was suspended at the site, which is driven, and a new round follows; or it is over.
     fn play_ended(&mut self, playing: &Playing) -> Result<(), OutOfMemory>
-        requires empty { self.old.empty < 10000 }
+        requires empty { self.old.empty < most_empty_rounds }
         requires segment { playing.now.segment ≡ segment_of playing.now.task.spot }
         ensures ok { OnOk result (state_of self.new ≡ after_end self.old.wiring.now (state_of self.old) playing.now.task playing.now.end) }
         ensures counted { OnOk result (IsCounted self.new.work self.new.taken self.new.empty) }
@@ -180,7 +178,7 @@ impl<'w> Course<'w> {
 
     /// The next post was drawn, or no budget is left for it; or the play has ended.
     pub fn played(&mut self, mut playing: Playing, reply: &Reply) -> Result<(), OutOfMemory>
-        requires empty { self.old.empty < 10000 }
+        requires empty { self.old.empty < most_empty_rounds }
         requires counted { IsPlayCounted playing (length playing.posts.items) }
         ensures ok { OnOk result (state_of self.new ≡ after_play self.old.wiring.now (state_of self.old) playing.task playing.place (play_of playing) playing.posts.items reply.now) }
         ensures counted { OnOk result (IsCounted self.new.work self.new.taken self.new.empty) }
@@ -201,9 +199,9 @@ impl<'w> Course<'w> {
 
     /// The post was made: the spots that name its port are driven.
     pub fn post_made(&mut self, playing: Playing, sent: &Sent) -> Result<(), OutOfMemory>
-        requires empty { self.old.empty < 10000 }
+        requires empty { self.old.empty < most_empty_rounds }
         requires counted { IsPlayCounted playing (length playing.posts.items + 1) }
-        ensures ok { OnOk result (state_of self.new ≡ record (driving (state_of self.old) (spots_at self.old.wiring.now sent.now.port)) { work = playing_on playing.task (playing.place + 1) (play_of playing) }) }
+        ensures ok { OnOk result (state_of self.new ≡ after_posting self.old.wiring.now (state_of self.old) playing.task playing.place (play_of playing) sent.now) }
         ensures counted { OnOk result (IsCounted self.new.work self.new.taken self.new.empty) }
         ensures err { OnErr result ((state_of self.new).hand ≡ (state_of self.old).hand) }
         ensures needs { OnErr result (IsTrue (has_any (spots_at self.old.wiring.now sent.now.port))) }
@@ -220,7 +218,7 @@ impl<'w> Course<'w> {
     /// How many posters have left: the queues are asked from the first on.
     pub fn round_begun(&mut self, left: u32)
         requires taken { self.old.taken < 32768 }
-        requires empty { self.old.empty < 10000 }
+        requires empty { self.old.empty < most_empty_rounds }
         ensures state { state_of self.new ≡ take_from self.old.wiring.now (state_of self.old) left 0 self.old.wiring.now.queues }
         ensures counted { IsCounted self.new.work self.new.taken self.new.empty }
         ensures attempt { self.new.attempt ≡ self.old.attempt }
@@ -233,7 +231,7 @@ impl<'w> Course<'w> {
     /// The meter answered, and the queues are asked.
     fn round_answered(&mut self, reply: &Reply)
         requires taken { self.old.taken < 32768 }
-        requires empty { self.old.empty < 10000 }
+        requires empty { self.old.empty < most_empty_rounds }
         ensures state { state_of self.new ≡ after_round self.old.wiring.now (record (state_of self.old) { work = round }) reply.now }
         ensures counted { IsCounted self.new.work self.new.taken self.new.empty }
         ensures attempt { self.new.attempt ≡ self.old.attempt }
@@ -255,7 +253,7 @@ impl<'w> Course<'w> {
     ) -> Result<(), OutOfMemory>
         requires queues { queue + length more.now + 1 < 2 ^ 32 }
         requires taken { self.old.taken < 32768 }
-        requires empty { self.old.empty < 10000 }
+        requires empty { self.old.empty < most_empty_rounds }
         ensures ok { OnOk result (state_of self.new ≡ after_take self.old.wiring.now (state_of self.old) left queue more.now reply) }
         ensures counted { OnOk result (IsCounted self.new.work self.new.taken self.new.empty) }
         ensures err { OnErr result ((state_of self.new).hand ≡ (state_of self.old).hand) }
@@ -285,7 +283,7 @@ impl<'w> Course<'w> {
         ensures beside { IsBeside self.old self.new }
     {
         match replace(&mut self.work, Work::Resting) {
-            Work::Lines { place, lines } => self.line_made(place, lines),
+            Work::Lines(lines) => self.line_made(lines),
             Work::Round => {
                 self.round_answered(&reply);
                 Ok(())

@@ -17,13 +17,15 @@ use Rattle.ccr_claim.specs.declared.outcomes.Outcome.TheVariants as outcomes
 use Rattle.ccr_claim.specs.declared.outcomes.Why.TheVariants as whys
 use Rattle.ccr_claim.specs.Asks.{due_of, fits}
 use Rattle.ccr_claim.specs.Attempts.{Phase, booking, release, in_want}
+use Rattle.ccr_claim.specs.Lines.{line_ask}
 use Rattle.ccr_claim.specs.Settling.{Step}
 use Rattle.ccr_actor.specs.Plans.{plan_of}
-use Rattle.ccr_actor.specs.Actors.{State, Work, lines, round, taking, playing, posting, shedding, resting, Turn, settle, admit, go_on, stop, turn, turn_of, spots_left, name_at, asked, ask_in, work_ask, play_ask, line_ask, end_ask, settled, after_admit, after_in, after, after_work, after_line, after_round, after_take, take_from, after_play, after_end, in_attempt, shorten}
+use Rattle.ccr_actor.specs.Actors.{State, Work, lines, round, taking, playing, posting, shedding, resting, Turn, settle, admit, go_on, stop, turn, turn_of, spots_left, name_at, asked, ask_in, work_ask, play_ask, end_ask, settled, after_admit, after_in, after, after_work, after_line, after_round, after_take, take_from, after_play, after_end, in_attempt, shorten}
 use Rattle.ccr_attempts.specs.Trials.{Trial, between, is_of_attempt}
 use Rattle.ccr_attempts.proofs.Answering.{state_lacking, steps_lacking, may_lacking}
 use Rattle.ccr_attempts.proofs.Hands.{one_ask, IsBetween, release_ordered}
 use Rattle.ccr_attempts.proofs.Going.{and, Idle, Runs, Goes, ends, runs_go, settles_go}
+use Rattle.ccr_net.proofs.Owed.Owing.{attempt_none as nothing-back}
 
 -- ---- what the work asks, and what a reply to it leaves
 
@@ -243,11 +245,6 @@ pub goes_on : (w : Parts) (a : ℕ) (past : List Step) (st : State) (one : Asked
 goes_on w a past st one reply (inl idle) asks fit = idle_goes w a past st idle one reply asks fit
 goes_on w a past st one reply (inr (inl run)) asks fit = runs_go w a past st run one reply asks fit
 goes_on w a past st one reply (inr (inr at)) asks fit = settles_go w a past st at one reply asks fit
-
--- nothing is handed back where no attempt runs
-nothing-back : (w : Parts) (a : ℕ) (st : State) (spots : List Spot) → st.phase ≡ booking → in_attempt w a st spots ≡ []
-nothing-back w a st [] is = refl
-nothing-back w a st (spot ∷ more) is = ap (release (plan_of w spot) (name_at a st)) is
 
 same-hand : (w : Parts) (a : ℕ) (st : State) → st.phase ≡ booking → (shorten w a st).hand ≡ st.hand
 same-hand w a st is = ap (λ back. st.hand ++ back) (nothing-back w a st st.spots is) ∙ append-nil st.hand

@@ -21,9 +21,9 @@ use Rattle.ccr_places.specs.Ports.{PortState, may_post, may_claim, claim_note, u
 use Rattle.ccr_places.specs.Ports as ports
 use Rattle.ccr_claim.specs.declared.asks.Ask.{Ask}
 use Rattle.ccr_claim.specs.declared.asks.Ask.TheVariants as asks
-use Rattle.ccr_net.specs.declared.entries.Entry.{Entry}
-use Rattle.ccr_net.specs.Places.{note_of, port_note}
-use Rattle.ccr_net.specs.Runs.{Lacks, port_at, notes_at, same_place}
+use Rattle.ccr_runs.specs.declared.entries.Entry.{Entry}
+use Rattle.ccr_runs.specs.Places.{note_of, port_note}
+use Rattle.ccr_runs.specs.EntryRuns.{Lacks, port_at, notes_at, same_place}
 use Rattle.ccr_net.proofs.Parts.Pushes.{Step, port_at-push}
 use Rattle.ccr_net.proofs.Parts.Noted.{given_some}
 

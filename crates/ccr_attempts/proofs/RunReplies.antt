@@ -33,10 +33,10 @@ use Rattle.ccr_claim.specs.declared.asks.Ask.{Ask}
 use Rattle.ccr_claim.specs.declared.asks.Ask.TheVariants as asks
 use Rattle.ccr_claim.specs.declared.asks.Due.TheVariants as dues
 use Rattle.ccr_claim.specs.Asks.{due_of, fits}
-use Rattle.ccr_net.specs.declared.entries.Entry.{Entry}
-use Rattle.ccr_net.specs.Places.{note_of, port_note, port_after, arbiter_note, interleave_note, site_note, queue_note, meter_note, note_by_kind, note_at_arbiter, commit_note, arbiter_after, interleave_after, site_after, queue_after, meter_after, first_branch}
-use Rattle.ccr_net.specs.Runs.{Lacks, notes_at, reply_of, reply_to, claim_reply, book_reply, draw_reply}
-use Rattle.ccr_net.specs.Visible.{visible}
+use Rattle.ccr_runs.specs.declared.entries.Entry.{Entry}
+use Rattle.ccr_runs.specs.Places.{note_of, port_note, port_after, arbiter_note, interleave_note, site_note, queue_note, meter_note, note_by_kind, note_at_arbiter, commit_note, arbiter_after, interleave_after, site_after, queue_after, meter_after, first_branch}
+use Rattle.ccr_runs.specs.EntryRuns.{Lacks, notes_at, reply_of, reply_to, claim_reply, book_reply, draw_reply}
+use Rattle.ccr_runs.specs.Visible.{visible}
 use Rattle.ccr_net.proofs.Parts.Pushes.{Step}
 use Rattle.ccr_net.proofs.Parts.Noted.{given_some}
 use Rattle.ccr_net.proofs.Kept.Silent.{got_facts}

@@ -8,9 +8,9 @@ use Rattle.ccr_claim.specs.declared.asks.Reply.{Reply}
 use Rattle.ccr_actor.specs.Actors.{next}
 use Rattle.ccr_actor.specs.Nets.{Step, AreNext, replies_of}
 use Rattle.ccr_actor.proofs.Followed.{next_more}
-use Rattle.ccr_net.specs.declared.entries.Entry.{Entry}
+use Rattle.ccr_runs.specs.declared.entries.Entry.{Entry}
 use Rattle.ccr_net.specs.Owed.{AreFitting}
-use Rattle.ccr_net.specs.Runs.{Lacks, IsRunAfter, reply_of, replies_of as replied}
+use Rattle.ccr_runs.specs.EntryRuns.{Lacks, IsRunAfter, reply_of, replies_of as replied}
 use Rattle.ccr_net.proofs.Parts.Pushes as pushes
 use Rattle.ccr_net.proofs.Parts.Pushes.{Step-made, along_run, replies_of-push}
 use Rattle.ccr_attempts.specs.Trials.{AreSettled}

@@ -3,8 +3,8 @@ use Rattle.std.specs.Prelude.{◌≡◌, ℕ, List, Option, None}
 use Rattle.ccr_wiring.specs.declared.parts.Parts.{Parts}
 use Rattle.ccr_actor.specs.Actors.{next}
 use Rattle.ccr_actor.specs.Nets.{Step, replies_of}
-use Rattle.ccr_net.specs.declared.entries.Entry.{Entry}
-use Rattle.ccr_net.specs.Runs.{Lacks, replies_of as replied}
+use Rattle.ccr_runs.specs.declared.entries.Entry.{Entry}
+use Rattle.ccr_runs.specs.EntryRuns.{Lacks, replies_of as replied}
 use Rattle.ccr_attempts.specs.RunSteps.{steps_of}
 use Rattle.ccr_attempts.specs.Trials.{AreSettled}
 

@@ -5,8 +5,8 @@ use Rattle.ccr_claim.specs.declared.asks.Asked.{Asked}
 use Rattle.ccr_claim.specs.declared.asks.Reply.{Reply}
 use Rattle.ccr_actor.specs.Actors.{next}
 use Rattle.ccr_actor.specs.Nets.{Step}
-use Rattle.ccr_net.specs.declared.entries.Entry.{Entry}
-use Rattle.ccr_net.specs.Runs.{Lacks, replies_of}
+use Rattle.ccr_runs.specs.declared.entries.Entry.{Entry}
+use Rattle.ccr_runs.specs.EntryRuns.{Lacks, replies_of}
 
 -- the step that an ask and its reply are; none where nothing was asked
 abbrev pub step_to : Option Asked → Reply → List Step

@@ -3,9 +3,9 @@
 ghost use Rattle.std.specs.Prelude.{ℕ, List, [], Option};
 ghost use Rattle.ccr_wiring.specs.declared.parts.Parts.{Parts};
 ghost use Rattle.ccr_actor.specs.Nets.{Step, AreNext};
-ghost use Rattle.ccr_net.specs.declared.entries.Entry.{Entry};
+ghost use Rattle.ccr_runs.specs.declared.entries.Entry.{Entry};
 ghost use Rattle.ccr_net.specs.Owed.{AreFitting};
-ghost use Rattle.ccr_net.specs.Runs.{Lacks, IsRunAfter};
+ghost use Rattle.ccr_runs.specs.EntryRuns.{Lacks, IsRunAfter};
 ghost use Rattle.ccr_attempts.specs.Lawful.{SettlesAtRest, SettlesInRun};
 
 /// An actor that rests has settled each of its attempts, over whatever net it was driven, and wherever it found no memory. Its

@@ -2,3 +2,4 @@ pub mod Names
 pub mod Values
 pub mod Padding
 pub mod Choice
+pub mod Bounds

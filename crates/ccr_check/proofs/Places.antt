@@ -2,6 +2,7 @@
 use Rattle.std.proofs.Common.{◌≡◌, ℕ, ◌+◌, List, [], ◌∷◌, ◌++◌, Option, Some, None, refl}
 use Rattle.ccr_wiring.specs.declared.parts.Parts.{Parts}
 use Rattle.ccr_model.specs.declared.history.Event.{Event}
+use Rattle.ccr_model.specs.declared.rule.Rule.{Rule}
 use Rattle.ccr_model.specs.Rules.{refusal}
 use Rattle.ccr_model.specs.Legal.{first_refusal, IsLegal, IsLegalAfter}
 
@@ -10,7 +11,7 @@ pub IsLegalAfter-none : (w : Parts) (past : List Event) (n : ℕ) (es : List Eve
 IsLegalAfter-none w past n [] none = tt
 IsLegalAfter-none w past n (e ∷ es) none = of_rule (refusal w past e) refl none (IsLegalAfter-none w (past ++ e ∷ []) (n + 1) es)
   where
-    of_rule : (o : Option ℕ) → refusal w past e ≡ o → elim o as (λ x. Option (ℕ × ℕ)) [ None ↦ first_refusal w (past ++ e ∷ []) (n + 1) es | Some rule ↦ Some (n, rule) ] ≡ None → (first_refusal w (past ++ e ∷ []) (n + 1) es ≡ None → IsLegalAfter w (past ++ e ∷ []) es) → IsLegalAfter w past (e ∷ es)
+    of_rule : (o : Option Rule) → refusal w past e ≡ o → elim o as (λ x. Option (ℕ × Rule)) [ None ↦ first_refusal w (past ++ e ∷ []) (n + 1) es | Some rule ↦ Some (n, rule) ] ≡ None → (first_refusal w (past ++ e ∷ []) (n + 1) es ≡ None → IsLegalAfter w (past ++ e ∷ []) es) → IsLegalAfter w past (e ∷ es)
     of_rule None is rest others = (is, others rest)
     of_rule (Some rule) is rest others = absurd (cc)
 
@@ -19,10 +20,10 @@ pub first_refusal-legal : (w : Parts) (past : List Event) (n : ℕ) (es : List E
 first_refusal-legal w past n [] legal = refl
 first_refusal-legal w past n (e ∷ es) legal = of_rule (refusal w past e) legal.0 (first_refusal-legal w (past ++ e ∷ []) (n + 1) es legal.1)
   where
-    of_rule : (o : Option ℕ) → o ≡ None → first_refusal w (past ++ e ∷ []) (n + 1) es ≡ None → elim o as (λ x. Option (ℕ × ℕ)) [ None ↦ first_refusal w (past ++ e ∷ []) (n + 1) es | Some rule ↦ Some (n, rule) ] ≡ None
+    of_rule : (o : Option Rule) → o ≡ None → first_refusal w (past ++ e ∷ []) (n + 1) es ≡ None → elim o as (λ x. Option (ℕ × Rule)) [ None ↦ first_refusal w (past ++ e ∷ []) (n + 1) es | Some rule ↦ Some (n, rule) ] ≡ None
     of_rule None is rest = rest
     of_rule (Some rule) is rest = absurd (cc)
 
 -- where one is refused, not each is allowed
-pub not_legal : (w : Parts) (h : List Event) (place rule : ℕ) → first_refusal w [] 0 h ≡ Some (place, rule) → IsLegal w h → ⊥
+pub not_legal : (w : Parts) (h : List Event) (place : ℕ) (rule : Rule) → first_refusal w [] 0 h ≡ Some (place, rule) → IsLegal w h → ⊥
 not_legal w h place rule is legal = let none = first_refusal-legal w [] 0 h legal in cc

@@ -1,8 +1,8 @@
 //! The judge that keeps what it accepted.
 
-ghost use Rattle.std.specs.Prelude.{◌≡◌, ◌++◌, ◌∷◌, [], IfNone, IfOk, IfSome, OnErr, OnOk, length, true};
+ghost use Rattle.std.specs.Prelude.{◌≡◌, ◌++◌, ◌∷◌, [], IfNone, IfOk, IfSome, OnErr, OnOk, length, option_map, true};
 ghost use Rattle.ccr_model.specs.Legal.{IsLegal, is_complete};
-ghost use Rattle.ccr_model.specs.Rules.{refusal};
+ghost use Rattle.ccr_model.specs.Rules.{number_of, refusal};
 ghost use Rattle.ccr_checker.specs.Quiet.{MeansQuiet};
 
 use ccr_base::OutOfMemory;
@@ -75,9 +75,9 @@ impl<'w> Judge<'w> {
         })
     }
 
-    /// Accepts the event, or answers the first rule of docs/MODEL.md that refuses it after those that were accepted.
+    /// Accepts the event, or answers the number of the first rule of docs/MODEL.md that refuses it after those that were accepted.
     pub fn feed(&mut self, event: &Event) -> Result<Option<u8>, OutOfMemory>
-        ensures rule { IfOk result (λ rule. rule ≡ refusal self.old.wiring self.old.history event.now) }
+        ensures rule { IfOk result (λ rule. rule ≡ option_map number_of (refusal self.old.wiring self.old.history event.now)) }
         ensures accepted { IfOk result (λ rule. IfNone rule (self.new ≡ record self.old { history = self.old.history ++ event.now ∷ [] })) }
         ensures refused { IfOk result (λ rule. IfSome rule (λ number. self.new ≡ self.old)) }
         ensures err { OnErr result (self.new ≡ self.old) }
@@ -90,9 +90,8 @@ impl<'w> Judge<'w> {
             self.current,
         )?;
         self.current = true;
-        let rule = self.checker.refusal(event)?;
-        if rule.is_some() {
-            return Ok(rule);
+        if let Some(rule) = self.checker.refusal(event)? {
+            return Ok(Some(rule.number()));
         }
         // A legal history is short, so no bound is tested.
         valid_histories_are_short();

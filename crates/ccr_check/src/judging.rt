@@ -1,13 +1,13 @@
 //! The verdict on a history.
 
-ghost use Rattle.std.specs.Prelude.{◌≡◌, ◌<◌, ◌^◌, [], IfNone, IfOk, length};
-ghost use Rattle.ccr_model.specs.Legal.{first_refusal};
+ghost use Rattle.std.specs.Prelude.{◌≡◌, ◌<◌, ◌^◌, [], IfNone, IfOk, length, option_map};
+ghost use Rattle.ccr_model.specs.Legal.{first_refusal, numbered};
 ghost use Rattle.ccr_check.specs.Verdicts.{TellsLegal, TellsComplete, TellsQuiet, refusal_told};
 
 use crate::Verdict;
 use ccr_base::OutOfMemory;
 use ccr_checker::Checker;
-use ccr_model::{Event, History};
+use ccr_model::{Event, History, Rule};
 use ccr_wiring::Wiring;
 use std::alloc::Global;
 
@@ -15,7 +15,7 @@ use std::alloc::Global;
 fn first_refusal(
     checker: &mut Checker<'_>,
     events: &[Event],
-) -> Result<Option<(u32, u8)>, OutOfMemory>
+) -> Result<Option<(u32, Rule)>, OutOfMemory>
     requires few { length events.now < 2 ^ 32 }
     requires none { checker.old.history ≡ [] }
     ensures refusal { IfOk result (λ refusal. refusal ≡ first_refusal checker.old.wiring [] 0 events.now) }
@@ -33,7 +33,7 @@ fn first_refusal(
 /// Legal where each event is allowed after those before it, else the first that isn't. No event is kept.
 pub fn verdict(alloc: Global, wiring: &Wiring, history: &History) -> Result<Verdict, OutOfMemory>
     requires { length history.now < 2 ^ 32 }
-    ensures refusal { IfOk result (λ verdict. refusal_told verdict ≡ first_refusal wiring.now [] 0 history.now) }
+    ensures refusal { IfOk result (λ verdict. refusal_told verdict ≡ option_map numbered (first_refusal wiring.now [] 0 history.now)) }
     ensures legal { IfOk result (TellsLegal wiring.now history.now) }
     ensures complete { IfOk result (TellsComplete wiring.now history.now) }
     ensures quiet { IfOk result (TellsQuiet wiring.now history.now) }
@@ -41,7 +41,10 @@ pub fn verdict(alloc: Global, wiring: &Wiring, history: &History) -> Result<Verd
     let made = Checker::new(alloc, wiring)?;
     let mut checker = Box::new(alloc, made)?;
     if let Some((at, rule)) = first_refusal(&mut checker, history.events())? {
-        return Ok(Verdict::Illegal { at, rule });
+        return Ok(Verdict::Illegal {
+            at,
+            rule: rule.number(),
+        });
     }
     let complete = checker.complete()?;
     let quiet = checker.quiet()?;

@@ -12,6 +12,8 @@ use Rattle.ccr_wiring.specs.declared.parts.PosterPart.{PosterPart}
 use Rattle.ccr_model.specs.declared.history.Event.{Event}
 use Rattle.ccr_model.specs.declared.history.Event.TheVariants.{Post, Fire, Admit, Put, Start, End}
 use Rattle.ccr_model.specs.declared.history.EndHow.{EndHow}
+use Rattle.ccr_model.specs.declared.rule.Rule.{Rule}
+use Rattle.ccr_model.specs.declared.rule.Rule.TheVariants as rules
 use Rattle.ccr_model.specs.Rules.{is_post, ends_so, is_shed, refused}
 use Rattle.ccr_ledger.specs.Books.{Books, number}
 use Rattle.ccr_ledger.specs.Asked.{has_fired, lives, are_choice, room, cuts, waits_first, may_admit_task, is_ready, drops, queued_first, is_busy, runs, play_in, made_in, has_more, unfinished, budget_lasts}
@@ -41,20 +43,20 @@ abbrev pub is_ending : Parts → Books → TaskId → EndHow → Bool
 is_ending wiring books task how = if is_shed how then sheds wiring books task else not (has_more books task) && ends_so how (play_in books task).end
 
 -- a post of a script is asked by rule 1, a post of a task by rules 2 and 3
-abbrev pub refusal_of_post_in : Parts → Books → Msg → MsgId → Option ℕ
-refusal_of_post_in wiring books message (Script actor place) = refused (is_next_line wiring books actor place message) 1 None
-refusal_of_post_in wiring books message (Task task place) = refused (is_next_post books task place message) 2 (refused (budget_lasts wiring books) 3 None)
+abbrev pub refusal_of_post_in : Parts → Books → Msg → MsgId → Option Rule
+refusal_of_post_in wiring books message (Script actor place) = refused (is_next_line wiring books actor place message) rules.ScriptLine None
+refusal_of_post_in wiring books message (Task task place) = refused (is_next_post books task place message) rules.PlayPost (refused (budget_lasts wiring books) rules.Budget None)
 
 -- the first rule that refuses the event by the tables
-abbrev pub refusal_in : Parts → Books → Event → Option ℕ
+abbrev pub refusal_in : Parts → Books → Event → Option Rule
 refusal_in wiring books (Post message) = refusal_of_post_in wiring books message message.id
 refusal_in wiring books (Fire task spot messages cut) =
-    refused (is_unused books task) 4
-    (refused (lives wiring books spot) 5
-    (refused (are_choice wiring books spot messages) 6
-    (refused (room wiring books spot) 7
-    (refused (same_lists same_task cut (cuts wiring books spot)) 8 None))))
-refusal_in wiring books (Admit task) = refused (waits_first books task) 9 (refused (may_admit_task books task) 10 None)
-refusal_in wiring books (Put task dropped) = refused (is_ready books task) 11 (refused (same_options same_task dropped (drops wiring books task)) 12 None)
-refusal_in wiring books (Start task actor) = refused (queued_first books task) 13 (refused (is_idle wiring books actor) 14 None)
-refusal_in wiring books (End task how) = refused (runs books task) 15 (refused (is_ending wiring books task how) 16 None)
+    refused (is_unused books task) rules.NewTask
+    (refused (lives wiring books spot) rules.LiveSpot
+    (refused (are_choice wiring books spot messages) rules.Choice
+    (refused (room wiring books spot) rules.Room
+    (refused (same_lists same_task cut (cuts wiring books spot)) rules.DueCuts None))))
+refusal_in wiring books (Admit task) = refused (waits_first books task) rules.OldestWaiting (refused (may_admit_task books task) rules.Admission None)
+refusal_in wiring books (Put task dropped) = refused (is_ready books task) rules.Ready (refused (same_options same_task dropped (drops wiring books task)) rules.DueDrop None)
+refusal_in wiring books (Start task actor) = refused (queued_first books task) rules.OldestQueued (refused (is_idle wiring books actor) rules.IdleActor None)
+refusal_in wiring books (End task how) = refused (runs books task) rules.Running (refused (is_ending wiring books task how) rules.Ending None)

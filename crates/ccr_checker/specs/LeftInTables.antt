@@ -10,7 +10,7 @@ use Rattle.ccr_wiring.specs.declared.parts.ArbiterPart.{ArbiterPart}
 use Rattle.ccr_wiring.specs.declared.parts.QueuePart.{QueuePart}
 use Rattle.ccr_wiring.specs.Wirings.{spots}
 use Rattle.ccr_model.specs.Live.{is_none_of}
-use Rattle.ccr_rows.specs.Rows.{row}
+use Rattle.ccr_ledger.specs.Rows.{row}
 use Rattle.ccr_ledger.specs.declared.cards.Card.{Card}
 use Rattle.ccr_ledger.specs.Books.{Books, number}
 use Rattle.ccr_ledger.specs.Asked.{lives, can_choose, room, may_admit_task, is_ready}

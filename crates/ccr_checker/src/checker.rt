@@ -13,7 +13,7 @@ use crate::left::is_still;
 use crate::refusing::refusal;
 use ccr_base::OutOfMemory;
 use ccr_ledger::Ledger;
-use ccr_model::{EndHow, Event, GhostHistory};
+use ccr_model::{EndHow, Event, GhostHistory, Rule};
 use ccr_wiring::Wiring;
 use std::alloc::Global;
 use std::marker::Model;
@@ -82,7 +82,7 @@ impl<'w> Checker<'w> {
     }
 
     /// The first rule of docs/MODEL.md that refuses the event after those that were accepted, if any. Nothing changes.
-    pub fn refusal(&mut self, event: &Event) -> Result<Option<u8>, OutOfMemory>
+    pub fn refusal(&mut self, event: &Event) -> Result<Option<Rule>, OutOfMemory>
         ensures rule { IfOk result (λ rule. rule ≡ refusal self.old.wiring self.old.history event.now) }
         ensures kept { self.new ≡ self.old }
     {

@@ -7,7 +7,7 @@ use crate::alike::{are_same_tasks, ends_so, is_post, is_same_drop};
 use ccr_base::{ActorNo, Msg, MsgId, OutOfMemory, Spot, TaskId};
 use ccr_handler::PlayEnd;
 use ccr_ledger::Ledger;
-use ccr_model::{EndHow, Event};
+use ccr_model::{EndHow, Event, Rule};
 use ccr_wiring::{MAX_ACTOR, Wiring};
 
 /// Whether the message is the poster's next line.
@@ -85,21 +85,21 @@ fn is_ending(wiring: &Wiring, ledger: &Ledger, task: TaskId, how: EndHow) -> boo
     }
 }
 
-fn refusal_of_post(wiring: &Wiring, ledger: &Ledger, message: &Msg) -> Option<u8>
+fn refusal_of_post(wiring: &Wiring, ledger: &Ledger, message: &Msg) -> Option<Rule>
     ensures { result ≡ refusal_of_post_in wiring.now ledger.now message.now message.now.id }
 {
     match message.id {
         MsgId::Script { actor, place } => {
             if !is_next_line(wiring, ledger, actor, place, message) {
-                return Some(1);
+                return Some(Rule::ScriptLine);
             }
         }
         MsgId::Task { task, place } => {
             if !is_next_post(ledger, task, place, message) {
-                return Some(2);
+                return Some(Rule::PlayPost);
             }
             if !ledger.budget_lasts(wiring) {
-                return Some(3);
+                return Some(Rule::Budget);
             }
         }
     }
@@ -113,37 +113,37 @@ fn refusal_of_fire(
     spot: Spot,
     messages: &[MsgId],
     cuts: &[TaskId],
-) -> Result<Option<u8>, OutOfMemory>
+) -> Result<Option<Rule>, OutOfMemory>
     ensures rule { IfOk result (λ rule. rule ≡ refusal_in wiring.now ledger.old (Event.Fire task spot messages.now cuts.now)) }
     ensures kept { ledger.new ≡ ledger.old }
 {
     if !is_unused(ledger, task) {
-        return Ok(Some(4));
+        return Ok(Some(Rule::NewTask));
     }
     if !ledger.lives(wiring, spot) {
-        return Ok(Some(5));
+        return Ok(Some(Rule::LiveSpot));
     }
     if !ledger.are_choice(wiring, spot, messages)? {
-        return Ok(Some(6));
+        return Ok(Some(Rule::Choice));
     }
     if !ledger.room(wiring, spot) {
-        return Ok(Some(7));
+        return Ok(Some(Rule::Room));
     }
     let due = ledger.cuts(wiring, spot)?;
     if !are_same_tasks(cuts, &due) {
-        return Ok(Some(8));
+        return Ok(Some(Rule::DueCuts));
     }
     Ok(None)
 }
 
-fn refusal_of_admit(wiring: &Wiring, ledger: &Ledger, task: TaskId) -> Option<u8>
+fn refusal_of_admit(wiring: &Wiring, ledger: &Ledger, task: TaskId) -> Option<Rule>
     ensures { result ≡ refusal_in wiring.now ledger.now (Event.Admit task) }
 {
     if !ledger.waits_first(task) {
-        return Some(9);
+        return Some(Rule::OldestWaiting);
     }
     if !ledger.may_admit_task(task) {
-        return Some(10);
+        return Some(Rule::Admission);
     }
     None
 }
@@ -153,38 +153,38 @@ fn refusal_of_put(
     ledger: &Ledger,
     task: TaskId,
     dropped: Option<TaskId>,
-) -> Option<u8>
+) -> Option<Rule>
     ensures { result ≡ refusal_in wiring.now ledger.now (Event.Put task dropped) }
 {
     if !ledger.is_ready(task) {
-        return Some(11);
+        return Some(Rule::Ready);
     }
     if !is_same_drop(dropped, ledger.drops(wiring, task)) {
-        return Some(12);
+        return Some(Rule::DueDrop);
     }
     None
 }
 
-fn refusal_of_start(wiring: &Wiring, ledger: &Ledger, task: TaskId, actor: ActorNo) -> Option<u8>
+fn refusal_of_start(wiring: &Wiring, ledger: &Ledger, task: TaskId, actor: ActorNo) -> Option<Rule>
     ensures { result ≡ refusal_in wiring.now ledger.now (Event.Start task actor) }
 {
     if !ledger.queued_first(task) {
-        return Some(13);
+        return Some(Rule::OldestQueued);
     }
     if !is_idle(wiring, ledger, actor) {
-        return Some(14);
+        return Some(Rule::IdleActor);
     }
     None
 }
 
-fn refusal_of_end(wiring: &Wiring, ledger: &Ledger, task: TaskId, how: EndHow) -> Option<u8>
+fn refusal_of_end(wiring: &Wiring, ledger: &Ledger, task: TaskId, how: EndHow) -> Option<Rule>
     ensures { result ≡ refusal_in wiring.now ledger.now (Event.End task how) }
 {
     if !ledger.runs(task) {
-        return Some(15);
+        return Some(Rule::Running);
     }
     if !is_ending(wiring, ledger, task, how) {
-        return Some(16);
+        return Some(Rule::Ending);
     }
     None
 }
@@ -194,7 +194,7 @@ pub(crate) fn refusal(
     wiring: &Wiring,
     ledger: &mut Ledger,
     event: &Event,
-) -> Result<Option<u8>, OutOfMemory>
+) -> Result<Option<Rule>, OutOfMemory>
     ensures rule { IfOk result (λ rule. rule ≡ refusal_in wiring.now ledger.old event.now) }
     ensures kept { ledger.new ≡ ledger.old }
 {

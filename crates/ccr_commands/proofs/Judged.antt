@@ -3,6 +3,7 @@ use Rattle.std.proofs.Common.{◌≡◌, ℕ, ◌+◌, ◌<◌, ◌≤◌, false
 use Rattle.std.specs.Option.{option_map_or}
 use Rattle.ccr_wiring.specs.declared.parts.Parts.{Parts}
 use Rattle.ccr_model.specs.declared.history.Event.{Event}
+use Rattle.ccr_model.specs.declared.rule.Rule.{Rule}
 use Rattle.ccr_model.specs.Rules.{refusal}
 use Rattle.ccr_model.specs.Legal.{IsLegalAfter, first_refusal}
 use Rattle.ccr_trace.specs.declared.reading.ReadHistory.{ReadHistory}
@@ -19,21 +20,21 @@ use Rattle.ccr_commands.specs.declared.status.Status.{Status}
 use Rattle.ccr_commands.specs.Findings.{IsLegalOutput, difference, IsFound, VerifyGives, is_fault, status_of, finding_text}
 
 -- what the first refusal is, where the rule that refuses the first event is this, if any
-abbrev first_or : Option ℕ → ℕ → Option (ℕ × ℕ) → Option (ℕ × ℕ)
+abbrev first_or : Option Rule → ℕ → Option (ℕ × Rule) → Option (ℕ × Rule)
 first_or answer place later = elim answer [ None ↦ later | Some rule ↦ Some (place, rule) ]
 
 -- no event of a legal history is refused
 pub none_refused : (wiring : Parts) (past : List Event) (place : ℕ) (events : List Event) → IsLegalAfter wiring past events → first_refusal wiring past place events ≡ None
 none_refused wiring past place [] legal = refl
 none_refused wiring past place (event ∷ events) legal =
-    subst (λ (answer : Option ℕ). first_or answer place (first_refusal wiring (past ++ event ∷ []) (place + 1) events) ≡ None) (sym legal.0) (none_refused wiring (past ++ event ∷ []) (place + 1) events legal.1)
+    subst (λ (answer : Option Rule). first_or answer place (first_refusal wiring (past ++ event ∷ []) (place + 1) events) ≡ None) (sym legal.0) (none_refused wiring (past ++ event ∷ []) (place + 1) events legal.1)
 
-bounded : (answer : Option ℕ) (later : Option (ℕ × ℕ)) (place bound at rule : ℕ) → (later ≡ Some (at, rule) → at < bound) → place < bound → first_or answer place later ≡ Some (at, rule) → at < bound
+bounded : (answer : Option Rule) (later : Option (ℕ × Rule)) (place bound at : ℕ) (rule : Rule) → (later ≡ Some (at, rule) → at < bound) → place < bound → first_or answer place later ≡ Some (at, rule) → at < bound
 bounded None later place bound at rule within here is = within is
-bounded (Some found) later place bound at rule within here is = let same : place ≡ at = ap (λ (o : Option (ℕ × ℕ)). option_map_or (λ (p : ℕ × ℕ). p.0) o place) is in omega (arith, same, here)
+bounded (Some found) later place bound at rule within here is = let same : place ≡ at = ap (λ (o : Option (ℕ × Rule)). option_map_or (λ (p : ℕ × Rule). p.0) o place) is in omega (arith, same, here)
 
 -- the refused event is one of the history
-pub refused_within : (wiring : Parts) (past : List Event) (place : ℕ) (events : List Event) (at rule : ℕ) → first_refusal wiring past place events ≡ Some (at, rule) → at < place + length events
+pub refused_within : (wiring : Parts) (past : List Event) (place : ℕ) (events : List Event) (at : ℕ) (rule : Rule) → first_refusal wiring past place events ≡ Some (at, rule) → at < place + length events
 refused_within wiring past place [] at rule is = absurd cc
 refused_within wiring past place (event ∷ events) at rule is =
     bounded (refusal wiring past event) (first_refusal wiring (past ++ event ∷ []) (place + 1) events) place (place + length (event ∷ events)) at rule
@@ -74,7 +75,7 @@ told_within wiring output found judged =
     (omega (arith, lines, judged.judged.lines), omega (arith, rest, judged.judged.rest))
 
 -- the refused event stands on a line that the text has
-pub refused_line_within : (wiring : Parts) (output : List ℕ) (judgement : Judgement) (at rule : ℕ) → IsJudged wiring output judgement → judgement ≡ judgements.Illegal at rule → at ≤ length output
+pub refused_line_within : (wiring : Parts) (output : List ℕ) (judgement : Judgement) (at : ℕ) (rule : Rule) → IsJudged wiring output judgement → judgement ≡ judgements.Illegal at rule → at ≤ length output
 refused_line_within wiring output judgement at rule judged is =
     let refused = subst (λ (j : Judgement). IsJudgedHistory wiring judged.read j) is judged.judged in
     let within = refused_within wiring [] 0 judged.read.history at rule refused in
@@ -83,7 +84,7 @@ refused_line_within wiring output judgement at rule judged is =
     omega (arith, within, lines, few)
 
 -- the finding of an illegal text
-pub illegal_is_found : (wiring : Parts) (before : ℕ) (output : List ℕ) (judgement : Judgement) (at rule : ℕ) → IsJudged wiring output judgement → judgement ≡ judgements.Illegal at rule → IsFound wiring before output (Illegal (before + 2 + at) rule)
+pub illegal_is_found : (wiring : Parts) (before : ℕ) (output : List ℕ) (judgement : Judgement) (at : ℕ) (rule : Rule) → IsJudged wiring output judgement → judgement ≡ judgements.Illegal at rule → IsFound wiring before output (Illegal (before + 2 + at) rule)
 illegal_is_found wiring before output judgement at rule judged is =
     (judged.read, at, read_output wiring before output judged.read judged.reads, subst (λ (j : Judgement). IsJudgedHistory wiring judged.read j) is judged.judged, refl)
 

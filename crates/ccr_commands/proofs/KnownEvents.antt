@@ -65,8 +65,8 @@ module _ (w : Parts) (valid : IsValid w) where
 
   end_known : (h : List Event) (task : TaskId) (how : EndHow) → IsLegal w h → IsAllowed w h (events.End task how) → IsSmallEnd how → IsKnownEnd w how
   end_known h task (ends.Failed value) legal allowed small =
-      let running_so = refused_not (has_task (running h) task) 15 _ allowed in
-      let may = (refused_not (may_end w h task (ends.Failed value)) 16 None running_so.1).0 in
+      let running_so = refused_not (has_task (running h) task) _ _ allowed in
+      let may = (refused_not (may_end w h task (ends.Failed value)) _ None running_so.1).0 in
       let so = failed_as value (play_of w h task).end (both (not (has_post_left w h task)) (ends_so (ends.Failed value) (play_of w h task).end) may).1 in
       of_version w valid value small (λ none. same_single value so.0 so.2 (failed_single w none h legal task so.0 so.1))
   end_known h task ends.Done legal allowed small = tt

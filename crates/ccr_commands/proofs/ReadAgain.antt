@@ -4,8 +4,8 @@ use Rattle.std.specs.Prelude.{All}
 use Rattle.std.proofs.lemmas.List.Elements.{All-nil}
 use Rattle.ccr_wiring.specs.declared.parts.Parts.{Parts}
 use Rattle.ccr_wiretext.specs.Reading.{reading_text}
-use Rattle.ccr_net.specs.declared.entries.Entry.{Entry}
-use Rattle.ccr_net.specs.Runs.{scheduled}
+use Rattle.ccr_runs.specs.declared.entries.Entry.{Entry}
+use Rattle.ccr_runs.specs.EntryRuns.{scheduled}
 use Rattle.ccr_replay.specs.Reading.{reading_record}
 use Rattle.ccr_replay.specs.Records.{record_text}
 use Rattle.ccr_replay.specs.Schedules.{schedule, IsOfNextSteps}

@@ -19,7 +19,7 @@ use Rattle.ccr_wiring.specs.declared.parts.HandlerPart.{HandlerPart}
 use Rattle.ccr_wiring.specs.declared.parts.Parts.{Parts}
 use Rattle.ccr_wiring.specs.declared.parts.PosterPart.{PosterPart}
 use Rattle.ccr_wiring.specs.Versions.{action_is_newer, handler_is_newer, is_long, is_newer, poster_is_newer}
-use Rattle.ccr_wiring.specs.Wirings.{Placement, actions_of, branch_of, exception_port, placement, segment_of}
+use Rattle.ccr_wiring.specs.Wirings.{Placement, actions_of, branch_of, exception_port, placement, segment_of, actions_at}
 use Rattle.ccr_wiring.proofs.Lists.{none_at}
 use Rattle.ccr_model.specs.declared.history.Event.{Event}
 use Rattle.ccr_model.specs.declared.history.Event.TheVariants as events
@@ -28,7 +28,7 @@ use Rattle.ccr_model.specs.Legal.{IsAllowed, IsLegal}
 use Rattle.ccr_model.specs.Posts.{message_named, messages_named, post_of, posts, posts_of_poster, posts_of_task}
 use Rattle.ccr_model.specs.Rules.{is_play_post, is_post, is_script_line, refusal_of_post}
 use Rattle.ccr_model.specs.Sites.{before, is_firing_of, resumed}
-use Rattle.ccr_model.specs.TaskData.{Load, actions_at, load_after, load_at, messages_of, no_load, no_play, play_at, play_of, with_messages}
+use Rattle.ccr_model.specs.TaskData.{Load, load_after, load_at, messages_of, no_load, no_play, play_at, play_of, with_messages}
 use Rattle.ccr_model.specs.Tasks.{running}
 use Rattle.ccr_model.proofs.Booleans.{both, neither}
 use Rattle.ccr_model.proofs.Members.{Among, Among-at, Among-either, Among-left, Among-right}
@@ -158,12 +158,12 @@ module _ (w : Parts) (none : is_newer w ≡ false) where
 
   post_allowed : (h : List Event) (m : Msg) → ArePosted h → (name : MsgId) → refusal_of_post w h m name ≡ None → IsSingle m.value
   post_allowed h m posted (names.Script a k) allowed =
-      let line = (refused_not (is_script_line w h a k m) 1 None allowed).0 in
+      let line = (refused_not (is_script_line w h a k m) _ None allowed).0 in
       let found = some_of (is_post m) (option_and_then (λ (p : PosterPart). slice_get p.posts k) (slice_get w.posters a)) (both (k == posts_of_poster h a) _ line).1 in
       let part = some_then (λ (p : PosterPart). slice_get p.posts k) (slice_get w.posters a) found.0 found.1 in
       sent_as m found.0 found.2 (script_single a k part.0 found.0 part.1 part.2)
   post_allowed h m posted (names.Task t k) allowed =
-      let line = (refused_not (is_play_post w h t k m) 2 _ allowed).0 in
+      let line = (refused_not (is_play_post w h t k m) _ _ allowed).0 in
       let found = some_of (is_post m) (slice_get (play_of w h t).posts k) (both (has_task (running h) t && (k == posts_of_task h t)) _ line).1 in
       sent_as m found.0 found.2 ((play_of-single h posted t).posts found.0 (Among-at (play_of w h t).posts k found.0 found.1))
 

@@ -2,9 +2,9 @@
 use Rattle.std.proofs.Common.{◌≡◌, ℕ, zero, suc, ◌<◌, ◌+◌, Bool, List, length, Some, None, sym, ap, ◌∙◌, arith}
 use Rattle.std.specs.Prelude.{All}
 use Rattle.ccr_wiring.specs.declared.parts.Parts.{Parts}
-use Rattle.ccr_net.specs.declared.entries.Entry.{Entry}
-use Rattle.ccr_net.specs.Runs.{scheduled}
-use Rattle.ccr_net.specs.Visible.{visible}
+use Rattle.ccr_runs.specs.declared.entries.Entry.{Entry}
+use Rattle.ccr_runs.specs.EntryRuns.{scheduled}
+use Rattle.ccr_runs.specs.Visible.{visible}
 use Rattle.ccr_replay.specs.Schedules.{schedule, IsOfNextSteps}
 use Rattle.ccr_commands.specs.Records.{IsToldAsTurns}
 use Rattle.ccr_commands.specs.Runs.{IsRun, IsRunHistory}

@@ -1,14 +1,16 @@
 -- What `verify` finds of an output behind its wiring.
 use Rattle.std.specs.Prelude.{◌≡◌, ℕ, ◌+◌, max, Bool, true, false, List, [], ◌∷◌, ◌++◌, drop, codes, decimal, Option, Some, None, Result, Ok, Err}
 use Rattle.ccr_wiring.specs.declared.parts.Parts.{Parts}
+use Rattle.ccr_wiring.specs.Valid.{IsValid}
 use Rattle.ccr_model.specs.declared.history.Event.{Event}
+use Rattle.ccr_model.specs.Rules.{number_of}
 use Rattle.ccr_model.specs.Legal.{IsLegal, first_refusal, has_shed, is_complete}
 use Rattle.ccr_checker.specs.Quiet.{MeansQuiet}
 use Rattle.ccr_trace.specs.declared.reading.ReadHistory.{ReadHistory}
 use Rattle.ccr_trace.specs.Reading.{reading}
 use Rattle.ccr_report.specs.Report.{report_text}
 use Rattle.ccr_commands.specs.Inputs.{first_difference}
-use Rattle.ccr_commands.specs.Runs.{last_line}
+use Rattle.ccr_commands.specs.Runs.{IsRun, last_line}
 use Rattle.ccr_commands.specs.declared.status.Status.{Status}
 use Rattle.ccr_commands.specs.declared.status.Status.TheVariants as statuses
 use Rattle.ccr_commands.specs.declared.findings.Finding.{Finding}
@@ -45,6 +47,10 @@ IsFound wiring before output (Illegal line rule) = (read : ReadHistory) × (plac
 IsFound wiring before output (Misreported line) = (read : ReadHistory) × IsLegalOutput wiring before output read × (difference wiring before output read ≡ Some line)
 IsFound wiring before output (Legal complete quiet) = (read : ReadHistory) × IsLegalOutput wiring before output read × (difference wiring before output read ≡ None) × (complete ≡ is_complete wiring read.history) × MeansQuiet wiring read.history quiet
 
+-- in the text of a run of the wiring, if that is valid, it finds behind so many lines that it is legal, complete and quiet
+abbrev pub RunIsFoundLegal : Parts → ℕ → Option (List ℕ) → Bool → List ℕ → ℕ → Type 0
+RunIsFoundLegal wiring workers turns shed text before = IsValid wiring → IsRun false wiring workers turns shed text → IsFound wiring before text (Legal true true)
+
 -- whether it finds a fault
 abbrev pub is_fault : Finding → Bool
 is_fault (Legal complete quiet) = false
@@ -58,7 +64,7 @@ yes_or_no false = codes "no"
 -- a line, and the last line with the status
 abbrev pub finding_text : Finding → List ℕ
 finding_text (Malformed line code) = codes "malformed " ++ decimal line ++ 32 ∷ decimal code ++ 10 ∷ codes "done 7" ++ 10 ∷ []
-finding_text (Illegal line rule) = codes "illegal " ++ decimal line ++ 32 ∷ decimal rule ++ 10 ∷ codes "done 7" ++ 10 ∷ []
+finding_text (Illegal line rule) = codes "illegal " ++ decimal line ++ 32 ∷ decimal (number_of rule) ++ 10 ∷ codes "done 7" ++ 10 ∷ []
 finding_text (Misreported line) = codes "misreported " ++ decimal line ++ 10 ∷ codes "done 7" ++ 10 ∷ []
 finding_text (Legal complete quiet) = codes "legal complete " ++ yes_or_no complete ++ codes " quiet " ++ yes_or_no quiet ++ 10 ∷ codes "done 0" ++ 10 ∷ []
 

@@ -3,7 +3,7 @@ use Rattle.std.specs.Prelude.{ℕ, ◌+◌, ◌==◌, Bool, true, false, List, [
 use Rattle.ccr_text.specs.Lines.{line_of}
 use Rattle.ccr_wiring.specs.declared.parts.Parts.{Parts}
 use Rattle.ccr_wiretext.specs.Reading.{reading_text}
-use Rattle.ccr_schedule.specs.Turns.{reading_turns}
+use Rattle.ccr_replay.specs.Turns.{reading_turns}
 use Rattle.ccr_replay.specs.declared.records.Record.{Record as Recorded}
 use Rattle.ccr_replay.specs.Reading.{reading_part, reading_record}
 use Rattle.ccr_service.specs.declared.parts.ServiceParts.{ServiceParts}

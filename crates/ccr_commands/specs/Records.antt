@@ -1,7 +1,8 @@
 -- What is written of records: a run as whose turn it was, the run that those turns give again, and its steps.
-use Rattle.std.specs.Prelude.{◌≡◌, ◌<◌, ◌+◌, ℕ, zero, suc, All, Bool, false, List, [], length, Some, Ok}
+use Rattle.std.specs.Prelude.{◌≡◌, ◌<◌, ◌≤◌, ◌+◌, ℕ, zero, suc, All, Bool, false, List, [], length, Some, Ok}
 use Rattle.ccr_wiring.specs.declared.parts.Parts.{Parts}
-use Rattle.ccr_net.specs.Runs.{scheduled}
+use Rattle.ccr_wiretext.specs.Reading.{reading_text}
+use Rattle.ccr_runs.specs.EntryRuns.{scheduled}
 use Rattle.ccr_replay.specs.declared.records.Record.{Record}
 use Rattle.ccr_replay.specs.Reading.{reading_record}
 use Rattle.ccr_replay.specs.Records.{record_text}
@@ -41,3 +42,12 @@ IsToldAsTurns json wiring workers shed text = (turns : List ℕ) × All (λ acto
 -- the text is read as a record of the wiring and so many workers, with such turns
 abbrev pub IsReadAgain : Parts → ℕ → List ℕ → Type 0
 IsReadAgain wiring workers text = (turns : List ℕ) × AreTurnsToRest wiring workers turns × (reading_record text ≡ Ok (record { wiring = wiring; workers = workers; turns = turns }))
+
+-- the record of a run of the wiring that these bytes say is read again, where neither they nor the workers are too many
+abbrev pub RecordIsReadAgain : Parts → ℕ → List ℕ → List ℕ → Type 0
+RecordIsReadAgain wiring workers bytes text =
+    reading_text bytes ≡ Ok wiring →
+    length bytes ≤ 1048576 →
+    workers ≤ 16 →
+    RecordGives wiring workers bytes Done text →
+    IsReadAgain wiring workers text

@@ -1,6 +1,7 @@
 //! The text that is due for words and an input, whole before a byte of it is written.
 
 ghost use Rattle.std.specs.Prelude.{◌≡◌, ◌≤◌, Bool, ℕ, None, Some, true, false, IfOk, IfSome, IsErrOf, length};
+ghost use Rattle.ccr_base.specs.Bounds.{most_bytes, most_wiring_bytes, most_workers};
 ghost use Rattle.ccr_io.specs.Faults.{Rose};
 ghost use Rattle.ccr_wiretext.specs.Answers.{IsReading};
 ghost use Rattle.ccr_words.specs.Said.{asked_for};
@@ -36,7 +37,7 @@ const MAX_OUTPUT_TEXT: usize = 33_554_432;
 /// The most bytes that an input may have.
 fn limit_of(command: Command) -> usize
     ensures limit { result ≡ limit_of command }
-    ensures most { result ≤ 33554432 }
+    ensures most { result ≤ most_bytes }
 {
     match command {
         Command::Verify | Command::Replay | Command::Steps => MAX_OUTPUT_TEXT,
@@ -50,7 +51,7 @@ fn limit_of(command: Command) -> usize
 }
 
 fn answer_check(alloc: Global, text: &[u8], json: bool) -> Result<Outcome, OutOfMemory>
-    requires { length text.now ≤ 1048576 }
+    requires { length text.now ≤ most_wiring_bytes }
     ensures { IfOk result (λ due. AnswersText Check json text.now due.status due.text) }
 {
     match read_wiring(alloc, text) {
@@ -66,8 +67,8 @@ fn answer_run<R: AllocGlobal + Threads + Wait + Sync, G: Gate + Sync>(
     workers: u32,
     json: bool,
 ) -> Result<Outcome, OutOfMemory>
-    requires workers { workers ≤ 16 }
-    requires length { length text.now ≤ 1048576 }
+    requires workers { workers ≤ most_workers }
+    requires length { length text.now ≤ most_wiring_bytes }
     ensures { IfOk result (λ due. AnswersText (Run workers false) json text.now due.status due.text) }
 {
     match read_wiring(rt.alloc(), text) {

@@ -4,6 +4,7 @@ ghost use Rattle.std.specs.Prelude.{◌≡◌, [], ◌∷◌, ◌++◌, IfOk, co
 ghost use Rattle.ccr_commands.specs.Findings.{finding_text, yes_or_no};
 
 use ccr_base::{List, OutOfMemory};
+use ccr_model::Rule;
 use ccr_text::{put_bytes, put_number};
 use std::alloc::Global;
 
@@ -13,7 +14,7 @@ pub enum Finding {
     /// It doesn't begin with the text of a history: the first line that offends, and the code.
     Malformed { line: u32, code: u8 },
     /// Its history isn't legal: the line of the first event that isn't allowed, and its rule.
-    Illegal { line: u32, rule: u8 },
+    Illegal { line: u32, rule: Rule },
     /// The first line that differs from the report and the last line that are due.
     Misreported { line: u32 },
     Legal { complete: bool, quiet: bool },
@@ -63,7 +64,7 @@ pub fn finding_text(alloc: Global, finding: Finding) -> Result<List<u8>, OutOfMe
 {
     match finding {
         Finding::Malformed { line, code } => fault_text(alloc, b"malformed ", line, code),
-        Finding::Illegal { line, rule } => fault_text(alloc, b"illegal ", line, rule),
+        Finding::Illegal { line, rule } => fault_text(alloc, b"illegal ", line, rule.number()),
         Finding::Misreported { line } => misreported_text(alloc, line),
         Finding::Legal { complete, quiet } => legal_text(alloc, complete, quiet),
     }

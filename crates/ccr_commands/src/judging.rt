@@ -1,6 +1,7 @@
 //! What is found of an output that stands behind its wiring.
 
 ghost use Rattle.std.specs.Prelude.{◌≡◌, ◌≤◌, List as Listed, Ok, IfOk, length};
+ghost use Rattle.ccr_base.specs.Bounds.{most_bytes};
 ghost use Rattle.ccr_model.specs.declared.history.Event.{Event as SomeEvent};
 ghost use Rattle.ccr_report.specs.Counted.{HasRows, IsCounted};
 ghost use Rattle.ccr_trace.specs.declared.reading.ReadHistory.{ReadHistory as SomeHistory};
@@ -43,8 +44,8 @@ fn difference(
     found: &LegalText,
 ) -> Result<Option<u32>, OutOfMemory>
     requires legal { IsJudged wiring.now output.now (Legal found.now) }
-    requires before { before ≤ 33554432 }
-    requires length { length output.now ≤ 33554432 }
+    requires before { before ≤ most_bytes }
+    requires length { length output.now ≤ most_bytes }
     requires lines { found.now.lines ≤ 33554434 }
     requires rest { found.now.rest ≤ length output.now }
     ensures { IfOk result (λ line. (read : SomeHistory) → reading_output wiring.now before output.now ≡ Ok read → line ≡ difference wiring.now before output.now read) }
@@ -66,8 +67,8 @@ fn finding_of_text(
     judgement: &Judgement,
 ) -> Result<Finding, OutOfMemory>
     requires judged { IsJudged wiring.now output.now judgement.now }
-    requires before { before ≤ 33554432 }
-    requires length { length output.now ≤ 33554432 }
+    requires before { before ≤ most_bytes }
+    requires length { length output.now ≤ most_bytes }
     ensures { IfOk result (IsFound wiring.now before output.now) }
 {
     match judgement {
@@ -94,8 +95,8 @@ pub fn finding_of(
     before: u32,
     output: &[u8],
 ) -> Result<Finding, OutOfMemory>
-    requires before { before ≤ 33554432 }
-    requires length { length output.now ≤ 33554432 }
+    requires before { before ≤ most_bytes }
+    requires length { length output.now ≤ most_bytes }
     ensures { IfOk result (IsFound wiring.now before output.now) }
 {
     if output.is_empty() {

@@ -1,6 +1,7 @@
 //! The history of a run, kept whole for what looks for tasks in it: the answers to a service's requests.
 
 ghost use Rattle.std.specs.Prelude.{◌≡◌, ◌<◌, ◌≤◌, ◌+◌, ◌^◌, true, length, All, IfOk, OnOk, IfSome, option_map};
+ghost use Rattle.ccr_base.specs.Bounds.{most_actors, most_workers};
 ghost use Rattle.ccr_model.specs.Firings.{fired};
 ghost use Rattle.ccr_model.specs.Legal.{IsLegal, IsQuiet, is_complete};
 ghost use Rattle.ccr_model.specs.Order.{next_attempt, IsFinished};
@@ -31,7 +32,7 @@ fn finish(
     first: History,
 ) -> Result<History, OutOfMemory>
     requires no_poster { length wiring.now.posters ≤ closer }
-    requires low { closer ≤ 32 }
+    requires low { closer ≤ most_actors }
     requires legal { IsLegal wiring.now first }
     requires attempts { next_attempt closer (fired first) ≤ 2 ^ 31 }
     ensures finished { IfOk result (IsFinished wiring.now closer first) }
@@ -53,7 +54,7 @@ pub fn run_history<R: AllocGlobal + Threads + Wait + Sync, G: Gate + Sync>(
     workers: u32,
     turns: Option<&[ActorNo]>,
 ) -> Result<(Snapshot<History>, History), OutOfMemory>
-    requires workers { workers ≤ 16 }
+    requires workers { workers ≤ most_workers }
     requires turns { IfSome turns (λ turns. All (λ actor. actor < length wiring.now.posters + workers) turns.now) }
     ensures begins { IfOk result (λ made. Begins wiring.now workers (option_map (λ t. t.now) turns.entry) made.0.value) }
     ensures finished { IfOk result (λ made. IsFinished wiring.now (length wiring.now.posters + workers) made.0.value made.1) }

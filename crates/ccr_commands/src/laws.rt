@@ -1,14 +1,11 @@
 //! What holds of every output of a run, and of every load.
 
-ghost use Rattle.std.specs.Prelude.{◌≡◌, ◌<◌, ◌≤◌, ℕ, Bool, false, true, length, List, None, Ok, Option};
+ghost use Rattle.std.specs.Prelude.{◌≡◌, ◌<◌, ◌≤◌, ℕ, Bool, List, None, Option};
+ghost use Rattle.ccr_base.specs.Bounds.{most_size};
 ghost use Rattle.ccr_wiring.specs.declared.parts.Parts.{Parts};
-ghost use Rattle.ccr_wiring.specs.Valid.{IsValid};
-ghost use Rattle.ccr_wiretext.specs.Reading.{reading_text};
-ghost use Rattle.ccr_commands.specs.declared.findings.Finding.TheVariants.{Legal};
-ghost use Rattle.ccr_commands.specs.declared.status.Status.TheVariants.{Done};
-ghost use Rattle.ccr_commands.specs.Findings.{IsFound};
+ghost use Rattle.ccr_commands.specs.Findings.{RunIsFoundLegal};
 ghost use Rattle.ccr_commands.specs.Loads.{IsLoad};
-ghost use Rattle.ccr_commands.specs.Records.{IsReadAgain, IsToldAsTurns, RecordGives};
+ghost use Rattle.ccr_commands.specs.Records.{IsToldAsTurns, RecordIsReadAgain};
 ghost use Rattle.ccr_commands.specs.Runs.{IsRun};
 
 use ccr_replay::{records_are_read_again, schedules_give_runs_again};
@@ -18,7 +15,7 @@ use ccr_trace::what_is_written_is_read;
 /// Of each text that a run of a valid wiring writes, with its report as lines, `verify` finds that it is legal, complete and
 /// quiet, whatever number of lines the wiring's text has before it.
 pub fn runs_are_found_legal()
-    ensures { (wiring : Parts) (workers : ℕ) (turns : Option (List ℕ)) (shed : Bool) (text : List ℕ) (before : ℕ) → IsValid wiring → IsRun false wiring workers turns shed text → IsFound wiring before text (Legal true true) }
+    ensures { (wiring : Parts) (workers : ℕ) (turns : Option (List ℕ)) (shed : Bool) (text : List ℕ) (before : ℕ) → RunIsFoundLegal wiring workers turns shed text before }
 {
     what_is_written_is_read();
 }
@@ -33,7 +30,7 @@ pub fn threaded_runs_are_scheduled()
 
 /// Loads of one size write the same bytes, whatever the numbers of their workers and whoever ran first.
 pub fn loads_write_one_text()
-    ensures { (size workers others : ℕ) (json : Bool) (one other : List ℕ) → size ≤ 10000 → IsLoad size workers json one → IsLoad size others json other → one ≡ other }
+    ensures { (size workers others : ℕ) (json : Bool) (one other : List ℕ) → size ≤ most_size → IsLoad size workers json one → IsLoad size others json other → one ≡ other }
 {
     loads_are_alike();
 }
@@ -41,7 +38,7 @@ pub fn loads_write_one_text()
 /// A record that was written is read as a record of that wiring and as many workers, whose turns leave nobody a next step: so what
 /// `replay` makes of it is the run that was recorded.
 pub fn records_are_read_as_recorded()
-    ensures { (wiring : Parts) (workers : ℕ) (bytes text : List ℕ) → reading_text bytes ≡ Ok wiring → length bytes ≤ 1048576 → workers ≤ 16 → RecordGives wiring workers bytes Done text → IsReadAgain wiring workers text }
+    ensures { (wiring : Parts) (workers : ℕ) (bytes text : List ℕ) → RecordIsReadAgain wiring workers bytes text }
 {
     records_are_read_again();
     schedules_give_runs_again();

@@ -1,6 +1,7 @@
 //! A run of a generated wiring, of which the totals are written.
 
 ghost use Rattle.std.specs.Prelude.{◌≡◌, ◌<◌, ◌≤◌, ◌++◌, ◌∷◌, [], true, IfOk, codes, decimal};
+ghost use Rattle.ccr_base.specs.Bounds.{most_size, most_workers};
 ghost use Rattle.ccr_gen.specs.Generated.{generated};
 ghost use Rattle.ccr_steady.specs.Agreement.{is_counts, Agrees};
 ghost use Rattle.ccr_commands.specs.Loads.{totals_of, IsLoad, LoadGives};
@@ -50,7 +51,7 @@ fn sized_text(alloc: Global, size: u32, totals: &[u8]) -> Result<List<u8>, OutOf
 /// What all runs of the generated wiring agree on: it is steady, and no run of it spends the budget, so that counts are told.
 fn agreed_counts(alloc: Global, wiring: &Wiring, size: u32) -> Result<Agreed, OutOfMemory>
     requires generated { wiring.now ≡ generated size }
-    requires many { size ≤ 10000 }
+    requires many { size ≤ most_size }
     ensures agrees { IfOk result (λ told. Agrees wiring.now told) }
     ensures counts { IfOk result (λ told. is_counts told ≡ true) }
 {
@@ -67,8 +68,8 @@ fn load_text<R: AllocGlobal + Threads + Wait + Sync, G: Gate + Sync>(
     json: bool,
 ) -> Result<List<u8>, OutOfMemory>
     requires some { 0 < size }
-    requires many { size ≤ 10000 }
-    requires workers { workers ≤ 16 }
+    requires many { size ≤ most_size }
+    requires workers { workers ≤ most_workers }
     ensures { IfOk result (IsLoad size workers json) }
 {
     generated_wirings_never_shed();
@@ -93,8 +94,8 @@ pub fn load<R: AllocGlobal + Threads + Wait + Sync, G: Gate + Sync>(
     json: bool,
 ) -> Result<Outcome, OutOfMemory>
     requires some { 0 < size }
-    requires many { size ≤ 10000 }
-    requires workers { workers ≤ 16 }
+    requires many { size ≤ most_size }
+    requires workers { workers ≤ most_workers }
     ensures { IfOk result (λ due. LoadGives size workers json due.status due.text) }
 {
     Ok(Outcome {

@@ -1,6 +1,7 @@
 //! A run that is written down as whose turn it was.
 
 ghost use Rattle.std.specs.Prelude.{◌≡◌, ◌==◌, ◌<◌, ◌≤◌, ◌+◌, IfOk, is_ok, length};
+ghost use Rattle.ccr_base.specs.Bounds.{most_wiring_bytes, most_workers};
 ghost use Rattle.ccr_commands.specs.Answers.{AnswersText};
 ghost use Rattle.ccr_commands.specs.Records.{AreTurnsToRest, RecordGives};
 ghost use Rattle.ccr_words.specs.declared.requests.Command.TheVariants.{Record};
@@ -8,9 +9,10 @@ ghost use Rattle.ccr_words.specs.declared.requests.Command.TheVariants.{Record};
 use crate::outcomes::{Outcome, refused};
 use crate::status::Status;
 use ccr_base::{ActorNo, Gate, List, OutOfMemory};
-use ccr_net::Full;
+use ccr_opening::run_threads_in_full;
 use ccr_replay::{schedule_of, schedules_give_runs_again, write_record};
-use ccr_space::{Closed, run_threads_in_full};
+use ccr_runs::Full;
+use ccr_space::Closed;
 use ccr_wiretext::read_wiring;
 use ccr_wiring::Wiring;
 use std::alloc::Global;
@@ -37,7 +39,7 @@ fn threaded_turns<R: AllocGlobal + Threads + Wait + Sync, G: Gate + Sync>(
     workers: u32,
 ) -> Result<List<ActorNo>, OutOfMemory>
     requires some { 0 < workers }
-    requires many { workers ≤ 16 }
+    requires many { workers ≤ most_workers }
     ensures { IfOk result (AreTurnsToRest wiring.now workers) }
 {
     schedules_give_runs_again();
@@ -57,7 +59,7 @@ fn turns_to_rest<R: AllocGlobal + Threads + Wait + Sync, G: Gate + Sync>(
     wiring: &Wiring,
     workers: u32,
 ) -> Result<List<ActorNo>, OutOfMemory>
-    requires { workers ≤ 16 }
+    requires { workers ≤ most_workers }
     ensures { IfOk result (AreTurnsToRest wiring.now workers) }
 {
     if workers == 0 {
@@ -75,7 +77,7 @@ fn record<R: AllocGlobal + Threads + Wait + Sync, G: Gate + Sync>(
     wiring: &Wiring,
     workers: u32,
 ) -> Result<Outcome, OutOfMemory>
-    requires { workers ≤ 16 }
+    requires { workers ≤ most_workers }
     ensures { IfOk result (λ due. RecordGives wiring.now workers text.now due.status due.text) }
 {
     let turns = turns_to_rest(rt, gate, wiring, workers)?;
@@ -92,8 +94,8 @@ pub fn answer_record<R: AllocGlobal + Threads + Wait + Sync, G: Gate + Sync>(
     text: &[u8],
     workers: u32,
 ) -> Result<Outcome, OutOfMemory>
-    requires workers { workers ≤ 16 }
-    requires length { length text.now ≤ 1048576 }
+    requires workers { workers ≤ most_workers }
+    requires length { length text.now ≤ most_wiring_bytes }
     ensures { (json : _) → IfOk result (λ due. AnswersText (Record workers) json text.now due.status due.text) }
 {
     match read_wiring(rt.alloc(), text) {

@@ -1,6 +1,7 @@
 //! A record: its run made again, or the steps of that run.
 
 ghost use Rattle.std.specs.Prelude.{◌≡◌, ◌<◌, ◌≤◌, ◌+◌, All, IfOk, length};
+ghost use Rattle.ccr_base.specs.Bounds.{most_bytes, most_workers};
 ghost use Rattle.ccr_commands.specs.Answers.{AnswersText};
 ghost use Rattle.ccr_commands.specs.Records.{ReplayGives, StepsGives};
 ghost use Rattle.ccr_words.specs.declared.requests.Command.TheVariants.{Replay, Steps};
@@ -21,7 +22,7 @@ fn replay<R: AllocGlobal + Threads + Wait + Sync, G: Gate + Sync>(
     gate: &G,
     said: &Record,
 ) -> Result<Outcome, OutOfMemory>
-    requires workers { said.now.workers ≤ 16 }
+    requires workers { said.now.workers ≤ most_workers }
     requires turns { All (λ actor. actor < length said.now.wiring.posters + said.now.workers) said.now.turns }
     ensures { IfOk result (λ due. ReplayGives said.now due.status due.text) }
 {
@@ -35,7 +36,7 @@ fn replay<R: AllocGlobal + Threads + Wait + Sync, G: Gate + Sync>(
 
 /// The steps of the run of the record's turns.
 fn steps(alloc: Global, said: &Record) -> Result<Outcome, OutOfMemory>
-    requires workers { said.now.workers ≤ 16 }
+    requires workers { said.now.workers ≤ most_workers }
     requires turns { All (λ actor. actor < length said.now.wiring.posters + said.now.workers) said.now.turns }
     ensures { IfOk result (λ due. StepsGives said.now due.status due.text) }
 {
@@ -52,7 +53,7 @@ pub fn answer_replay<R: AllocGlobal + Threads + Wait + Sync, G: Gate + Sync>(
     gate: &G,
     text: &[u8],
 ) -> Result<Outcome, OutOfMemory>
-    requires { length text.now ≤ 33554432 }
+    requires { length text.now ≤ most_bytes }
     ensures { (json : _) → IfOk result (λ due. AnswersText Replay json text.now due.status due.text) }
 {
     match read_record(rt.alloc(), text) {
@@ -63,7 +64,7 @@ pub fn answer_replay<R: AllocGlobal + Threads + Wait + Sync, G: Gate + Sync>(
 
 /// What `steps` writes.
 pub fn answer_steps(alloc: Global, text: &[u8]) -> Result<Outcome, OutOfMemory>
-    requires { length text.now ≤ 33554432 }
+    requires { length text.now ≤ most_bytes }
     ensures { (json : _) → IfOk result (λ due. AnswersText Steps json text.now due.status due.text) }
 {
     match read_record(alloc, text) {

@@ -1,6 +1,7 @@
 //! An input that is a wiring with turns behind it.
 
 ghost use Rattle.std.specs.Prelude.{◌≡◌, ◌<◌, ◌≤◌, ◌+◌, All, IfErr, IfOk, Err, Ok, Some, length, true};
+ghost use Rattle.ccr_base.specs.Bounds.{most_wiring_bytes, most_workers};
 ghost use Rattle.ccr_wiretext.specs.Answers.{IsReading};
 ghost use Rattle.ccr_commands.specs.Answers.{AnswersText};
 ghost use Rattle.ccr_commands.specs.Inputs.{reading_run, turns_of};
@@ -10,7 +11,7 @@ use crate::outcomes::{Outcome, refused};
 use crate::run::run;
 use ccr_actor::actor_count;
 use ccr_base::{ActorNo, Gate, List, OutOfMemory};
-use ccr_schedule::read_turns;
+use ccr_replay::read_turns;
 use ccr_text::line_of;
 use ccr_wiretext::{ReadRefused, read_wiring};
 use ccr_wiring::Wiring;
@@ -24,8 +25,8 @@ fn read_schedule(
     text: &[u8],
     workers: u32,
 ) -> Result<(Wiring, List<ActorNo>), ReadRefused>
-    requires workers { workers ≤ 16 }
-    requires length { length text.now ≤ 1048576 }
+    requires workers { workers ≤ most_workers }
+    requires length { length text.now ≤ most_wiring_bytes }
     ensures wiring { IfOk result (λ read. reading_run true workers text.now ≡ Ok read.0) }
     ensures turns { IfOk result (λ read. turns_of true read.0 workers text.now ≡ Some read.1) }
     ensures actors { IfOk result (λ read. All (λ actor. actor < length read.0.posters + workers) read.1) }
@@ -48,8 +49,8 @@ pub fn answer_schedule<R: AllocGlobal + Threads + Wait + Sync, G: Gate + Sync>(
     workers: u32,
     json: bool,
 ) -> Result<Outcome, OutOfMemory>
-    requires workers { workers ≤ 16 }
-    requires length { length text.now ≤ 1048576 }
+    requires workers { workers ≤ most_workers }
+    requires length { length text.now ≤ most_wiring_bytes }
     ensures { IfOk result (λ due. AnswersText (Run workers true) json text.now due.status due.text) }
 {
     match read_schedule(rt.alloc(), text, workers) {

@@ -1,6 +1,7 @@
 //! A service: the wiring that it stands for, or a run of it with what became of each request.
 
 ghost use Rattle.std.specs.Prelude.{◌≡◌, ◌≤◌, ◌+◌, ◌<◌, ◌^◌, ◌++◌, ◌∷◌, [], IfOk, OnOk, codes, decimal, length, map, take, drop};
+ghost use Rattle.ccr_base.specs.Bounds.{most_wiring_bytes, most_workers};
 ghost use Rattle.ccr_text.specs.Spelling.{line_text, text_of};
 ghost use Rattle.ccr_trace.specs.HistoryText.{behind, history_text};
 ghost use Rattle.ccr_trace.specs.Known.{AreShort};
@@ -124,7 +125,7 @@ fn serve<R: AllocGlobal + Threads + Wait + Sync, G: Gate + Sync>(
     service: &Service,
     workers: u32,
 ) -> Result<Outcome, OutOfMemory>
-    requires { workers ≤ 16 }
+    requires { workers ≤ most_workers }
     ensures { IfOk result (λ due. ServiceGives service.now workers due.status due.text) }
 {
     requests_have_one_answer();
@@ -159,8 +160,8 @@ pub fn answer_service<R: AllocGlobal + Threads + Wait + Sync, G: Gate + Sync>(
     text: &[u8],
     workers: u32,
 ) -> Result<Outcome, OutOfMemory>
-    requires workers { workers ≤ 16 }
-    requires length { length text.now ≤ 1048576 }
+    requires workers { workers ≤ most_workers }
+    requires length { length text.now ≤ most_wiring_bytes }
     ensures { (json : _) → IfOk result (λ due. AnswersText (Serving workers) json text.now due.status due.text) }
 {
     match read_service(rt.alloc(), text) {
@@ -171,7 +172,7 @@ pub fn answer_service<R: AllocGlobal + Threads + Wait + Sync, G: Gate + Sync>(
 
 /// What `expand` writes.
 pub fn answer_expand(alloc: Global, text: &[u8]) -> Result<Outcome, OutOfMemory>
-    requires { length text.now ≤ 1048576 }
+    requires { length text.now ≤ most_wiring_bytes }
     ensures { (json : _) → IfOk result (λ due. AnswersText Expand json text.now due.status due.text) }
 {
     match read_service(alloc, text) {

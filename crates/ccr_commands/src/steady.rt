@@ -1,6 +1,7 @@
 //! Whether the counts of a wiring depend on who acts when.
 
 ghost use Rattle.std.specs.Prelude.{◌≡◌, ◌≤◌, ◌++◌, ◌∷◌, [], IfOk, OnOk, codes, length};
+ghost use Rattle.ccr_base.specs.Bounds.{most_wiring_bytes};
 ghost use Rattle.ccr_text.specs.Spelling.{line_text};
 ghost use Rattle.ccr_report.specs.Report.{total_words};
 ghost use Rattle.ccr_commands.specs.Answers.{AnswersText};
@@ -57,7 +58,7 @@ fn steady(alloc: Global, wiring: &Wiring) -> Result<Outcome, OutOfMemory>
 
 /// What `steady` writes.
 pub fn answer_steady(alloc: Global, text: &[u8]) -> Result<Outcome, OutOfMemory>
-    requires { length text.now ≤ 1048576 }
+    requires { length text.now ≤ most_wiring_bytes }
     ensures { (json : _) → IfOk result (λ due. AnswersText Steady json text.now due.status due.text) }
 {
     match read_wiring(alloc, text) {

@@ -1,6 +1,7 @@
 //! An input that is a wiring with an output behind it.
 
 ghost use Rattle.std.specs.Prelude.{◌≡◌, ◌≤◌, ◌<◌, Bool, IfOk, length};
+ghost use Rattle.ccr_base.specs.Bounds.{most_bytes};
 ghost use Rattle.ccr_commands.specs.Findings.{IsFound, VerifyGives, status_of};
 ghost use Rattle.ccr_commands.specs.Answers.{AnswersText, PartsGive, RefusedGives};
 ghost use Rattle.ccr_words.specs.declared.requests.Command.TheVariants.{Verify};
@@ -34,8 +35,8 @@ fn judge_output(
     before: u32,
     output: &[u8],
 ) -> Result<Outcome, OutOfMemory>
-    requires before { before ≤ 33554432 }
-    requires length { length output.now ≤ 33554432 }
+    requires before { before ≤ most_bytes }
+    requires length { length output.now ≤ most_bytes }
     ensures { IfOk result (λ due. VerifyGives wiring.now before output.now due.status due.text) }
 {
     let finding = finding_of(alloc, wiring, before, output)?;
@@ -52,8 +53,8 @@ fn judge_parts(
     before: u32,
     output: &[u8],
 ) -> Result<Outcome, OutOfMemory>
-    requires before { before ≤ 33554432 }
-    requires length { length output.now ≤ 33554432 }
+    requires before { before ≤ most_bytes }
+    requires length { length output.now ≤ most_bytes }
     ensures { IfOk result (λ due. PartsGive part.now before output.now due.status due.text) }
 {
     match read_part(alloc, part) {
@@ -65,7 +66,7 @@ fn judge_parts(
 /// What `verify` writes. The wiring is what stands before the first line whose first word is `history`.
 #[tactic(auto, using(crate::proofs::Due::parts_are_due))]
 pub fn verify(alloc: Global, text: &[u8]) -> Result<Outcome, OutOfMemory>
-    requires { length text.now ≤ 33554432 }
+    requires { length text.now ≤ most_bytes }
     ensures { (json : Bool) → IfOk result (λ due. AnswersText Verify json text.now due.status due.text) }
 {
     let (place, before) = line_of(text, b"history");

@@ -27,6 +27,7 @@ use Rattle.ccr_actor.proofs.Dues.{due_sent}
 use Rattle.ccr_dispatch.specs.Ranks.{settles_in, admissions_left, drive_left, drive_most, owed_by, steps_left}
 use Rattle.ccr_dispatch.specs.Driving.{IsSettled}
 use Rattle.ccr_dispatch.proofs.Falls.{Fitting, all_work, admit_falls, attempt_waits, calm_drive, calm_waits, drive_falls, hand_falls, settles_append, work_calms, work_falls}
+use Rattle.ccr_actor.proofs.Bounds.{below as some-few, left-few}
 
 radix : (x y m d e : ℕ) → x < y → d < m → x * m + d < y * m + e
 radix x y m d e less few =
@@ -132,13 +133,6 @@ settled-alike wiring actor state more (replies.Taken t) = record { work = refl; 
 settled-alike wiring actor state more (replies.Drawn n) = record { work = refl; drive = refl; attempt = same-attempt wiring actor (settled wiring state more (replies.Drawn n)) state state.spots refl refl }
 settled-alike wiring actor state more replies.Spent = record { work = refl; drive = refl; attempt = same-attempt wiring actor (settled wiring state more replies.Spent) state state.spots refl refl }
 settled-alike wiring actor state more (replies.Left n) = record { work = refl; drive = refl; attempt = same-attempt wiring actor (settled wiring state more (replies.Left n)) state state.spots refl refl }
-
-some-few : {A : Type 0} (xs : List A) (x : A) (more : List A) (count : ℕ) → xs ≡ x ∷ more → AreFew xs count → count < 32768
-some-few xs x more count is few = subst (λ ys. AreFew ys count) is few
-
-left-few : (b : Bool) (spots : List Spot) (spot : Spot) (more : List Spot) (count : ℕ) → cond b spots [] ≡ spot ∷ more → AreFew spots count → count < 32768
-left-few true spots spot more count is few = some-few spots spot more count is few
-left-few false spots spot more count is few = cc is
 
 lowers : (wiring : Parts) (actor : ℕ) (state : State) (t : Turn) (one : Asked) (reply : Reply) → IsTurnAt state.is_short state.hand state.arbiters (spots_left state) t → state.hand ≡ [] → IsValid wiring → IsWithin state → IsWithin (after_in wiring actor state t reply)
     → ask_in wiring actor state t ≡ Some one → fits (due_of one.ask) reply ≡ true → rank wiring (after_in wiring actor state t reply) < rank wiring state

@@ -1,24 +1,15 @@
 -- One step over a net.
-use Rattle.std.proofs.Common.{◌≡◌, ℕ, ◌+◌, ◌-◌, true, List, [], ◌∷◌, ◌++◌, Option, Some, None, Ok, Err, refl, sym, ap, subst}
+use Rattle.std.proofs.Common.{◌≡◌, ℕ, ◌+◌, ◌-◌, true, List, [], ◌∷◌, ◌++◌, Some, Ok, Err, refl, sym, ap, subst}
 use Rattle.std.specs.Prelude.{IfOk, OnErr, IsOk}
-use Rattle.std.specs.Option.{option_map}
-use Rattle.ccr_base.specs.declared.names.Place.{Place}
 use Rattle.ccr_wiring.specs.declared.parts.Parts.{Parts}
 use Rattle.ccr_claim.specs.declared.asks.Ask.{Ask}
 use Rattle.ccr_claim.specs.declared.asks.Ask.TheVariants as kinds
 use Rattle.ccr_claim.specs.declared.asks.Asked.{Asked}
 use Rattle.ccr_claim.specs.Asks.{Answer, due_of, fits, is_settling, may_come}
-use Rattle.ccr_actor.specs.Acting.{Acting, due_in, next, pair_of, sent, IsAfter}
+use Rattle.ccr_actor.specs.Acting.{Acting, due_in, next, sent, IsAfter}
 use Rattle.ccr_actor.specs.Nets.{Step}
 use Rattle.ccr_actor.specs.Following.{Follows}
 use Rattle.ccr_actor.proofs.Followed.{follows_reply, follows_refusal}
-
-pub asks_of : (o : Option Asked) (place : Place) (ask : Ask) → Some (place, ask) ≡ option_map pair_of o → o ≡ Some (record { place = place; ask = ask })
-asks_of None place ask is = cc is
-asks_of (Some one) place ask is =
-    let same : pair_of one ≡ (place, ask) = cc is in
-    let P : (Place × Ask) → Option Asked = λ p. Some (record { place = p.0; ask = p.1 }) in
-    ap P same
 
 -- a reply that the ask may have, or running out of memory where it doesn't settle
 pub may_answer : (ask : Ask) (answer : Answer) → IfOk answer (λ reply. fits (due_of ask) reply ≡ true) → (is_settling ask ≡ true → IsOk answer) → may_come (due_of ask) answer ≡ true

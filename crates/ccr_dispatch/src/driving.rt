@@ -6,7 +6,7 @@ ghost use Rattle.ccr_actor.specs.Following.{Follows};
 ghost use Rattle.ccr_dispatch.specs.Driving.{Adds, IsSettled};
 ghost use Rattle.ccr_dispatch.specs.Ranks.{steps_left};
 
-use ccr_actor::{Actor, Net, point_after, point_before};
+use ccr_actor::{Actor, Net};
 use ccr_base::Gate;
 
 /// The next step: one, or none where the net found no memory for it.
@@ -22,21 +22,13 @@ fn step<N: Net, G: Gate>(net: &mut N, actor: &mut Actor<'_>, gate: &G) -> u64
     ensures less { actor.old.state.hand ≡ [] → steps_left actor.new < steps_left actor.old }
 {
     let number = actor.number();
-    let Some((place, ask)) = actor.next() else {
-        unreachable!();
+    let (place, ask) = actor.ask(gate);
+    let answer = net.act(number, place, ask);
+    let steps = match &answer {
+        Ok(_) => 1,
+        Err(_) => 0,
     };
-    if let Some(point) = point_before(&ask) {
-        gate.at(point, number);
-    }
-    let reply = net.act(number, place, ask);
-    let mut steps = 0;
-    if let Ok(reply) = &reply {
-        steps = 1;
-        if let Some(point) = point_after(reply) {
-            gate.at(point, number);
-        }
-    }
-    actor.got(reply);
+    actor.hear(gate, answer);
     steps
 }
 

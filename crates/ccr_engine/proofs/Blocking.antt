@@ -10,7 +10,7 @@ use Rattle.ccr_wiring.specs.declared.parts.Parts.{Parts}
 use Rattle.ccr_wiring.specs.Wirings.{Placement, placement, policy_of, spots}
 use Rattle.ccr_wiring.specs.Valid.{HasQueues}
 use Rattle.ccr_model.proofs.Booleans.{either, or_left, or_right, no_both, eq-self, same_number}
-use Rattle.ccr_rows.specs.Rows.{row, with_row, empty_rows}
+use Rattle.ccr_ledger.specs.Rows.{row, with_row, empty_rows}
 use Rattle.ccr_ledger.specs.Books.{Books}
 use Rattle.ccr_ledger.specs.Asked.{room, queue_has_room}
 use Rattle.ccr_engine.specs.Ready.{has_number, IsLeastFirst}

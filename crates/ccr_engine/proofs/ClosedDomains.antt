@@ -42,6 +42,7 @@ use Rattle.ccr_model.proofs.TaskPlaces.{ArePlaced-legal, placement_by, new_drop}
 use Rattle.ccr_ledger.proofs.Admissions.{over-other, over-last}
 use Rattle.ccr_engine.specs.Cursor.{admission}
 use Rattle.ccr_engine.specs.Touched.{fires_for, touches_domain}
+use Rattle.ccr_ledger.proofs.PortsLeft.{turned}
 
 -- over plain lists: more go, none of whom was left
 without_more : (ts a more b others : List TaskId) → ((u : TaskId) → has_task (without ts (a ++ b)) u ≡ true → has_task more u || has_task others u ≡ false) → without ts ((a ++ more) ++ (b ++ others)) ≡ without ts (a ++ b)
@@ -63,10 +64,6 @@ without_more ts a more b others out = filter_on (λ u. not (has_task ((a ++ more
 all_on : (p q : TaskId → Bool) (ts : List TaskId) → ((u : TaskId) → has_task ts u ≡ true → p u ≡ q u) → list_all p ts ≡ list_all q ts
 all_on p q [] same = refl
 all_on p q (x ∷ ts) same = rw (same x (or_left (same_task x x) (has_task ts x) (same_task-self x)), all_on p q ts (λ u is. same u (or_right (same_task u x) (has_task ts u) is))) refl
-
--- two numbers that differ, the other way round
-turned : (a b : ℕ) → (a == b) ≡ false → (b == a) ≡ false
-turned a b other = grind (arith, nat_tests, other)
 
 -- a placement is of one domain
 one_domain : (o : Option Placement) (i j : ℕ) → option_map_or (λ (s : Placement). s.arbiter == i) o false ≡ true → option_map_or (λ (s : Placement). s.arbiter == j) o false ≡ true → i ≡ j
@@ -128,8 +125,8 @@ module _ (w : Parts) (h : List Event) (legal : IsLegal w h) where
     where
       admits : is_in_arbiter w h d x ≡ true → ⊥
       admits within =
-          let rules = refused_not (is_oldest_waiting w h x) 9 _ allowed in
-          let may = (refused_not (may_admit w h x) 10 None rules.1).0 in
+          let rules = refused_not (is_oldest_waiting w h x) _ _ allowed in
+          let may = (refused_not (may_admit w h x) _ None rules.1).0 in
           let found = some_of (λ (s : Placement). is_first (waiting w h s.arbiter) x) (placement_of w h x) rules.0 in
           let head = first_rest (waiting w h found.0.arbiter) x found.2 in
           let own : found.0.arbiter ≡ d = one_domain (placement_of w h x) found.0.arbiter d (ap (λ o. option_map_or (λ (s : Placement). s.arbiter == found.0.arbiter) o false) found.1 ∙ eq-self found.0.arbiter) within in
@@ -175,7 +172,7 @@ module _ (w : Parts) (h : List Event) (legal : IsLegal w h) where
   none_enters (Start t a) d allowed others = refl
   none_enters (End t how) d allowed others = refl
   none_enters (Admit t) d allowed others =
-      let found = some_of (λ (s : Placement). is_first (waiting w h s.arbiter) t) (placement_of w h t) (refused_not (is_oldest_waiting w h t) 9 _ allowed).0 in
+      let found = some_of (λ (s : Placement). is_first (waiting w h s.arbiter) t) (placement_of w h t) (refused_not (is_oldest_waiting w h t) _ _ allowed).0 in
       let out : is_in_arbiter w (h ++ Admit t ∷ []) d t ≡ false = within_same (Admit t) d t (placement_fired w h t found.0 found.1) ∙ others t (or_left (same_task t t) false (same_task-self t)) in
       rw out refl
 

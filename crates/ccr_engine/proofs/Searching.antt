@@ -13,7 +13,7 @@ use Rattle.ccr_model.specs.declared.history.Event.{Event}
 use Rattle.ccr_model.proofs.Booleans.{and_false, both, refuted, no_both, same_number}
 use Rattle.ccr_model.proofs.CanFire.{is_some-if, is_some-map}
 use Rattle.ccr_model.proofs.Options.{no_head, some_then}
-use Rattle.ccr_rows.specs.Rows.{row, with_row}
+use Rattle.ccr_ledger.specs.Rows.{row, with_row}
 use Rattle.ccr_ledger.specs.Books.{Books}
 use Rattle.ccr_ledger.specs.Asked.{lives, room, choice_at}
 use Rattle.ccr_engine.specs.declared.search.Found.{Found}

@@ -30,6 +30,7 @@ use Rattle.ccr_engine.specs.Touched.{posts_to, touches_branch, touches}
 use Rattle.ccr_engine.specs.Cursor.{could_fire}
 use Rattle.ccr_engine.proofs.Lives.{live_before, fired_where-append}
 use Rattle.ccr_engine.proofs.Takes.{less_before, enough_before, some_before}
+use Rattle.ccr_model.proofs.Suspending.{yielded_fired, yields_stays}
 
 -- a branch
 placement_before : (w : Parts) (h : List Event) (e : Event) (n : ℕ) (o : Option Placement) → option_map_or (touches_branch e) o false ≡ false
@@ -60,15 +61,6 @@ none_pass p [] none = refl
 none_pass p (t ∷ ts) none =
     let outs = neither (p t) (list_any p ts) none in
     rw outs.0 (none_pass p ts outs.1)
-
-yielded_fired : (w : Parts) (h : List Event) → IsLegal w h → (t : TaskId) → has_task (yielded h) t ≡ true → IsFired h t
-yielded_fired w h legal t is =
-    let placed = ArePlaced-legal w h legal in
-    let ended_so = AreEnded-legal w h legal in
-    placed.all_fired t (placed.lists.put_started t (ended_so.started_ended t (ended_so.ended_yielded t is)))
-
-yields_stays : (h es : List Event) (site : Spot) (t : TaskId) → IsFired h t → yields_at (h ++ es) site t ≡ yields_at h site t
-yields_stays h es site t fired = rw (firing_named-append h es t fired.0 fired.1, fired.1) refl
 
 -- nobody more is suspended at the site
 of_other : (w : Parts) (h : List Event) (e : Event) (site : Spot) → firing_of e ≡ [] → list_any (yields_at h site) (yielded_by e) ≡ false → yielded_at (h ++ e ∷ []) site ≡ yielded_at h site

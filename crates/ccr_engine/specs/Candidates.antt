@@ -4,14 +4,14 @@ use Rattle.std.specs.List.{slice_get}
 use Rattle.ccr_base.specs.declared.names.TaskId.{TaskId}
 use Rattle.ccr_wiring.specs.declared.parts.Parts.{Parts}
 use Rattle.ccr_wiring.specs.Wirings.{spots}
-use Rattle.ccr_rows.specs.Rows.{row}
+use Rattle.ccr_ledger.specs.Rows.{row}
 use Rattle.ccr_ledger.specs.Books.{Books}
 use Rattle.ccr_ledger.specs.Asked.{room}
 use Rattle.ccr_engine.specs.declared.search.Found.{Found}
 use Rattle.ccr_engine.specs.Ready.{has_number, IsLeastFirst}
 use Rattle.ccr_engine.specs.Numbered.{passes_at}
-use Rattle.ccr_engine.specs.Blocked.{AreBlocked, is_before}
-use Rattle.ccr_engine.specs.Parts.{fires_in, IsStillIn}
+use Rattle.ccr_engine.specs.Blocked.{AreBlocked, is_before, is_blocked}
+use Rattle.ccr_engine.specs.Parts.{could_fire_in, fires_in, IsStillIn}
 
 -- no spot can fire, room aside, but the touched ones, of which the least is the first, and those that are blocked at their queues
 pub record AreCandidates (wiring : Parts) (books : Books) (touched : List ℕ) (blocked : List (List ℕ)) : Type 0 where
@@ -22,6 +22,10 @@ pub record AreCandidates (wiring : Parts) (books : Books) (touched : List ℕ) (
 -- no spot before the limit can fire
 abbrev pub IsNoneBefore : Parts → TaskId → Books → Option ℕ → Type 0
 IsNoneBefore wiring task books limit = (place : ℕ) → is_before limit place ≡ true → passes_at (fires_in wiring task books) (spots wiring) place ≡ false
+
+-- none of the branches that were blocked and aren't any more can fire, room aside
+abbrev pub IsLeftInVain : Parts → Books → List (List ℕ) → List (List ℕ) → Type 0
+IsLeftInVain wiring books old new = (place : ℕ) → is_blocked old place ≡ true → is_blocked new place ≡ false → passes_at (could_fire_in wiring books) (spots wiring) place ≡ false
 
 -- its place, if there is one
 abbrev pub place_of : Option Found → Option ℕ

@@ -12,3 +12,11 @@ pub record ComesNext (wiring : Parts) (history : List Event) (books : Books) (ev
   pub valid : IsValid wiring
   pub tables : Keeps wiring history books
   pub legal : IsLegal wiring (history ++ event ∷ [])
+
+-- who had heard some history has heard it with the event behind it, if that comes next
+abbrev pub HearsNext : (Parts → List Event → Type 0) → (Parts → List Event → Type 0) → Books → Event → Type 0
+HearsNext had_heard has_heard books event =
+    (wiring : Parts) (history : List Event) →
+    ComesNext wiring history books event →
+    had_heard wiring history →
+    has_heard wiring (history ++ event ∷ [])

@@ -18,7 +18,7 @@ use Rattle.ccr_model.specs.Live.{is_live, has_room}
 use Rattle.ccr_model.specs.Choice.{engine_choice}
 use Rattle.ccr_model.specs.Rules.{cuts_at, may_admit, drop_at, has_budget, needs_no_admission}
 use Rattle.ccr_model.specs.Order.{next_attempt}
-use Rattle.ccr_rows.specs.Rows.{row, empty_rows}
+use Rattle.ccr_ledger.specs.Rows.{row, empty_rows}
 use Rattle.ccr_ledger.specs.Books.{Books, number, card_at, runners}
 use Rattle.ccr_ledger.specs.Asked.{lives, room, choice_at, cuts, may_admit_task, drops, play_in, made_in, budget_lasts}
 use Rattle.ccr_ledger.specs.declared.cards.Card.{Card}

@@ -20,7 +20,7 @@ use Rattle.ccr_model.specs.declared.history.EndHow.TheVariants as ends
 use Rattle.ccr_model.specs.Choice.{names_of}
 use Rattle.ccr_model.specs.Firings.{yielded_by, last_by, put_by}
 use Rattle.ccr_model.specs.Order.{script_post, task_post, how_of}
-use Rattle.ccr_rows.specs.Rows.{row}
+use Rattle.ccr_ledger.specs.Rows.{row}
 use Rattle.ccr_ledger.specs.declared.cards.Card.{Card}
 use Rattle.ccr_ledger.specs.Books.{Books, number, card_at}
 use Rattle.ccr_ledger.specs.Asked.{lives, room, choice_at, cuts, may_admit_task, drops, play_in, made_in, budget_lasts}

@@ -2,7 +2,7 @@
 
 ghost use Rattle.std.specs.Prelude.{◌≡◌, ◌∷◌, ◌<◌, ◌==◌, ◌||◌, ℕ, IfOk, IfSome, OnOk, length};
 ghost use Rattle.std.specs.List.{slice_get};
-ghost use Rattle.ccr_rows.specs.Rows.{row, with_row, empty_rows};
+ghost use Rattle.ccr_ledger.specs.Rows.{row, with_row, empty_rows};
 ghost use Rattle.ccr_engine.specs.Ready.{has_number, IsLeastFirst};
 
 use crate::numbers::Numbers;

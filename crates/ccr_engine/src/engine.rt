@@ -1,6 +1,7 @@
 //! The engine, which keeps no event.
 
 ghost use Rattle.std.specs.Prelude.{◌≡◌, ◌<◌, ◌≤◌, ◌^◌, [], IfOk, IfSome, IfNone, OnErr, OnOk, Some, is_some, length, true};
+ghost use Rattle.ccr_base.specs.Bounds.{most_actors};
 ghost use Rattle.ccr_model.specs.Firings.{fired};
 ghost use Rattle.ccr_model.specs.Legal.{IsAllowed, IsLegal, IsQuiet, is_complete};
 ghost use Rattle.ccr_model.specs.Order.{next_attempt, IsFinished};
@@ -57,7 +58,7 @@ impl<'w> Engine<'w> {
     /// An engine before all events.
     pub fn start(alloc: Global, wiring: &'w Wiring, closer: ActorNo) -> Result<Self, OutOfMemory>
         requires no_poster { length wiring.now.posters ≤ closer }
-        requires low { closer ≤ 32 }
+        requires low { closer ≤ most_actors }
         ensures { IfOk result (λ engine. engine ≡ record { wiring = wiring.now; closer = closer; history = [] }) }
     {
         wiring.parts();
@@ -80,7 +81,7 @@ impl<'w> Engine<'w> {
         events: &[Event],
     ) -> Result<Self, OutOfMemory>
         requires no_poster { length wiring.now.posters ≤ closer }
-        requires low { closer ≤ 32 }
+        requires low { closer ≤ most_actors }
         requires legal { IsLegal wiring.now events.now }
         requires attempts { next_attempt closer (fired events.now) ≤ 2 ^ 31 }
         ensures { IfOk result (λ engine. engine ≡ record { wiring = wiring.now; closer = closer; history = events.now }) }

@@ -1,9 +1,9 @@
 //! Who is told what happens.
 
-ghost use Rattle.std.specs.Prelude.{◌++◌, ◌∷◌, [], List, OnOk};
+ghost use Rattle.std.specs.Prelude.{List, OnOk};
 ghost use Rattle.ccr_wiring.specs.declared.parts.Parts.{Parts};
 ghost use Rattle.ccr_model.specs.declared.history.Event.{Event as SomeEvent};
-ghost use Rattle.ccr_engine.specs.Coming.{ComesNext};
+ghost use Rattle.ccr_engine.specs.Coming.{HearsNext};
 
 use ccr_base::OutOfMemory;
 use ccr_ledger::Ledger;
@@ -16,5 +16,5 @@ pub trait Listener {
 
     /// The event comes next, behind those heard before. The tables are those before it.
     fn hear(&mut self, tables: &Ledger, event: &Event) -> Result<(), OutOfMemory>
-        ensures { OnOk result ((wiring : Parts) (history : List SomeEvent) → ComesNext wiring history tables.now event.now → has_heard self.old wiring history → has_heard self.new wiring (history ++ event.now ∷ [])) };
+        ensures { OnOk result (HearsNext (has_heard self.old) (has_heard self.new) tables.now event.now) };
 }

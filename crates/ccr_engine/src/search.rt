@@ -1,13 +1,13 @@
 //! The search for the firing that comes first, among the touched spots and the blocked branches whose queues have room.
 
-ghost use Rattle.std.specs.Prelude.{◌≡◌, ◌+◌, ℕ, true, false, not, length, IfOk, IfSome, IfNone, OnOk};
+ghost use Rattle.std.specs.Prelude.{◌≡◌, ◌+◌, true, not, length, IfOk, IfSome, IfNone, OnOk};
 ghost use Rattle.std.specs.List.{slice_get};
 ghost use Rattle.std.specs.Option.{option_map, option_and_then};
 ghost use Rattle.ccr_wiring.specs.Wirings.{spots};
 ghost use Rattle.ccr_ledger.specs.Asked.{room};
 ghost use Rattle.ccr_engine.specs.Numbered.{passes_at};
 ghost use Rattle.ccr_engine.specs.Blocked.{AreBlocked, Blocks, IsFullBefore, is_before, is_blocked, queue_at};
-ghost use Rattle.ccr_engine.specs.Candidates.{AreCandidates, IsFirstOpen, IsNoneBefore, place_of};
+ghost use Rattle.ccr_engine.specs.Candidates.{AreCandidates, IsFirstOpen, IsLeftInVain, IsNoneBefore, place_of};
 ghost use Rattle.ccr_engine.specs.Parts.{could_fire_in, fire_in, first_fire_in};
 
 use crate::blocked::Blocked;
@@ -210,7 +210,7 @@ fn first_blocked(
     ensures full { IfOk result (λ found. IsFullBefore wiring.now ledger.old blocked.new (option_map (λ one. one.0) found)) }
     ensures kept { OnOk result (ledger.new ≡ ledger.old) }
     ensures blocked { OnOk result (AreBlocked wiring.now blocked.new) }
-    ensures left { OnOk result ((place : ℕ) → is_blocked blocked.old place ≡ true → is_blocked blocked.new place ≡ false → passes_at (could_fire_in wiring.now ledger.old) (spots wiring.now) place ≡ false) }
+    ensures left { OnOk result (IsLeftInVain wiring.now ledger.old blocked.old blocked.new) }
 {
     'asking: while let Some(found) = first_open(wiring, ledger, blocked) {
         if let Some(event) = fire_place(wiring, ledger, task, found.place)? {

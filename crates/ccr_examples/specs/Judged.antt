@@ -1,17 +1,17 @@
 -- What is found of a history.
-use Rattle.std.specs.Prelude.{◌≡◌, ℕ, List, [], Some, Ok}
+use Rattle.std.specs.Prelude.{◌≡◌, ℕ, List, [], Some, Ok, option_map}
 use Rattle.ccr_wiring.specs.declared.parts.Parts.{Parts}
 use Rattle.ccr_model.specs.declared.history.Event.{Event}
-use Rattle.ccr_model.specs.Legal.{IsLegal, first_refusal, is_complete}
+use Rattle.ccr_model.specs.Legal.{IsLegal, first_refusal, is_complete, numbered}
 use Rattle.ccr_checker.specs.Quiet.{MeansQuiet}
 use Rattle.ccr_trace.specs.declared.reading.ReadHistory.{ReadHistory}
 use Rattle.ccr_trace.specs.Reading.{reading}
 use Rattle.ccr_examples.specs.declared.judging.Found.{Found}
 use Rattle.ccr_examples.specs.declared.judging.Found.TheVariants.{Illegal, Legal}
 
--- Illegal names the first event that isn't allowed after those before it, and the rule; Legal says whether the history is complete and quiet
+-- Illegal names the first event that isn't allowed after those before it, and the number of the rule; Legal says whether the history is complete and quiet
 abbrev pub Tells : Parts → List Event → Found → Type 0
-Tells wiring history (Illegal at rule) = first_refusal wiring [] 0 history ≡ Some (at, rule)
+Tells wiring history (Illegal at rule) = option_map numbered (first_refusal wiring [] 0 history) ≡ Some (at, rule)
 Tells wiring history (Legal complete quiet) = IsLegal wiring history × (complete ≡ is_complete wiring history) × MeansQuiet wiring history quiet
 
 -- the text says a history, and this is found of it

@@ -1,9 +1,10 @@
 //! Actors take turns on one thread, and what is visible of them is written down.
 
 ghost use Rattle.std.specs.Prelude.{◌≡◌, ◌<◌, ◌≤◌, All, IfOk, IfSome, IsTrue};
+ghost use Rattle.ccr_base.specs.Bounds.{most_workers};
 ghost use Rattle.ccr_model.specs.Legal.{IsLegal};
-ghost use Rattle.ccr_net.specs.Runs.{scheduled};
-ghost use Rattle.ccr_net.specs.Visible.{visible};
+ghost use Rattle.ccr_runs.specs.EntryRuns.{scheduled};
+ghost use Rattle.ccr_runs.specs.Visible.{visible};
 
 use ccr_base::{ActorNo, OutOfMemory};
 use ccr_model::History;
@@ -25,7 +26,7 @@ pub fn follow(
     workers: u32,
     turns: &[ActorNo],
 ) -> Result<Option<History>, OutOfMemory>
-    requires { workers ≤ 16 }
+    requires { workers ≤ most_workers }
     ensures shown { IfOk result (λ seen. IfSome seen (λ history. history ≡ visible (scheduled wiring.now turns.now))) }
     ensures legal { IfOk result (λ seen. IfSome seen (IsLegal wiring.now)) }
 {

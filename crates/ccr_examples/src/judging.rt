@@ -1,7 +1,8 @@
 //! A history is read from its text and judged event by event.
 
-ghost use Rattle.std.specs.Prelude.{◌≡◌, ◌≤◌, [], length, IfNone, IfOk};
-ghost use Rattle.ccr_model.specs.Legal.{first_refusal};
+ghost use Rattle.std.specs.Prelude.{◌≡◌, ◌≤◌, [], length, IfNone, IfOk, option_map};
+ghost use Rattle.ccr_base.specs.Bounds.{most_bytes};
+ghost use Rattle.ccr_model.specs.Legal.{first_refusal, numbered};
 ghost use Rattle.ccr_examples.specs.Judged.{Tells, IsFound};
 
 use ccr_base::OutOfMemory;
@@ -14,16 +15,16 @@ use std::alloc::Global;
 /// What is found of a history.
 #[derive(Clone, Copy, Debug)]
 pub enum Found {
-    /// The event of this place, from 0, isn't allowed after those before it, by this rule.
+    /// The event of this place, from 0, isn't allowed after those before it, by the rule of this number.
     Illegal { at: u32, rule: u8 },
     /// Each event is allowed; whether the scripts are posted to their ends, and whether nothing more may happen.
     Legal { complete: bool, quiet: bool },
 }
 
-/// Feeds the events up to the first that isn't allowed after those before it, and answers its place and its rule.
+/// Feeds the events up to the first that isn't allowed after those before it, and answers its place and the number of its rule.
 fn first_refused(judge: &mut Judge<'_>, events: &[Event]) -> Result<Option<(u32, u8)>, OutOfMemory>
     requires { judge.old.history ≡ [] }
-    ensures first { IfOk result (λ refused. refused ≡ first_refusal judge.old.wiring [] 0 events.now) }
+    ensures first { IfOk result (λ refused. refused ≡ option_map numbered (first_refusal judge.old.wiring [] 0 events.now)) }
     ensures all { IfOk result (λ refused. IfNone refused (judge.new ≡ record judge.old { history = events.now })) }
 {
     for event in events {
@@ -50,7 +51,7 @@ pub fn judge(alloc: Global, wiring: &Wiring, history: &History) -> Result<Found,
 
 /// What is found of the history that this text says, or the line that offends.
 pub fn judge_text(alloc: Global, wiring: &Wiring, text: &[u8]) -> Result<Found, HistoryRefused>
-    requires { length text.now ≤ 33554432 }
+    requires { length text.now ≤ most_bytes }
     ensures { IfOk result (IsFound wiring.now text.now) }
 {
     let read = read_history(alloc, wiring, text)?;

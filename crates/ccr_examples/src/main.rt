@@ -3,6 +3,7 @@
 #![tactic(auto)]
 
 ghost use Rattle.std.specs.Prelude.{◌≤◌, length};
+ghost use Rattle.ccr_base.specs.Bounds.{most_bytes, most_wiring_bytes};
 
 mod following;
 mod judging;
@@ -33,7 +34,7 @@ fn memory<T>(answer: Result<T, OutOfMemory>) -> io::Result<T> {
 
 /// Writes what the wiring does, or which line of it offends.
 fn tell_run(rt: &HostRuntime, text: &[u8]) -> io::Result<()>
-    requires { length text.now ≤ 1048576 }
+    requires { length text.now ≤ most_wiring_bytes }
 {
     match run_text(rt.alloc(), text) {
         Ok(written) => rt.stdout().write_all(written.as_slice()),
@@ -43,7 +44,7 @@ fn tell_run(rt: &HostRuntime, text: &[u8]) -> io::Result<()>
 
 /// Writes what is found of a history.
 fn tell_judgement(rt: &HostRuntime, wiring: &Wiring, text: &[u8]) -> io::Result<()>
-    requires { length text.now ≤ 33554432 }
+    requires { length text.now ≤ most_bytes }
 {
     match judge_text(rt.alloc(), wiring, text) {
         Ok(found) => println!(rt; "{found:?}"),

@@ -1,6 +1,7 @@
 //! A wiring is read from its text and run to its end by one thread, and its history is written.
 
 ghost use Rattle.std.specs.Prelude.{◌≡◌, ◌≤◌, length, true, IfOk};
+ghost use Rattle.ccr_base.specs.Bounds.{most_wiring_bytes, most_workers};
 ghost use Rattle.ccr_model.specs.Legal.{IsLegal, IsQuiet, is_complete};
 ghost use Rattle.ccr_examples.specs.Runs.{IsRunOf, IsRunOfText};
 
@@ -15,7 +16,7 @@ use std::alloc::Global;
 /// The actor that runs all tasks: the first number behind those of the posters.
 fn closer_of(wiring: &Wiring) -> ActorNo
     ensures number { result ≡ length wiring.now.posters }
-    ensures low { result ≤ 16 }
+    ensures low { result ≤ most_workers }
 {
     valid_wirings_are_sound();
     wiring.parts().posters.as_slice().len() as ActorNo
@@ -41,7 +42,7 @@ fn run(alloc: Global, wiring: &Wiring) -> Result<List<u8>, OutOfMemory>
 
 /// The text of the history of a run of the wiring that this text says, or the line that offends.
 pub fn run_text(alloc: Global, text: &[u8]) -> Result<List<u8>, ReadRefused>
-    requires { length text.now ≤ 1048576 }
+    requires { length text.now ≤ most_wiring_bytes }
     ensures { IfOk result (IsRunOfText text.now) }
 {
     let wiring = read_wiring(alloc, text)?;

@@ -29,7 +29,7 @@ load_stronger wide strict stronger [] = omega arith
 load_stronger wide strict stronger (x ∷ ms) = grind (arith, stronger x, load_stronger wide strict stronger ms)
 
 -- what was kept and is no more, of some that also pass another test, is off
-fall : (n : ℕ) (wide strict other : Msg → Bool) → ((x : Msg) → strict x ≡ true → wide x ≡ true) → (ms : List Msg) → list_all (λ x. not (strict x)) (take n (filter other (filter wide ms))) ≡ true
+pub fall : (n : ℕ) (wide strict other : Msg → Bool) → ((x : Msg) → strict x ≡ true → wide x ≡ true) → (ms : List Msg) → list_all (λ x. not (strict x)) (take n (filter other (filter wide ms))) ≡ true
     → load (filter strict ms) + load (take n (filter other (filter wide ms))) ≤ load (filter wide ms)
 fall zero wide strict other stronger ms gone = grind (arith, load_stronger wide strict stronger ms)
 fall (suc n) wide strict other stronger [] gone = omega arith
@@ -45,25 +45,25 @@ fall (suc n) wide strict other stronger (x ∷ ms) gone = by (wide x) (other x) 
     by true true false ea eb ec gone weak less same = grind (arith, ea, eb, ec, gone, less)
 
 -- each name of a list is among its names and others
-has_more : (front : List MsgId) (names : List MsgId) (name : MsgId) → has_message names name ≡ true → has_message (front ++ names) name ≡ true
+pub has_more : (front : List MsgId) (names : List MsgId) (name : MsgId) → has_message names name ≡ true → has_message (front ++ names) name ≡ true
 has_more [] names name is = is
 has_more (n ∷ front) names name is = grind (arith, has_more front names name is)
 
-has_front : (names back : List MsgId) (name : MsgId) → has_message names name ≡ true → has_message (names ++ back) name ≡ true
+pub has_front : (names back : List MsgId) (name : MsgId) → has_message names name ≡ true → has_message (names ++ back) name ≡ true
 has_front [] back name is = absurd cc
 has_front (n ∷ names) back name is = grind (arith, has_front names back name)
 
-all_weaker : (p q : Msg → Bool) → ((x : Msg) → p x ≡ true → q x ≡ true) → (ms : List Msg) → list_all p ms ≡ true → list_all q ms ≡ true
+pub all_weaker : (p q : Msg → Bool) → ((x : Msg) → p x ≡ true → q x ≡ true) → (ms : List Msg) → list_all p ms ≡ true → list_all q ms ≡ true
 all_weaker p q weak [] all = refl
 all_weaker p q weak (x ∷ ms) all = grind (arith, all, weak x, all_weaker p q weak ms)
 
-all_named : (ms : List Msg) → list_all (λ (x : Msg). has_message (names_of ms) x.id) ms ≡ true
+pub all_named : (ms : List Msg) → list_all (λ (x : Msg). has_message (names_of ms) x.id) ms ≡ true
 all_named [] = refl
 all_named (m ∷ ms) =
     let others = all_weaker (λ (x : Msg). has_message (names_of ms) x.id) (λ (x : Msg). has_message (names_of (m ∷ ms)) x.id) (λ x is. has_more (m.id ∷ []) (names_of ms) x.id is) ms (all_named ms) in
     rw (same_message-self m.id, others) refl
 
-not_wide : (b : Bool) → b ≡ true → not (not b) ≡ true
+pub not_wide : (b : Bool) → b ≡ true → not (not b) ≡ true
 not_wide true is = refl
 not_wide false is = absurd cc
 

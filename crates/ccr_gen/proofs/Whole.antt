@@ -24,7 +24,7 @@ use Rattle.ccr_model.proofs.Booleans.{both}
 use Rattle.ccr_model.proofs.Options.{some_of, some_then}
 use Rattle.ccr_model.proofs.PostNames.{along, refused_not}
 use Rattle.ccr_model.proofs.Pushes.{posts-push, firings-push}
-use Rattle.ccr_model.proofs.TakenOnce.{FireFacts-allowed}
+use Rattle.ccr_model.proofs.TakenOnce.{FireFacts-allowed, taken-push}
 use Rattle.ccr_gen.specs.Posters.{sent, script, posters}
 use Rattle.ccr_gen.specs.Generated.{generated}
 use Rattle.ccr_gen.proofs.Lines.{script_more}
@@ -32,9 +32,6 @@ use Rattle.ccr_gen.specs.Weights.{weight, load, lines, by_task, made, tasked, is
 use Rattle.ccr_gen.proofs.Loads.{fire_falls}
 use Rattle.ccr_gen.proofs.Plays.{post_pays}
 use Rattle.ccr_gen.proofs.Steps.{due_firing, due_later, due_paid, left_task, left_script}
-
-taken-push : (h : List Event) (e : Event) → taken (h ++ e ∷ []) ≡ taken h ++ taken_by e
-taken-push h e = grind (arith, common_steps)
 
 -- an open message weighs what its port does
 load_more : (gone : List MsgId) (ms : List Msg) (m : Msg) → load (filter (is_open gone) (ms ++ m ∷ [])) ≤ load (filter (is_open gone) ms) + weight m.port
@@ -44,7 +41,7 @@ load_more gone (x ∷ ms) m = grind (arith, load_more gone ms m)
 tasked_more : (ms : List Msg) (m : Msg) → tasked (ms ++ m ∷ []) ≡ tasked ms + (if is_task_message m.id then 1 else 0)
 tasked_more ms m = grind (arith, common_steps)
 
-posted_port : (m : Msg) (s : Sent) → is_post m s ≡ true → m.port ≡ s.port
+pub posted_port : (m : Msg) (s : Sent) → is_post m s ≡ true → m.port ≡ s.port
 posted_port m s is =
     let parts = both ((m.port == s.port) && same_value m.value s.value) (same_lists (λ c d. c == d) m.causes s.causes) is in
     let port = (both (m.port == s.port) (same_value m.value s.value) parts.0).0 in
@@ -55,7 +52,7 @@ Falls size h e = whole size (h ++ e ∷ []) ≤ whole size h
 
 post_falls : (size : ℕ) (h : List Event) (m : Msg) (name : MsgId) → m.id ≡ name → refusal_of_post (generated size) h m name ≡ None → potential size (posts h ++ m ∷ []) (taken h) (firings h) ≤ whole size h
 post_falls size h m (Script actor place) named is =
-    let line = (refused_not (is_script_line (generated size) h actor place m) 1 None is).0 in
+    let line = (refused_not (is_script_line (generated size) h actor place m) _ None is).0 in
     let parts = both (place == posts_of_poster h actor) (option_map_or (is_post m) (option_and_then (λ (p : PosterPart). slice_get p.posts place) (slice_get (posters size) actor)) false) line in
     let its = some_of (is_post m) (option_and_then (λ (p : PosterPart). slice_get p.posts place) (slice_get (posters size) actor)) parts.1 in
     let poster = some_then (λ (p : PosterPart). slice_get p.posts place) (slice_get (posters size) actor) its.0 its.1 in
@@ -69,7 +66,7 @@ post_falls size h m (Script actor place) named is =
     let d : tasked (posts h ++ m ∷ []) ≡ tasked (posts h) = let out : is_task_message m.id ≡ false = rw named refl in grind (arith, tasked_more (posts h) m, out) in
     omega (arith, a, b, c, d, weighs)
 post_falls size h m (Task t place) named is =
-    let line = (refused_not (is_play_post (generated size) h t place m) 2 _ is).0 in
+    let line = (refused_not (is_play_post (generated size) h t place m) _ _ is).0 in
     let parts = both (has_task (running h) t && (place == posts_of_task h t)) (option_map_or (is_post m) (slice_get (play_of (generated size) h t).posts place) false) line in
     let its = some_of (is_post m) (slice_get (play_of (generated size) h t).posts place) parts.1 in
     let counted = (both (has_task (running h) t) (place == posts_of_task h t) parts.0).1 in

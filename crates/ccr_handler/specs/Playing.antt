@@ -7,6 +7,8 @@ use Rattle.ccr_handler.specs.declared.segments.Play.{Play}
 use Rattle.ccr_handler.specs.declared.segments.PlayEnd.TheVariants.{Done, Failed, Yield}
 use Rattle.ccr_cause.specs.Causes.{with_cause, without_cause}
 use Rattle.ccr_handler.specs.Evaluating.{value_of}
+use Rattle.ccr_wiring.specs.declared.parts.Parts.{Parts}
+use Rattle.ccr_wiring.specs.Wirings.{actions_at, exception_port}
 
 -- whether the action ends the segment
 abbrev pub is_await : Action → Bool
@@ -43,3 +45,11 @@ play port_of values site causes (Fail expr ∷ actions) = record { posts = excep
 play port_of values site causes (Add cause ∷ actions) = play port_of values site (with_cause causes cause) actions
 play port_of values site causes (Remove cause ∷ actions) = play port_of values site (without_cause causes cause) actions
 play port_of values site causes (Await port ∷ actions) = record { posts = []; end = Yield site; causes = causes }
+
+-- the play of no actions
+abbrev pub idle_play : List ℕ → Play
+idle_play causes = record { posts = []; end = Done; causes = causes }
+
+-- the play of this segment of the branch's handler, over the values of its task and the causes at its start
+abbrev pub branch_play : Parts → ℕ → ℕ → List (List ℕ) → List ℕ → Play
+branch_play wiring branch segment values causes = play (exception_port wiring) values segment causes (actions_from segment (actions_at wiring branch))

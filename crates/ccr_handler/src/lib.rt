@@ -2,7 +2,9 @@
 #![tactic(auto)]
 
 mod actions;
+mod branches;
 mod segments;
 mod values;
 
+pub use branches::{branch_play, idle_play};
 pub use segments::{Play, PlayEnd, plays};

@@ -1,6 +1,7 @@
 //! Sources of bytes, and the whole of one.
 
 ghost use Rattle.std.specs.Prelude.{◌≡◌, ◌≢◌, ◌+◌, ◌≤◌, ℕ, List, [], Option, length, take, IfOk, OnErr, IsErrOf};
+ghost use Rattle.ccr_base.specs.Bounds.{most_bytes};
 ghost use Rattle.ccr_io.specs.Bytes.{IsTakenOff, IsAtEnd, HoldsAll, IsLongerThan, TakesAtMost};
 ghost use Rattle.ccr_io.specs.Faults.{Rose};
 ghost use Rattle.ccr_io.specs.declared.source.ReadEnd.TheVariants.{Fault, TooLong, Memory};
@@ -57,7 +58,7 @@ const PIECE: usize = 16_384;
 /// up to there are then gone from the source, as with every other end.
 #[tactic(auto, using(crate::proofs::Bytes::reading))]
 pub fn read_all<S: Source>(alloc: Global, source: &mut S, limit: usize) -> Result<List<u8>, ReadEnd>
-    requires { limit ≤ 33554432 }
+    requires { limit ≤ most_bytes }
 
     ensures whole { IfOk result (λ bytes. HoldsAll bytes (S.rest source.old) (S.rest source.new)) }
     ensures within { IfOk result (λ bytes. length bytes ≤ limit) }

@@ -21,13 +21,10 @@ use Rattle.ccr_wiring.specs.Names as names
 use Rattle.ccr_wiring.specs.Valid.{IsValid}
 use Rattle.ccr_wiring.proofs.Lists.{neither}
 use Rattle.ccr_wiring.proofs.Validity.{no_codes}
-use Rattle.ccr_spots.specs.Words.{branch_names_of}
+use Rattle.ccr_wiring.specs.SpotWords.{branch_names_of}
 use Rattle.ccr_json.specs.Lines.{is_plain}
 use Rattle.ccr_json.specs.Names.{is_plain_arbiter, HasPlainNames}
-
-both : (a b : Bool) → (a && b) ≡ true → (a ≡ true) × (b ≡ true)
-both true b e = (refl, e)
-both false b e = absurd cc
+use Rattle.std.proofs.lemmas.Bool.{and_parts as both}
 
 not_not : (b : Bool) → not b ≡ false → b ≡ true
 not_not true e = refl

@@ -8,7 +8,7 @@ use Rattle.ccr_wiring.specs.Wirings.{spots}
 use Rattle.ccr_model.specs.declared.history.Event.{Event}
 use Rattle.ccr_model.specs.Posts.{posted, held}
 use Rattle.ccr_model.specs.Firings.{fired_at}
-use Rattle.ccr_spots.specs.Words.{branch_names}
+use Rattle.ccr_wiring.specs.SpotWords.{branch_names}
 use Rattle.ccr_report.specs.declared.counted.Counts.{Counts}
 use Rattle.ccr_report.specs.Counting.{put_at, dropped_at}
 use Rattle.ccr_report.specs.Counted.{IsCounted}

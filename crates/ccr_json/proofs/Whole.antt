@@ -4,7 +4,7 @@ use Rattle.ccr_base.specs.declared.names.Spot.{Spot}
 use Rattle.ccr_wiring.specs.declared.parts.Parts.{Parts}
 use Rattle.ccr_wiring.specs.declared.parts.QueuePart.{QueuePart}
 use Rattle.ccr_wiring.specs.Wirings.{spots}
-use Rattle.ccr_spots.specs.Words.{branch_names}
+use Rattle.ccr_wiring.specs.SpotWords.{branch_names}
 use Rattle.ccr_report.specs.declared.counted.Counts.{Counts}
 use Rattle.serde_json.specs.Data.{Data}
 use Rattle.serde_json.specs.View.{items_of}

@@ -9,7 +9,7 @@ use Rattle.ccr_wiring.specs.declared.parts.HandlerPart.{HandlerPart}
 use Rattle.ccr_wiring.specs.declared.parts.BranchPart.{BranchPart}
 use Rattle.ccr_wiring.specs.declared.parts.ArbiterPart.{ArbiterPart}
 use Rattle.ccr_wiring.specs.declared.parts.PosterPart.{PosterPart}
-use Rattle.ccr_spots.specs.Words.{branch_names}
+use Rattle.ccr_wiring.specs.SpotWords.{branch_names}
 use Rattle.ccr_json.specs.Lines.{is_plain}
 
 -- an arbiter's name and those of its branches are ASCII

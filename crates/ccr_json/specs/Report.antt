@@ -1,5 +1,5 @@
 -- A report as JSON.
-use Rattle.std.specs.Prelude.{ℕ, ◌+◌, List, [], ◌∷◌, map, length, codes}
+use Rattle.std.specs.Prelude.{ℕ, ◌+◌, List, [], ◌∷◌, map, length}
 use Rattle.ccr_base.specs.declared.names.Spot.{Spot}
 use Rattle.ccr_wiring.specs.declared.parts.Parts.{Parts}
 use Rattle.ccr_wiring.specs.declared.parts.QueuePart.{QueuePart}
@@ -8,19 +8,20 @@ use Rattle.ccr_model.specs.declared.history.Event.{Event}
 use Rattle.ccr_model.specs.Posts.{posted, held}
 use Rattle.ccr_model.specs.Firings.{fired_at}
 use Rattle.ccr_model.specs.Counts.{totals}
-use Rattle.ccr_spots.specs.Words.{branch_names, spot_word}
+use Rattle.ccr_wiring.specs.SpotWords.{branch_names, spot_word}
 use Rattle.ccr_report.specs.Counting.{taken_at, put_at, dropped_at}
-use Rattle.serde_json.specs.Data.{Data, string, object, member, no_members}
-use Rattle.ccr_json.specs.Lines.{json_line, count, listed}
+use Rattle.serde_json.specs.Data.{Data, string}
+use Rattle.ccr_json.specs.Lines.{json_line}
+use Rattle.ccr_json.specs.Objects.{spot_object, port_object, queue_object, report_object}
 use Rattle.ccr_json.specs.Totals.{totals_value}
 
 -- how often a spot fired
 abbrev pub branch_value : List (List ℕ) → List Event → Spot → Data
-branch_value branches history spot = object (member (codes "fired") (count (length (fired_at history spot))) (member (codes "name") (string (spot_word branches spot)) no_members))
+branch_value branches history spot = spot_object (length (fired_at history spot)) (string (spot_word branches spot))
 
 -- a port's counts and name
 abbrev pub port_value : List Event → ℕ → List ℕ → Data
-port_value history port name = object (member (codes "held") (count (length (held history port))) (member (codes "name") (string name) (member (codes "posted") (count (length (posted history port))) (member (codes "taken") (count (length (taken_at history port))) no_members))))
+port_value history port name = port_object (length (held history port)) (string name) (length (posted history port)) (length (taken_at history port))
 
 -- the ports, of which the first has this number
 abbrev pub port_values : List Event → ℕ → List (List ℕ) → List Data
@@ -29,7 +30,7 @@ port_values history port (name ∷ names) = port_value history port name ∷ por
 
 -- a queue's counts and name
 abbrev pub queue_value : Parts → List Event → ℕ → QueuePart → Data
-queue_value wiring history queue part = object (member (codes "dropped") (count (length (dropped_at wiring history queue))) (member (codes "name") (string part.name) (member (codes "put") (count (length (put_at wiring history queue))) no_members)))
+queue_value wiring history queue part = queue_object (length (dropped_at wiring history queue)) (string part.name) (length (put_at wiring history queue))
 
 -- the queues, of which the first has this number
 abbrev pub queue_values : Parts → List Event → ℕ → List QueuePart → List Data
@@ -39,10 +40,10 @@ queue_values wiring history queue (part ∷ parts) = queue_value wiring history 
 -- the object of a report
 abbrev pub report_value : Parts → List Event → Data
 report_value wiring history =
-    object (member (codes "branches") (listed (map (branch_value (branch_names wiring) history) (spots wiring)))
-    (member (codes "ports") (listed (port_values history 0 wiring.ports))
-    (member (codes "queues") (listed (queue_values wiring history 0 wiring.queues))
-    (member (codes "total") (totals_value (totals history)) no_members))))
+    report_object (map (branch_value (branch_names wiring) history) (spots wiring))
+    (port_values history 0 wiring.ports)
+    (queue_values wiring history 0 wiring.queues)
+    (totals_value (totals history))
 
 -- the line of a report
 abbrev pub report_json : Parts → List Event → List ℕ

@@ -1,15 +1,16 @@
 //! A report as JSON.
 
-ghost use Rattle.std.specs.Prelude.{◌≡◌, true, List as Listed, IfOk, length, map, codes};
+ghost use Rattle.std.specs.Prelude.{◌≡◌, true, List as Listed, IfOk, length, map};
 ghost use Rattle.std.specs.List.{list_all};
-ghost use Rattle.serde_json.specs.Data.{string, object, member, no_members};
+ghost use Rattle.serde_json.specs.Data.{string};
 ghost use Rattle.serde_json.specs.View.{view};
 ghost use Rattle.ccr_wiring.specs.declared.parts.QueuePart.{QueuePart as Queue};
-ghost use Rattle.ccr_spots.specs.Words.{spot_word};
+ghost use Rattle.ccr_wiring.specs.SpotWords.{spot_word};
 ghost use Rattle.ccr_model.specs.declared.history.Event.{Event as SomeEvent};
 ghost use Rattle.ccr_report.specs.Counted.{HasRows, IsCounted};
-ghost use Rattle.ccr_json.specs.Lines.{is_plain, count, listed};
+ghost use Rattle.ccr_json.specs.Lines.{is_plain};
 ghost use Rattle.ccr_json.specs.Names.{HasPlainNames};
+ghost use Rattle.ccr_json.specs.Objects.{port_object, queue_object, report_object, spot_object};
 ghost use Rattle.ccr_json.specs.Report.{report_json};
 ghost use Rattle.ccr_json.specs.Rows.{branch_rows, port_rows, queue_rows, counted_value};
 
@@ -20,8 +21,7 @@ use crate::totals::totals_value;
 use ccr_base::{List, Name, OutOfMemory, Spot};
 use ccr_model::History;
 use ccr_report::{Counts, counts_of};
-use ccr_spots::{branch_names, spot_text};
-use ccr_wiring::{Parts, Wiring};
+use ccr_wiring::{Parts, Wiring, branch_names, spot_text};
 use serde_json::{Value, json};
 use std::alloc::{AllocError, Global};
 
@@ -55,7 +55,7 @@ fn port_value(
     taken: u64,
     held: u64,
 ) -> Result<Value, AllocError>
-    ensures { IfOk result (λ value. view value ≡ object (member (codes "held") (count held) (member (codes "name") (view name) (member (codes "posted") (count posted) (member (codes "taken") (count taken) no_members))))) }
+    ensures { IfOk result (λ value. view value ≡ port_object held (view name) posted taken) }
 {
     json!(in alloc; {"held": held, "name": name, "posted": posted, "taken": taken})
 }
@@ -83,7 +83,7 @@ fn queue_values(
 }
 
 fn queue_value(alloc: Global, name: Value, put: u64, dropped: u64) -> Result<Value, AllocError>
-    ensures { IfOk result (λ value. view value ≡ object (member (codes "dropped") (count dropped) (member (codes "name") (view name) (member (codes "put") (count put) no_members)))) }
+    ensures { IfOk result (λ value. view value ≡ queue_object dropped (view name) put) }
 {
     json!(in alloc; {"dropped": dropped, "name": name, "put": put})
 }
@@ -117,7 +117,7 @@ fn spot_name(alloc: Global, branches: &[Name], spot: Spot) -> Result<Value, OutO
 }
 
 fn spot_value(alloc: Global, name: Value, fired: u64) -> Result<Value, AllocError>
-    ensures { IfOk result (λ value. view value ≡ object (member (codes "fired") (count fired) (member (codes "name") (view name) no_members))) }
+    ensures { IfOk result (λ value. view value ≡ spot_object fired (view name)) }
 {
     json!(in alloc; {"fired": fired, "name": name})
 }
@@ -129,7 +129,7 @@ fn report_of(
     queues: Vec<Value>,
     total: Value,
 ) -> Result<Value, AllocError>
-    ensures { IfOk result (λ value. view value ≡ object (member (codes "branches") (listed (map view branches.items)) (member (codes "ports") (listed (map view ports.items)) (member (codes "queues") (listed (map view queues.items)) (member (codes "total") (view total) no_members))))) }
+    ensures { IfOk result (λ value. view value ≡ report_object (map view branches.items) (map view ports.items) (map view queues.items) (view total)) }
 {
     let branches = list(branches);
     let ports = list(ports);

@@ -104,7 +104,7 @@ same_fires h e none posts_so untaken_so few =
 
 few_admit : (w : Parts) (h : List Event) (t : TaskId) → IsAllowed w h (Admit t) → AreFew h → AreFew (h ++ Admit t ∷ [])
 few_admit w h t allowed few =
-    let next = admit_next w h t (refused_not (is_oldest_waiting w h t) 9 _ allowed).0 in
+    let next = admit_next w h t (refused_not (is_oldest_waiting w h t) _ _ allowed).0 in
     record {
       fires = same_fires h (Admit t) refl (grind (arith, common_steps)) (grind (arith, common_steps)) few;
       admits = rw (firings-push, ever_admitted-push, append-nil) (Fits-gone (fired h) (ever_admitted h) t few.admits next.0 next.1);
@@ -115,7 +115,7 @@ few_admit w h t allowed few =
 
 few_put : (w : Parts) (h : List Event) (t : TaskId) (d : Option TaskId) → IsAllowed w h (Put t d) → AreFew h → AreFew (h ++ Put t d ∷ [])
 few_put w h t d allowed few =
-    let next = put_next w h t (refused_not (may_put w h t) 11 _ allowed).0 in
+    let next = put_next w h t (refused_not (may_put w h t) _ _ allowed).0 in
     record {
       fires = same_fires h (Put t d) refl (grind (arith, common_steps)) (grind (arith, common_steps)) few;
       admits = rw (firings-push, ever_admitted-push, append-nil, append-nil) few.admits;
@@ -126,7 +126,7 @@ few_put w h t d allowed few =
 
 few_start : (w : Parts) (h : List Event) (t : TaskId) (a : ℕ) → IsAllowed w h (Start t a) → AreFew h → AreFew (h ++ Start t a ∷ [])
 few_start w h t a allowed few =
-    let next = start_next w h t (refused_not (is_oldest_queued w h t) 13 _ allowed).0 in
+    let next = start_next w h t (refused_not (is_oldest_queued w h t) _ _ allowed).0 in
     record {
       fires = same_fires h (Start t a) refl (grind (arith, common_steps)) (grind (arith, common_steps)) few;
       admits = rw (firings-push, ever_admitted-push, append-nil, append-nil) few.admits;
@@ -137,7 +137,7 @@ few_start w h t a allowed few =
 
 few_end : (w : Parts) (h : List Event) (t : TaskId) (how : EndHow) → IsAllowed w h (End t how) → AreFew h → AreFew (h ++ End t how ∷ [])
 few_end w h t how allowed few =
-    let next = of_without (started h) (ended h) t (refused_not (has_task (running h) t) 15 _ allowed).0 in
+    let next = of_without (started h) (ended h) t (refused_not (has_task (running h) t) _ _ allowed).0 in
     record {
       fires = same_fires h (End t how) refl (grind (arith, common_steps)) (grind (arith, common_steps)) few;
       admits = rw (firings-push, ever_admitted-push, append-nil, append-nil) few.admits;
@@ -167,7 +167,7 @@ all_kinds (Put t d ∷ h) = omega (arith, all_kinds h)
 all_kinds (Start t a ∷ h) = omega (arith, all_kinds h)
 all_kinds (End t how ∷ h) = omega (arith, all_kinds h)
 
-fired-length : (fs : List Firing) → length (map (λ (f : Firing). f.task) fs) ≡ length fs
+pub fired-length : (fs : List Firing) → length (map (λ (f : Firing). f.task) fs) ≡ length fs
 fired-length [] = refl
 fired-length (f ∷ fs) = grind (arith, fired-length fs)
 

@@ -28,13 +28,13 @@ left_whole : (ms : List Msg) → length (left_of [] ms) ≡ length ms
 left_whole [] = refl
 left_whole (m ∷ ms) = grind (arith, left_whole ms)
 
-named_cons : (name n : MsgId) (names : List MsgId) → times_named name (n ∷ names) ≡ (if same_message name n then 1 else 0) + times_named name names
+pub named_cons : (name n : MsgId) (names : List MsgId) → times_named name (n ∷ names) ≡ (if same_message name n then 1 else 0) + times_named name names
 named_cons name n names = grind (arith, common_steps)
 
-times_cons : (name : MsgId) (x : Msg) (ms : List Msg) → times name (x ∷ ms) ≡ (if same_message x.id name then 1 else 0) + times name ms
+pub times_cons : (name : MsgId) (x : Msg) (ms : List Msg) → times name (x ∷ ms) ≡ (if same_message x.id name then 1 else 0) + times name ms
 times_cons name x ms = grind (arith, common_steps)
 
-times_push : (name : MsgId) (ms : List Msg) (m : Msg) → times name (ms ++ m ∷ []) ≡ times name ms + (if same_message m.id name then 1 else 0)
+pub times_push : (name : MsgId) (ms : List Msg) (m : Msg) → times name (ms ++ m ∷ []) ≡ times name ms + (if same_message m.id name then 1 else 0)
 times_push name ms m = grind (arith, common_steps)
 
 -- a name that stands there is counted
@@ -47,7 +47,7 @@ named_some name (n ∷ names) is = by (same_message name n) refl is (named_some 
     by false e any rest = let sum = named_cons name n names in let more = rest any in grind (arith, sum, e, more)
 
 -- a name that stands once stands in no rest
-not_in_rest : (n : MsgId) (names : List MsgId) → times_named n (n ∷ names) ≤ 1 → has_message names n ≡ false
+pub not_in_rest : (n : MsgId) (names : List MsgId) → times_named n (n ∷ names) ≤ 1 → has_message names n ≡ false
 not_in_rest n names once = by names (grind (arith, named_cons n n names, same_message-self n, once))
   where
     by : (ns : List MsgId) → times_named n ns ≡ 0 → has_message ns n ≡ false

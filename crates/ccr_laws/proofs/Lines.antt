@@ -124,10 +124,10 @@ posted_by_task w ms m t k is left known =
     }
 
 posted_next : (w : Parts) (h : List Event) (m : Msg) (name : MsgId) → m.id ≡ name → refusal_of_post w h m name ≡ None → ArePosted w (posts h) → ArePosted w (posts h ++ m ∷ [])
-posted_next w h m (Script a k) is allowed known = posted_line w (posts h) m a k is (has_line w h a k m (refused_not (is_script_line w h a k m) 1 None allowed).0) known
+posted_next w h m (Script a k) is allowed known = posted_line w (posts h) m a k is (has_line w h a k m (refused_not (is_script_line w h a k m) _ None allowed).0) known
 posted_next w h m (Task t k) is allowed known =
-    let a = refused_not (is_play_post w h t k m) 2 _ allowed in
-    let b = refused_not (has_budget w h) 3 None a.1 in
+    let a = refused_not (is_play_post w h t k m) _ _ allowed in
+    let b = refused_not (has_budget w h) _ None a.1 in
     posted_by_task w (posts h) m t k is (grind (arith, nat_tests, b.0)) known
 
 ArePosted_kept : (w : Parts) (h : List Event) (e : Event) → ArePosted w (posts h) → IsAllowed w h e → ArePosted w (posts (h ++ e ∷ []))

@@ -106,7 +106,7 @@ found_by_taken w valid h legal name t is =
     (f, ap (find (names_it name)) all ∙ find_behind (names_it name) (firings is.past) (firings is.stands.more) f none is.named, refl)
 
 -- a posted message is found by its name
-posts-append : (h es : List Event) → posts (h ++ es) ≡ posts h ++ posts es
+pub posts-append : (h es : List Event) → posts (h ++ es) ≡ posts h ++ posts es
 posts-append h es = grind (arith, common_steps)
 
 among_posts : (h past : List Event) (m : Msg) → Stands h past (Post m) → Among m (posts h)

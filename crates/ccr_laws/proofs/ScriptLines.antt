@@ -27,7 +27,7 @@ use Rattle.ccr_model.proofs.PostNames.{along, refused_not}
 use Rattle.ccr_model.proofs.Pushes.{posts-push}
 use Rattle.ccr_laws.specs.Scripts.{posts_by, sent_of, FollowsScript}
 
-same_causes : (xs ys : List ℕ) → same_lists (λ c d. c == d) xs ys ≡ true → xs ≡ ys
+pub same_causes : (xs ys : List ℕ) → same_lists (λ c d. c == d) xs ys ≡ true → xs ≡ ys
 same_causes [] [] is = refl
 same_causes [] (y ∷ ys) is = absurd (cc)
 same_causes (x ∷ xs) [] is = absurd (cc)
@@ -96,7 +96,7 @@ follows-post w h m (Task t k) named allowed follow n p at = follows-same h (h ++
 follows-post w h m (Script a k) named allowed follow n p at = of_test (a == n) refl
   where
     line : is_script_line w h a k m ≡ true
-    line = (refused_not (is_script_line w h a k m) 1 None allowed).0
+    line = (refused_not (is_script_line w h a k m) _ None allowed).0
 
     of_test : (b : Bool) → (a == n) ≡ b → FollowsScript (h ++ Post m ∷ []) n p.posts
     of_test false is = follows-same h (h ++ Post m ∷ []) n p.posts (posts_by-other h (Post m) n (rw (named, is) refl)) (follow n p at)

@@ -1,6 +1,7 @@
 //! A legal history is short. Each law is the contract of a function that does nothing.
 
 ghost use Rattle.std.specs.Prelude.{◌≤◌, List, length};
+ghost use Rattle.ccr_base.specs.Bounds.{most_events as longest_history};
 ghost use Rattle.ccr_wiring.specs.declared.parts.Parts.{Parts};
 ghost use Rattle.ccr_wiring.specs.Valid.{IsValid};
 ghost use Rattle.ccr_model.specs.declared.history.Event.{Event};
@@ -14,5 +15,5 @@ pub fn histories_are_short()
 
 /// A legal history of a valid wiring has at most 120,000 events.
 pub fn valid_histories_are_short()
-    ensures { (wiring : Parts) → IsValid wiring → (history : List Event) → IsLegal wiring history → length history ≤ 120000 }
+    ensures { (wiring : Parts) → IsValid wiring → (history : List Event) → IsLegal wiring history → length history ≤ longest_history }
 {}

@@ -13,6 +13,7 @@ use Rattle.ccr_base.specs.Names.{same_task, has_task}
 use Rattle.ccr_wiring.specs.declared.parts.Parts.{Parts}
 use Rattle.ccr_model.specs.declared.history.Event.{Event}
 use Rattle.ccr_model.specs.declared.history.Event.TheVariants.{Post, Fire, Admit, Put, Start, End}
+use Rattle.ccr_model.specs.declared.rule.Rule.TheVariants as rules
 use Rattle.ccr_model.specs.Posts.{posts, post_of, is_message_of, posts_of_task}
 use Rattle.ccr_model.specs.Firings.{Firing, firing_of, fired, ever_admitted, admitted_by, put, ended, dropped, started, yielded, last_segments, last_by}
 use Rattle.ccr_model.specs.Sites.{root_of}
@@ -141,8 +142,8 @@ HaveFired h = (t : TaskId) → has_task (fired h) t ≡ false → posts_of_task 
 post_fired : (w : Parts) (h : List Event) (m : Msg) (id : MsgId) (t : TaskId) → m.id ≡ id → IsLegal w h → IsAllowed w h (Post m) → has_task (fired h) t ≡ false → is_message_of t id ≡ false
 post_fired w h m (Script actor place) t is legal allowed new = refl
 post_fired w h m (Task s place) t is legal allowed new =
-    let next : refused (is_play_post w h s place m) 2 (refused (has_budget w h) 3 None) ≡ None = rw is at allowed in
-    let runs = both (has_task (running h) s) _ (both _ _ (refused_not _ 2 _ next).0).0 in
+    let next : refused (is_play_post w h s place m) rules.PlayPost (refused (has_budget w h) rules.Budget None) ≡ None = rw is at allowed in
+    let runs = both (has_task (running h) s) _ (both _ _ (refused_not _ _ _ next).0).0 in
     let placed = ArePlaced-legal w h legal in
     let fired_so = fired_has h s (placed.all_fired s (placed.lists.put_started s (RunningFacts-running h s runs.0).started_so)) in
     refuted (same_task t s) (λ same. no_both (subst (λ x. has_task (fired h) x ≡ true) (sym (same_task-is t s same)) fired_so) new)

@@ -5,7 +5,7 @@ use Rattle.ccr_base.specs.declared.names.TaskId.{TaskId}
 use Rattle.ccr_base.specs.declared.messages.Msg.{Msg}
 use Rattle.ccr_wiring.specs.declared.parts.Parts.{Parts}
 use Rattle.ccr_wiring.specs.Wirings.{placements}
-use Rattle.ccr_rows.specs.Rows.{row, empty_rows}
+use Rattle.ccr_ledger.specs.Rows.{row, empty_rows}
 use Rattle.ccr_ledger.specs.Books.{number, flag, sites_each}
 use Rattle.ccr_ledger.specs.Events.{empty_books}
 use Rattle.ccr_ledger.specs.Kept.{HasSizes, KeepsScriptPosts, KeepsFlags}

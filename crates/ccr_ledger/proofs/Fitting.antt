@@ -8,8 +8,8 @@ use Rattle.ccr_base.specs.declared.patterns.Pred.{Pred}
 use Rattle.ccr_base.specs.declared.patterns.Pred.TheVariants.{Any}
 use Rattle.ccr_base.specs.Choice.{holds, fitting}
 use Rattle.ccr_base.specs.Names.{same_message, has_message}
-use Rattle.ccr_rows.specs.Taken.{without_first, without_some, shared}
-use Rattle.ccr_rows.proofs.Taking.{all-fit, without-any}
+use Rattle.ccr_ledger.specs.Taken.{without_first, without_some, shared}
+use Rattle.ccr_ledger.proofs.Taking.{all-fit, without-any}
 use Rattle.ccr_model.specs.Choice.{names_of, are_first, are_split}
 use Rattle.ccr_model.proofs.PostNames.{times}
 use Rattle.ccr_model.proofs.TakenOnce.{times-filter}

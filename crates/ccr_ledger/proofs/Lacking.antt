@@ -3,7 +3,7 @@ use Rattle.std.proofs.Common.{◌≡◌, ◌∙◌, ap, ℕ, zero, suc, take, Bo
 use Rattle.std.specs.Prelude.{option_map}
 use Rattle.std.specs.List.{list_all}
 use Rattle.std.proofs.lemmas.List.{map-append}
-use Rattle.ccr_rows.specs.Rows.{row}
+use Rattle.ccr_ledger.specs.Rows.{row}
 use Rattle.ccr_base.specs.declared.names.MsgId.{MsgId}
 use Rattle.ccr_base.specs.declared.messages.Msg.{Msg}
 use Rattle.ccr_base.specs.declared.patterns.Slot.{Slot}

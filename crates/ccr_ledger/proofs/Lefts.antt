@@ -2,8 +2,8 @@
 use Rattle.std.proofs.Common.{◌≡◌, ℕ, zero, suc, ◌<◌, List, [], ◌∷◌, length, subst, arith}
 use Rattle.std.proofs.Math.ListN.{set, get_or}
 use Rattle.ccr_base.specs.declared.messages.Msg.{Msg}
-use Rattle.ccr_rows.specs.Taken.{IsLeftOf}
-use Rattle.ccr_rows.proofs.Lefts.{left_same, left_then}
+use Rattle.ccr_ledger.specs.Taken.{IsLeftOf}
+use Rattle.ccr_ledger.proofs.HeldLefts.{left_same, left_then}
 use Rattle.ccr_ledger.specs.Taking.{AreLeftOf}
 
 pub left_all : (ports : List (List Msg)) → AreLeftOf ports ports

@@ -1,3 +1,7 @@
+pub mod Views
+pub mod Lanes
+pub mod Taking
+pub mod HeldLefts
 pub mod Tables
 pub mod Undone
 pub mod Lefts

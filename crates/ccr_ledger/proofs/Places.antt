@@ -7,7 +7,7 @@ use Rattle.ccr_wiring.specs.Valid.{IsValid}
 use Rattle.ccr_wiring.specs.Wirings.{placements}
 use Rattle.ccr_model.specs.declared.history.Event.{Event}
 use Rattle.ccr_model.specs.Legal.{IsAllowed, IsLegal}
-use Rattle.ccr_rows.specs.Rows.{row, empty_rows}
+use Rattle.ccr_ledger.specs.Rows.{row, empty_rows}
 use Rattle.ccr_ledger.specs.Books.{Books, sites_each, suspended_at}
 use Rattle.ccr_ledger.specs.Events.{after_event, empty_books}
 use Rattle.ccr_ledger.specs.Kept.{Keeps, KeepsPlaces}

@@ -23,7 +23,7 @@ use Rattle.ccr_model.proofs.HeldSteps.{held-post, held-fire, held-admit, held-pu
 use Rattle.ccr_model.proofs.Options.{some_of}
 use Rattle.ccr_model.proofs.Suspending.{ResumeFacts, ResumeFacts-allowed}
 use Rattle.ccr_model.proofs.TakenOnce.{FireFacts-allowed}
-use Rattle.ccr_rows.specs.Rows.{row}
+use Rattle.ccr_ledger.specs.Rows.{row}
 use Rattle.ccr_ledger.specs.declared.cards.Card.{Card}
 use Rattle.ccr_ledger.specs.Books.{Books, card_at, suspended_at}
 use Rattle.ccr_ledger.specs.Posting.{after_post}

@@ -12,8 +12,8 @@ use Rattle.ccr_base.specs.Choice.{holds, fitting, choice}
 use Rattle.ccr_base.specs.Names.{same_message, same_lists}
 use Rattle.ccr_wiring.specs.Repeats.{has_port, are_apart, slot_ports, names_ports_once}
 use Rattle.ccr_wiring.specs.Spots.{pattern_ports}
-use Rattle.ccr_rows.specs.Rows.{row, with_row}
-use Rattle.ccr_rows.specs.Taken.{without_some, shared}
+use Rattle.ccr_ledger.specs.Rows.{row, with_row}
+use Rattle.ccr_ledger.specs.Taken.{without_some, shared}
 use Rattle.ccr_model.specs.Choice.{names_of, choice_of_slots, are_first, are_split, is_choice_of, are_oldest}
 use Rattle.ccr_model.proofs.PostNames.{times}
 use Rattle.ccr_model.proofs.TakenOnce.{joined_some, choice_some, times-filter, times-take}
@@ -55,7 +55,7 @@ module _ (ports : List (List Msg)) (held_at : ℕ → List Msg) (are : AreHeld p
 
 -- ---- slots
 
-turned : (a b : ℕ) → (a == b) ≡ false → (b == a) ≡ false
+pub turned : (a b : ℕ) → (a == b) ≡ false → (b == a) ≡ false
 turned a b is = grind (arith, nat_tests, is)
 
 module _ (ports : List (List Msg)) (held_at : ℕ → List Msg) (are : AreHeld ports held_at) (slot : Slot) where

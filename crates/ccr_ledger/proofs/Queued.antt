@@ -23,7 +23,7 @@ use Rattle.ccr_model.proofs.TaskPlaces.{ArePlaced-legal, PutFacts-allowed, Queue
 use Rattle.ccr_model.proofs.DropFacts.{drop_allowed}
 use Rattle.ccr_model.proofs.FiredTasks.{fired_has, placement_fired}
 use Rattle.ccr_model.proofs.FiringFacts.{FiresSo-allowed, firings-other}
-use Rattle.ccr_rows.specs.Rows.{row, with_row}
+use Rattle.ccr_ledger.specs.Rows.{row, with_row}
 use Rattle.ccr_ledger.specs.Books.{Books}
 use Rattle.ccr_ledger.specs.Events.{after_dropped, after_event}
 use Rattle.ccr_ledger.specs.Kept.{HasSizes, KeepsTasks}

@@ -6,8 +6,8 @@ use Rattle.ccr_base.specs.declared.names.MsgId.{MsgId}
 use Rattle.ccr_base.specs.declared.messages.Msg.{Msg}
 use Rattle.ccr_base.specs.declared.patterns.Pred.{Pred}
 use Rattle.ccr_base.specs.Choice.{fitting}
-use Rattle.ccr_rows.specs.Rows.{row}
-use Rattle.ccr_rows.specs.Taken.{shared}
+use Rattle.ccr_ledger.specs.Rows.{row}
+use Rattle.ccr_ledger.specs.Taken.{shared}
 
 pub row-past : {T : Type 0} (rows : List (List T)) (n : ℕ) → length rows ≤ n → row rows n ≡ []
 row-past [] n past = refl

@@ -17,7 +17,7 @@ use Rattle.ccr_model.specs.declared.history.Event.{Event}
 use Rattle.ccr_model.specs.declared.history.Event.TheVariants.{Post, Fire, Admit, Put, Start, End}
 use Rattle.ccr_model.specs.declared.history.EndHow.{EndHow}
 use Rattle.ccr_model.specs.Tasks.{is_interleave, is_teardown}
-use Rattle.ccr_rows.specs.Rows.{row, with_row}
+use Rattle.ccr_ledger.specs.Rows.{row, with_row}
 use Rattle.ccr_ledger.specs.declared.cards.Card.{Card}
 use Rattle.ccr_ledger.specs.Books.{Books, card_at, more, less, number, raised, sites_each, suspended_at, with_suspended, changed}
 use Rattle.ccr_ledger.specs.Posting.{after_post, counted}

@@ -30,7 +30,7 @@ use Rattle.ccr_model.proofs.PlayPast.{play_at-past}
 use Rattle.ccr_model.proofs.PostNames.{refused_not}
 use Rattle.ccr_model.proofs.Suspending.{ResumeFacts, ResumeFacts-allowed, suspended-other, suspended-branch, suspended-elsewhere, suspended-here, same_site, end_fired}
 use Rattle.ccr_model.proofs.TaskPlaces.{ArePlaced, ArePlaced-legal}
-use Rattle.ccr_rows.specs.Rows.{row, with_row}
+use Rattle.ccr_ledger.specs.Rows.{row, with_row}
 use Rattle.ccr_ledger.specs.Books.{Books, card_at, suspended_at, with_suspended}
 use Rattle.ccr_ledger.specs.Firing.{resumed_card}
 use Rattle.ccr_ledger.specs.Events.{after_event, is_yield}
@@ -135,8 +135,8 @@ yields_early w valid h t f is allowed = of_test (nat_lt (segment_of f.spot) 16) 
 
     as_played : ends_so ends.Yield play.end ≡ true
     as_played =
-        let a = refused_not (has_task (running h) t) 15 _ allowed in
-        let b = refused_not (may_end w h t ends.Yield) 16 None a.1 in
+        let a = refused_not (has_task (running h) t) _ _ allowed in
+        let b = refused_not (may_end w h t ends.Yield) _ None a.1 in
         ap (λ (p : Play). ends_so ends.Yield p.end) (sym played) ∙ (both (not (has_post_left w h t)) (ends_so ends.Yield (play_of w h t).end) b.0).1
 
     of_test : (b : Bool) → nat_lt (segment_of f.spot) 16 ≡ b → segment_of f.spot < 16

@@ -25,8 +25,8 @@ use Rattle.ccr_model.proofs.Options.{some_of}
 use Rattle.ccr_model.proofs.PostNames.{times, posted_once}
 use Rattle.ccr_model.proofs.SameNames.{same_message-is, same_message-self}
 use Rattle.ccr_model.proofs.TakenOnce.{joined_some, choice_some, times-filter, times-two}
-use Rattle.ccr_rows.specs.Rows.{row, with_row}
-use Rattle.ccr_rows.specs.Taken.{shared}
+use Rattle.ccr_ledger.specs.Rows.{row, with_row}
+use Rattle.ccr_ledger.specs.Taken.{shared}
 use Rattle.ccr_ledger.specs.Books.{Books}
 use Rattle.ccr_ledger.specs.Taking.{take_slot, take_slots, take_pattern, take_site}
 use Rattle.ccr_ledger.specs.Kept.{HasSizes, KeepsPorts}

@@ -40,7 +40,7 @@ use Rattle.ccr_model.proofs.Members.{Among}
 use Rattle.ccr_model.proofs.Covered.{running_started}
 use Rattle.ccr_model.proofs.TaskPlaces.{ArePlaced-legal, placement_by}
 use Rattle.ccr_model.proofs.FiringPlacements.{firing_with_placement}
-use Rattle.ccr_rows.specs.Rows.{row}
+use Rattle.ccr_ledger.specs.Rows.{row}
 use Rattle.ccr_ledger.specs.declared.cards.Card.{Card}
 use Rattle.ccr_ledger.specs.Books.{Books, number}
 use Rattle.ccr_ledger.specs.Asked.{lives, group_lives, room, queue_has_room, can_choose, choice_at, are_choice, cuts, may_admit_task, may_admit_card, drops, play_in, made_in, budget_lasts}

@@ -38,7 +38,7 @@ use Rattle.ccr_model.proofs.Pushes.{ever_admitted-push, cut-push}
 use Rattle.ccr_model.proofs.SameNames.{same_task-self}
 use Rattle.ccr_model.proofs.TasksLeft.{distinct-filter, without_both}
 use Rattle.ccr_model.proofs.TaskLists.{first_rest, has_oldest, not_more, without-append, without_none}
-use Rattle.ccr_rows.specs.Rows.{row, with_row}
+use Rattle.ccr_ledger.specs.Rows.{row, with_row}
 use Rattle.ccr_ledger.specs.Books.{Books}
 use Rattle.ccr_ledger.specs.Firing.{after_clear}
 use Rattle.ccr_ledger.specs.Events.{after_event}
@@ -179,7 +179,7 @@ module _ (w : Parts) (h : List Event) (t : TaskId) (n : ℕ) (ms : List MsgId) (
 -- the oldest of a domain is admitted
 waiting-event-admit : (w : Parts) (h : List Event) (t : TaskId) (b : Books) → IsLegal w h → IsAllowed w h (Admit t) → HasSizes w b → KeepsTasks w h b → SaysWaiting w h b.waiting → SaysWaiting w (h ++ Admit t ∷ []) (after_event w (Admit t) b).waiting
 waiting-event-admit w h t b legal allowed sizes tasks known i low =
-    let first = (refused_not (is_oldest_waiting w h t) 9 _ allowed).0 in
+    let first = (refused_not (is_oldest_waiting w h t) _ _ allowed).0 in
     let found = some_of (λ (s : Placement). is_first (waiting w h s.arbiter) t) (placement_of w h t) first in
     let head = first_rest (waiting w h found.0.arbiter) t found.2 in
     let facts = CardFacts-fired w h t b legal tasks (placement_fired w h t found.0 found.1) in

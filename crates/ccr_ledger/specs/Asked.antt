@@ -21,7 +21,7 @@ use Rattle.ccr_model.specs.Live.{is_none_of}
 use Rattle.ccr_model.specs.Choice.{engine_choice_of, oldest, is_choice_of, are_oldest}
 use Rattle.ccr_model.specs.Enough.{has_enough}
 use Rattle.ccr_model.specs.Rules.{is_first, drop_by}
-use Rattle.ccr_rows.specs.Rows.{row}
+use Rattle.ccr_ledger.specs.Rows.{row}
 use Rattle.ccr_ledger.specs.declared.cards.Card.{Card}
 use Rattle.ccr_ledger.specs.declared.cards.Runner.{Runner}
 use Rattle.ccr_ledger.specs.declared.cards.Stage.{Stage}

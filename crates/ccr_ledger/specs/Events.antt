@@ -10,7 +10,7 @@ use Rattle.ccr_model.specs.declared.history.Event.{Event}
 use Rattle.ccr_model.specs.declared.history.Event.TheVariants.{Post, Fire, Admit, Put, Start, End}
 use Rattle.ccr_model.specs.declared.history.EndHow.{EndHow}
 use Rattle.ccr_model.specs.declared.history.EndHow.TheVariants.{Yield}
-use Rattle.ccr_rows.specs.Rows.{row, with_row, empty_rows}
+use Rattle.ccr_ledger.specs.Rows.{row, with_row, empty_rows}
 use Rattle.ccr_ledger.specs.declared.cards.Card.{Card}
 use Rattle.ccr_ledger.specs.declared.cards.Runner.{Runner}
 use Rattle.ccr_ledger.specs.declared.cards.Stage.TheVariants as stages

@@ -4,6 +4,7 @@ use Rattle.std.specs.List.{slice_get}
 use Rattle.std.specs.Option.{option_map_or}
 use Rattle.indexmap.specs.IndexMap.{insert_entry}
 use Rattle.ccr_base.specs.declared.names.TaskId.{TaskId}
+use Rattle.ccr_base.specs.declared.messages.Msg.{Msg}
 use Rattle.ccr_base.specs.declared.names.MsgId.{MsgId}
 use Rattle.ccr_base.specs.declared.names.Spot.{Spot}
 use Rattle.ccr_base.specs.declared.names.Spot.TheVariants.{Branch, Site}
@@ -12,7 +13,7 @@ use Rattle.ccr_wiring.specs.declared.parts.Parts.{Parts}
 use Rattle.ccr_wiring.specs.Wirings.{Placement, placement, site_port, is_branch}
 use Rattle.ccr_model.specs.TaskData.{Load, no_load, play_at, with_messages}
 use Rattle.ccr_model.specs.Tasks.{is_interleave, is_teardown, is_concurrent}
-use Rattle.ccr_rows.specs.Rows.{row, with_row}
+use Rattle.ccr_ledger.specs.Rows.{row, with_row}
 use Rattle.ccr_ledger.specs.declared.cards.Card.{Card}
 use Rattle.ccr_ledger.specs.declared.cards.Stage.{Stage}
 use Rattle.ccr_ledger.specs.declared.cards.Stage.TheVariants.{Waiting, Ready, Cut}
@@ -68,6 +69,10 @@ branch_card wiring task branch s fired_before load = record {
   made = 0;
 }
 
+-- the same card where the task starts with what it takes from the ports, the messages of these names
+abbrev pub first_card : Parts → TaskId → ℕ → Placement → ℕ → List MsgId → List (List Msg) → Card
+first_card wiring task branch s fired_before names ports = branch_card wiring task branch s fired_before (with_messages no_load (take_pattern s.branch.pattern names ports).messages)
+
 -- the tables of the arbiter's and the branch's firings
 abbrev pub after_choice : ℕ → Placement → Books → Books
 after_choice branch s books = record books {
@@ -109,6 +114,10 @@ site_card wiring branch site card fired_before load = record card {
 abbrev pub load_left : Card → Load
 load_left card = record { values = card.values; causes = card.play.causes }
 
+-- the card of a task that the site fires, with what it takes from the ports and what the task of the card left to it
+abbrev pub next_card : Parts → ℕ → ℕ → Card → ℕ → List (List Msg) → Card
+next_card wiring branch site card fired_before ports = site_card wiring branch site card fired_before (with_messages (load_left card) (take_site (site_port wiring branch site) ports).messages)
+
 -- the site fires the task, which goes on for the task of the card
 abbrev pub after_site : Parts → TaskId → ℕ → ℕ → Card → Takes → Books → Books
 after_site wiring task branch site card takes books = record books {
@@ -121,9 +130,13 @@ after_site wiring task branch site card takes books = record books {
 abbrev pub resumed_card : Books → ℕ → ℕ → Option Card
 resumed_card books branch site = option_and_then (card_at books.tasks) (slice_get (suspended_at books.suspended branch site) 0)
 
+-- the site fires the task, which goes on for the first that is suspended there
+abbrev pub after_next : Parts → TaskId → ℕ → ℕ → Books → Books
+after_next wiring task branch site books =
+    option_map_or (λ card. after_site wiring task branch site card (take_site (site_port wiring branch site) books.ports) books) (resumed_card books branch site) books
+
 -- after a firing at the spot
 abbrev pub after_fire : Parts → TaskId → Spot → List MsgId → List TaskId → Books → Books
 after_fire wiring task (Branch branch) messages cuts books =
     option_map_or (after_taking wiring task branch messages (after_cuts cuts books)) (placement wiring branch) books
-after_fire wiring task (Site branch site) messages cuts books =
-    option_map_or (λ card. after_site wiring task branch site card (take_site (site_port wiring branch site) books.ports) books) (resumed_card books branch site) books
+after_fire wiring task (Site branch site) messages cuts books = after_next wiring task branch site books

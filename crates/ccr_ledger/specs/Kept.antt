@@ -15,7 +15,7 @@ use Rattle.ccr_model.specs.TaskData.{load_of, play_of}
 use Rattle.ccr_model.specs.Tasks.{is_teardown, is_concurrent, fired_by, waiting, queued, running, running_by, is_over, admitted as admitted_to, coming as coming_to}
 use Rattle.ccr_model.specs.Live.{is_none_of}
 use Rattle.ccr_model.specs.Rules.{needs_no_admission, is_concurrent_task}
-use Rattle.ccr_rows.specs.Rows.{row}
+use Rattle.ccr_ledger.specs.Rows.{row}
 use Rattle.ccr_ledger.specs.declared.cards.Card.{Card}
 use Rattle.ccr_ledger.specs.declared.cards.Stage.{Stage}
 use Rattle.ccr_ledger.specs.declared.cards.Stage.TheVariants as stages

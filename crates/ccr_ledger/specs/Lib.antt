@@ -1,3 +1,7 @@
+pub mod Rows
+pub mod Items
+pub mod Lanes
+pub mod Taken
 pub mod Compact
 pub mod Books
 pub mod Posting

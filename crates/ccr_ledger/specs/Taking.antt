@@ -7,8 +7,8 @@ use Rattle.ccr_base.specs.declared.patterns.Slot.{Slot}
 use Rattle.ccr_base.specs.declared.patterns.Pattern.{Pattern}
 use Rattle.ccr_base.specs.declared.patterns.Pattern.TheVariants.{Slots, Gather}
 use Rattle.ccr_base.specs.Choice.{fitting}
-use Rattle.ccr_rows.specs.Rows.{row, with_row}
-use Rattle.ccr_rows.specs.Taken.{IsLeftOf, without_some, shared}
+use Rattle.ccr_ledger.specs.Rows.{row, with_row}
+use Rattle.ccr_ledger.specs.Taken.{IsLeftOf, without_some, shared}
 
 -- the messages that were taken, and the ports without them
 pub record Takes : Type 0 where

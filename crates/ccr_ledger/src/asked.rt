@@ -4,7 +4,7 @@ ghost use Rattle.std.specs.Prelude.{◌≡◌, IfOk, IfSome, Some, length, map};
 ghost use Rattle.std.specs.List.{slice_get};
 ghost use Rattle.std.specs.Option.{option_map};
 ghost use Rattle.ccr_base.specs.declared.names.TaskId.{TaskId};
-ghost use Rattle.ccr_rows.specs.Rows.{row};
+ghost use Rattle.ccr_ledger.specs.Rows.{row};
 ghost use Rattle.ccr_model.specs.Choice.{names_of};
 ghost use Rattle.ccr_ledger.specs.declared.cards.Card.{Card};
 ghost use Rattle.ccr_ledger.specs.Books.{card_at, number};
@@ -14,13 +14,12 @@ use crate::choices::{count, has_enough, names_of_choice, names_of_site};
 use crate::counts::{flag, number};
 use crate::named_choices::{are_choice_of, are_oldest};
 use crate::tasks::first_suspended;
-use crate::{Card, Ledger, Runner, Stage};
+use crate::{Card, Ledger, Rows, Runner, Stage};
 use ccr_base::{
     ActorNo, BranchNo, Group, MsgId, OutOfMemory, Policy, PortNo, QueueNo, Spot, TaskId,
 };
 use ccr_model::Event;
 use ccr_model::placements::is_teardown;
-use ccr_rows::Rows;
 use ccr_wiring::Wiring;
 use std::alloc::Global;
 

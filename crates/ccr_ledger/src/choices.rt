@@ -4,13 +4,13 @@ ghost use Rattle.std.specs.Prelude.{◌≡◌, ◌++◌, IfOk, OnOk, length, tak
 ghost use Rattle.std.specs.List.{list_all};
 ghost use Rattle.std.specs.Option.{option_map};
 ghost use Rattle.ccr_base.specs.Choice.{is_choosable};
-ghost use Rattle.ccr_rows.specs.Rows.{row};
+ghost use Rattle.ccr_ledger.specs.Rows.{row};
 ghost use Rattle.ccr_model.specs.Choice.{choice_of_slots, engine_choice_of, engine_gather, names_of, oldest};
 ghost use Rattle.ccr_model.specs.Enough.{has_enough};
 ghost use Rattle.ccr_ledger.specs.Taking.{slot_takes};
 
+use crate::HeldMessages;
 use ccr_base::{MsgId, OutOfMemory, Pattern, PortNo, Slot};
-use ccr_rows::HeldMessages;
 use std::alloc::Global;
 
 /// How many messages the port holds.

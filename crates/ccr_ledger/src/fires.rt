@@ -1,24 +1,21 @@
 //! What a firing makes of the tables.
 
 ghost use Rattle.std.specs.Prelude.{◌≡◌, OnErr, OnOk, IfOk};
-ghost use Rattle.std.specs.Option.{option_map_or};
 ghost use Rattle.ccr_wiring.specs.Wirings.{site_port};
-ghost use Rattle.ccr_model.specs.TaskData.{no_load, with_messages};
 ghost use Rattle.ccr_model.specs.Views.{load_seen, placement_seen};
 ghost use Rattle.ccr_ledger.specs.Taking.{AreLeftOf, take_pattern, take_site};
 ghost use Rattle.ccr_ledger.specs.Refused.{IsFiringRefused, IsTakenFrom};
-ghost use Rattle.ccr_ledger.specs.Firing.{after_choice, after_cut, after_cuts, after_fire, after_new, after_site, after_taking, after_wait, branch_card, first_stage, load_left, resumed_card, site_card};
+ghost use Rattle.ccr_ledger.specs.Firing.{after_choice, after_cut, after_cuts, after_fire, after_new, after_next, after_taking, after_wait, branch_card, first_card, first_stage, next_card, site_card};
 
 use crate::counts::{add_one, raise, take_one};
 use crate::ledger::arrive;
 use crate::loads::{load_left, no_load, with_messages};
 use crate::ports::{take_pattern, take_site};
 use crate::tasks::{first_suspended, move_to, resume};
-use crate::{Card, KeptPlay, KeptValues, Ledger, Stage};
+use crate::{Card, HeldMessages, KeptPlay, KeptValues, Ledger, Rows, Stage};
 use ccr_base::{BranchNo, MsgId, OutOfMemory, Spot, TaskId};
 use ccr_model::data::{TaskLoad, play_at_spot};
 use ccr_model::placements::{PlacementOf, is_concurrent, is_interleave, is_teardown};
-use ccr_rows::{HeldMessages, Rows};
 use ccr_wiring::Wiring;
 use std::alloc::Global;
 
@@ -126,7 +123,7 @@ fn first_card(
 ) -> Result<Card, OutOfMemory>
     ensures left { AreLeftOf ports.old.items ports.new.items }
     ensures ports { OnOk result (ports.new.items ≡ (take_pattern (placement_seen placement.entry).branch.pattern messages.now ports.old.items).ports) }
-    ensures card { IfOk result (λ card. card ≡ branch_card wiring.now task branch (placement_seen placement.entry) number (with_messages no_load (take_pattern (placement_seen placement.entry).branch.pattern messages.now ports.old.items).messages)) }
+    ensures card { IfOk result (λ card. card ≡ first_card wiring.now task branch (placement_seen placement.entry) number messages.now ports.old.items) }
 {
     let taken = take_pattern(alloc, ports, &placement.branch.pattern, messages)?;
     let load = with_messages(alloc, no_load(alloc), &taken)?;
@@ -145,7 +142,7 @@ fn next_card(
 ) -> Result<Card, OutOfMemory>
     ensures left { AreLeftOf ports.old.items ports.new.items }
     ensures ports { OnOk result (ports.new.items ≡ (take_site (site_port wiring.now branch site) ports.old.items).ports) }
-    ensures card { IfOk result (λ card. card ≡ site_card wiring.now branch site before.now number (with_messages (load_left before.now) (take_site (site_port wiring.now branch site) ports.old.items).messages)) }
+    ensures card { IfOk result (λ card. card ≡ next_card wiring.now branch site before.now number ports.old.items) }
 {
     let taken = take_site(alloc, ports, wiring.site_port(branch, site))?;
     let load = with_messages(alloc, load_left(alloc, before)?, &taken)?;
@@ -242,7 +239,7 @@ impl Ledger {
         branch: BranchNo,
         site: u32,
     ) -> Result<(), OutOfMemory>
-        ensures ok { OnOk result (self.new ≡ option_map_or (λ card. after_site wiring.now task branch site card (take_site (site_port wiring.now branch site) self.old.ports) self.old) (resumed_card self.old branch site) self.old) }
+        ensures ok { OnOk result (self.new ≡ after_next wiring.now task branch site self.old) }
         ensures err { OnErr result (IsTakenFrom self.old self.new) }
     {
         let Some(before) = first_suspended(&self.suspended, branch, site) else {

@@ -3,7 +3,7 @@
 ghost use Rattle.std.specs.Prelude.{◌≡◌, [], ◌∷◌, ◌++◌, OnErr, OnOk, IfOk, length, replicate, false, if◌then◌else◌};
 ghost use Rattle.ccr_wiring.specs.Wirings.{branch_of, is_branch, placements_from, segment_of};
 ghost use Rattle.std.specs.Option.{option_map_or};
-ghost use Rattle.ccr_rows.specs.Rows.{empty_rows};
+ghost use Rattle.ccr_ledger.specs.Rows.{empty_rows};
 ghost use Rattle.ccr_ledger.specs.Books.{card_at, less, more, suspended_at, with_suspended};
 ghost use Rattle.ccr_ledger.specs.Posting.{after_post, counted, uncounted};
 ghost use Rattle.ccr_ledger.specs.Refused.{IsRefused};
@@ -14,10 +14,9 @@ use crate::ports::{empty_ports, post_to};
 use crate::tasks::{
     SITES_EACH, admit_root, count_post, end_root, move_to, stop, suspend, uncount_post,
 };
-use crate::{Card, Runner, Stage};
+use crate::{Card, HeldMessages, Rows, Runner, Stage};
 use ccr_base::{ActorNo, Msg, MsgId, OutOfMemory, QueueNo, Spot, TaskId};
 use ccr_model::{EndHow, Event};
-use ccr_rows::{HeldMessages, Rows};
 use ccr_wiring::{ArbiterPart, Wiring};
 use indexmap::IndexMap;
 use std::alloc::Global;

@@ -3,13 +3,13 @@
 ghost use Rattle.std.specs.Prelude.{◌≡◌, ◌==◌, ◌&&◌, IfOk, length};
 ghost use Rattle.ccr_base.specs.Names.{same_lists, same_message};
 ghost use Rattle.ccr_base.specs.declared.patterns.Pattern.TheVariants.{Slots};
-ghost use Rattle.ccr_rows.specs.Rows.{row};
+ghost use Rattle.ccr_ledger.specs.Rows.{row};
 ghost use Rattle.ccr_model.specs.Choice.{are_oldest, are_split, is_choice_of};
 ghost use Rattle.ccr_ledger.specs.Fronts.{are_front, are_fronts};
 
+use crate::HeldMessages;
 use crate::choices::{names_of_slots, oldest_names};
 use ccr_base::{MsgId, OutOfMemory, Pattern, PortNo, Slot};
-use ccr_rows::HeldMessages;
 use std::alloc::Global;
 
 /// Whether two lists of names are the same.

@@ -1,13 +1,13 @@
 //! What posts and firings do with the ports.
 
 ghost use Rattle.std.specs.Prelude.{◌≡◌, ◌++◌, IfOk, OnErr, OnOk};
-ghost use Rattle.ccr_rows.specs.Rows.{empty_rows, row};
+ghost use Rattle.ccr_ledger.specs.Rows.{empty_rows, row};
 ghost use Rattle.ccr_ledger.specs.Posting.{posted_to};
-ghost use Rattle.ccr_rows.specs.Taken.{shared};
+ghost use Rattle.ccr_ledger.specs.Taken.{shared};
 ghost use Rattle.ccr_ledger.specs.Taking.{AreLeftOf, take_gather, take_oldest, take_pattern, take_site, take_slot, take_slots};
 
+use crate::HeldMessages;
 use ccr_base::{Msg, MsgId, OutOfMemory, Pattern, PortNo, Slot};
-use ccr_rows::HeldMessages;
 use std::alloc::Global;
 
 /// So many empty ports.

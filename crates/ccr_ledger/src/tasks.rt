@@ -6,9 +6,8 @@ ghost use Rattle.ccr_ledger.specs.Books.{changed, moved, suspended_at, with_susp
 ghost use Rattle.ccr_ledger.specs.Posting.{with_post, without_post};
 ghost use Rattle.ccr_ledger.specs.Events.{admit_root, not_admitted, stopped};
 
-use crate::{Card, Runner, Stage};
+use crate::{Card, Rows, Runner, Stage};
 use ccr_base::{BranchNo, OutOfMemory, TaskId};
-use ccr_rows::Rows;
 use indexmap::IndexMap;
 
 /// The await sites of a branch, at most: it has as many actions.

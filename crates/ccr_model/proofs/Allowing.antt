@@ -22,6 +22,7 @@ use Rattle.ccr_wiring.specs.declared.parts.QueuePart.{QueuePart}
 use Rattle.ccr_model.specs.declared.history.Event.{Event}
 use Rattle.ccr_model.specs.declared.history.Event.TheVariants.{Post, Fire, Admit, Put, Start, End}
 use Rattle.ccr_model.specs.declared.history.EndHow.TheVariants as ends
+use Rattle.ccr_model.specs.declared.rule.Rule.{Rule}
 use Rattle.ccr_base.specs.Names.{same_task, has_task, same_lists, same_options, same_message, without}
 use Rattle.ccr_model.specs.Posts.{posts_of_poster, posts_of_task, posts_of_tasks, held}
 use Rattle.ccr_wiring.specs.Wirings.{Placement, placement, spots, site_port, branch_of}
@@ -47,8 +48,8 @@ same_list-self same self [] = refl
 same_list-self same self (x ∷ xs) = grind (arith, self x, same_list-self same self xs)
 
 -- what passes isn't refused
-passed : (b : Bool) (n : ℕ) (o : Option ℕ) → b ≡ true → o ≡ None → refused b n o ≡ None
-passed b n o is rest = rw (is, rest) refl
+pub passed : (b : Bool) (rule : Rule) (o : Option Rule) → b ≡ true → o ≡ None → refused b rule o ≡ None
+passed b rule o is rest = rw (is, rest) refl
 
 -- Post of a script
 is_post-self : (i : MsgId) (s : Sent) → is_post (record { id = i; port = s.port; value = s.value; causes = s.causes }) s ≡ true
@@ -56,7 +57,7 @@ is_post-self i s = rw (eq-self s.port, same_value-self s.value, same_list-self (
 
 script_allowed : (w : Parts) (h : List Event) (n : ℕ) (p : PosterPart) → slice_get w.posters n ≡ Some p → (o : Option Sent) → slice_get p.posts (posts_of_poster h n) ≡ o → IfSome (option_map (script_post n (posts_of_poster h n)) o) (IsAllowed w h)
 script_allowed w h n p at None is = tt
-script_allowed w h n p at (Some s) is = passed _ 1 None (rw (at, is, eq-self (posts_of_poster h n), is_post-self (Script n (posts_of_poster h n)) s) refl) refl
+script_allowed w h n p at (Some s) is = passed _ _ None (rw (at, is, eq-self (posts_of_poster h n), is_post-self (Script n (posts_of_poster h n)) s) refl) refl
 
 posts_allowed : (w : Parts) (h : List Event) (n : ℕ) (ps : List PosterPart) → ((k i : ℕ) (p : PosterPart) → n + k ≡ i → slice_get ps k ≡ Some p → slice_get w.posters i ≡ Some p) → IfSome (post_from h n ps) (IsAllowed w h)
 posts_allowed w h n [] at = tt
@@ -132,7 +133,7 @@ fire_allowed w c h s low = of_test (is_live w h s) (has_room w h s) refl refl (e
     of_test true true live room None is = tt
     of_test true true live room (Some ms) is =
         let new : is_new h (record { actor = c; attempt = next_attempt c (fired h) }) ≡ true = grind (arith, nat_tests, below_next c (next_attempt c (fired h)) (fired h)) in
-        passed _ 4 _ new (passed _ 5 _ live (passed _ 6 _ (choice_allowed w h s ms is) (passed _ 7 _ room (passed _ 8 None (same_list-self same_task same_task-self (cuts_at w h s)) refl))))
+        passed _ _ _ new (passed _ _ _ live (passed _ _ _ (choice_allowed w h s ms is) (passed _ _ _ room (passed _ _ None (same_list-self same_task same_task-self (cuts_at w h s)) refl))))
     of_test true false live room o is = tt
     of_test false b live room o is = tt
 
@@ -158,7 +159,7 @@ put_allowed w h = of_option (find (may_put w h) (fired h)) refl
   where
     of_option : (o : Option TaskId) → find (may_put w h) (fired h) ≡ o → IfSome (option_map (λ t. Put t (drop_at w h t)) o) (IsAllowed w h)
     of_option None is = tt
-    of_option (Some t) is = passed _ 11 _ (find_passes (may_put w h) (fired h) t is) (passed _ 12 None (same_option-self (drop_at w h t)) refl)
+    of_option (Some t) is = passed _ _ _ (find_passes (may_put w h) (fired h) t is) (passed _ _ None (same_option-self (drop_at w h t)) refl)
 
 -- the next event of the running task
 ends_so-how : (e : PlayEnd) → ends_so (how_of e) e ≡ true
@@ -177,16 +178,16 @@ run_allowed w h t runs = of_option (slice_get (play_of w h t).posts (posts_of_ta
     of_option : (o : Option Sent) → slice_get (play_of w h t).posts (posts_of_task h t) ≡ o → IsAllowed w h (run_with w h t (play_of w h t) o)
     of_option None is =
         let whole : has_post_left w h t ≡ false = grind (arith, nat_tests, none-above (play_of w h t).posts (posts_of_task h t) is) in
-        passed _ 15 _ runs (passed _ 16 None (rw (not_shed (play_of w h t).end, whole, ends_so-how (play_of w h t).end) refl) refl)
+        passed _ _ _ runs (passed _ _ None (rw (not_shed (play_of w h t).end, whole, ends_so-how (play_of w h t).end) refl) refl)
     of_option (Some s) is = of_budget (has_budget w h) refl
       where
         of_budget : (b : Bool) → has_budget w h ≡ b → IsAllowed w h (if b then task_post t (posts_of_task h t) s else End t ends.Shed)
-        of_budget true room = passed _ 2 _ (rw (runs, is, eq-self (posts_of_task h t), is_post-self (Task t (posts_of_task h t)) s) refl) (passed _ 3 None room refl)
+        of_budget true room = passed _ _ _ (rw (runs, is, eq-self (posts_of_task h t), is_post-self (Task t (posts_of_task h t)) s) refl) (passed _ _ None room refl)
         of_budget false spent =
             let left : has_post_left w h t ≡ true = grind (arith, nat_tests, some-below (play_of w h t).posts (posts_of_task h t) s is) in
             let full : w.budget ≤ posts_of_tasks h = grind (arith, nat_tests) in
             let much : nat_le w.budget (posts_of_tasks h + (count_unfinished w h - 1)) ≡ true = grind (arith, nat_tests) in
-            passed _ 15 _ runs (passed _ 16 None (rw (left, much) refl) refl)
+            passed _ _ _ runs (passed _ _ None (rw (left, much) refl) refl)
 
 -- each firing is found by its name
 abbrev pub OneName : List Event → Type 0
@@ -209,7 +210,7 @@ OneName_other : (h : List Event) (e : Event) → firing_of e ≡ [] → OneName 
 OneName_other h e none one f among = rw (firings-append, none, append-nil) (one f (let same : firings (h ++ e ∷ []) ≡ firings h = rw (firings-append, none, append-nil) refl in rw same at among))
 
 OneName_kept : (w : Parts) (h : List Event) (e : Event) → OneName h → IsAllowed w h e → OneName (h ++ e ∷ [])
-OneName_kept w h (Fire t s ms cs) one allowed = OneName_fire h t s ms cs (grind (arith, (refused_not (is_new h t) 4 _ allowed).0)) one
+OneName_kept w h (Fire t s ms cs) one allowed = OneName_fire h t s ms cs (grind (arith, (refused_not (is_new h t) _ _ allowed).0)) one
 OneName_kept w h (Post m) one allowed = OneName_other h (Post m) refl one
 OneName_kept w h (Admit t) one allowed = OneName_other h (Admit t) refl one
 OneName_kept w h (Put t d) one allowed = OneName_other h (Put t d) refl one
@@ -261,7 +262,7 @@ admit_allowed w h n one = of_list (waiting w h n) refl
         of_test false e = tt
         of_test true e =
             let found = waiting_placement w h n t ts one is in
-            passed _ 9 _ (rw (found.1, found.2, is) (same_task-self t)) (passed _ 10 None e refl)
+            passed _ _ _ (rw (found.1, found.2, is) (same_task-self t)) (passed _ _ None e refl)
 
 admits_allowed : (w : Parts) (h : List Event) (n : ℕ) (xs : List ArbiterPart) → OneName h → IfSome (admit_from w h n xs) (IsAllowed w h)
 admits_allowed w h n [] one = tt
@@ -297,7 +298,7 @@ start_allowed w c h n high low run = of_list (queued w h n) refl
         let number : found.0.branch.queue ≡ n = grind (arith, nat_tests, found.2) in
         let idle : running_by h c ≡ [] = none_by c h (ended h) run in
         let ready : may_start w h c ≡ true = rw idle (grind (arith, nat_tests)) in
-        passed _ 13 _ (rw (found.1, number, is) (same_task-self t)) (passed _ 14 None ready refl)
+        passed _ _ _ (rw (found.1, number, is) (same_task-self t)) (passed _ _ None ready refl)
 
 starts_allowed : (w : Parts) (c : ℕ) (h : List Event) (n : ℕ) (qs : List QueuePart) → length w.posters ≤ c → c ≤ 32 → running h ≡ [] → IfSome (start_from w c h n qs) (IsAllowed w h)
 starts_allowed w c h n [] high low run = tt

@@ -77,8 +77,8 @@ end_fired h t ends.Shed fired = AreFired-one h t fired
 end_fired h t ends.Yield fired = λ u is. absurd (cc)
 
 last_fired : (w : Parts) (h : List Event) (e : Event) → AreStarted h → IsAllowed w h e → AreFired h (last_by e)
-last_fired w h (End t how) known allowed = let a = refused_not (has_task (running h) t) 15 _ allowed in end_fired h t how (known.named t (running_started h t a.0))
-last_fired w h (Put t d) known allowed = let a = refused_not (may_put w h t) 11 _ allowed in drop_fired w h t d (refused_not (same_options same_task d (drop_at w h t)) 12 None a.1).0
+last_fired w h (End t how) known allowed = let a = refused_not (has_task (running h) t) _ _ allowed in end_fired h t how (known.named t (running_started h t a.0))
+last_fired w h (Put t d) known allowed = let a = refused_not (may_put w h t) _ _ allowed in drop_fired w h t d (refused_not (same_options same_task d (drop_at w h t)) _ None a.1).0
 last_fired w h (Post m) known allowed = none_fired h
 last_fired w h (Fire t s ms cs) known allowed = none_fired h
 last_fired w h (Admit t) known allowed = none_fired h
@@ -86,7 +86,7 @@ last_fired w h (Start t a) known allowed = none_fired h
 
 let_fired : (w : Parts) (h : List Event) (e : Event) → IsAllowed w h e → AreFired h (admitted_by e)
 let_fired w h (Admit t) allowed =
-    let a = refused_not (is_oldest_waiting w h t) 9 _ allowed in
+    let a = refused_not (is_oldest_waiting w h t) _ _ allowed in
     let found = some_of (λ (s : Placement). is_first (waiting w h s.arbiter) t) (placement_of w h t) a.0 in
     AreFired-one h t (placement_fired w h t found.0 found.1)
 let_fired w h (Post m) allowed = none_fired h
@@ -190,8 +190,8 @@ may_be_admitted w h t i may within =
 
 alone_admit : (w : Parts) (h : List Event) (t : TaskId) → IsAllowed w h (Admit t) → Known w h → (i : ℕ) → keeps_exclusion w (h ++ Admit t ∷ []) i ≡ true
 alone_admit w h t allowed known i =
-    let a = refused_not (is_oldest_waiting w h t) 9 _ allowed in
-    let may = (refused_not (may_admit w h t) 10 None a.1).0 in
+    let a = refused_not (is_oldest_waiting w h t) _ _ allowed in
+    let may = (refused_not (may_admit w h t) _ None a.1).0 in
     let placement_at = some_of (λ (s : Placement). is_first (waiting w h s.arbiter) t) (placement_of w h t) a.0 in
     let fired = placement_fired w h t placement_at.0 placement_at.1 in
     let g = h ++ Admit t ∷ [] in

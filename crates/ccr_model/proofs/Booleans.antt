@@ -2,6 +2,7 @@
 use Rattle.std.proofs.Common.{◌≡◌, ℕ, Bool, true, false, not, ◌&&◌, ◌||◌, refl, arith}
 use Rattle.std.specs.Prelude.{◌==◌}
 use Rattle.std.proofs.lemmas.Bool.Decides.{nat_tests}
+pub use Rattle.std.proofs.lemmas.Bool.{and_parts as both}
 
 pub not_true : (b : Bool) → not b ≡ true → b ≡ false
 not_true false is = refl
@@ -10,10 +11,6 @@ not_true true is = absurd (cc)
 pub not_false : (b : Bool) → b ≡ false → not b ≡ true
 not_false false is = refl
 not_false true is = absurd (cc)
-
-pub both : (a b : Bool) → a && b ≡ true → (a ≡ true) × (b ≡ true)
-both true b is = (refl, is)
-both false b is = absurd (cc)
 
 pub neither : (a b : Bool) → a || b ≡ false → (a ≡ false) × (b ≡ false)
 neither false b is = (refl, is)

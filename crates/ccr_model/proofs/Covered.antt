@@ -101,7 +101,7 @@ AreStarted_start w h t a is known =
     old_or_new u false e among found = let old : has_task (started h) u ≡ true = grind (arith, common_steps, e, among) in IsFired-append h (Start t a ∷ []) u (known.named u old)
 
 pub AreStarted_kept : (w : Parts) (h : List Event) (e : Event) → AreStarted h → IsAllowed w h e → AreStarted (h ++ e ∷ [])
-AreStarted_kept w h (Start t a) known allowed = AreStarted_start w h t a (refused_not (is_oldest_queued w h t) 13 _ allowed).0 known
+AreStarted_kept w h (Start t a) known allowed = AreStarted_start w h t a (refused_not (is_oldest_queued w h t) _ _ allowed).0 known
 AreStarted_kept w h (Post m) known allowed = AreStarted_other h (Post m) refl known
 AreStarted_kept w h (Fire t s ms cs) known allowed = AreStarted_other h (Fire t s ms cs) refl known
 AreStarted_kept w h (Admit t) known allowed = AreStarted_other h (Admit t) refl known
@@ -166,8 +166,8 @@ shed_or_not ends.Shed = inl (refl, refl)
 
 Covered_end : (w : Parts) (h : List Event) (t : TaskId) (how : EndHow) → AreStarted h → IsCovered w h → IsAllowed w h (End t how) → IsCovered w (h ++ End t how ∷ [])
 Covered_end w h t how known covered allowed shed =
-    let a = refused_not (has_task (running h) t) 15 _ allowed in
-    let b = (refused_not (may_end w h t how) 16 None a.1).0 in
+    let a = refused_not (has_task (running h) t) _ _ allowed in
+    let b = (refused_not (may_end w h t how) _ None a.1).0 in
     let posts_so : posts (h ++ End t how ∷ []) ≡ posts h = grind (arith, common_steps) in
     let distinct = distinct-filter (λ u. not (has_task (ended h) u)) (started h) known.once in
     let same = filter_on (has_post_left w (h ++ End t how ∷ [])) (has_post_left w h) (without (running h) (t ∷ [])) (λ u is. left_same w h (End t how) u known (running_started h u (of_without (running h) (t ∷ []) u is).0) (posts_same h (End t how) posts_so u)) in

@@ -105,8 +105,8 @@ pub record AdmitFacts (w : Parts) (h : List Event) (t : TaskId) : Type 0 where
 
 pub AdmitFacts-allowed : (w : Parts) (h : List Event) (t : TaskId) → IsAllowed w h (Admit t) → AdmitFacts w h t
 AdmitFacts-allowed w h t allowed =
-    let a = refused_not (is_oldest_waiting w h t) 9 _ allowed in
-    let b = refused_not (may_admit w h t) 10 None a.1 in
+    let a = refused_not (is_oldest_waiting w h t) _ _ allowed in
+    let b = refused_not (may_admit w h t) _ None a.1 in
     let found = some_of (λ (s : Placement). is_first (waiting w h s.arbiter) t) (placement_of w h t) a.0 in
     let head = first_rest (waiting w h found.0.arbiter) t found.2 in
     record { place = found.0; is_place = found.1; waits = has_oldest (waiting w h found.0.arbiter) head.0 t head.1; may_be_admitted = b.0 }

@@ -51,8 +51,8 @@ same_drop (Some x) (Some y) is = ap Some (same_task-is x y is)
 -- what an allowed put says
 pub put_allowed : (w : Parts) (h : List Event) (t : TaskId) (d : Option TaskId) → IsAllowed w h (Put t d) → (may_put w h t ≡ true) × (d ≡ drop_at w h t)
 put_allowed w h t d allowed =
-    let a = refused_not (may_put w h t) 11 _ allowed in
-    (a.0, same_drop d (drop_at w h t) (refused_not (same_options same_task d (drop_at w h t)) 12 None a.1).0)
+    let a = refused_not (may_put w h t) _ _ allowed in
+    (a.0, same_drop d (drop_at w h t) (refused_not (same_options same_task d (drop_at w h t)) _ None a.1).0)
 
 pub drop_allowed : (w : Parts) (h : List Event) (t x : TaskId) → IsAllowed w h (Put t (Some x)) → DropFacts w h t x
 drop_allowed w h t x allowed = drop_at_facts w h t x (sym (put_allowed w h t (Some x) allowed).1)

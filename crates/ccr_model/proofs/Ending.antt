@@ -30,7 +30,7 @@ RunningFacts-running h t is =
     record { started_so = parts.0; not_ended = parts.1 }
 
 pub RunningFacts-allowed : (w : Parts) (h : List Event) (t : TaskId) (how : EndHow) → IsAllowed w h (End t how) → RunningFacts h t
-RunningFacts-allowed w h t how allowed = RunningFacts-running h t (refused_not (has_task (running h) t) 15 _ allowed).0
+RunningFacts-allowed w h t how allowed = RunningFacts-running h t (refused_not (has_task (running h) t) _ _ allowed).0
 
 -- of those started, dropped, ended, suspended and last: who ended had started; who was suspended ended, once, and isn't a last one; a last one ended or was dropped
 pub record EndLists (ss ds es ys ls : List TaskId) : Type 0 where

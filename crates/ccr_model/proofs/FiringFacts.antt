@@ -47,11 +47,11 @@ pub record FiresSo (w : Parts) (h : List Event) (t : TaskId) (s : Spot) (ms : Li
 
 pub FiresSo-allowed : (w : Parts) (h : List Event) (t : TaskId) (s : Spot) (ms : List MsgId) (cs : List TaskId) → IsAllowed w h (Fire t s ms cs) → FiresSo w h t s ms cs
 FiresSo-allowed w h t s ms cs allowed =
-    let a = refused_not (is_new h t) 4 _ allowed in
-    let b = refused_not (is_live w h s) 5 _ a.1 in
-    let c = refused_not (is_choice w h s ms) 6 _ b.1 in
-    let d = refused_not (has_room w h s) 7 _ c.1 in
-    let e = refused_not (same_lists same_task cs (cuts_at w h s)) 8 None d.1 in
+    let a = refused_not (is_new h t) _ _ allowed in
+    let b = refused_not (is_live w h s) _ _ a.1 in
+    let c = refused_not (is_choice w h s ms) _ _ b.1 in
+    let d = refused_not (has_room w h s) _ _ c.1 in
+    let e = refused_not (same_lists same_task cs (cuts_at w h s)) _ None d.1 in
     record {
       new_name = not_true (has_task (fired h) t) (both (not (has_task (fired h) t)) (nat_le t.actor 32) a.0).0;
       live = b.0;

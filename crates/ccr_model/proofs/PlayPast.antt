@@ -9,7 +9,8 @@ use Rattle.ccr_wiring.specs.declared.parts.HandlerPart.{HandlerPart}
 use Rattle.ccr_wiring.specs.Valid.{IsValid}
 use Rattle.ccr_wiring.specs.Wirings.{Placement, placement, actions_of, exception_port}
 use Rattle.ccr_model.specs.TaskData.{Load, play_at}
-use Rattle.ccr_model.proofs.Segments.{actions_from-past, actions_from-none}
+use Rattle.ccr_handler.proofs.SamePlays.{actions_from-none}
+use Rattle.ccr_model.proofs.Segments.{actions_from-past}
 use Rattle.ccr_model.proofs.ValidHandlers.{handlers_are_short}
 
 actions_are_few : (wiring : Parts) → IsValid wiring → (handler : ℕ) → length (actions_of wiring handler) ≤ 16

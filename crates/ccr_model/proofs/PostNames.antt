@@ -11,6 +11,7 @@ use Rattle.ccr_model.specs.declared.history.Event.{Event}
 use Rattle.ccr_model.specs.declared.history.Event.TheVariants.{Post, Fire, Admit, Put, Start, End}
 use Rattle.ccr_base.specs.Names.{same_message}
 use Rattle.ccr_model.specs.Posts.{posts, is_script_of, is_message_of}
+use Rattle.ccr_model.specs.declared.rule.Rule.{Rule}
 use Rattle.ccr_model.specs.Rules.{refusal_of_post, refused}
 use Rattle.ccr_model.specs.Legal.{IsAllowed, IsLegal, IsLegalAfter}
 use Rattle.ccr_model.proofs.Pushes.{posts-push}
@@ -42,9 +43,9 @@ pub record AreNamed (ms : List Msg) : Type 0 where
   pub below : (name : MsgId) → 0 < times name ms → place_of name < sent_by name ms
   pub once : (name : MsgId) → times name ms ≤ 1
 
-pub refused_not : (b : Bool) (n : ℕ) (o : Option ℕ) → refused b n o ≡ None → (b ≡ true) × (o ≡ None)
-refused_not true n o is = (refl, is)
-refused_not false n o is = absurd (cc)
+pub refused_not : (b : Bool) (rule : Rule) (o : Option Rule) → refused b rule o ≡ None → (b ≡ true) × (o ≡ None)
+refused_not true rule o is = (refl, is)
+refused_not false rule o is = absurd (cc)
 
 -- an allowed post has the place that comes next
 place_next : (w : Parts) (h : List Event) (m : Msg) (name : MsgId) → refusal_of_post w h m name ≡ None → place_of name ≡ sent_by name (posts h)

@@ -137,10 +137,10 @@ choice_some w h (Site b k) names is =
 
 no_fire : (w : Parts) (c : ℕ) (h : List Event) (t : TaskId) (s : Spot) (names : List MsgId) (cs : List TaskId) → fire_from w c h (spots w) ≡ None → IsAllowed w h (Fire t s names cs) → ⊥
 no_fire w c h t s names cs none allowed =
-    let a = refused_not (is_new h t) 4 _ allowed in
-    let b = refused_not (is_live w h s) 5 _ a.1 in
-    let d = refused_not (is_choice w h s names) 6 _ b.1 in
-    let e = refused_not (has_room w h s) 7 _ d.1 in
+    let a = refused_not (is_new h t) _ _ allowed in
+    let b = refused_not (is_live w h s) _ _ a.1 in
+    let d = refused_not (is_choice w h s names) _ _ b.1 in
+    let e = refused_not (has_room w h s) _ _ d.1 in
     let found = choice_some w h s names d.0 in
     let nothing = fire_none w c h (spots w) s none found.0 in
     grind (arith, nothing, b.0, e.0, found.1.1)
@@ -170,8 +170,8 @@ admit_head w h (u ∷ ts) t is none = of_test (may_admit w h u) refl none
 
 no_admit : (w : Parts) (h : List Event) (t : TaskId) → admit_from w h 0 w.arbiters ≡ None → IsAllowed w h (Admit t) → ⊥
 no_admit w h t none allowed =
-    let a = refused_not (is_oldest_waiting w h t) 9 _ allowed in
-    let b = refused_not (may_admit w h t) 10 None a.1 in
+    let a = refused_not (is_oldest_waiting w h t) _ _ allowed in
+    let b = refused_not (may_admit w h t) _ None a.1 in
     let found = some_of (λ (s : Placement). is_first (waiting w h s.arbiter) t) (placement_of w h t) a.0 in
     let placed = some_then (λ spot. placement w (branch_of spot)) (spot_of h t) found.0 found.1 in
     let inside : found.0.arbiter < length w.arbiters = placement-within w (branch_of placed.0) found.0 placed.2 in
@@ -200,7 +200,7 @@ find_among p (y ∷ xs) x (inr among) is none = of_test (p y) none (find_among p
 
 no_put : (w : Parts) (h : List Event) (t : TaskId) (d : Option TaskId) → put_first w h ≡ None → IsAllowed w h (Put t d) → ⊥
 no_put w h t d none allowed =
-    let a = refused_not (may_put w h t) 11 _ allowed in
+    let a = refused_not (may_put w h t) _ _ allowed in
     let parts = both (not (has_task (put h) t) && not (has_task (cut h) t)) _ a.0 in
     let placed = some_of _ (spot_of h t) parts.1 in
     let fired_so = some_map (λ (f : Firing). f.spot) (firing_named h t) placed.0 placed.1 in
@@ -220,7 +220,7 @@ start_none w c h n (suc k) (q ∷ qs) none lt =
 
 no_start : (w : Parts) (c : ℕ) (h : List Event) (t : TaskId) (a : ℕ) → HasQueues w → start_from w c h 0 w.queues ≡ None → IsAllowed w h (Start t a) → ⊥
 no_start w c h t a queues none allowed =
-    let r = refused_not (is_oldest_queued w h t) 13 _ allowed in
+    let r = refused_not (is_oldest_queued w h t) _ _ allowed in
     let found = some_of (λ (s : Placement). is_first (queued w h s.branch.queue) t) (placement_of w h t) r.0 in
     let placed = some_then (λ spot. placement w (branch_of spot)) (spot_of h t) found.0 found.1 in
     let nothing = start_none w c h 0 found.0.branch.queue w.queues none (queues (branch_of placed.0) found.0 placed.2) in
@@ -247,9 +247,9 @@ NoneFirst-first w c h is =
     record { post = a.0; fire = b.0; admit = d.0; put_next = e.0; run = no_head (running h) (none_map (run_task w h) (slice_get (running h) 0) f.0); start = f.1 }
 
 no_post : (w : Parts) (h : List Event) (m : Msg) (name : MsgId) → post_from h 0 w.posters ≡ None → running h ≡ [] → refusal_of_post w h m name ≡ None → ⊥
-no_post w h m (Script a k) none run allowed = no_script w h a k m none (refused_not (is_script_line w h a k m) 1 None allowed).0
+no_post w h m (Script a k) none run allowed = no_script w h a k m none (refused_not (is_script_line w h a k m) _ None allowed).0
 no_post w h m (Task t k) none run allowed =
-    let r = refused_not (is_play_post w h t k m) 2 _ allowed in
+    let r = refused_not (is_play_post w h t k m) _ _ allowed in
     let parts = both (has_task (running h) t && _) _ r.0 in
     let runs = both (has_task (running h) t) _ parts.0 in
     grind (arith, run, runs.0)
@@ -261,7 +261,7 @@ quiet_parts w c h queues none (Admit t) allowed = no_admit w h t none.admit allo
 quiet_parts w c h queues none (Put t d) allowed = no_put w h t d none.put_next allowed
 quiet_parts w c h queues none (Start t a) allowed = no_start w c h t a queues none.start allowed
 quiet_parts w c h queues none (End t how) allowed =
-    let r = refused_not (has_task (running h) t) 15 _ allowed in
+    let r = refused_not (has_task (running h) t) _ _ allowed in
     grind (arith, none.run, r.0)
 
 pub IsQuiet-first : (w : Parts) (c : ℕ) (h : List Event) → HasQueues w → first w c h ≡ None → IsQuiet w h

@@ -39,13 +39,13 @@ same_site c l b k is =
     ap (λ n. Site n l) (same_number c b numbers.0) ∙ ap (λ n. Site b n) (same_number l k numbers.1)
 
 -- who was suspended fired
-yielded_fired : (w : Parts) (h : List Event) → IsLegal w h → (t : TaskId) → has_task (yielded h) t ≡ true → IsFired h t
+pub yielded_fired : (w : Parts) (h : List Event) → IsLegal w h → (t : TaskId) → has_task (yielded h) t ≡ true → IsFired h t
 yielded_fired w h legal t is =
     let placed = ArePlaced-legal w h legal in
     let ended_so = AreEnded-legal w h legal in
     placed.all_fired t (placed.lists.put_started t (ended_so.started_ended t (ended_so.ended_yielded t is)))
 
-yields_stays : (h es : List Event) (site : Spot) (t : TaskId) → IsFired h t → yields_at (h ++ es) site t ≡ yields_at h site t
+pub yields_stays : (h es : List Event) (site : Spot) (t : TaskId) → IsFired h t → yields_at (h ++ es) site t ≡ yields_at h site t
 yields_stays h es site t fired = rw (firing_named-append h es t fired.0 fired.1, fired.1) refl
 
 -- the tasks that ended as yield at the site, after one more event

@@ -177,10 +177,10 @@ pub record FireFacts (w : Parts) (h : List Event) (t : TaskId) (s : Spot) (ms : 
 
 pub FireFacts-allowed : (w : Parts) (h : List Event) (t : TaskId) (s : Spot) (ms : List MsgId) (cs : List TaskId) → IsAllowed w h (Fire t s ms cs) → FireFacts w h t s ms cs
 FireFacts-allowed w h t s ms cs allowed =
-    let a = refused_not (is_new h t) 4 _ allowed in
-    let b = refused_not (is_live w h s) 5 _ a.1 in
-    let c = refused_not (is_choice w h s ms) 6 _ b.1 in
-    let d = refused_not (has_room w h s) 7 _ c.1 in
+    let a = refused_not (is_new h t) _ _ allowed in
+    let b = refused_not (is_live w h s) _ _ a.1 in
+    let c = refused_not (is_choice w h s ms) _ _ b.1 in
+    let d = refused_not (has_room w h s) _ _ c.1 in
     record { new_name = a.0; live = b.0; choice_made = c.0; room = d.0 }
 
 pub taken-push : (h : List Event) (e : Event) → taken (h ++ e ∷ []) ≡ taken h ++ taken_by e

@@ -49,7 +49,7 @@ pub record StartFacts (w : Parts) (h : List Event) (t : TaskId) : Type 0 where
 
 pub StartFacts-allowed : (w : Parts) (h : List Event) (t : TaskId) (a : ℕ) → IsAllowed w h (Start t a) → StartFacts w h t
 StartFacts-allowed w h t a allowed =
-    let first = (refused_not (is_oldest_queued w h t) 13 _ allowed).0 in
+    let first = (refused_not (is_oldest_queued w h t) _ _ allowed).0 in
     let found = some_of (λ (s : Placement). is_first (queued w h s.branch.queue) t) (placement_of w h t) first in
     let head = first_rest (queued w h found.0.branch.queue) t found.2 in
     record { place = found.0; is_place = found.1; others = head.0; is_oldest = head.1 }

@@ -13,6 +13,7 @@ use Rattle.ccr_base.specs.declared.policies.Group.TheVariants as groups
 use Rattle.ccr_model.specs.declared.history.Event.{Event}
 use Rattle.ccr_model.specs.declared.history.Event.TheVariants.{Post, Fire, Admit, Put, Start, End}
 use Rattle.ccr_model.specs.declared.history.EndHow.TheVariants as ends
+use Rattle.ccr_model.specs.declared.rule.Rule.TheVariants as rules
 use Rattle.ccr_model.specs.Tasks.{waiting}
 use Rattle.ccr_model.specs.Legal.{first_refusal, is_complete, is_covered}
 use Rattle.ccr_model.specs.Counts.{totals}
@@ -105,25 +106,25 @@ each_waits_apart : (waiting (apart_wiring two_posts) (two_posted ++ two_fired) 0
 each_waits_apart = (refl, refl)
 
 -- a concurrent task of the second isn't admitted beside an exclusive one of the first
-admitted_beside : first_refusal (combined_wiring two_posts) [] 0 (two_posted ++ two_fired ++ Admit (task 1 0) ∷ Admit (task 1 1) ∷ []) ≡ Some (5, 10)
+admitted_beside : first_refusal (combined_wiring two_posts) [] 0 (two_posted ++ two_fired ++ Admit (task 1 0) ∷ Admit (task 1 1) ∷ []) ≡ Some (5, rules.Admission)
 admitted_beside = refl
 
 admitted_apart : first_refusal (apart_wiring two_posts) [] 0 (two_posted ++ two_fired ++ Admit (task 1 0) ∷ Admit (task 1 1) ∷ []) ≡ None
 admitted_apart = refl
 
 -- nor before it
-admitted_before : first_refusal (combined_wiring two_posts) [] 0 (two_posted ++ two_fired ++ Admit (task 1 1) ∷ []) ≡ Some (4, 9)
+admitted_before : first_refusal (combined_wiring two_posts) [] 0 (two_posted ++ two_fired ++ Admit (task 1 1) ∷ []) ≡ Some (4, rules.OldestWaiting)
 admitted_before = refl
 
 -- the teardown's cuts are those of both
-cuts_its_own : first_refusal (combined_wiring three_posts) [] 0 (three_posted ++ two_fired ++ Fire (task 1 2) (Branch 2) (Script 0 2 ∷ []) (task 1 1 ∷ []) ∷ []) ≡ Some (5, 8)
+cuts_its_own : first_refusal (combined_wiring three_posts) [] 0 (three_posted ++ two_fired ++ Fire (task 1 2) (Branch 2) (Script 0 2 ∷ []) (task 1 1 ∷ []) ∷ []) ≡ Some (5, rules.DueCuts)
 cuts_its_own = refl
 
 cuts_apart : first_refusal (apart_wiring three_posts) [] 0 (three_posted ++ two_fired ++ Fire (task 1 2) (Branch 2) (Script 0 2 ∷ []) (task 1 1 ∷ []) ∷ []) ≡ None
 cuts_apart = refl
 
 -- after the second's teardown no branch of the first fires
-fires_after_teardown : first_refusal (combined_wiring three_posts) [] 0 (three_posted ++ Fire (task 1 0) (Branch 2) (Script 0 2 ∷ []) [] ∷ Fire (task 1 1) (Branch 0) (Script 0 0 ∷ []) [] ∷ []) ≡ Some (4, 5)
+fires_after_teardown : first_refusal (combined_wiring three_posts) [] 0 (three_posted ++ Fire (task 1 0) (Branch 2) (Script 0 2 ∷ []) [] ∷ Fire (task 1 1) (Branch 0) (Script 0 0 ∷ []) [] ∷ []) ≡ Some (4, rules.LiveSpot)
 fires_after_teardown = refl
 
 fires_apart : first_refusal (apart_wiring three_posts) [] 0 (three_posted ++ Fire (task 1 0) (Branch 2) (Script 0 2 ∷ []) [] ∷ Fire (task 1 1) (Branch 0) (Script 0 0 ∷ []) [] ∷ []) ≡ None

@@ -4,6 +4,7 @@ use Rattle.ccr_base.specs.declared.names.MsgId.TheVariants.{Script, Task}
 use Rattle.ccr_base.specs.declared.names.Spot.TheVariants.{Branch, Site}
 use Rattle.ccr_model.specs.declared.history.Event.TheVariants.{Post, Fire, Admit, Put, Start, End}
 use Rattle.ccr_model.specs.declared.history.EndHow.TheVariants as ends
+use Rattle.ccr_model.specs.declared.rule.Rule.TheVariants as rules
 use Rattle.ccr_model.specs.declared.history.Fate.TheVariants as fates
 use Rattle.ccr_model.specs.declared.history.TaskState.TheVariants as states
 use Rattle.ccr_model.specs.Fates.{fate}
@@ -13,130 +14,130 @@ use Rattle.ccr_model.proofs.WorkedRuns.{no_posts_wiring, no_posts_history, one_p
 use Rattle.ccr_model.proofs.WorkedTasks.{interleave_groups_wiring, interleave_groups_history, teardown_cuts_wiring, teardown_cuts_history, budget_shed_wiring, budget_shed_history, causes_shed_history, await_wiring, await_history, await_teardown_waits_wiring, await_teardown_waits_history, cause_lists_history, sum_wraps_history, second_task_shed_wiring, causes_failed_history}
 use Rattle.ccr_model.specs.Legal.{first_refusal}
 
-value_not_the_posters : first_refusal one_post_wiring [] 0 (Post (message (Script 0 0) 0 8 ([])) ∷ Fire (task 1 0) (Branch 0) ((Script 0 0) ∷ []) ([]) ∷ Put (task 1 0) None ∷ Start (task 1 0) 1 ∷ End (task 1 0) ends.Done ∷ []) ≡ Some (0, 1)
+value_not_the_posters : first_refusal one_post_wiring [] 0 (Post (message (Script 0 0) 0 8 ([])) ∷ Fire (task 1 0) (Branch 0) ((Script 0 0) ∷ []) ([]) ∷ Put (task 1 0) None ∷ Start (task 1 0) 1 ∷ End (task 1 0) ends.Done ∷ []) ≡ Some (0, rules.ScriptLine)
 value_not_the_posters = refl
 
-message_not_posted : first_refusal one_post_wiring [] 0 (Post (message (Script 0 0) 0 7 ([])) ∷ Fire (task 1 0) (Branch 0) ((Script 0 1) ∷ []) ([]) ∷ Put (task 1 0) None ∷ Start (task 1 0) 1 ∷ End (task 1 0) ends.Done ∷ []) ≡ Some (1, 6)
+message_not_posted : first_refusal one_post_wiring [] 0 (Post (message (Script 0 0) 0 7 ([])) ∷ Fire (task 1 0) (Branch 0) ((Script 0 1) ∷ []) ([]) ∷ Put (task 1 0) None ∷ Start (task 1 0) 1 ∷ End (task 1 0) ends.Done ∷ []) ≡ Some (1, rules.Choice)
 message_not_posted = refl
 
-task_of_actor_33 : first_refusal one_post_wiring [] 0 (Post (message (Script 0 0) 0 7 ([])) ∷ Fire (task 33 0) (Branch 0) ((Script 0 0) ∷ []) ([]) ∷ Put (task 1 0) None ∷ Start (task 1 0) 1 ∷ End (task 1 0) ends.Done ∷ []) ≡ Some (1, 4)
+task_of_actor_33 : first_refusal one_post_wiring [] 0 (Post (message (Script 0 0) 0 7 ([])) ∷ Fire (task 33 0) (Branch 0) ((Script 0 0) ∷ []) ([]) ∷ Put (task 1 0) None ∷ Start (task 1 0) 1 ∷ End (task 1 0) ends.Done ∷ []) ≡ Some (1, rules.NewTask)
 task_of_actor_33 = refl
 
-cut_without_teardown : first_refusal one_post_wiring [] 0 (Post (message (Script 0 0) 0 7 ([])) ∷ Fire (task 1 0) (Branch 0) ((Script 0 0) ∷ []) ((task 1 0) ∷ []) ∷ Put (task 1 0) None ∷ Start (task 1 0) 1 ∷ End (task 1 0) ends.Done ∷ []) ≡ Some (1, 8)
+cut_without_teardown : first_refusal one_post_wiring [] 0 (Post (message (Script 0 0) 0 7 ([])) ∷ Fire (task 1 0) (Branch 0) ((Script 0 0) ∷ []) ((task 1 0) ∷ []) ∷ Put (task 1 0) None ∷ Start (task 1 0) 1 ∷ End (task 1 0) ends.Done ∷ []) ≡ Some (1, rules.DueCuts)
 cut_without_teardown = refl
 
-fire_twice : first_refusal one_post_wiring [] 0 (Post (message (Script 0 0) 0 7 ([])) ∷ Fire (task 1 0) (Branch 0) ((Script 0 0) ∷ []) ([]) ∷ Fire (task 1 0) (Branch 0) ((Script 0 0) ∷ []) ([]) ∷ Put (task 1 0) None ∷ Start (task 1 0) 1 ∷ End (task 1 0) ends.Done ∷ []) ≡ Some (2, 4)
+fire_twice : first_refusal one_post_wiring [] 0 (Post (message (Script 0 0) 0 7 ([])) ∷ Fire (task 1 0) (Branch 0) ((Script 0 0) ∷ []) ([]) ∷ Fire (task 1 0) (Branch 0) ((Script 0 0) ∷ []) ([]) ∷ Put (task 1 0) None ∷ Start (task 1 0) 1 ∷ End (task 1 0) ends.Done ∷ []) ≡ Some (2, rules.NewTask)
 fire_twice = refl
 
-fire_missing : first_refusal one_post_wiring [] 0 (Post (message (Script 0 0) 0 7 ([])) ∷ Put (task 1 0) None ∷ Start (task 1 0) 1 ∷ End (task 1 0) ends.Done ∷ []) ≡ Some (1, 11)
+fire_missing : first_refusal one_post_wiring [] 0 (Post (message (Script 0 0) 0 7 ([])) ∷ Put (task 1 0) None ∷ Start (task 1 0) 1 ∷ End (task 1 0) ends.Done ∷ []) ≡ Some (1, rules.Ready)
 fire_missing = refl
 
-admit_without_interleave : first_refusal one_post_wiring [] 0 (Post (message (Script 0 0) 0 7 ([])) ∷ Fire (task 1 0) (Branch 0) ((Script 0 0) ∷ []) ([]) ∷ Admit (task 1 0) ∷ Put (task 1 0) None ∷ Start (task 1 0) 1 ∷ End (task 1 0) ends.Done ∷ []) ≡ Some (2, 9)
+admit_without_interleave : first_refusal one_post_wiring [] 0 (Post (message (Script 0 0) 0 7 ([])) ∷ Fire (task 1 0) (Branch 0) ((Script 0 0) ∷ []) ([]) ∷ Admit (task 1 0) ∷ Put (task 1 0) None ∷ Start (task 1 0) 1 ∷ End (task 1 0) ends.Done ∷ []) ≡ Some (2, rules.OldestWaiting)
 admit_without_interleave = refl
 
-drop_without_discard : first_refusal one_post_wiring [] 0 (Post (message (Script 0 0) 0 7 ([])) ∷ Fire (task 1 0) (Branch 0) ((Script 0 0) ∷ []) ([]) ∷ Put (task 1 0) (Some (task 1 0)) ∷ Start (task 1 0) 1 ∷ End (task 1 0) ends.Done ∷ []) ≡ Some (2, 12)
+drop_without_discard : first_refusal one_post_wiring [] 0 (Post (message (Script 0 0) 0 7 ([])) ∷ Fire (task 1 0) (Branch 0) ((Script 0 0) ∷ []) ([]) ∷ Put (task 1 0) (Some (task 1 0)) ∷ Start (task 1 0) 1 ∷ End (task 1 0) ends.Done ∷ []) ≡ Some (2, rules.DueDrop)
 drop_without_discard = refl
 
-poster_starts : first_refusal one_post_wiring [] 0 (Post (message (Script 0 0) 0 7 ([])) ∷ Fire (task 1 0) (Branch 0) ((Script 0 0) ∷ []) ([]) ∷ Put (task 1 0) None ∷ Start (task 1 0) 0 ∷ End (task 1 0) ends.Done ∷ []) ≡ Some (3, 14)
+poster_starts : first_refusal one_post_wiring [] 0 (Post (message (Script 0 0) 0 7 ([])) ∷ Fire (task 1 0) (Branch 0) ((Script 0 0) ∷ []) ([]) ∷ Put (task 1 0) None ∷ Start (task 1 0) 0 ∷ End (task 1 0) ends.Done ∷ []) ≡ Some (3, rules.IdleActor)
 poster_starts = refl
 
-shed_without_posts : first_refusal one_post_wiring [] 0 (Post (message (Script 0 0) 0 7 ([])) ∷ Fire (task 1 0) (Branch 0) ((Script 0 0) ∷ []) ([]) ∷ Put (task 1 0) None ∷ Start (task 1 0) 1 ∷ End (task 1 0) ends.Shed ∷ []) ≡ Some (4, 16)
+shed_without_posts : first_refusal one_post_wiring [] 0 (Post (message (Script 0 0) 0 7 ([])) ∷ Fire (task 1 0) (Branch 0) ((Script 0 0) ∷ []) ([]) ∷ Put (task 1 0) None ∷ Start (task 1 0) 1 ∷ End (task 1 0) ends.Shed ∷ []) ≡ Some (4, rules.Ending)
 shed_without_posts = refl
 
-end_twice : first_refusal one_post_wiring [] 0 (Post (message (Script 0 0) 0 7 ([])) ∷ Fire (task 1 0) (Branch 0) ((Script 0 0) ∷ []) ([]) ∷ Put (task 1 0) None ∷ Start (task 1 0) 1 ∷ End (task 1 0) ends.Done ∷ End (task 1 0) ends.Done ∷ []) ≡ Some (5, 15)
+end_twice : first_refusal one_post_wiring [] 0 (Post (message (Script 0 0) 0 7 ([])) ∷ Fire (task 1 0) (Branch 0) ((Script 0 0) ∷ []) ([]) ∷ Put (task 1 0) None ∷ Start (task 1 0) 1 ∷ End (task 1 0) ends.Done ∷ End (task 1 0) ends.Done ∷ []) ≡ Some (5, rules.Running)
 end_twice = refl
 
-once_receiver_fires_again : first_refusal once_keeps_second_wiring [] 0 (Post (message (Script 0 0) 0 7 ([])) ∷ Post (message (Script 0 1) 0 8 ([])) ∷ Fire (task 1 0) (Branch 0) ((Script 0 0) ∷ []) ([]) ∷ Fire (task 1 1) (Branch 0) ((Script 0 1) ∷ []) ([]) ∷ []) ≡ Some (3, 5)
+once_receiver_fires_again : first_refusal once_keeps_second_wiring [] 0 (Post (message (Script 0 0) 0 7 ([])) ∷ Post (message (Script 0 1) 0 8 ([])) ∷ Fire (task 1 0) (Branch 0) ((Script 0 0) ∷ []) ([]) ∷ Fire (task 1 1) (Branch 0) ((Script 0 1) ∷ []) ([]) ∷ []) ≡ Some (3, rules.LiveSpot)
 once_receiver_fires_again = refl
 
-second_branch_of_a_choice : first_refusal choice_wiring [] 0 (Post (message (Script 0 0) 0 1 ([])) ∷ Post (message (Script 0 1) 1 2 ([])) ∷ Fire (task 1 0) (Branch 0) ((Script 0 0) ∷ []) ([]) ∷ Fire (task 1 1) (Branch 1) ((Script 0 1) ∷ []) ([]) ∷ []) ≡ Some (3, 5)
+second_branch_of_a_choice : first_refusal choice_wiring [] 0 (Post (message (Script 0 0) 0 1 ([])) ∷ Post (message (Script 0 1) 1 2 ([])) ∷ Fire (task 1 0) (Branch 0) ((Script 0 0) ∷ []) ([]) ∷ Fire (task 1 1) (Branch 1) ((Script 0 1) ∷ []) ([]) ∷ []) ≡ Some (3, rules.LiveSpot)
 second_branch_of_a_choice = refl
 
-throttle_full_of_a_task_on_its_way : first_refusal throttle_wiring [] 0 (Post (message (Script 0 0) 0 1 ([])) ∷ Post (message (Script 0 1) 0 2 ([])) ∷ Post (message (Script 0 2) 0 3 ([])) ∷ Fire (task 1 0) (Branch 0) ((Script 0 0) ∷ []) ([]) ∷ Fire (task 1 1) (Branch 0) ((Script 0 1) ∷ []) ([]) ∷ []) ≡ Some (4, 7)
+throttle_full_of_a_task_on_its_way : first_refusal throttle_wiring [] 0 (Post (message (Script 0 0) 0 1 ([])) ∷ Post (message (Script 0 1) 0 2 ([])) ∷ Post (message (Script 0 2) 0 3 ([])) ∷ Fire (task 1 0) (Branch 0) ((Script 0 0) ∷ []) ([]) ∷ Fire (task 1 1) (Branch 0) ((Script 0 1) ∷ []) ([]) ∷ []) ≡ Some (4, rules.Room)
 throttle_full_of_a_task_on_its_way = refl
 
-throttle_full_of_a_queued_task : first_refusal throttle_wiring [] 0 (Post (message (Script 0 0) 0 1 ([])) ∷ Post (message (Script 0 1) 0 2 ([])) ∷ Post (message (Script 0 2) 0 3 ([])) ∷ Fire (task 1 0) (Branch 0) ((Script 0 0) ∷ []) ([]) ∷ Put (task 1 0) None ∷ Fire (task 1 1) (Branch 0) ((Script 0 1) ∷ []) ([]) ∷ []) ≡ Some (5, 7)
+throttle_full_of_a_queued_task : first_refusal throttle_wiring [] 0 (Post (message (Script 0 0) 0 1 ([])) ∷ Post (message (Script 0 1) 0 2 ([])) ∷ Post (message (Script 0 2) 0 3 ([])) ∷ Fire (task 1 0) (Branch 0) ((Script 0 0) ∷ []) ([]) ∷ Put (task 1 0) None ∷ Fire (task 1 1) (Branch 0) ((Script 0 1) ∷ []) ([]) ∷ []) ≡ Some (5, rules.Room)
 throttle_full_of_a_queued_task = refl
 
-exclusive_beside_concurrent : first_refusal interleave_groups_wiring [] 0 (Post (message (Script 0 0) 0 1 ([])) ∷ Post (message (Script 0 1) 1 2 ([])) ∷ Post (message (Script 0 2) 2 3 ([])) ∷ Fire (task 1 0) (Branch 0) ((Script 0 0) ∷ []) ([]) ∷ Fire (task 1 1) (Branch 1) ((Script 0 1) ∷ []) ([]) ∷ Fire (task 1 2) (Branch 2) ((Script 0 2) ∷ []) ([]) ∷ Admit (task 1 0) ∷ Put (task 1 0) None ∷ Start (task 1 0) 1 ∷ Admit (task 1 1) ∷ []) ≡ Some (9, 10)
+exclusive_beside_concurrent : first_refusal interleave_groups_wiring [] 0 (Post (message (Script 0 0) 0 1 ([])) ∷ Post (message (Script 0 1) 1 2 ([])) ∷ Post (message (Script 0 2) 2 3 ([])) ∷ Fire (task 1 0) (Branch 0) ((Script 0 0) ∷ []) ([]) ∷ Fire (task 1 1) (Branch 1) ((Script 0 1) ∷ []) ([]) ∷ Fire (task 1 2) (Branch 2) ((Script 0 2) ∷ []) ([]) ∷ Admit (task 1 0) ∷ Put (task 1 0) None ∷ Start (task 1 0) 1 ∷ Admit (task 1 1) ∷ []) ≡ Some (9, rules.Admission)
 exclusive_beside_concurrent = refl
 
-newest_starts_first : first_refusal discard_wiring [] 0 (Post (message (Script 0 0) 0 1 ([])) ∷ Post (message (Script 0 1) 0 2 ([])) ∷ Post (message (Script 0 2) 0 3 ([])) ∷ Post (message (Script 0 3) 0 4 ([])) ∷ Fire (task 1 0) (Branch 0) ((Script 0 0) ∷ []) ([]) ∷ Fire (task 1 1) (Branch 0) ((Script 0 1) ∷ []) ([]) ∷ Fire (task 1 2) (Branch 0) ((Script 0 2) ∷ []) ([]) ∷ Fire (task 1 3) (Branch 0) ((Script 0 3) ∷ []) ([]) ∷ Put (task 1 0) None ∷ Put (task 1 1) None ∷ Put (task 1 2) (Some (task 1 0)) ∷ Put (task 1 3) (Some (task 1 1)) ∷ Start (task 1 3) 1 ∷ []) ≡ Some (12, 13)
+newest_starts_first : first_refusal discard_wiring [] 0 (Post (message (Script 0 0) 0 1 ([])) ∷ Post (message (Script 0 1) 0 2 ([])) ∷ Post (message (Script 0 2) 0 3 ([])) ∷ Post (message (Script 0 3) 0 4 ([])) ∷ Fire (task 1 0) (Branch 0) ((Script 0 0) ∷ []) ([]) ∷ Fire (task 1 1) (Branch 0) ((Script 0 1) ∷ []) ([]) ∷ Fire (task 1 2) (Branch 0) ((Script 0 2) ∷ []) ([]) ∷ Fire (task 1 3) (Branch 0) ((Script 0 3) ∷ []) ([]) ∷ Put (task 1 0) None ∷ Put (task 1 1) None ∷ Put (task 1 2) (Some (task 1 0)) ∷ Put (task 1 3) (Some (task 1 1)) ∷ Start (task 1 3) 1 ∷ []) ≡ Some (12, rules.OldestQueued)
 newest_starts_first = refl
 
-task_posts_another_value : first_refusal budget_shed_wiring [] 0 (Post (message (Script 0 0) 0 5 ([])) ∷ Fire (task 1 0) (Branch 0) ((Script 0 0) ∷ []) ([]) ∷ Put (task 1 0) None ∷ Start (task 1 0) 1 ∷ Post (message (Task (task 1 0) 0) 0 6 ([])) ∷ []) ≡ Some (4, 2)
+task_posts_another_value : first_refusal budget_shed_wiring [] 0 (Post (message (Script 0 0) 0 5 ([])) ∷ Fire (task 1 0) (Branch 0) ((Script 0 0) ∷ []) ([]) ∷ Put (task 1 0) None ∷ Start (task 1 0) 1 ∷ Post (message (Task (task 1 0) 0) 0 6 ([])) ∷ []) ≡ Some (4, rules.PlayPost)
 task_posts_another_value = refl
 
-task_posts_out_of_turn : first_refusal budget_shed_wiring [] 0 (Post (message (Script 0 0) 0 5 ([])) ∷ Fire (task 1 0) (Branch 0) ((Script 0 0) ∷ []) ([]) ∷ Put (task 1 0) None ∷ Start (task 1 0) 1 ∷ Post (message (Task (task 1 0) 1) 0 5 ([])) ∷ []) ≡ Some (4, 2)
+task_posts_out_of_turn : first_refusal budget_shed_wiring [] 0 (Post (message (Script 0 0) 0 5 ([])) ∷ Fire (task 1 0) (Branch 0) ((Script 0 0) ∷ []) ([]) ∷ Put (task 1 0) None ∷ Start (task 1 0) 1 ∷ Post (message (Task (task 1 0) 1) 0 5 ([])) ∷ []) ≡ Some (4, rules.PlayPost)
 task_posts_out_of_turn = refl
 
-task_posts_before_its_start : first_refusal budget_shed_wiring [] 0 (Post (message (Script 0 0) 0 5 ([])) ∷ Fire (task 1 0) (Branch 0) ((Script 0 0) ∷ []) ([]) ∷ Put (task 1 0) None ∷ Start (task 1 0) 1 ∷ Post (message (Task (task 1 0) 0) 0 5 ([])) ∷ Fire (task 1 1) (Branch 0) ((Task (task 1 0) 0) ∷ []) ([]) ∷ Put (task 1 1) None ∷ End (task 1 0) ends.Done ∷ Start (task 1 1) 1 ∷ Post (message (Task (task 1 1) 0) 0 5 ([])) ∷ Fire (task 1 2) (Branch 0) ((Task (task 1 1) 0) ∷ []) ([]) ∷ Put (task 1 2) None ∷ End (task 1 1) ends.Done ∷ Start (task 1 2) 1 ∷ Post (message (Task (task 1 2) 0) 0 5 ([])) ∷ Fire (task 1 3) (Branch 0) ((Task (task 1 2) 0) ∷ []) ([]) ∷ Put (task 1 3) None ∷ End (task 1 2) ends.Done ∷ Post (message (Task (task 1 3) 0) 0 5 ([])) ∷ []) ≡ Some (18, 2)
+task_posts_before_its_start : first_refusal budget_shed_wiring [] 0 (Post (message (Script 0 0) 0 5 ([])) ∷ Fire (task 1 0) (Branch 0) ((Script 0 0) ∷ []) ([]) ∷ Put (task 1 0) None ∷ Start (task 1 0) 1 ∷ Post (message (Task (task 1 0) 0) 0 5 ([])) ∷ Fire (task 1 1) (Branch 0) ((Task (task 1 0) 0) ∷ []) ([]) ∷ Put (task 1 1) None ∷ End (task 1 0) ends.Done ∷ Start (task 1 1) 1 ∷ Post (message (Task (task 1 1) 0) 0 5 ([])) ∷ Fire (task 1 2) (Branch 0) ((Task (task 1 1) 0) ∷ []) ([]) ∷ Put (task 1 2) None ∷ End (task 1 1) ends.Done ∷ Start (task 1 2) 1 ∷ Post (message (Task (task 1 2) 0) 0 5 ([])) ∷ Fire (task 1 3) (Branch 0) ((Task (task 1 2) 0) ∷ []) ([]) ∷ Put (task 1 3) None ∷ End (task 1 2) ends.Done ∷ Post (message (Task (task 1 3) 0) 0 5 ([])) ∷ []) ≡ Some (18, rules.PlayPost)
 task_posts_before_its_start = refl
 
-task_posts_beyond_the_budget : first_refusal budget_shed_wiring [] 0 (Post (message (Script 0 0) 0 5 ([])) ∷ Fire (task 1 0) (Branch 0) ((Script 0 0) ∷ []) ([]) ∷ Put (task 1 0) None ∷ Start (task 1 0) 1 ∷ Post (message (Task (task 1 0) 0) 0 5 ([])) ∷ Fire (task 1 1) (Branch 0) ((Task (task 1 0) 0) ∷ []) ([]) ∷ Put (task 1 1) None ∷ End (task 1 0) ends.Done ∷ Start (task 1 1) 1 ∷ Post (message (Task (task 1 1) 0) 0 5 ([])) ∷ Fire (task 1 2) (Branch 0) ((Task (task 1 1) 0) ∷ []) ([]) ∷ Put (task 1 2) None ∷ End (task 1 1) ends.Done ∷ Start (task 1 2) 1 ∷ Post (message (Task (task 1 2) 0) 0 5 ([])) ∷ Fire (task 1 3) (Branch 0) ((Task (task 1 2) 0) ∷ []) ([]) ∷ Put (task 1 3) None ∷ End (task 1 2) ends.Done ∷ Start (task 1 3) 1 ∷ Post (message (Task (task 1 3) 0) 0 5 ([])) ∷ []) ≡ Some (19, 3)
+task_posts_beyond_the_budget : first_refusal budget_shed_wiring [] 0 (Post (message (Script 0 0) 0 5 ([])) ∷ Fire (task 1 0) (Branch 0) ((Script 0 0) ∷ []) ([]) ∷ Put (task 1 0) None ∷ Start (task 1 0) 1 ∷ Post (message (Task (task 1 0) 0) 0 5 ([])) ∷ Fire (task 1 1) (Branch 0) ((Task (task 1 0) 0) ∷ []) ([]) ∷ Put (task 1 1) None ∷ End (task 1 0) ends.Done ∷ Start (task 1 1) 1 ∷ Post (message (Task (task 1 1) 0) 0 5 ([])) ∷ Fire (task 1 2) (Branch 0) ((Task (task 1 1) 0) ∷ []) ([]) ∷ Put (task 1 2) None ∷ End (task 1 1) ends.Done ∷ Start (task 1 2) 1 ∷ Post (message (Task (task 1 2) 0) 0 5 ([])) ∷ Fire (task 1 3) (Branch 0) ((Task (task 1 2) 0) ∷ []) ([]) ∷ Put (task 1 3) None ∷ End (task 1 2) ends.Done ∷ Start (task 1 3) 1 ∷ Post (message (Task (task 1 3) 0) 0 5 ([])) ∷ []) ≡ Some (19, rules.Budget)
 task_posts_beyond_the_budget = refl
 
-shed_with_budget_left : first_refusal budget_shed_wiring [] 0 (Post (message (Script 0 0) 0 5 ([])) ∷ Fire (task 1 0) (Branch 0) ((Script 0 0) ∷ []) ([]) ∷ Put (task 1 0) None ∷ Start (task 1 0) 1 ∷ End (task 1 0) ends.Shed ∷ []) ≡ Some (4, 16)
+shed_with_budget_left : first_refusal budget_shed_wiring [] 0 (Post (message (Script 0 0) 0 5 ([])) ∷ Fire (task 1 0) (Branch 0) ((Script 0 0) ∷ []) ([]) ∷ Put (task 1 0) None ∷ Start (task 1 0) 1 ∷ End (task 1 0) ends.Shed ∷ []) ≡ Some (4, rules.Ending)
 shed_with_budget_left = refl
 
-done_with_a_post_left : first_refusal budget_shed_wiring [] 0 (Post (message (Script 0 0) 0 5 ([])) ∷ Fire (task 1 0) (Branch 0) ((Script 0 0) ∷ []) ([]) ∷ Put (task 1 0) None ∷ Start (task 1 0) 1 ∷ End (task 1 0) ends.Done ∷ []) ≡ Some (4, 16)
+done_with_a_post_left : first_refusal budget_shed_wiring [] 0 (Post (message (Script 0 0) 0 5 ([])) ∷ Fire (task 1 0) (Branch 0) ((Script 0 0) ∷ []) ([]) ∷ Put (task 1 0) None ∷ Start (task 1 0) 1 ∷ End (task 1 0) ends.Done ∷ []) ≡ Some (4, rules.Ending)
 done_with_a_post_left = refl
 
-gather_of_the_newer_first : first_refusal gather_wiring [] 0 (Post (message (Script 0 0) 0 1 ([])) ∷ Post (message (Script 0 1) 1 2 ([])) ∷ Post (message (Script 0 2) 1 3 ([])) ∷ Post (message (Script 0 3) 0 4 ([])) ∷ Fire (task 1 0) (Branch 0) ((Script 0 3) ∷ (Script 0 0) ∷ (Script 0 1) ∷ []) ([]) ∷ []) ≡ Some (4, 6)
+gather_of_the_newer_first : first_refusal gather_wiring [] 0 (Post (message (Script 0 0) 0 1 ([])) ∷ Post (message (Script 0 1) 1 2 ([])) ∷ Post (message (Script 0 2) 1 3 ([])) ∷ Post (message (Script 0 3) 0 4 ([])) ∷ Fire (task 1 0) (Branch 0) ((Script 0 3) ∷ (Script 0 0) ∷ (Script 0 1) ∷ []) ([]) ∷ []) ≡ Some (4, rules.Choice)
 gather_of_the_newer_first = refl
 
-gather_of_the_second_port_first : first_refusal gather_wiring [] 0 (Post (message (Script 0 0) 0 1 ([])) ∷ Post (message (Script 0 1) 1 2 ([])) ∷ Post (message (Script 0 2) 1 3 ([])) ∷ Post (message (Script 0 3) 0 4 ([])) ∷ Fire (task 1 0) (Branch 0) ((Script 0 1) ∷ (Script 0 2) ∷ (Script 0 0) ∷ []) ([]) ∷ []) ≡ Some (4, 6)
+gather_of_the_second_port_first : first_refusal gather_wiring [] 0 (Post (message (Script 0 0) 0 1 ([])) ∷ Post (message (Script 0 1) 1 2 ([])) ∷ Post (message (Script 0 2) 1 3 ([])) ∷ Post (message (Script 0 3) 0 4 ([])) ∷ Fire (task 1 0) (Branch 0) ((Script 0 1) ∷ (Script 0 2) ∷ (Script 0 0) ∷ []) ([]) ∷ []) ≡ Some (4, rules.Choice)
 gather_of_the_second_port_first = refl
 
-gather_of_too_few : first_refusal gather_wiring [] 0 (Post (message (Script 0 0) 0 1 ([])) ∷ Post (message (Script 0 1) 1 2 ([])) ∷ Post (message (Script 0 2) 1 3 ([])) ∷ Post (message (Script 0 3) 0 4 ([])) ∷ Fire (task 1 0) (Branch 0) ((Script 0 0) ∷ (Script 0 3) ∷ []) ([]) ∷ []) ≡ Some (4, 6)
+gather_of_too_few : first_refusal gather_wiring [] 0 (Post (message (Script 0 0) 0 1 ([])) ∷ Post (message (Script 0 1) 1 2 ([])) ∷ Post (message (Script 0 2) 1 3 ([])) ∷ Post (message (Script 0 3) 0 4 ([])) ∷ Fire (task 1 0) (Branch 0) ((Script 0 0) ∷ (Script 0 3) ∷ []) ([]) ∷ []) ≡ Some (4, rules.Choice)
 gather_of_too_few = refl
 
-teardown_cuts_one_of_two : first_refusal teardown_cuts_wiring [] 0 (Post (message (Script 0 0) 0 1 ([])) ∷ Post (message (Script 0 1) 0 2 ([])) ∷ Post (message (Script 0 2) 1 3 ([])) ∷ Fire (task 1 0) (Branch 0) ((Script 0 0) ∷ []) ([]) ∷ Fire (task 1 1) (Branch 0) ((Script 0 1) ∷ []) ([]) ∷ Fire (task 1 2) (Branch 1) ((Script 0 2) ∷ []) ((task 1 0) ∷ []) ∷ []) ≡ Some (5, 8)
+teardown_cuts_one_of_two : first_refusal teardown_cuts_wiring [] 0 (Post (message (Script 0 0) 0 1 ([])) ∷ Post (message (Script 0 1) 0 2 ([])) ∷ Post (message (Script 0 2) 1 3 ([])) ∷ Fire (task 1 0) (Branch 0) ((Script 0 0) ∷ []) ([]) ∷ Fire (task 1 1) (Branch 0) ((Script 0 1) ∷ []) ([]) ∷ Fire (task 1 2) (Branch 1) ((Script 0 2) ∷ []) ((task 1 0) ∷ []) ∷ []) ≡ Some (5, rules.DueCuts)
 teardown_cuts_one_of_two = refl
 
-teardown_cuts_nothing : first_refusal teardown_cuts_wiring [] 0 (Post (message (Script 0 0) 0 1 ([])) ∷ Post (message (Script 0 1) 0 2 ([])) ∷ Post (message (Script 0 2) 1 3 ([])) ∷ Fire (task 1 0) (Branch 0) ((Script 0 0) ∷ []) ([]) ∷ Fire (task 1 1) (Branch 0) ((Script 0 1) ∷ []) ([]) ∷ Fire (task 1 2) (Branch 1) ((Script 0 2) ∷ []) ([]) ∷ []) ≡ Some (5, 8)
+teardown_cuts_nothing : first_refusal teardown_cuts_wiring [] 0 (Post (message (Script 0 0) 0 1 ([])) ∷ Post (message (Script 0 1) 0 2 ([])) ∷ Post (message (Script 0 2) 1 3 ([])) ∷ Fire (task 1 0) (Branch 0) ((Script 0 0) ∷ []) ([]) ∷ Fire (task 1 1) (Branch 0) ((Script 0 1) ∷ []) ([]) ∷ Fire (task 1 2) (Branch 1) ((Script 0 2) ∷ []) ([]) ∷ []) ≡ Some (5, rules.DueCuts)
 teardown_cuts_nothing = refl
 
-cut_task_is_put : first_refusal teardown_cuts_wiring [] 0 (Post (message (Script 0 0) 0 1 ([])) ∷ Post (message (Script 0 1) 0 2 ([])) ∷ Post (message (Script 0 2) 1 3 ([])) ∷ Fire (task 1 0) (Branch 0) ((Script 0 0) ∷ []) ([]) ∷ Fire (task 1 1) (Branch 0) ((Script 0 1) ∷ []) ([]) ∷ Fire (task 1 2) (Branch 1) ((Script 0 2) ∷ []) ((task 1 0) ∷ (task 1 1) ∷ []) ∷ Put (task 1 0) None ∷ []) ≡ Some (6, 11)
+cut_task_is_put : first_refusal teardown_cuts_wiring [] 0 (Post (message (Script 0 0) 0 1 ([])) ∷ Post (message (Script 0 1) 0 2 ([])) ∷ Post (message (Script 0 2) 1 3 ([])) ∷ Fire (task 1 0) (Branch 0) ((Script 0 0) ∷ []) ([]) ∷ Fire (task 1 1) (Branch 0) ((Script 0 1) ∷ []) ([]) ∷ Fire (task 1 2) (Branch 1) ((Script 0 2) ∷ []) ((task 1 0) ∷ (task 1 1) ∷ []) ∷ Put (task 1 0) None ∷ []) ≡ Some (6, rules.Ready)
 cut_task_is_put = refl
 
-done_at_an_await : first_refusal await_wiring [] 0 (Post (message (Script 0 0) 0 1 ([])) ∷ Post (message (Script 0 1) 2 2 ([])) ∷ Post (message (Script 0 2) 1 3 ([])) ∷ Fire (task 1 0) (Branch 0) ((Script 0 0) ∷ []) ([]) ∷ Fire (task 1 1) (Branch 1) ((Script 0 1) ∷ []) ([]) ∷ Admit (task 1 0) ∷ Put (task 1 0) None ∷ Start (task 1 0) 1 ∷ End (task 1 0) ends.Done ∷ []) ≡ Some (8, 16)
+done_at_an_await : first_refusal await_wiring [] 0 (Post (message (Script 0 0) 0 1 ([])) ∷ Post (message (Script 0 1) 2 2 ([])) ∷ Post (message (Script 0 2) 1 3 ([])) ∷ Fire (task 1 0) (Branch 0) ((Script 0 0) ∷ []) ([]) ∷ Fire (task 1 1) (Branch 1) ((Script 0 1) ∷ []) ([]) ∷ Admit (task 1 0) ∷ Put (task 1 0) None ∷ Start (task 1 0) 1 ∷ End (task 1 0) ends.Done ∷ []) ≡ Some (8, rules.Ending)
 done_at_an_await = refl
 
-resumed_before_its_yield : first_refusal await_wiring [] 0 (Post (message (Script 0 0) 0 1 ([])) ∷ Post (message (Script 0 1) 2 2 ([])) ∷ Post (message (Script 0 2) 1 3 ([])) ∷ Fire (task 1 0) (Branch 0) ((Script 0 0) ∷ []) ([]) ∷ Fire (task 1 1) (Branch 1) ((Script 0 1) ∷ []) ([]) ∷ Admit (task 1 0) ∷ Put (task 1 0) None ∷ Start (task 1 0) 1 ∷ Fire (task 1 2) (Site 0 0) ((Script 0 2) ∷ []) ([]) ∷ []) ≡ Some (8, 5)
+resumed_before_its_yield : first_refusal await_wiring [] 0 (Post (message (Script 0 0) 0 1 ([])) ∷ Post (message (Script 0 1) 2 2 ([])) ∷ Post (message (Script 0 2) 1 3 ([])) ∷ Fire (task 1 0) (Branch 0) ((Script 0 0) ∷ []) ([]) ∷ Fire (task 1 1) (Branch 1) ((Script 0 1) ∷ []) ([]) ∷ Admit (task 1 0) ∷ Put (task 1 0) None ∷ Start (task 1 0) 1 ∷ Fire (task 1 2) (Site 0 0) ((Script 0 2) ∷ []) ([]) ∷ []) ≡ Some (8, rules.LiveSpot)
 resumed_before_its_yield = refl
 
-resumed_by_a_message_of_another_port : first_refusal await_wiring [] 0 (Post (message (Script 0 0) 0 1 ([])) ∷ Post (message (Script 0 1) 2 2 ([])) ∷ Post (message (Script 0 2) 1 3 ([])) ∷ Fire (task 1 0) (Branch 0) ((Script 0 0) ∷ []) ([]) ∷ Fire (task 1 1) (Branch 1) ((Script 0 1) ∷ []) ([]) ∷ Admit (task 1 0) ∷ Put (task 1 0) None ∷ Start (task 1 0) 1 ∷ End (task 1 0) ends.Yield ∷ Fire (task 1 2) (Site 0 0) ((Script 0 1) ∷ []) ([]) ∷ []) ≡ Some (9, 6)
+resumed_by_a_message_of_another_port : first_refusal await_wiring [] 0 (Post (message (Script 0 0) 0 1 ([])) ∷ Post (message (Script 0 1) 2 2 ([])) ∷ Post (message (Script 0 2) 1 3 ([])) ∷ Fire (task 1 0) (Branch 0) ((Script 0 0) ∷ []) ([]) ∷ Fire (task 1 1) (Branch 1) ((Script 0 1) ∷ []) ([]) ∷ Admit (task 1 0) ∷ Put (task 1 0) None ∷ Start (task 1 0) 1 ∷ End (task 1 0) ends.Yield ∷ Fire (task 1 2) (Site 0 0) ((Script 0 1) ∷ []) ([]) ∷ []) ≡ Some (9, rules.Choice)
 resumed_by_a_message_of_another_port = refl
 
-concurrent_beside_a_suspended_exclusive : first_refusal await_wiring [] 0 (Post (message (Script 0 0) 0 1 ([])) ∷ Post (message (Script 0 1) 2 2 ([])) ∷ Post (message (Script 0 2) 1 3 ([])) ∷ Fire (task 1 0) (Branch 0) ((Script 0 0) ∷ []) ([]) ∷ Fire (task 1 1) (Branch 1) ((Script 0 1) ∷ []) ([]) ∷ Admit (task 1 0) ∷ Put (task 1 0) None ∷ Start (task 1 0) 1 ∷ End (task 1 0) ends.Yield ∷ Admit (task 1 1) ∷ []) ≡ Some (9, 10)
+concurrent_beside_a_suspended_exclusive : first_refusal await_wiring [] 0 (Post (message (Script 0 0) 0 1 ([])) ∷ Post (message (Script 0 1) 2 2 ([])) ∷ Post (message (Script 0 2) 1 3 ([])) ∷ Fire (task 1 0) (Branch 0) ((Script 0 0) ∷ []) ([]) ∷ Fire (task 1 1) (Branch 1) ((Script 0 1) ∷ []) ([]) ∷ Admit (task 1 0) ∷ Put (task 1 0) None ∷ Start (task 1 0) 1 ∷ End (task 1 0) ends.Yield ∷ Admit (task 1 1) ∷ []) ≡ Some (9, rules.Admission)
 concurrent_beside_a_suspended_exclusive = refl
 
-teardown_beside_a_suspended_exclusive : first_refusal await_teardown_waits_wiring [] 0 (Post (message (Script 0 0) 0 1 ([])) ∷ Fire (task 1 0) (Branch 0) ((Script 0 0) ∷ []) ([]) ∷ Admit (task 1 0) ∷ Put (task 1 0) None ∷ Start (task 1 0) 1 ∷ Post (message (Task (task 1 0) 0) 2 1 ([])) ∷ Fire (task 1 1) (Branch 1) ((Task (task 1 0) 0) ∷ []) ([]) ∷ End (task 1 0) ends.Yield ∷ Admit (task 1 1) ∷ []) ≡ Some (8, 10)
+teardown_beside_a_suspended_exclusive : first_refusal await_teardown_waits_wiring [] 0 (Post (message (Script 0 0) 0 1 ([])) ∷ Fire (task 1 0) (Branch 0) ((Script 0 0) ∷ []) ([]) ∷ Admit (task 1 0) ∷ Put (task 1 0) None ∷ Start (task 1 0) 1 ∷ Post (message (Task (task 1 0) 0) 2 1 ([])) ∷ Fire (task 1 1) (Branch 1) ((Task (task 1 0) 0) ∷ []) ([]) ∷ End (task 1 0) ends.Yield ∷ Admit (task 1 1) ∷ []) ≡ Some (8, rules.Admission)
 teardown_beside_a_suspended_exclusive = refl
 
-full_queue_drops_nothing : first_refusal discard_wiring [] 0 (Post (message (Script 0 0) 0 1 ([])) ∷ Post (message (Script 0 1) 0 2 ([])) ∷ Post (message (Script 0 2) 0 3 ([])) ∷ Post (message (Script 0 3) 0 4 ([])) ∷ Fire (task 1 0) (Branch 0) ((Script 0 0) ∷ []) ([]) ∷ Fire (task 1 1) (Branch 0) ((Script 0 1) ∷ []) ([]) ∷ Fire (task 1 2) (Branch 0) ((Script 0 2) ∷ []) ([]) ∷ Fire (task 1 3) (Branch 0) ((Script 0 3) ∷ []) ([]) ∷ Put (task 1 0) None ∷ Put (task 1 1) None ∷ Put (task 1 2) None ∷ []) ≡ Some (10, 12)
+full_queue_drops_nothing : first_refusal discard_wiring [] 0 (Post (message (Script 0 0) 0 1 ([])) ∷ Post (message (Script 0 1) 0 2 ([])) ∷ Post (message (Script 0 2) 0 3 ([])) ∷ Post (message (Script 0 3) 0 4 ([])) ∷ Fire (task 1 0) (Branch 0) ((Script 0 0) ∷ []) ([]) ∷ Fire (task 1 1) (Branch 0) ((Script 0 1) ∷ []) ([]) ∷ Fire (task 1 2) (Branch 0) ((Script 0 2) ∷ []) ([]) ∷ Fire (task 1 3) (Branch 0) ((Script 0 3) ∷ []) ([]) ∷ Put (task 1 0) None ∷ Put (task 1 1) None ∷ Put (task 1 2) None ∷ []) ≡ Some (10, rules.DueDrop)
 full_queue_drops_nothing = refl
 
-full_queue_drops_the_newer : first_refusal discard_wiring [] 0 (Post (message (Script 0 0) 0 1 ([])) ∷ Post (message (Script 0 1) 0 2 ([])) ∷ Post (message (Script 0 2) 0 3 ([])) ∷ Post (message (Script 0 3) 0 4 ([])) ∷ Fire (task 1 0) (Branch 0) ((Script 0 0) ∷ []) ([]) ∷ Fire (task 1 1) (Branch 0) ((Script 0 1) ∷ []) ([]) ∷ Fire (task 1 2) (Branch 0) ((Script 0 2) ∷ []) ([]) ∷ Fire (task 1 3) (Branch 0) ((Script 0 3) ∷ []) ([]) ∷ Put (task 1 0) None ∷ Put (task 1 1) None ∷ Put (task 1 2) (Some (task 1 1)) ∷ []) ≡ Some (10, 12)
+full_queue_drops_the_newer : first_refusal discard_wiring [] 0 (Post (message (Script 0 0) 0 1 ([])) ∷ Post (message (Script 0 1) 0 2 ([])) ∷ Post (message (Script 0 2) 0 3 ([])) ∷ Post (message (Script 0 3) 0 4 ([])) ∷ Fire (task 1 0) (Branch 0) ((Script 0 0) ∷ []) ([]) ∷ Fire (task 1 1) (Branch 0) ((Script 0 1) ∷ []) ([]) ∷ Fire (task 1 2) (Branch 0) ((Script 0 2) ∷ []) ([]) ∷ Fire (task 1 3) (Branch 0) ((Script 0 3) ∷ []) ([]) ∷ Put (task 1 0) None ∷ Put (task 1 1) None ∷ Put (task 1 2) (Some (task 1 1)) ∷ []) ≡ Some (10, rules.DueDrop)
 full_queue_drops_the_newer = refl
 
-drop_below_the_limit : first_refusal discard_wiring [] 0 (Post (message (Script 0 0) 0 1 ([])) ∷ Post (message (Script 0 1) 0 2 ([])) ∷ Post (message (Script 0 2) 0 3 ([])) ∷ Post (message (Script 0 3) 0 4 ([])) ∷ Fire (task 1 0) (Branch 0) ((Script 0 0) ∷ []) ([]) ∷ Fire (task 1 1) (Branch 0) ((Script 0 1) ∷ []) ([]) ∷ Fire (task 1 2) (Branch 0) ((Script 0 2) ∷ []) ([]) ∷ Fire (task 1 3) (Branch 0) ((Script 0 3) ∷ []) ([]) ∷ Put (task 1 0) None ∷ Put (task 1 1) (Some (task 1 0)) ∷ []) ≡ Some (9, 12)
+drop_below_the_limit : first_refusal discard_wiring [] 0 (Post (message (Script 0 0) 0 1 ([])) ∷ Post (message (Script 0 1) 0 2 ([])) ∷ Post (message (Script 0 2) 0 3 ([])) ∷ Post (message (Script 0 3) 0 4 ([])) ∷ Fire (task 1 0) (Branch 0) ((Script 0 0) ∷ []) ([]) ∷ Fire (task 1 1) (Branch 0) ((Script 0 1) ∷ []) ([]) ∷ Fire (task 1 2) (Branch 0) ((Script 0 2) ∷ []) ([]) ∷ Fire (task 1 3) (Branch 0) ((Script 0 3) ∷ []) ([]) ∷ Put (task 1 0) None ∷ Put (task 1 1) (Some (task 1 0)) ∷ []) ≡ Some (9, rules.DueDrop)
 drop_below_the_limit = refl
 
-start_of_no_task : first_refusal no_posts_wiring [] 0 (Start (task 1 0) 1 ∷ []) ≡ Some (0, 13)
+start_of_no_task : first_refusal no_posts_wiring [] 0 (Start (task 1 0) 1 ∷ []) ≡ Some (0, rules.OldestQueued)
 start_of_no_task = refl
 
-end_of_no_task : first_refusal no_posts_wiring [] 0 (End (task 1 0) ends.Done ∷ []) ≡ Some (0, 15)
+end_of_no_task : first_refusal no_posts_wiring [] 0 (End (task 1 0) ends.Done ∷ []) ≡ Some (0, rules.Running)
 end_of_no_task = refl
 
-fire_of_an_empty_port : first_refusal no_posts_wiring [] 0 (Fire (task 1 0) (Branch 0) ((Script 0 0) ∷ []) ([]) ∷ []) ≡ Some (0, 6)
+fire_of_an_empty_port : first_refusal no_posts_wiring [] 0 (Fire (task 1 0) (Branch 0) ((Script 0 0) ∷ []) ([]) ∷ []) ≡ Some (0, rules.Choice)
 fire_of_an_empty_port = refl
 
-second_shed_with_budget_left : first_refusal second_task_shed_wiring [] 0 (Post (message (Script 0 0) 0 1 ([])) ∷ Post (message (Script 0 1) 0 2 ([])) ∷ Fire (task 1 0) (Branch 0) ((Script 0 0) ∷ []) ([]) ∷ Fire (task 1 1) (Branch 0) ((Script 0 1) ∷ []) ([]) ∷ Put (task 1 0) None ∷ Put (task 1 1) None ∷ Start (task 1 0) 1 ∷ Start (task 1 1) 2 ∷ End (task 1 0) ends.Shed ∷ End (task 1 1) ends.Shed ∷ []) ≡ Some (9, 16)
+second_shed_with_budget_left : first_refusal second_task_shed_wiring [] 0 (Post (message (Script 0 0) 0 1 ([])) ∷ Post (message (Script 0 1) 0 2 ([])) ∷ Fire (task 1 0) (Branch 0) ((Script 0 0) ∷ []) ([]) ∷ Fire (task 1 1) (Branch 0) ((Script 0 1) ∷ []) ([]) ∷ Put (task 1 0) None ∷ Put (task 1 1) None ∷ Start (task 1 0) 1 ∷ Start (task 1 1) 2 ∷ End (task 1 0) ends.Shed ∷ End (task 1 1) ends.Shed ∷ []) ≡ Some (9, rules.Ending)
 second_shed_with_budget_left = refl
 
-start_of_a_running_task : first_refusal second_task_shed_wiring [] 0 (Post (message (Script 0 0) 0 1 ([])) ∷ Post (message (Script 0 1) 0 2 ([])) ∷ Fire (task 1 0) (Branch 0) ((Script 0 0) ∷ []) ([]) ∷ Fire (task 1 1) (Branch 0) ((Script 0 1) ∷ []) ([]) ∷ Put (task 1 0) None ∷ Put (task 1 1) None ∷ Start (task 1 0) 1 ∷ Start (task 1 1) 2 ∷ Start (task 1 1) 3 ∷ []) ≡ Some (8, 13)
+start_of_a_running_task : first_refusal second_task_shed_wiring [] 0 (Post (message (Script 0 0) 0 1 ([])) ∷ Post (message (Script 0 1) 0 2 ([])) ∷ Fire (task 1 0) (Branch 0) ((Script 0 0) ∷ []) ([]) ∷ Fire (task 1 1) (Branch 0) ((Script 0 1) ∷ []) ([]) ∷ Put (task 1 0) None ∷ Put (task 1 1) None ∷ Start (task 1 0) 1 ∷ Start (task 1 1) 2 ∷ Start (task 1 1) 3 ∷ []) ≡ Some (8, rules.OldestQueued)
 start_of_a_running_task = refl
 
 allowed_shed_while_another_may_spend_the_budget : first_refusal second_task_shed_wiring [] 0 (Post (message (Script 0 0) 0 1 ([])) ∷ Post (message (Script 0 1) 0 2 ([])) ∷ Fire (task 1 0) (Branch 0) ((Script 0 0) ∷ []) ([]) ∷ Fire (task 1 1) (Branch 0) ((Script 0 1) ∷ []) ([]) ∷ Put (task 1 0) None ∷ Put (task 1 1) None ∷ Start (task 1 0) 1 ∷ Start (task 1 1) 2 ∷ End (task 1 0) ends.Shed ∷ Post (message (Task (task 1 1) 0) 1 1 ([])) ∷ End (task 1 1) ends.Done ∷ []) ≡ None
@@ -145,34 +146,34 @@ allowed_shed_while_another_may_spend_the_budget = refl
 allowed_shed_once_the_budget_is_spent : first_refusal second_task_shed_wiring [] 0 (Post (message (Script 0 0) 0 1 ([])) ∷ Post (message (Script 0 1) 0 2 ([])) ∷ Fire (task 1 0) (Branch 0) ((Script 0 0) ∷ []) ([]) ∷ Fire (task 1 1) (Branch 0) ((Script 0 1) ∷ []) ([]) ∷ Put (task 1 0) None ∷ Put (task 1 1) None ∷ Start (task 1 0) 1 ∷ Start (task 1 1) 2 ∷ Post (message (Task (task 1 0) 0) 1 1 ([])) ∷ End (task 1 1) ends.Shed ∷ End (task 1 0) ends.Done ∷ []) ≡ None
 allowed_shed_once_the_budget_is_spent = refl
 
-post_twice : first_refusal one_post_wiring [] 0 (Post (message (Script 0 0) 0 7 ([])) ∷ Post (message (Script 0 0) 0 7 ([])) ∷ []) ≡ Some (1, 1)
+post_twice : first_refusal one_post_wiring [] 0 (Post (message (Script 0 0) 0 7 ([])) ∷ Post (message (Script 0 0) 0 7 ([])) ∷ []) ≡ Some (1, rules.ScriptLine)
 post_twice = refl
 
-post_of_no_poster : first_refusal one_post_wiring [] 0 (Post (message (Script 1 0) 0 7 ([])) ∷ []) ≡ Some (0, 1)
+post_of_no_poster : first_refusal one_post_wiring [] 0 (Post (message (Script 1 0) 0 7 ([])) ∷ []) ≡ Some (0, rules.ScriptLine)
 post_of_no_poster = refl
 
-put_twice : first_refusal one_post_wiring [] 0 (Post (message (Script 0 0) 0 7 ([])) ∷ Fire (task 1 0) (Branch 0) ((Script 0 0) ∷ []) ([]) ∷ Put (task 1 0) None ∷ Put (task 1 0) None ∷ []) ≡ Some (3, 11)
+put_twice : first_refusal one_post_wiring [] 0 (Post (message (Script 0 0) 0 7 ([])) ∷ Fire (task 1 0) (Branch 0) ((Script 0 0) ∷ []) ([]) ∷ Put (task 1 0) None ∷ Put (task 1 0) None ∷ []) ≡ Some (3, rules.Ready)
 put_twice = refl
 
-put_before_its_admission : first_refusal interleave_groups_wiring [] 0 (Post (message (Script 0 0) 0 1 ([])) ∷ Post (message (Script 0 1) 1 2 ([])) ∷ Post (message (Script 0 2) 2 3 ([])) ∷ Fire (task 1 0) (Branch 0) ((Script 0 0) ∷ []) ([]) ∷ Fire (task 1 1) (Branch 1) ((Script 0 1) ∷ []) ([]) ∷ Fire (task 1 2) (Branch 2) ((Script 0 2) ∷ []) ([]) ∷ Put (task 1 0) None ∷ []) ≡ Some (6, 11)
+put_before_its_admission : first_refusal interleave_groups_wiring [] 0 (Post (message (Script 0 0) 0 1 ([])) ∷ Post (message (Script 0 1) 1 2 ([])) ∷ Post (message (Script 0 2) 2 3 ([])) ∷ Fire (task 1 0) (Branch 0) ((Script 0 0) ∷ []) ([]) ∷ Fire (task 1 1) (Branch 1) ((Script 0 1) ∷ []) ([]) ∷ Fire (task 1 2) (Branch 2) ((Script 0 2) ∷ []) ([]) ∷ Put (task 1 0) None ∷ []) ≡ Some (6, rules.Ready)
 put_before_its_admission = refl
 
-admit_out_of_turn : first_refusal interleave_groups_wiring [] 0 (Post (message (Script 0 0) 0 1 ([])) ∷ Post (message (Script 0 1) 1 2 ([])) ∷ Post (message (Script 0 2) 2 3 ([])) ∷ Fire (task 1 0) (Branch 0) ((Script 0 0) ∷ []) ([]) ∷ Fire (task 1 1) (Branch 1) ((Script 0 1) ∷ []) ([]) ∷ Fire (task 1 2) (Branch 2) ((Script 0 2) ∷ []) ([]) ∷ Admit (task 1 1) ∷ []) ≡ Some (6, 9)
+admit_out_of_turn : first_refusal interleave_groups_wiring [] 0 (Post (message (Script 0 0) 0 1 ([])) ∷ Post (message (Script 0 1) 1 2 ([])) ∷ Post (message (Script 0 2) 2 3 ([])) ∷ Fire (task 1 0) (Branch 0) ((Script 0 0) ∷ []) ([]) ∷ Fire (task 1 1) (Branch 1) ((Script 0 1) ∷ []) ([]) ∷ Fire (task 1 2) (Branch 2) ((Script 0 2) ∷ []) ([]) ∷ Admit (task 1 1) ∷ []) ≡ Some (6, rules.OldestWaiting)
 admit_out_of_turn = refl
 
-admit_too_early : first_refusal interleave_groups_wiring [] 0 (Post (message (Script 0 0) 0 1 ([])) ∷ Post (message (Script 0 1) 1 2 ([])) ∷ Post (message (Script 0 2) 2 3 ([])) ∷ Fire (task 1 0) (Branch 0) ((Script 0 0) ∷ []) ([]) ∷ Fire (task 1 1) (Branch 1) ((Script 0 1) ∷ []) ([]) ∷ Fire (task 1 2) (Branch 2) ((Script 0 2) ∷ []) ([]) ∷ Admit (task 1 0) ∷ Put (task 1 0) None ∷ Start (task 1 0) 1 ∷ End (task 1 0) ends.Done ∷ Admit (task 1 1) ∷ Put (task 1 1) None ∷ Start (task 1 1) 1 ∷ Admit (task 1 2) ∷ End (task 1 1) ends.Done ∷ Put (task 1 2) None ∷ Start (task 1 2) 1 ∷ End (task 1 2) ends.Done ∷ []) ≡ Some (13, 10)
+admit_too_early : first_refusal interleave_groups_wiring [] 0 (Post (message (Script 0 0) 0 1 ([])) ∷ Post (message (Script 0 1) 1 2 ([])) ∷ Post (message (Script 0 2) 2 3 ([])) ∷ Fire (task 1 0) (Branch 0) ((Script 0 0) ∷ []) ([]) ∷ Fire (task 1 1) (Branch 1) ((Script 0 1) ∷ []) ([]) ∷ Fire (task 1 2) (Branch 2) ((Script 0 2) ∷ []) ([]) ∷ Admit (task 1 0) ∷ Put (task 1 0) None ∷ Start (task 1 0) 1 ∷ End (task 1 0) ends.Done ∷ Admit (task 1 1) ∷ Put (task 1 1) None ∷ Start (task 1 1) 1 ∷ Admit (task 1 2) ∷ End (task 1 1) ends.Done ∷ Put (task 1 2) None ∷ Start (task 1 2) 1 ∷ End (task 1 2) ends.Done ∷ []) ≡ Some (13, rules.Admission)
 admit_too_early = refl
 
-fire_after_the_teardown : first_refusal teardown_cuts_wiring [] 0 (Post (message (Script 0 0) 0 1 ([])) ∷ Post (message (Script 0 1) 0 2 ([])) ∷ Post (message (Script 0 2) 1 3 ([])) ∷ Fire (task 1 0) (Branch 0) ((Script 0 0) ∷ []) ([]) ∷ Fire (task 1 2) (Branch 1) ((Script 0 2) ∷ []) ((task 1 0) ∷ []) ∷ Fire (task 1 1) (Branch 0) ((Script 0 1) ∷ []) ([]) ∷ []) ≡ Some (5, 5)
+fire_after_the_teardown : first_refusal teardown_cuts_wiring [] 0 (Post (message (Script 0 0) 0 1 ([])) ∷ Post (message (Script 0 1) 0 2 ([])) ∷ Post (message (Script 0 2) 1 3 ([])) ∷ Fire (task 1 0) (Branch 0) ((Script 0 0) ∷ []) ([]) ∷ Fire (task 1 2) (Branch 1) ((Script 0 2) ∷ []) ((task 1 0) ∷ []) ∷ Fire (task 1 1) (Branch 0) ((Script 0 1) ∷ []) ([]) ∷ []) ≡ Some (5, rules.LiveSpot)
 fire_after_the_teardown = refl
 
-cut_task_is_admitted : first_refusal teardown_cuts_wiring [] 0 (Post (message (Script 0 0) 0 1 ([])) ∷ Post (message (Script 0 1) 0 2 ([])) ∷ Post (message (Script 0 2) 1 3 ([])) ∷ Fire (task 1 0) (Branch 0) ((Script 0 0) ∷ []) ([]) ∷ Fire (task 1 2) (Branch 1) ((Script 0 2) ∷ []) ((task 1 0) ∷ []) ∷ Admit (task 1 0) ∷ []) ≡ Some (5, 9)
+cut_task_is_admitted : first_refusal teardown_cuts_wiring [] 0 (Post (message (Script 0 0) 0 1 ([])) ∷ Post (message (Script 0 1) 0 2 ([])) ∷ Post (message (Script 0 2) 1 3 ([])) ∷ Fire (task 1 0) (Branch 0) ((Script 0 0) ∷ []) ([]) ∷ Fire (task 1 2) (Branch 1) ((Script 0 2) ∷ []) ((task 1 0) ∷ []) ∷ Admit (task 1 0) ∷ []) ≡ Some (5, rules.OldestWaiting)
 cut_task_is_admitted = refl
 
-start_by_a_busy_actor : first_refusal second_task_shed_wiring [] 0 (Post (message (Script 0 0) 0 1 ([])) ∷ Post (message (Script 0 1) 0 2 ([])) ∷ Fire (task 1 0) (Branch 0) ((Script 0 0) ∷ []) ([]) ∷ Fire (task 1 1) (Branch 0) ((Script 0 1) ∷ []) ([]) ∷ Put (task 1 0) None ∷ Put (task 1 1) None ∷ Start (task 1 0) 1 ∷ Start (task 1 1) 1 ∷ []) ≡ Some (7, 14)
+start_by_a_busy_actor : first_refusal second_task_shed_wiring [] 0 (Post (message (Script 0 0) 0 1 ([])) ∷ Post (message (Script 0 1) 0 2 ([])) ∷ Fire (task 1 0) (Branch 0) ((Script 0 0) ∷ []) ([]) ∷ Fire (task 1 1) (Branch 0) ((Script 0 1) ∷ []) ([]) ∷ Put (task 1 0) None ∷ Put (task 1 1) None ∷ Start (task 1 0) 1 ∷ Start (task 1 1) 1 ∷ []) ≡ Some (7, rules.IdleActor)
 start_by_a_busy_actor = refl
 
-start_by_actor_33 : first_refusal second_task_shed_wiring [] 0 (Post (message (Script 0 0) 0 1 ([])) ∷ Post (message (Script 0 1) 0 2 ([])) ∷ Fire (task 1 0) (Branch 0) ((Script 0 0) ∷ []) ([]) ∷ Fire (task 1 1) (Branch 0) ((Script 0 1) ∷ []) ([]) ∷ Put (task 1 0) None ∷ Put (task 1 1) None ∷ Start (task 1 0) 1 ∷ Start (task 1 1) 33 ∷ []) ≡ Some (7, 14)
+start_by_actor_33 : first_refusal second_task_shed_wiring [] 0 (Post (message (Script 0 0) 0 1 ([])) ∷ Post (message (Script 0 1) 0 2 ([])) ∷ Fire (task 1 0) (Branch 0) ((Script 0 0) ∷ []) ([]) ∷ Fire (task 1 1) (Branch 0) ((Script 0 1) ∷ []) ([]) ∷ Put (task 1 0) None ∷ Put (task 1 1) None ∷ Start (task 1 0) 1 ∷ Start (task 1 1) 33 ∷ []) ≡ Some (7, rules.IdleActor)
 start_by_actor_33 = refl
 
 fate_with_a_dropped_task : fate discard_wiring discard_history (Script 0 0) ≡ Some (fates.Taken (task 1 0) states.Dropped)

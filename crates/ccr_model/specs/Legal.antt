@@ -6,9 +6,10 @@ use Rattle.ccr_wiring.specs.declared.parts.PosterPart.{PosterPart}
 use Rattle.ccr_model.specs.declared.history.Event.{Event}
 use Rattle.ccr_model.specs.declared.history.Event.TheVariants.{End}
 use Rattle.ccr_model.specs.declared.history.EndHow.TheVariants.{Shed}
+use Rattle.ccr_model.specs.declared.rule.Rule.{Rule}
 use Rattle.ccr_model.specs.Posts.{posts_of_poster, posts_of_tasks}
 use Rattle.ccr_model.specs.Tasks.{count_unfinished}
-use Rattle.ccr_model.specs.Rules.{refusal}
+use Rattle.ccr_model.specs.Rules.{number_of, refusal}
 
 -- no rule refuses the event after the history
 abbrev pub IsAllowed : Parts → List Event → Event → Type 0
@@ -28,9 +29,13 @@ abbrev pub IsQuiet : Parts → List Event → Type 0
 IsQuiet wiring history = (event : Event) → IsAllowed wiring history event → ⊥
 
 -- the place, from this one on, and the rule of the first event that isn't allowed
-abbrev pub first_refusal : Parts → List Event → ℕ → List Event → Option (ℕ × ℕ)
+abbrev pub first_refusal : Parts → List Event → ℕ → List Event → Option (ℕ × Rule)
 first_refusal wiring past place [] = None
 first_refusal wiring past place (event ∷ events) = elim (refusal wiring past event) [ None ↦ first_refusal wiring (past ++ event ∷ []) (place + 1) events | Some rule ↦ Some (place, rule) ]
+
+-- the place, and the number of the rule
+abbrev pub numbered : ℕ × Rule → ℕ × ℕ
+numbered refusal = (refusal.0, number_of refusal.1)
 
 -- whether the event ends a task as shed
 abbrev pub is_shed_end : Event → Bool

@@ -19,6 +19,8 @@ use Rattle.ccr_model.specs.declared.history.Event.{Event}
 use Rattle.ccr_model.specs.declared.history.Event.TheVariants.{Post, Fire, Admit, Put, Start, End}
 use Rattle.ccr_model.specs.declared.history.EndHow.{EndHow}
 use Rattle.ccr_model.specs.declared.history.EndHow.TheVariants as ends
+use Rattle.ccr_model.specs.declared.rule.Rule.{Rule}
+use Rattle.ccr_model.specs.declared.rule.Rule.TheVariants as rules
 use Rattle.ccr_base.specs.Names.{same_task, has_task, same_lists, same_options}
 use Rattle.ccr_base.specs.Values.{same_value}
 use Rattle.ccr_model.specs.Posts.{posts_of_poster, posts_of_task, posts_of_tasks}
@@ -116,26 +118,45 @@ may_shed wiring history task = has_post_left wiring history task && nat_le wirin
 abbrev pub may_end : Parts → List Event → TaskId → EndHow → Bool
 may_end wiring history task how = if is_shed how then may_shed wiring history task else not (has_post_left wiring history task) && ends_so how (play_of wiring history task).end
 
--- the number, where the test fails; else what the other tests say
-abbrev pub refused : Bool → ℕ → Option ℕ → Option ℕ
+-- the number of the rule in docs/MODEL.md
+abbrev pub number_of : Rule → ℕ
+number_of rules.ScriptLine = 1
+number_of rules.PlayPost = 2
+number_of rules.Budget = 3
+number_of rules.NewTask = 4
+number_of rules.LiveSpot = 5
+number_of rules.Choice = 6
+number_of rules.Room = 7
+number_of rules.DueCuts = 8
+number_of rules.OldestWaiting = 9
+number_of rules.Admission = 10
+number_of rules.Ready = 11
+number_of rules.DueDrop = 12
+number_of rules.OldestQueued = 13
+number_of rules.IdleActor = 14
+number_of rules.Running = 15
+number_of rules.Ending = 16
+
+-- the rule, where its test fails; else what the other tests say
+abbrev pub refused : Bool → Rule → Option Rule → Option Rule
 refused true rule others = others
 refused false rule others = Some rule
 
 -- a post of a script is asked by rule 1, a post of a task by rules 2 and 3
-abbrev pub refusal_of_post : Parts → List Event → Msg → MsgId → Option ℕ
-refusal_of_post wiring history message (Script actor place) = refused (is_script_line wiring history actor place message) 1 None
-refusal_of_post wiring history message (Task task place) = refused (is_play_post wiring history task place message) 2 (refused (has_budget wiring history) 3 None)
+abbrev pub refusal_of_post : Parts → List Event → Msg → MsgId → Option Rule
+refusal_of_post wiring history message (Script actor place) = refused (is_script_line wiring history actor place message) rules.ScriptLine None
+refusal_of_post wiring history message (Task task place) = refused (is_play_post wiring history task place message) rules.PlayPost (refused (has_budget wiring history) rules.Budget None)
 
 -- the first rule that refuses the event after the history
-abbrev pub refusal : Parts → List Event → Event → Option ℕ
+abbrev pub refusal : Parts → List Event → Event → Option Rule
 refusal wiring history (Post message) = refusal_of_post wiring history message message.id
 refusal wiring history (Fire task spot messages cuts) =
-    refused (is_new history task) 4
-    (refused (is_live wiring history spot) 5
-    (refused (is_choice wiring history spot messages) 6
-    (refused (has_room wiring history spot) 7
-    (refused (same_lists same_task cuts (cuts_at wiring history spot)) 8 None))))
-refusal wiring history (Admit task) = refused (is_oldest_waiting wiring history task) 9 (refused (may_admit wiring history task) 10 None)
-refusal wiring history (Put task dropped) = refused (may_put wiring history task) 11 (refused (same_options same_task dropped (drop_at wiring history task)) 12 None)
-refusal wiring history (Start task actor) = refused (is_oldest_queued wiring history task) 13 (refused (may_start wiring history actor) 14 None)
-refusal wiring history (End task how) = refused (has_task (running history) task) 15 (refused (may_end wiring history task how) 16 None)
+    refused (is_new history task) rules.NewTask
+    (refused (is_live wiring history spot) rules.LiveSpot
+    (refused (is_choice wiring history spot messages) rules.Choice
+    (refused (has_room wiring history spot) rules.Room
+    (refused (same_lists same_task cuts (cuts_at wiring history spot)) rules.DueCuts None))))
+refusal wiring history (Admit task) = refused (is_oldest_waiting wiring history task) rules.OldestWaiting (refused (may_admit wiring history task) rules.Admission None)
+refusal wiring history (Put task dropped) = refused (may_put wiring history task) rules.Ready (refused (same_options same_task dropped (drop_at wiring history task)) rules.DueDrop None)
+refusal wiring history (Start task actor) = refused (is_oldest_queued wiring history task) rules.OldestQueued (refused (may_start wiring history actor) rules.IdleActor None)
+refusal wiring history (End task how) = refused (has_task (running history) task) rules.Running (refused (may_end wiring history task how) rules.Ending None)

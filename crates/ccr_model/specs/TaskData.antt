@@ -4,16 +4,15 @@ use Rattle.std.specs.Option.{option_map_or}
 use Rattle.ccr_base.specs.declared.names.TaskId.{TaskId}
 use Rattle.ccr_base.specs.declared.messages.Msg.{Msg}
 use Rattle.ccr_base.specs.declared.names.Spot.TheVariants.{Site}
-use Rattle.ccr_base.specs.declared.handlers.Action.{Action}
 use Rattle.ccr_handler.specs.declared.segments.Play.{Play}
 use Rattle.ccr_handler.specs.declared.segments.PlayEnd.TheVariants.{Done}
 use Rattle.ccr_wiring.specs.declared.parts.Parts.{Parts}
 use Rattle.ccr_model.specs.declared.history.Event.{Event}
 use Rattle.ccr_model.specs.Posts.{messages_named}
-use Rattle.ccr_wiring.specs.Wirings.{Placement, placement, branch_of, segment_of, actions_of, exception_port}
+use Rattle.ccr_wiring.specs.Wirings.{Placement, placement, branch_of, segment_of}
 use Rattle.ccr_model.specs.Firings.{Firing, firing_named, spot_of}
 use Rattle.ccr_cause.specs.Causes.{union}
-use Rattle.ccr_handler.specs.Playing.{play, actions_from}
+use Rattle.ccr_handler.specs.Playing.{branch_play}
 use Rattle.ccr_model.specs.Sites.{before, resumed}
 
 -- what a segment starts with
@@ -29,13 +28,9 @@ messages_of history task = option_map_or (λ (f : Firing). messages_named (befor
 abbrev pub placement_of : Parts → List Event → TaskId → Option Placement
 placement_of wiring history task = option_and_then (λ spot. placement wiring (branch_of spot)) (spot_of history task)
 
--- the actions of the branch's handler
-abbrev pub actions_at : Parts → ℕ → List Action
-actions_at wiring branch = option_map_or (λ (s : Placement). actions_of wiring s.branch.handler) (placement wiring branch) []
-
 -- the play of a segment of the branch with this load
 abbrev pub play_at : Parts → ℕ → ℕ → Load → Play
-play_at wiring branch segment load = play (exception_port wiring) load.values segment load.causes (actions_from segment (actions_at wiring branch))
+play_at wiring branch segment load = branch_play wiring branch segment load.values load.causes
 
 -- the load with the messages' values and causes behind it
 abbrev pub with_messages : Load → List Msg → Load

@@ -1,20 +1,17 @@
 //! The data of a task: its values and causes, and its play.
 
-ghost use Rattle.std.specs.Prelude.{◌≡◌, ◌≤◌, ◌^◌, [], IfOk, IfSome, IfNone, map};
-ghost use Rattle.std.specs.Option.{option_map_or};
-ghost use Rattle.ccr_handler.specs.Playing.{actions_from, play};
-ghost use Rattle.ccr_wiring.specs.declared.parts.CausePart.{CausePart};
-ghost use Rattle.ccr_wiring.specs.Wirings.{branch_of, exception_port, segment_of};
-ghost use Rattle.ccr_model.specs.TaskData.{actions_at, messages_of, with_messages, no_load, load_at, load_after, play_at, play_of};
+ghost use Rattle.std.specs.Prelude.{◌≡◌, IfOk};
+ghost use Rattle.ccr_wiring.specs.Wirings.{branch_of, segment_of};
+ghost use Rattle.ccr_model.specs.TaskData.{messages_of, with_messages, no_load, load_at, load_after, play_at, play_of};
 ghost use Rattle.ccr_model.specs.Views.{seen, load_seen};
 
 use crate::Event;
 use crate::firings::{before, messages_of, spot_of};
 use crate::posts::message_named;
 use crate::sites::{resumed, spot_before};
-use ccr_base::{BranchNo, CauseNo, Handler, List, Msg, OutOfMemory, PortNo, Spot, TaskId, Value};
+use ccr_base::{BranchNo, CauseNo, List, Msg, OutOfMemory, Spot, TaskId, Value};
 use ccr_cause::union;
-use ccr_handler::{Play, PlayEnd, plays};
+use ccr_handler::{Play, branch_play, idle_play};
 use ccr_wiring::{Wiring, branch_of, segment_of};
 use std::alloc::Global;
 
@@ -68,43 +65,6 @@ fn no_load(alloc: Global) -> TaskLoad
     }
 }
 
-/// The exception ports of the causes, by their numbers.
-fn exception_ports(alloc: Global, wiring: &Wiring) -> Result<Vec<PortNo>, OutOfMemory>
-    ensures { IfOk result (λ ports. ports.items ≡ map (λ (part : CausePart). part.port) wiring.now.causes) }
-{
-    let mut ports = Vec::new(alloc);
-    for cause in wiring.parts().causes.as_slice() {
-        ports.push(cause.port)?;
-    }
-    Ok(ports)
-}
-
-/// The play of no actions.
-fn idle(alloc: Global, causes: &List<CauseNo>) -> Result<Play, OutOfMemory>
-    ensures { IfOk result (λ found. found ≡ record { posts = []; end = PlayEnd.Done; causes = causes.now }) }
-{
-    Ok(Play {
-        posts: List::new(alloc),
-        end: PlayEnd::Done,
-        causes: causes.copy(alloc)?,
-    })
-}
-
-/// The play of a segment of the handler with this load.
-fn play_with(
-    alloc: Global,
-    wiring: &Wiring,
-    handler: &Handler,
-    segment: u32,
-    load: &TaskLoad,
-) -> Result<Play, OutOfMemory>
-    ensures { IfOk result (λ found. found ≡ play (exception_port wiring.now) load.now.values segment load.now.causes (actions_from segment handler.now.actions)) }
-{
-    let ports = exception_ports(alloc, wiring)?;
-    let values = load.values.as_slice();
-    plays(alloc, handler, &ports, segment, values, &load.causes)
-}
-
 /// The play of a segment of the branch with this load.
 fn play_at(
     alloc: Global,
@@ -115,10 +75,14 @@ fn play_at(
 ) -> Result<Play, OutOfMemory>
     ensures { IfOk result (λ found. found ≡ play_at wiring.now branch segment (load_seen load.now)) }
 {
-    match wiring.handler_of(branch) {
-        Some(handler) => play_with(alloc, wiring, handler, segment, load),
-        None => idle(alloc, &load.causes),
-    }
+    branch_play(
+        alloc,
+        wiring,
+        branch,
+        segment,
+        load.values.as_slice(),
+        &load.causes,
+    )
 }
 
 /// What a segment leaves to the next.
@@ -172,7 +136,7 @@ pub fn play_at_spot(
     let _valid = wiring.parts();
     match segment_of(spot) {
         Some(segment) => play_at(alloc, wiring, branch_of(spot), segment, load),
-        None => idle(alloc, &load.causes),
+        None => idle_play(alloc, &load.causes),
     }
 }
 
@@ -186,7 +150,7 @@ pub fn play_of(
     ensures { IfOk result (λ found. found ≡ play_of wiring.now events.now task) }
 {
     let Some(spot) = spot_of(events, task) else {
-        return idle(alloc, &List::new(alloc));
+        return idle_play(alloc, &List::new(alloc));
     };
     let load = load_at(alloc, wiring, events, spot, task)?;
     play_at_spot(alloc, wiring, spot, &load)

@@ -1,17 +1,18 @@
 //! Laws over every legal history. Each is the contract of a function that does nothing.
 
-ghost use Rattle.std.specs.Prelude.{◌≡◌, ◌≤◌, ◌+◌, ℕ, List, Some, None, Option, IfSome, true, length};
+ghost use Rattle.std.specs.Prelude.{◌≡◌, ◌≤◌, ◌+◌, ℕ, List, Some, None, Option, true, length};
+ghost use Rattle.ccr_base.specs.Bounds.{most_actors};
 ghost use Rattle.ccr_wiring.specs.declared.parts.Parts.{Parts};
 ghost use Rattle.ccr_base.specs.declared.names.MsgId.{MsgId};
 ghost use Rattle.ccr_model.specs.declared.history.Event.{Event};
 ghost use Rattle.ccr_model.specs.Legal.{IsLegal};
-ghost use Rattle.ccr_model.specs.Legal.{IsAllowed, IsQuiet, has_shed};
+ghost use Rattle.ccr_model.specs.Legal.{IsQuiet, has_shed};
 ghost use Rattle.ccr_model.specs.Order.{first};
 ghost use Rattle.ccr_model.specs.Posts.{posts_of_tasks};
 ghost use Rattle.ccr_model.specs.Tasks.{count_unfinished};
 ghost use Rattle.ccr_model.specs.Consequences.{keeps_exclusion};
 ghost use Rattle.ccr_wiring.specs.Valid.{HasPortsApart, HasQueues};
-ghost use Rattle.ccr_model.specs.Laws.{times_posted, times_taken};
+ghost use Rattle.ccr_model.specs.Laws.{IsFirstAllowed, times_posted, times_taken};
 
 /// No two posts have one name.
 pub fn posts_have_names_of_their_own()
@@ -25,7 +26,7 @@ pub fn messages_are_taken_once()
 
 /// What one thread puts first is allowed.
 pub fn first_is_allowed()
-    ensures { (wiring : Parts) (closer : ℕ) (history : List Event) → length wiring.posters ≤ closer → closer ≤ 32 → IsLegal wiring history → IfSome (first wiring closer history) (IsAllowed wiring history) }
+    ensures { (wiring : Parts) (closer : ℕ) (history : List Event) → length wiring.posters ≤ closer → closer ≤ most_actors → IsLegal wiring history → IsFirstAllowed wiring closer history }
 {}
 
 /// Where it puts nothing first, nothing is allowed.

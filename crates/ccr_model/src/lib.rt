@@ -12,6 +12,7 @@ pub mod live;
 pub mod placements;
 pub mod posts;
 mod refusal;
+mod rule;
 pub mod rules;
 mod sites;
 pub mod tasks;
@@ -23,3 +24,4 @@ pub use laws::{
     none_first_is_quiet, posts_have_names_of_their_own,
 };
 pub use refusal::refused_by;
+pub use rule::Rule;

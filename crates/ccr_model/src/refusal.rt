@@ -1,8 +1,8 @@
 //! The first rule that refuses an event.
 
-ghost use Rattle.std.specs.Prelude.{◌≡◌, IfOk};
+ghost use Rattle.std.specs.Prelude.{◌≡◌, IfOk, option_map};
 ghost use Rattle.ccr_base.specs.Names.{same_options, same_task};
-ghost use Rattle.ccr_model.specs.Rules.{refusal, refusal_of_post};
+ghost use Rattle.ccr_model.specs.Rules.{number_of, refusal, refusal_of_post};
 
 use crate::choices::is_choice;
 use crate::firings::has_task;
@@ -12,7 +12,7 @@ use crate::rules::{
     is_play_post, is_script_line, may_admit, may_end, may_put, may_start,
 };
 use crate::tasks::running;
-use crate::{EndHow, Event, History};
+use crate::{EndHow, Event, History, Rule};
 use ccr_base::{ActorNo, Msg, MsgId, OutOfMemory, Spot, TaskId};
 use ccr_wiring::Wiring;
 use std::alloc::Global;
@@ -22,21 +22,21 @@ fn refusal_of_post(
     wiring: &Wiring,
     events: &[Event],
     message: &Msg,
-) -> Result<Option<u8>, OutOfMemory>
+) -> Result<Option<Rule>, OutOfMemory>
     ensures { IfOk result (λ rule. rule ≡ refusal_of_post wiring.now events.now message.now message.now.id) }
 {
     match message.id {
         MsgId::Script { actor, place } => {
             if !is_script_line(wiring, events, actor, place, message) {
-                return Ok(Some(1));
+                return Ok(Some(Rule::ScriptLine));
             }
         }
         MsgId::Task { task, place } => {
             if !is_play_post(alloc, wiring, events, task, place, message)? {
-                return Ok(Some(2));
+                return Ok(Some(Rule::PlayPost));
             }
             if !has_budget(wiring, events) {
-                return Ok(Some(3));
+                return Ok(Some(Rule::Budget));
             }
         }
     }
@@ -51,24 +51,24 @@ fn refusal_of_fire(
     spot: Spot,
     messages: &[MsgId],
     cuts: &[TaskId],
-) -> Result<Option<u8>, OutOfMemory>
+) -> Result<Option<Rule>, OutOfMemory>
     ensures { IfOk result (λ rule. rule ≡ refusal wiring.now events.now (Event.Fire task spot messages.now cuts.now)) }
 {
     if !is_new(alloc, events, task)? {
-        return Ok(Some(4));
+        return Ok(Some(Rule::NewTask));
     }
     if !is_live(alloc, wiring, events, spot)? {
-        return Ok(Some(5));
+        return Ok(Some(Rule::LiveSpot));
     }
     if !is_choice(alloc, wiring, events, spot, messages)? {
-        return Ok(Some(6));
+        return Ok(Some(Rule::Choice));
     }
     if !has_room(alloc, wiring, events, spot)? {
-        return Ok(Some(7));
+        return Ok(Some(Rule::Room));
     }
     let due = cuts_at(alloc, wiring, events, spot)?;
     if !are_same_tasks(cuts, &due) {
-        return Ok(Some(8));
+        return Ok(Some(Rule::DueCuts));
     }
     Ok(None)
 }
@@ -78,14 +78,14 @@ fn refusal_of_admit(
     wiring: &Wiring,
     events: &[Event],
     task: TaskId,
-) -> Result<Option<u8>, OutOfMemory>
+) -> Result<Option<Rule>, OutOfMemory>
     ensures { IfOk result (λ rule. rule ≡ refusal wiring.now events.now (Event.Admit task)) }
 {
     if !is_oldest_waiting(alloc, wiring, events, task)? {
-        return Ok(Some(9));
+        return Ok(Some(Rule::OldestWaiting));
     }
     if !may_admit(alloc, wiring, events, task)? {
-        return Ok(Some(10));
+        return Ok(Some(Rule::Admission));
     }
     Ok(None)
 }
@@ -96,14 +96,14 @@ fn refusal_of_put(
     events: &[Event],
     task: TaskId,
     dropped: Option<TaskId>,
-) -> Result<Option<u8>, OutOfMemory>
+) -> Result<Option<Rule>, OutOfMemory>
     ensures { IfOk result (λ rule. rule ≡ refusal wiring.now events.now (Event.Put task dropped)) }
 {
     if !may_put(alloc, wiring, events, task)? {
-        return Ok(Some(11));
+        return Ok(Some(Rule::Ready));
     }
     if !is_same_drop(dropped, drop_at(alloc, wiring, events, task)?) {
-        return Ok(Some(12));
+        return Ok(Some(Rule::DueDrop));
     }
     Ok(None)
 }
@@ -124,14 +124,14 @@ fn refusal_of_start(
     events: &[Event],
     task: TaskId,
     actor: ActorNo,
-) -> Result<Option<u8>, OutOfMemory>
+) -> Result<Option<Rule>, OutOfMemory>
     ensures { IfOk result (λ rule. rule ≡ refusal wiring.now events.now (Event.Start task actor)) }
 {
     if !is_oldest_queued(alloc, wiring, events, task)? {
-        return Ok(Some(13));
+        return Ok(Some(Rule::OldestQueued));
     }
     if !may_start(alloc, wiring, events, actor)? {
-        return Ok(Some(14));
+        return Ok(Some(Rule::IdleActor));
     }
     Ok(None)
 }
@@ -142,29 +142,26 @@ fn refusal_of_end(
     events: &[Event],
     task: TaskId,
     how: EndHow,
-) -> Result<Option<u8>, OutOfMemory>
+) -> Result<Option<Rule>, OutOfMemory>
     ensures { IfOk result (λ rule. rule ≡ refusal wiring.now events.now (Event.End task how)) }
 {
     if !has_task(&running(alloc, events)?, task) {
-        return Ok(Some(15));
+        return Ok(Some(Rule::Running));
     }
     if !may_end(alloc, wiring, events, task, how)? {
-        return Ok(Some(16));
+        return Ok(Some(Rule::Ending));
     }
     Ok(None)
 }
 
-/// None exactly where the event is allowed after the history, else the first rule of docs/MODEL.md that refuses it.
-/// It asks nothing of the history or of the event: a number that names nothing is refused by a rule.
-pub fn refused_by(
+fn refusal(
     alloc: Global,
     wiring: &Wiring,
-    history: &History,
+    events: &[Event],
     event: &Event,
-) -> Result<Option<u8>, OutOfMemory>
-    ensures { IfOk result (λ rule. rule ≡ refusal wiring.now history.now event.now) }
+) -> Result<Option<Rule>, OutOfMemory>
+    ensures { IfOk result (λ rule. rule ≡ refusal wiring.now events.now event.now) }
 {
-    let events = history.events();
     match event {
         Event::Post(message) => refusal_of_post(alloc, wiring, events, message),
         Event::Fire {
@@ -181,4 +178,18 @@ pub fn refused_by(
         Event::Start { task, actor } => refusal_of_start(alloc, wiring, events, *task, *actor),
         Event::End { task, how } => refusal_of_end(alloc, wiring, events, *task, *how),
     }
+}
+
+/// None exactly where the event is allowed after the history, else the number of the first rule of docs/MODEL.md that refuses it.
+/// It asks nothing of the history or of the event: a number that names nothing is refused by a rule.
+pub fn refused_by(
+    alloc: Global,
+    wiring: &Wiring,
+    history: &History,
+    event: &Event,
+) -> Result<Option<u8>, OutOfMemory>
+    ensures { IfOk result (λ rule. rule ≡ option_map number_of (refusal wiring.now history.now event.now)) }
+{
+    let rule = refusal(alloc, wiring, history.events(), event)?;
+    Ok(rule.map(Rule::number))
 }

@@ -1,6 +1,5 @@
 -- That a run as the objects of the places play it is a run.
 pub mod Objects
-pub mod Directories
 pub mod Acted
 pub mod Fitting
 pub mod ToldTasks

@@ -14,7 +14,7 @@ use Rattle.ccr_object.specs.Objects.{after_deed, note_of, nothing, placed}
 use Rattle.ccr_object.specs.Starts.{places_of}
 use Rattle.ccr_runs.specs.declared.acts.Act.{Act}
 use Rattle.ccr_runs.specs.Stories.{Scene, moved}
-use Rattle.ccr_net.specs.Played.{scene, number_at}
+use Rattle.ccr_runs.specs.Played.{scene, number_at}
 
 -- ---- what the acts leave
 

@@ -8,9 +8,9 @@ use Rattle.ccr_actor.specs.Nets.{AreNext}
 use Rattle.ccr_object.specs.declared.deed.Deed.{Deed}
 use Rattle.ccr_runs.specs.declared.acts.Act.{Act}
 use Rattle.ccr_runs.specs.Runs.{IsRunFrom, cast}
-use Rattle.ccr_net.specs.declared.entries.Entry.{Entry}
-use Rattle.ccr_net.specs.Played.{rules, scene, steps_in}
-use Rattle.ccr_net.specs.Runs.{Lacks, IsRun, IsRunAfter, replies_of}
+use Rattle.ccr_runs.specs.declared.entries.Entry.{Entry}
+use Rattle.ccr_runs.specs.Played.{rules, scene, steps_in}
+use Rattle.ccr_runs.specs.EntryRuns.{Lacks, IsRun, IsRunAfter, replies_of}
 
 -- the law holds of each run, by its entries
 abbrev pub OfRuns : (Parts → ℕ → List Entry → Type 0) → Type 0
@@ -33,12 +33,12 @@ OfNextAsks law =
     WhereAskedNext wiring workers lacks entries actor one (law wiring entries one)
 
 -- the acts are a run as the objects of the places play it
-abbrev pub IsPlayed : Parts → ℕ → Lacks → List (Act Deed) → Type 0
-IsPlayed wiring workers lacks acts = IsRunFrom (rules wiring lacks) (length wiring.posters + workers) (scene wiring) (cast (rules wiring lacks)) acts
+abbrev pub IsPlayedRun : Parts → ℕ → Lacks → List (Act Deed) → Type 0
+IsPlayedRun wiring workers lacks acts = IsRunFrom (rules wiring lacks) (length wiring.posters + workers) (scene wiring) (cast (rules wiring lacks)) acts
 
 -- the law holds of each such run
 abbrev pub OfPlayedRuns : (Parts → ℕ → Lacks → List (Act Deed) → Type 0) → Type 0
-OfPlayedRuns law = (wiring : Parts) (workers : ℕ) (lacks : Lacks) (acts : List (Act Deed)) → IsValid wiring → workers ≤ 16 → IsPlayed wiring workers lacks acts → law wiring workers lacks acts
+OfPlayedRuns law = (wiring : Parts) (workers : ℕ) (lacks : Lacks) (acts : List (Act Deed)) → IsValid wiring → workers ≤ 16 → IsPlayedRun wiring workers lacks acts → law wiring workers lacks acts
 
 -- each actor's steps are what it asks next where the actors lack memory so
 abbrev pub AreNextToo : Parts → ℕ → Lacks → List (Act Deed) → Type 0

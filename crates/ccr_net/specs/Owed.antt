@@ -13,7 +13,7 @@ use Rattle.ccr_claim.specs.Asks.{due_of, fits}
 use Rattle.ccr_actor.specs.Nets.{Step}
 use Rattle.ccr_object.specs.declared.deed.Deed.{Deed}
 use Rattle.ccr_runs.specs.declared.acts.Act.{Act}
-use Rattle.ccr_net.specs.Played.{steps_in}
+use Rattle.ccr_runs.specs.Played.{steps_in}
 
 -- what the ask takes from what is owed
 abbrev pub cost : Ask → ℕ

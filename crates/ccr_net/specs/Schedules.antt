@@ -12,10 +12,10 @@ use Rattle.ccr_actor.specs.Actors.{state_after}
 use Rattle.ccr_object.specs.declared.deed.Answer.TheVariants.{Replied}
 use Rattle.ccr_object.specs.Objects.{note_of, reply_of}
 use Rattle.ccr_runs.specs.Runs.{IsRunFrom, cast}
-use Rattle.ccr_net.specs.declared.entries.Entry.{Entry}
+use Rattle.ccr_runs.specs.declared.entries.Entry.{Entry}
 use Rattle.ccr_net.specs.Acted.{Stage, act_after, scene_after}
-use Rattle.ccr_net.specs.Played.{entries_of, entry_of, number_at, rules, scene}
-use Rattle.ccr_net.specs.Runs.{Lacks, replies_of}
+use Rattle.ccr_runs.specs.Played.{entries_of, entry_of, number_at, rules, scene}
+use Rattle.ccr_runs.specs.EntryRuns.{Lacks, replies_of}
 
 -- the actors before all turns
 abbrev pub AreStarted : Parts → ℕ → List Acting → Type 0

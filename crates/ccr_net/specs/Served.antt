@@ -1,23 +1,29 @@
 -- A net on one thread: the run so far, and the room for the entries that are owed.
-use Rattle.std.specs.Prelude.{◌≡◌, ◌<◌, ◌≤◌, ℕ, ◌+◌, List, [], length}
+use Rattle.std.specs.Prelude.{◌≡◌, ◌<◌, ◌≤◌, ℕ, ◌+◌, List, [], ◌∷◌, ◌++◌, length}
 use Rattle.ccr_wiring.specs.declared.parts.Parts.{Parts}
 use Rattle.ccr_wiring.specs.Valid.{IsValid}
+use Rattle.ccr_claim.specs.declared.asks.Asked.{Asked}
+use Rattle.ccr_claim.specs.declared.asks.Reply.{Reply}
 use Rattle.ccr_actor.specs.Nets.{AreNext}
 use Rattle.ccr_actor.specs.Nets as nets
 use Rattle.ccr_object.specs.declared.deed.Deed.{Deed}
 use Rattle.ccr_runs.specs.declared.acts.Act.{Act}
 use Rattle.ccr_runs.specs.Runs.{IsRunFrom, cast}
-use Rattle.ccr_net.specs.declared.entries.Entry.{Entry}
+use Rattle.ccr_runs.specs.declared.entries.Entry.{Entry}
 use Rattle.ccr_net.specs.Acted.{Stage}
 use Rattle.ccr_net.specs.Owed.{owed_to, AreFitting}
-use Rattle.ccr_net.specs.Played.{entries_of, rules, scene, steps_in}
-use Rattle.ccr_net.specs.Runs.{Lacks, replies_of}
+use Rattle.ccr_runs.specs.Played.{entries_of, rules, scene, steps_in}
+use Rattle.ccr_runs.specs.EntryRuns.{Lacks, replies_of}
 
 -- the wiring, the acts so far, and their entries
 pub record Served : Type 0 where
   pub wiring : Parts
   pub acts : List (Act Deed)
   pub entries : List Entry
+
+-- the actor has made one step more: this ask, with its reply
+abbrev pub HasStepMore : Served → Served → ℕ → Asked → Reply → Type 0
+HasStepMore old new actor asked reply = steps_in new.wiring new.acts actor ≡ steps_in old.wiring old.acts actor ++ (record { asked = asked; reply = reply }) ∷ []
 
 -- so many actors are served: the posters and 16 workers
 abbrev pub seats : Parts → ℕ

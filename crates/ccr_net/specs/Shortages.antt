@@ -6,9 +6,9 @@ use Rattle.ccr_claim.specs.declared.asks.Asked.{Asked}
 use Rattle.ccr_claim.specs.Asks.{is_settling}
 use Rattle.ccr_actor.specs.Acting.{Acting, next as asks_next, sent, shortened as left_short}
 use Rattle.ccr_actor.specs.Actors.{next}
-use Rattle.ccr_net.specs.declared.entries.Entry.{Entry}
+use Rattle.ccr_runs.specs.declared.entries.Entry.{Entry}
 use Rattle.ccr_net.specs.Acted.{Stage}
-use Rattle.ccr_net.specs.Runs.{Lacks, made_by, never, replies_of, with_made}
+use Rattle.ccr_runs.specs.EntryRuns.{Lacks, made_by, never, replies_of, with_made}
 use Rattle.ccr_net.specs.Schedules.{IsAnswered, IsPlayed}
 
 -- a run so far: after how many of its replies each actor found no memory, how many asks that don't settle were made by
@@ -72,6 +72,11 @@ pub record HasRun (workers : ℕ) (run : SoFar) (stage : Stage) (actors : List A
   pub played : IsPlayed workers run.lacks stage actors entries
   pub number : asks ≡ run.asks
   pub same : entries ≡ run.entries
+
+-- whoever lacked memory before, after the turn they have played the run that the turn makes, and so many asks that don't settle were made
+abbrev pub HasTurned : ℕ → List ℕ → ℕ → ℕ → Stage → List Acting → List Entry → Stage → List Acting → List Entry → ℕ → Type 0
+HasTurned workers refused turn asks stage actors entries later after more number =
+    (lacks : Lacks) → IsPlayed workers lacks stage actors entries → HasRun workers (turned stage.wiring refused (record { lacks = lacks; asks = asks; entries = entries }) turn) later after more number
 
 -- what becomes of an ask, by whether it settles and whether its number is refused
 abbrev pub IsTaken : Bool → Bool → Asked → ℕ → Stage → Acting → List Entry → Stage → Acting → List Entry → ℕ → Type 0

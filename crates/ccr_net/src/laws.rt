@@ -9,11 +9,11 @@ ghost use Rattle.ccr_claim.specs.Wired.{IsKnown};
 ghost use Rattle.ccr_object.specs.declared.deed.Deed.{Deed};
 ghost use Rattle.ccr_object.specs.Starts.{places_of};
 ghost use Rattle.ccr_runs.specs.declared.acts.Act.{Act};
-ghost use Rattle.ccr_net.specs.Played.{given_in, entries_of, number_at};
-ghost use Rattle.ccr_net.specs.Runs.{Lacks, IsRunAfter, replies_of, notes_at};
-ghost use Rattle.ccr_net.specs.Places.{note_of};
-ghost use Rattle.ccr_net.specs.Visible.{visible};
-ghost use Rattle.ccr_net.specs.Lawful.{AreNextToo, IsPlayed, OfNextAsks, OfPlayedRuns, OfRuns};
+ghost use Rattle.ccr_runs.specs.Played.{given_in, entries_of, number_at};
+ghost use Rattle.ccr_runs.specs.EntryRuns.{Lacks, IsRunAfter, replies_of, notes_at};
+ghost use Rattle.ccr_runs.specs.Places.{note_of};
+ghost use Rattle.ccr_runs.specs.Visible.{visible};
+ghost use Rattle.ccr_net.specs.Lawful.{AreNextToo, IsPlayedRun, OfNextAsks, OfPlayedRuns, OfRuns};
 
 /// What is visible of a run is legal and covered, in each valid wiring: attempts given up, busy ports, rivals, full
 /// throttle queues, claims that stand, cut and shed tasks and running out of memory at any step of any actor are among the runs.
@@ -51,5 +51,5 @@ pub fn played_runs_are_runs()
 /// A run as the objects play it, that runs out of memory at some steps, is one that runs out of memory at other steps, where each
 /// actor's steps are what it asks next then too.
 pub fn played_runs_follow_their_steps()
-    ensures { OfPlayedRuns (λ wiring workers lacks acts. (others : Lacks) → AreNextToo wiring workers others acts → IsPlayed wiring workers others acts) }
+    ensures { OfPlayedRuns (λ wiring workers lacks acts. (others : Lacks) → AreNextToo wiring workers others acts → IsPlayedRun wiring workers others acts) }
 {}

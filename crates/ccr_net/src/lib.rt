@@ -1,9 +1,6 @@
 //! Runs of many actors over the places: their entries, and the history that they show.
 #![tactic(auto)]
 
-mod directory;
-mod entries;
-mod fulls;
 mod laws;
 mod net;
 mod plain;
@@ -11,9 +8,6 @@ mod schedules;
 mod shortages;
 mod showing;
 
-pub use directory::Directory;
-pub use entries::{Entry, Full};
-pub use fulls::full_of;
 pub use laws::{
     asks_meet_their_conditions, asks_name_what_the_wiring_has, closers_are_new_to_runs,
     played_runs_are_runs, played_runs_follow_their_steps, visible_runs_are_legal_and_covered,
@@ -21,4 +15,4 @@ pub use laws::{
 pub use net::PlainNet;
 pub use schedules::run_schedule;
 pub use shortages::run_short;
-pub use showing::{event_of, visible};
+pub use showing::visible;

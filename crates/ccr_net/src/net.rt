@@ -6,16 +6,17 @@ ghost use Rattle.ccr_actor.specs.Nets.{replies_of as replied_in};
 ghost use Rattle.ccr_claim.specs.Asks.{due_of, fits, is_settling};
 ghost use Rattle.ccr_claim.specs.Wired.{IsReplyOf};
 ghost use Rattle.ccr_net.specs.Owed.{cost, gain, most};
-ghost use Rattle.ccr_net.specs.Played.{steps_in};
-ghost use Rattle.ccr_net.specs.Served.{seats};
-ghost use Rattle.ccr_net.specs.Runs.{entry_for, replies_of, with_made, IsRun};
+ghost use Rattle.ccr_runs.specs.Played.{steps_in};
+ghost use Rattle.ccr_net.specs.Served.{seats, HasStepMore};
+ghost use Rattle.ccr_runs.specs.EntryRuns.{entry_for, replies_of, with_made, IsRun};
 ghost use Rattle.std.specs.Prelude.{vec_capacity, vec_len};
+ghost use Rattle.ccr_base.specs.Bounds.{most_workers};
 
 use crate::plain::PlainPlaces;
-use crate::{Entry, Full};
 use ccr_actor::Net;
 use ccr_base::{ActorNo, List, OutOfMemory, Place};
 use ccr_claim::{Ask, Reply, settles};
+use ccr_runs::{Entry, Full};
 use ccr_wiring::Wiring;
 use std::alloc::Global;
 use std::marker::Model;
@@ -66,7 +67,7 @@ impl<'w> PlainNet<'w> {
     /// The entries so far.
     pub fn entries(&self) -> &[Entry]
         ensures entries { result.now ≡ self.now.entries }
-        ensures run { IsRun self.now.wiring 16 self.now.entries }
+        ensures run { IsRun self.now.wiring most_workers self.now.entries }
         ensures replies { (actor : ℕ) → replied_in (steps_in self.now.wiring self.now.acts actor) ≡ replies_of self.now.wiring self.now.entries actor }
     {
         &self.entries
@@ -75,7 +76,7 @@ impl<'w> PlainNet<'w> {
     /// All entries, in order. It takes no memory.
     pub fn full(self) -> Full
         ensures entries { result.entries ≡ self.entry.entries }
-        ensures run { IsRun self.entry.wiring 16 result.entries }
+        ensures run { IsRun self.entry.wiring most_workers result.entries }
     {
         let PlainNet { entries, .. } = self;
         Full {
@@ -95,7 +96,7 @@ impl Net for PlainNet<'_> {
         ensures wiring { self.new.wiring ≡ self.old.wiring }
         ensures reply { IfOk result (λ reply. fits (due_of ask) reply ≡ true) }
         ensures known { IfOk result (λ reply. IsReplyOf self.old.wiring reply) }
-        ensures added { IfOk result (λ reply. steps_in self.new.wiring self.new.acts actor ≡ steps_in self.old.wiring self.old.acts actor ++ (record { asked = record { place = place; ask = ask }; reply = reply }) ∷ []) }
+        ensures added { IfOk result (HasStepMore self.old self.new actor (record { place = place; ask = ask })) }
         ensures refused { OnErr result (steps_in self.new.wiring self.new.acts actor ≡ steps_in self.old.wiring self.old.acts actor) }
         ensures others { (other : ℕ) → other ≢ actor → steps_in self.new.wiring self.new.acts other ≡ steps_in self.old.wiring self.old.acts other }
         ensures settles { is_settling ask ≡ true → IsOk result }

@@ -1,17 +1,17 @@
 //! The objects of all places on one thread, and what they did.
 
 ghost use Rattle.std.specs.Prelude.{◌≡◌, ◌≢◌, ◌<◌, ◌≤◌, ◌+◌, ◌^◌, ℕ, suc, max, true, [], ◌∷◌, ◌++◌, length, slice_index, IfOk, OnOk, OnErr, IsOk, Some, is_some};
+ghost use Rattle.ccr_base.specs.Bounds.{most_actors};
 ghost use Rattle.ccr_claim.specs.Asks.{due_of, fits, is_settling};
 ghost use Rattle.ccr_object.specs.declared.deed.Answer.TheVariants.{Replied};
 ghost use Rattle.ccr_object.specs.Objects.{after_at, is_due, note_of, reply_of};
 ghost use Rattle.ccr_net.specs.Acted.{act_after, deed_at, placed_in, scene_after, IsFitting};
-ghost use Rattle.ccr_net.specs.Played.{entry_of, number_at};
+ghost use Rattle.ccr_runs.specs.Played.{entry_of, number_at};
 
-use crate::{Directory, Entry};
 use ccr_base::{ActorNo, OutOfMemory, Place};
 use ccr_claim::{Ask, Reply};
 use ccr_object::{Answer, Deed, PlaceObject, place_objects};
-use ccr_runs::Act;
+use ccr_runs::{Act, Directory, Entry};
 use ccr_wiring::Wiring;
 use std::alloc::Global;
 use std::marker::Model;
@@ -91,7 +91,7 @@ impl<'w> PlainPlaces<'w> {
         place: Place,
         ask: Ask,
     ) -> Result<(Answer, Act<Deed>), OutOfMemory>
-        requires seat { actor < 32 }
+        requires seat { actor < most_actors }
         requires room { 1 ≤ self.old.room }
         ensures answer { IfOk result (λ given. given.0 ≡ reply_of (scene_after self.old.wiring self.old.acts (number_at self.old.wiring place)).0 ask) }
         ensures fits { IfOk result (λ given. IsFitting ask given.0) }
@@ -144,7 +144,7 @@ impl<'w> PlainPlaces<'w> {
         place: Place,
         ask: Ask,
     ) -> Result<(Reply, Entry), OutOfMemory>
-        requires seat { actor < 32 }
+        requires seat { actor < most_actors }
         requires room { 1 ≤ self.old.room }
         requires met { is_some (note_of (scene_after self.old.wiring self.old.acts (number_at self.old.wiring place)).0 ask) ≡ true }
         ensures reply { IfOk result (λ given. reply_of (scene_after self.old.wiring self.old.acts (number_at self.old.wiring place)).0 ask ≡ Replied given.0) }

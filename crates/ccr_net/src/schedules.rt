@@ -2,19 +2,20 @@
 
 ghost use Rattle.std.specs.Prelude.{◌≡◌, ◌<◌, ◌≤◌, ◌+◌, [], All, length, IfOk, OnOk, Some, Ok, true, false};
 ghost use Rattle.std.specs.Option.{is_some};
+ghost use Rattle.ccr_base.specs.Bounds.{most_actors, most_workers};
 ghost use Rattle.ccr_claim.specs.Asks.{due_of, fits};
 ghost use Rattle.ccr_actor.specs.Acting.{due_in, next, quiet, started, IsAfter};
 ghost use Rattle.ccr_object.specs.Objects.{note_of};
 ghost use Rattle.ccr_net.specs.Acted.{scene_after};
-ghost use Rattle.ccr_net.specs.Played.{number_at};
-ghost use Rattle.ccr_net.specs.Runs.{made_by, never, scheduled, with_made, IsRunAfter};
+ghost use Rattle.ccr_runs.specs.Played.{number_at};
+ghost use Rattle.ccr_runs.specs.EntryRuns.{made_by, never, scheduled, with_made, IsRunAfter};
 ghost use Rattle.ccr_net.specs.Schedules.{AreStarted, IsAnswered, IsMet, IsPlayed, IsStep};
 
 use crate::plain::PlainPlaces;
-use crate::{Entry, Full};
 use ccr_actor::{Actor, actor_count};
-use ccr_base::{ActorNo, List, OutOfMemory, Place};
+use ccr_base::{ActorNo, List, OpenGate, OutOfMemory, Place};
 use ccr_claim::{Ask, Reply};
+use ccr_runs::{Entry, Full};
 use ccr_wiring::Wiring;
 use std::alloc::Global;
 
@@ -26,7 +27,7 @@ pub fn run_schedule(
     workers: u32,
     turns: &[ActorNo],
 ) -> Result<Full, OutOfMemory>
-    requires workers { workers ≤ 16 }
+    requires workers { workers ≤ most_workers }
     requires turns { All (λ turn. turn < length wiring.now.posters + workers) turns.now }
     ensures scheduled { IfOk result (λ full. full.entries ≡ scheduled wiring.now turns.now) }
     ensures run { IfOk result (λ full. IsRunAfter wiring.now workers never [] full.entries) }
@@ -66,7 +67,7 @@ fn take_turn(
     workers: u32,
     turn: ActorNo,
 ) -> Result<(), OutOfMemory>
-    requires workers { workers ≤ 16 }
+    requires workers { workers ≤ most_workers }
     requires turn { turn < length actors.old }
     requires played { IsPlayed workers never places.old actors.old entries.old.items }
     ensures played { OnOk result (IsPlayed workers never places.new actors.new entries.new.items) }
@@ -85,15 +86,13 @@ fn make_step(
     actor: &mut Actor<'_>,
     entries: &mut Vec<Entry>,
 ) -> Result<(), OutOfMemory>
-    requires seat { actor.old.actor < 32 }
+    requires seat { actor.old.actor < most_actors }
     requires quiet { actor.old.asking ≡ quiet }
     requires asks { is_some (next actor.old) ≡ true }
     requires met { IsMet places.old actor.old }
     ensures { OnOk result (IsStep places.old actor.old entries.old.items places.new actor.new entries.new.items) }
 {
-    let Some((place, ask)) = actor.next() else {
-        unreachable!();
-    };
+    let (place, ask) = actor.ask(&OpenGate);
     answer(places, actor, entries, place, ask)
 }
 
@@ -105,7 +104,7 @@ pub(crate) fn answer(
     place: Place,
     ask: Ask,
 ) -> Result<(), OutOfMemory>
-    requires seat { actor.old.actor < 32 }
+    requires seat { actor.old.actor < most_actors }
     requires due { due_in actor.old.asking ≡ due_of ask }
     requires met { is_some (note_of (scene_after places.old.wiring places.old.acts (number_at places.old.wiring place)).0 ask) ≡ true }
     ensures { OnOk result (IsAnswered places.old actor.old entries.old.items place ask places.new actor.new entries.new.items) }
@@ -125,7 +124,7 @@ fn hear(actor: &mut Actor<'_>, reply: Reply) -> Result<(), OutOfMemory>
     ensures long { OnOk result (actor.old.state.is_short ≡ false → actor.new.state.is_short ≡ false) }
 {
     let was_short = actor.short();
-    actor.got(Ok(reply));
+    actor.hear(&OpenGate, Ok(reply));
     if !was_short && actor.short() {
         return Err(OutOfMemory);
     }

@@ -1,17 +1,18 @@
 //! Runs by a schedule of turns in which some asks find no memory.
 
 ghost use Rattle.std.specs.Prelude.{◌≡◌, ◌<◌, ◌≤◌, ◌+◌, ◌^◌, [], All, length, IfOk, is_some, true};
+ghost use Rattle.ccr_base.specs.Bounds.{most_actors, most_workers};
 ghost use Rattle.ccr_actor.specs.Acting.{next, quiet};
-ghost use Rattle.ccr_net.specs.Runs.{scheduled, Lacks, IsRun};
-ghost use Rattle.ccr_net.specs.Schedules.{IsMet, IsPlayed};
-ghost use Rattle.ccr_net.specs.Shortages.{is_refused, shortened, turned, HasPlayed, HasRun, IsTurn};
+ghost use Rattle.ccr_runs.specs.EntryRuns.{scheduled, IsRun};
+ghost use Rattle.ccr_net.specs.Schedules.{IsMet};
+ghost use Rattle.ccr_net.specs.Shortages.{is_refused, shortened, HasPlayed, HasTurned, IsTurn};
 
 use crate::plain::PlainPlaces;
 use crate::schedules::{all_actors, answer};
-use crate::{Entry, Full};
 use ccr_actor::{Actor, actor_count};
-use ccr_base::{ActorNo, List, OutOfMemory};
+use ccr_base::{ActorNo, List, OpenGate, OutOfMemory};
 use ccr_claim::settles;
+use ccr_runs::{Entry, Full};
 use ccr_wiring::Wiring;
 use std::alloc::Global;
 
@@ -25,7 +26,7 @@ pub fn run_short(
     turns: &[ActorNo],
     refused: &[u64],
 ) -> Result<Full, OutOfMemory>
-    requires workers { workers ≤ 16 }
+    requires workers { workers ≤ most_workers }
     requires turns { All (λ turn. turn < length wiring.now.posters + workers) turns.now }
     ensures short { IfOk result (λ full. full.entries ≡ shortened wiring.now refused.now turns.now) }
     ensures run { IfOk result (λ full. IsRun wiring.now workers full.entries) }
@@ -62,11 +63,11 @@ fn take_turn(
     asks: u64,
     turn: ActorNo,
 ) -> Result<u64, OutOfMemory>
-    requires workers { workers ≤ 16 }
+    requires workers { workers ≤ most_workers }
     requires turn { turn < length actors.old }
     requires asks { asks + 1 < 2 ^ 64 }
     requires played { HasPlayed workers places.old actors.old entries.old.items }
-    ensures run { IfOk result (λ number. (lacks : Lacks) → IsPlayed workers lacks places.old actors.old entries.old.items → HasRun workers (turned places.old.wiring refused.now (record { lacks = lacks; asks = asks; entries = entries.old.items }) turn) places.new actors.new entries.new.items number) }
+    ensures run { IfOk result (HasTurned workers refused.now turn asks places.old actors.old entries.old.items places.new actors.new entries.new.items) }
     ensures wiring { IfOk result (λ number. places.new.wiring ≡ places.old.wiring) }
     ensures few { IfOk result (λ number. number ≤ asks + 1) }
 {
@@ -84,22 +85,20 @@ fn make_ask(
     refused: &[u64],
     asks: u64,
 ) -> Result<u64, OutOfMemory>
-    requires seat { actor.old.actor < 32 }
+    requires seat { actor.old.actor < most_actors }
     requires quiet { actor.old.asking ≡ quiet }
     requires asking { is_some (next actor.old) ≡ true }
     requires met { IsMet places.old actor.old }
     requires asks { asks + 1 < 2 ^ 64 }
     ensures { IfOk result (λ number. IsTurn refused.now asks places.old actor.old entries.old.items places.new actor.new entries.new.items number) }
 {
-    let Some((place, ask)) = actor.next() else {
-        unreachable!();
-    };
+    let (place, ask) = actor.ask(&OpenGate);
     if settles(&ask) {
         answer(places, actor, entries, place, ask)?;
         return Ok(asks);
     }
     if is_refused(refused, asks) {
-        actor.got(Err(OutOfMemory));
+        actor.hear(&OpenGate, Err(OutOfMemory));
         return Ok(asks + 1);
     }
     answer(places, actor, entries, place, ask)?;

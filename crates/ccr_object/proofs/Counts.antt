@@ -7,12 +7,7 @@ use Rattle.ccr_places.specs.declared.claims.StandingClaim.{StandingClaim}
 use Rattle.ccr_port.specs.Replies.{claim_reply}
 use Rattle.ccr_port.specs.declared.claims.Claimed.TheVariants.{Got, Short}
 use Rattle.ccr_object.specs.Ports.{got_count}
-
-take_few : {X : Type 0} (n : ℕ) (xs : List X) → length (take n xs) ≤ n
-take_few zero [] = omega arith
-take_few zero (x ∷ xs) = omega arith
-take_few (suc n) [] = omega arith
-take_few (suc n) (x ∷ xs) = omega (arith, take_few n xs)
+use Rattle.ccr_port.proofs.LaneLists.{length-take_at_most as take_few}
 
 by_test : (b : Bool) (n m c : ℕ) (messages : List Msg) → got_count (if b then Got (take n messages) else Short c) ≤ n
 by_test true n m c messages = take_few n messages

@@ -1,6 +1,7 @@
 //! The objects of all places of a wiring.
 
 ghost use Rattle.std.specs.Prelude.{◌≡◌, ◌≤◌, length, map, IfOk};
+ghost use Rattle.ccr_base.specs.Bounds.{most_places};
 ghost use Rattle.ccr_object.specs.Numbers.{numbers_of};
 ghost use Rattle.ccr_object.specs.Objects.{placed};
 ghost use Rattle.ccr_object.specs.Starts.{places_of, placed_at};
@@ -16,7 +17,7 @@ use std::sync::Arc;
 /// One object for each place, in the order of `places_of`. They share the numbers of the wiring.
 pub fn place_objects(alloc: Global, wiring: &Wiring) -> Result<List<PlaceObject>, OutOfMemory>
     ensures objects { IfOk result (λ objects. map placed objects ≡ map (placed_at wiring.now) (places_of wiring.now)) }
-    ensures count { IfOk result (λ objects. (1 ≤ length objects) × (length objects ≤ 8192)) }
+    ensures count { IfOk result (λ objects. (1 ≤ length objects) × (length objects ≤ most_places)) }
 {
     let numbers = Arc::new(alloc, Numbers::of(alloc, wiring)?)?;
     let places = places_of(alloc, wiring)?;

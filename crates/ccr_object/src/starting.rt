@@ -1,6 +1,7 @@
 //! The places of a wiring, and what stands at each of them at the start.
 
 ghost use Rattle.std.specs.Prelude.{◌≡◌, ◌≤◌, ◌++◌, [], length, IfOk, OnOk};
+ghost use Rattle.ccr_base.specs.Bounds.{most_places};
 ghost use Rattle.ccr_wiring.specs.Wirings.{policy_of, spots as spots_of};
 ghost use Rattle.ccr_places.specs.Interleaves.{start};
 ghost use Rattle.ccr_object.specs.Starts.{port_places, queue_places, arbiter_places, site_place, site_places, places_of, member_at, members, branches_of, groups_of, first_branch, fires_once, fresh_arbiter, kind_of, start_at};
@@ -18,7 +19,7 @@ use std::alloc::Global;
 /// All places: ports, arbiters, sites, queues, each by their numbers, and the meter. Locks can keep as many.
 pub fn places_of(alloc: Global, wiring: &Wiring) -> Result<List<Place>, OutOfMemory>
     ensures places { IfOk result (λ places. places ≡ places_of wiring.now) }
-    ensures count { IfOk result (λ places. (1 ≤ length places) × (length places ≤ 8192)) }
+    ensures count { IfOk result (λ places. (1 ≤ length places) × (length places ≤ most_places)) }
 {
     let _valid = wiring.parts();
     let places = all_places(alloc, wiring)?;

@@ -5,9 +5,9 @@ use Rattle.std.specs.Prelude.{◌==◌}
 use Rattle.ccr_wiring.specs.declared.parts.Parts.{Parts}
 use Rattle.ccr_model.specs.declared.history.Event.{Event}
 use Rattle.ccr_actor.specs.Actors.{next}
-use Rattle.ccr_net.specs.declared.entries.Entry.{Entry}
-use Rattle.ccr_net.specs.Runs.{IsRunAfter, never, replies_of}
-use Rattle.ccr_net.specs.Visible.{visible}
+use Rattle.ccr_runs.specs.declared.entries.Entry.{Entry}
+use Rattle.ccr_runs.specs.EntryRuns.{IsRunAfter, never, replies_of}
+use Rattle.ccr_runs.specs.Visible.{visible}
 use Rattle.ccr_space.specs.Closes.{IsAtEnd, IsBroughtToRest}
 use Rattle.ccr_opening.specs.Begins.{Begins}
 

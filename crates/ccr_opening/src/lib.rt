@@ -2,5 +2,7 @@
 #![tactic(auto)]
 
 mod opening;
+mod threads;
 
 pub use opening::first_history;
+pub use threads::{run_threads, run_threads_in_full};

@@ -1,15 +1,17 @@
 //! What the actors do before the serial order finishes the run.
 
 ghost use Rattle.std.specs.Prelude.{◌≡◌, ◌==◌, ◌<◌, ◌≤◌, ◌+◌, ◌^◌, All, IfOk, IfSome, None, Some, is_ok, length, option_map};
+ghost use Rattle.ccr_base.specs.Bounds.{most_workers};
 ghost use Rattle.ccr_model.specs.Firings.{fired};
 ghost use Rattle.ccr_model.specs.Legal.{IsLegal};
 ghost use Rattle.ccr_model.specs.Order.{next_attempt};
 ghost use Rattle.ccr_opening.specs.Begins.{Begins};
 
+use crate::threads::run_threads;
 use ccr_base::{ActorNo, Gate, OutOfMemory};
 use ccr_model::History;
 use ccr_net::{closers_are_new_to_runs, run_schedule, visible};
-use ccr_space::{Seen, run_threads};
+use ccr_space::Seen;
 use ccr_wiring::Wiring;
 use std::alloc::Global;
 use std::sync::Wait;
@@ -22,7 +24,7 @@ fn scheduled_history(
     workers: u32,
     turns: &[ActorNo],
 ) -> Result<History, OutOfMemory>
-    requires workers { workers ≤ 16 }
+    requires workers { workers ≤ most_workers }
     requires turns { All (λ actor. actor < length wiring.now.posters + workers) turns.now }
     ensures begins { IfOk result (Begins wiring.now workers (Some turns.now)) }
     ensures legal { IfOk result (IsLegal wiring.now) }
@@ -44,7 +46,7 @@ fn threaded_history<R: AllocGlobal + Threads + Wait + Sync, G: Gate + Sync>(
     workers: u32,
 ) -> Result<History, OutOfMemory>
     requires some { 0 < workers }
-    requires many { workers ≤ 16 }
+    requires many { workers ≤ most_workers }
     ensures begins { IfOk result (Begins wiring.now workers None) }
     ensures legal { IfOk result (IsLegal wiring.now) }
     ensures attempts { IfOk result (λ first. next_attempt (length wiring.now.posters + workers) (fired first) ≤ 2 ^ 31) }
@@ -76,7 +78,7 @@ pub fn first_history<R: AllocGlobal + Threads + Wait + Sync, G: Gate + Sync>(
     workers: u32,
     turns: Option<&[ActorNo]>,
 ) -> Result<History, OutOfMemory>
-    requires workers { workers ≤ 16 }
+    requires workers { workers ≤ most_workers }
     requires turns { IfSome turns (λ turns. All (λ actor. actor < length wiring.now.posters + workers) turns.now) }
     ensures begins { IfOk result (Begins wiring.now workers (option_map (λ t. t.now) turns.entry)) }
     ensures legal { IfOk result (IsLegal wiring.now) }

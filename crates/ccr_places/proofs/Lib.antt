@@ -1,1 +1,1 @@
-mod Worked
+pub mod Worked

@@ -28,16 +28,16 @@ use Rattle.ccr_places.specs.TaskSets.{TaskSet, task_cmp, task_cmp_total}
 len-none : set.len (set.empty {R = task_cmp}) ≡ 0
 len-none = set.len-empty task_cmp
 
-in-none : (t : TaskId) → set.contains (set.empty {R = task_cmp}) t ≡ false
+pub in-none : (t : TaskId) → set.contains (set.empty {R = task_cmp}) t ≡ false
 in-none = set.contains-empty task_cmp
 
-len-more : (tasks : TaskSet) (t : TaskId) → set.len (set.insert tasks t) ≡ cond (set.contains tasks t) (set.len tasks) (set.len tasks + 1)
+pub len-more : (tasks : TaskSet) (t : TaskId) → set.len (set.insert tasks t) ≡ cond (set.contains tasks t) (set.len tasks) (set.len tasks + 1)
 len-more = set.len-insert task_cmp_total
 
-in-more : (tasks : TaskSet) (t u : TaskId) → set.contains (set.insert tasks t) u ≡ (eq_by_cmp task_cmp u t || set.contains tasks u)
+pub in-more : (tasks : TaskSet) (t u : TaskId) → set.contains (set.insert tasks t) u ≡ (eq_by_cmp task_cmp u t || set.contains tasks u)
 in-more = set.contains-insert task_cmp_total
 
-len-less : (tasks : TaskSet) (t : TaskId) → set.len (set.remove tasks t) ≡ cond (set.contains tasks t) (set.len tasks - 1) (set.len tasks)
+pub len-less : (tasks : TaskSet) (t : TaskId) → set.len (set.remove tasks t) ≡ cond (set.contains tasks t) (set.len tasks - 1) (set.len tasks)
 len-less = set.len-remove task_cmp_total
 
 ruleset set_sizes = (len-none, in-none, len-more, in-more, len-less)

@@ -6,20 +6,14 @@ use Rattle.std.specs.Option.{option_map_or}
 use Rattle.std.proofs.lemmas.Grind.{common_steps}
 use Rattle.std.proofs.lemmas.Bool.Decides.{nat_tests}
 use Rattle.ccr_port.specs.Chains.{keys_from, IsPath, IsWayBack, has_key, are_apart, without_key, IsChain, same_point, mended}
+pub use Rattle.std.proofs.lemmas.Bool.{or_parts as neither}
+pub use Rattle.std.proofs.lemmas.Bool.{and_parts as both}
 
 -- ---- tests
-
-pub both : (a b : Bool) → a && b ≡ true → (a ≡ true) × (b ≡ true)
-both true b is = (refl, is)
-both false b is = absurd (cc)
 
 pub not_true : (a : Bool) → not a ≡ true → a ≡ false
 not_true true is = absurd (cc)
 not_true false is = refl
-
-pub neither : (a b : Bool) → (a || b) ≡ false → (a ≡ false) × (b ≡ false)
-neither true b is = absurd (cc)
-neither false b is = (refl, is)
 
 pub eq_self : (n : ℕ) → (n == n) ≡ true
 eq_self n = grind (arith, nat_tests)

@@ -200,7 +200,7 @@ entered-pred key value lane = of_test (holds lane.pred value)
     of_test true = refl
     of_test false = refl
 
-length-take_at_most : {X : Type 0} (n : ℕ) (xs : List X) → length (take n xs) ≤ n
+pub length-take_at_most : {X : Type 0} (n : ℕ) (xs : List X) → length (take n xs) ≤ n
 length-take_at_most zero [] = omega arith
 length-take_at_most zero (x ∷ xs) = omega arith
 length-take_at_most (suc n) [] = omega arith

@@ -6,9 +6,9 @@ use Rattle.ccr_wiring.specs.declared.parts.Parts.{Parts}
 use Rattle.ccr_places.specs.declared.notes.Note.{Note}
 use Rattle.ccr_claim.specs.declared.asks.Asked.{Asked}
 use Rattle.ccr_actor.specs.Actors.{next}
-use Rattle.ccr_net.specs.declared.entries.Entry.{Entry}
-use Rattle.ccr_net.specs.Places.{note_of}
-use Rattle.ccr_net.specs.Runs.{Lacks, entry_for, made_by, never, next_stamp, notes_at, replies_of, scheduled, scheduled_from, with_made, IsRunAfter}
+use Rattle.ccr_runs.specs.declared.entries.Entry.{Entry}
+use Rattle.ccr_runs.specs.Places.{note_of}
+use Rattle.ccr_runs.specs.EntryRuns.{Lacks, entry_for, made_by, never, next_stamp, notes_at, replies_of, scheduled, scheduled_from, with_made, IsRunAfter}
 use Rattle.ccr_replay.specs.Schedules.{schedule, AskAlways, IsOfNextSteps}
 
 -- ---- a run of next steps is that of its schedule

@@ -2,7 +2,7 @@
 use Rattle.std.proofs.Common.{◌≡◌, ℕ, ap, ◌∙◌}
 use Rattle.ccr_base.specs.declared.names.Place.{Place}
 use Rattle.ccr_places.specs.declared.notes.Note.{Note}
-use Rattle.ccr_net.specs.declared.entries.Entry.{Entry}
+use Rattle.ccr_runs.specs.declared.entries.Entry.{Entry}
 
 pub same_entry : (one other : Entry) → one.actor ≡ other.actor → one.place ≡ other.place → one.stamp ≡ other.stamp → one.note ≡ other.note → one ≡ other
 same_entry one other actor place stamp note =

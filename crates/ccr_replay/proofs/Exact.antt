@@ -11,9 +11,9 @@ use Rattle.ccr_wiretext.specs.Lines.{IsText}
 use Rattle.ccr_wiretext.specs.Places.{Words, ◌>>=◌, no_more, or_code, unless, word}
 use Rattle.ccr_wiretext.specs.Reading.{at_end, reading_after, reading_text}
 use Rattle.ccr_wiretext.proofs.TextsRead.{text_read, text_said}
-use Rattle.ccr_schedule.specs.Grammar.{AreTurns, IsSkipped}
-use Rattle.ccr_schedule.specs.Turns.{reading_turns, turns_on}
-use Rattle.ccr_schedule.proofs.LinesSaid as turns_lines
+use Rattle.ccr_replay.specs.TurnGrammar.{AreTurns, IsSkipped}
+use Rattle.ccr_replay.specs.Turns.{reading_turns, turns_on}
+use Rattle.ccr_replay.proofs.TurnsSaid as turns_lines
 use Rattle.ccr_replay.specs.declared.records.Record.{Record}
 use Rattle.ccr_replay.specs.Grammar.{AreRecord, AreSkipped, IsLastLine, IsRecordLine, Says}
 use Rattle.ccr_replay.specs.Reading.{after_feed, and_then, behind_first, done_in, done_on, done_place, ending, line_at, on_line, recorded_turns, part_before, reading_behind, reading_lines, reading_part, reading_record, record_behind, record_place, skipped_in, skipped_lines, skipped_on, turns_behind, recorded_wiring, workers_in, workers_of, workers_on}

@@ -1,3 +1,6 @@
+pub mod TurnSaid
+pub mod TurnsSaid
+mod TurnsAnswered
 pub mod Again
 pub mod EntryParts
 pub mod FirstLine

@@ -12,7 +12,7 @@ use Rattle.ccr_wiring.proofs.Soundness.{sound}
 use Rattle.ccr_wiretext.specs.Reading.{reading_text}
 use Rattle.ccr_wiretext.proofs.AnswerFacts.{is_valid}
 use Rattle.ccr_wiretext.proofs.TextsRead.{text_said}
-use Rattle.ccr_schedule.specs.Grammar.{AreTurns}
+use Rattle.ccr_replay.specs.TurnGrammar.{AreTurns}
 use Rattle.ccr_replay.specs.Grammar.{IsLastLine, IsRecordLine, Says}
 use Rattle.ccr_replay.specs.Reading.{reading_record}
 use Rattle.ccr_replay.specs.Records.{done_words, record_lines, record_text, record_words, turn_words}

@@ -13,10 +13,8 @@ use Rattle.ccr_text.specs.Words.{is_mark}
 use Rattle.ccr_replay.specs.Reading.{part_before}
 use Rattle.ccr_text.proofs.Again.{joined_feeds}
 use Rattle.ccr_text.proofs.Decimals.{own}
-
-both : (a b : Bool) → (a && b) ≡ true → (a ≡ true) × (b ≡ true)
-both true b e = (refl, e)
-both false b e = absurd (cc)
+use Rattle.std.proofs.lemmas.Bool.{and_parts as both}
+use Rattle.ccr_wiretext.proofs.PlainPosts.{digits_marks}
 
 -- how many bytes these lines have, each with its LF
 abbrev pub spans : List (List ℕ) → ℕ
@@ -136,13 +134,6 @@ spans_lines (words ∷ lines) =
     let more = spans_lines lines in
     let whole : length (text_of (words ∷ lines)) ≡ (length (joined words) + 1) + length (text_of lines) = grind (arith, common_steps, flat_map-cons line_text words lines) in
     omega (arith, more, whole)
-
-digits_marks : (digits : List ℕ) → list_all is_ascii_digit digits ≡ true → list_all is_mark digits ≡ true
-digits_marks [] are = refl
-digits_marks (b ∷ digits) are =
-    let parts = both (is_ascii_digit b) (list_all is_ascii_digit digits) are in
-    let mark : is_mark b ≡ true = grind (arith, nat_tests, parts.0) in
-    rw (mark, digits_marks digits parts.1) refl
 
 -- the digits of a number are a word
 pub decimal_word : (n : ℕ) → n < 2 ^ 64 → ((length (decimal n) == 0) ≡ false) × (list_all is_mark (decimal n) ≡ true)

@@ -19,7 +19,7 @@ use Rattle.ccr_wiring.specs.declared.parts.Parts.{Parts}
 use Rattle.ccr_places.specs.declared.notes.ClaimNote.TheVariants.{Got, Busy, Short}
 use Rattle.ccr_places.specs.declared.notes.Note.{Note}
 use Rattle.ccr_places.specs.declared.notes.Note.TheVariants as notes
-use Rattle.ccr_net.specs.declared.entries.Entry.{Entry}
+use Rattle.ccr_runs.specs.declared.entries.Entry.{Entry}
 use Rattle.ccr_replay.specs.Records.{record_text}
 use Rattle.ccr_replay.specs.Schedules.{schedule}
 use Rattle.ccr_replay.specs.Steps.{note_words, place_words, steps_text}

@@ -3,7 +3,7 @@ use Rattle.std.specs.Prelude.{◌≡◌, ◌≤◌, ℕ, ◌+◌, true, List, []
 use Rattle.ccr_text.specs.Lines.{cut}
 use Rattle.ccr_text.specs.Words.{is_clean, number_of, words_of}
 use Rattle.ccr_wiretext.specs.Lines.{IsText}
-use Rattle.ccr_schedule.specs.Grammar.{AreTurns, IsSkipped}
+use Rattle.ccr_replay.specs.TurnGrammar.{AreTurns, IsSkipped}
 use Rattle.ccr_replay.specs.declared.records.Record.{Record}
 
 -- the line is `record 1 N`, where N is at most 16

@@ -1,3 +1,6 @@
+pub mod Turns
+pub mod TurnGrammar
+pub mod TurnAnswers
 pub mod Schedules
 pub mod Steps
 pub mod Records

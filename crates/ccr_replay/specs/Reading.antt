@@ -7,7 +7,7 @@ use Rattle.ccr_text.specs.Words.{number_of}
 use Rattle.ccr_wiring.specs.declared.parts.Parts.{Parts}
 use Rattle.ccr_wiretext.specs.Places.{Words, ◌>>=◌, word, no_more, unless, or_code}
 use Rattle.ccr_wiretext.specs.Reading.{is_comment, reading_text}
-use Rattle.ccr_schedule.specs.Turns.{reading_turns}
+use Rattle.ccr_replay.specs.Turns.{reading_turns}
 use Rattle.ccr_replay.specs.declared.records.Record.{Record}
 
 -- ---- what stands where

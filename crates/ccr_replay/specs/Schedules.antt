@@ -2,8 +2,8 @@
 use Rattle.std.specs.Prelude.{◌≡◌, ◌<◌, ◌+◌, ℕ, List, [], ◌∷◌, ◌++◌, length, map, All, None}
 use Rattle.ccr_wiring.specs.declared.parts.Parts.{Parts}
 use Rattle.ccr_actor.specs.Actors.{next}
-use Rattle.ccr_net.specs.declared.entries.Entry.{Entry}
-use Rattle.ccr_net.specs.Runs.{IsRunAfter, Lacks, never, replies_of}
+use Rattle.ccr_runs.specs.declared.entries.Entry.{Entry}
+use Rattle.ccr_runs.specs.EntryRuns.{IsRunAfter, Lacks, never, replies_of}
 
 -- whose step each entry is
 abbrev pub schedule : List Entry → List ℕ

@@ -9,6 +9,9 @@ mod refusals;
 mod same;
 mod schedules;
 mod steps;
+mod turn_lines;
+mod turn_refusals;
+mod turns;
 mod words;
 
 pub use laws::{records_are_read_again, records_are_read_exactly, schedules_give_runs_again};
@@ -16,3 +19,4 @@ pub use reading::{read_part, read_record};
 pub use records::{Record, write_record};
 pub use schedules::schedule_of;
 pub use steps::steps_text;
+pub use turn_lines::read_turns;

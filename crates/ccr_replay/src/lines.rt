@@ -2,6 +2,7 @@
 
 ghost use Rattle.std.specs.Prelude.{◌≡◌, ◌≤◌, codes, IfOk};
 ghost use Rattle.std.specs.Str.{bytes_eq};
+ghost use Rattle.ccr_base.specs.Bounds.{most_workers};
 ghost use Rattle.ccr_wiretext.specs.Reading.{is_comment};
 ghost use Rattle.ccr_replay.specs.Answers.{Gives, GivesSeen};
 ghost use Rattle.ccr_replay.specs.Reading.{behind_first, done_in, done_on, skipped_in, skipped_on, workers_in, workers_of, workers_on};
@@ -29,7 +30,7 @@ fn behind_first(line: &Line) -> Result<&[Name], Code>
 /// The number of workers, where no further word stands behind it.
 fn workers_of(digits: &[u8], others: &[Name]) -> Result<u32, Code>
     ensures read { Gives result (workers_of digits.now others.now) }
-    ensures few { IfOk result (λ workers. workers ≤ 16) }
+    ensures few { IfOk result (λ workers. workers ≤ most_workers) }
 {
     let Some(workers) = read_number(digits) else {
         return Err(Code::Number);
@@ -46,7 +47,7 @@ fn workers_of(digits: &[u8], others: &[Name]) -> Result<u32, Code>
 /// The words behind `record` are `1` and the number of workers.
 fn workers_in(words: &[Name]) -> Result<u32, Code>
     ensures read { Gives result (workers_in words.now) }
-    ensures few { IfOk result (λ workers. workers ≤ 16) }
+    ensures few { IfOk result (λ workers. workers ≤ most_workers) }
 {
     let Some((version, words)) = words.split_first() else {
         return Err(Code::WordCount);
@@ -63,7 +64,7 @@ fn workers_in(words: &[Name]) -> Result<u32, Code>
 /// How many workers the line of the record says that there are.
 pub fn workers_on(line: &Line) -> Result<u32, Code>
     ensures read { Gives result (workers_on line.now) }
-    ensures few { IfOk result (λ workers. workers ≤ 16) }
+    ensures few { IfOk result (λ workers. workers ≤ most_workers) }
 {
     workers_in(behind_first(line)?)
 }

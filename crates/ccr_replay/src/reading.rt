@@ -1,17 +1,18 @@
 //! A record, read line by line.
 
 ghost use Rattle.std.specs.Prelude.{◌≡◌, ◌≢◌, ◌≤◌, ◌<◌, ◌+◌, [], ◌∷◌, All, length, IfErr, IfOk};
+ghost use Rattle.ccr_base.specs.Bounds.{most_bytes, most_wiring_bytes, most_workers};
 ghost use Rattle.ccr_text.specs.Lines.{cut, numbered};
 ghost use Rattle.ccr_replay.specs.Answers.{IsReading, SaysNothing};
 ghost use Rattle.ccr_replay.specs.Grammar.{Says};
 ghost use Rattle.ccr_replay.specs.Reading.{after_feed, ending, line_at, part_before, reading_behind, reading_part, reading_record, record_behind, skipped_lines, turns_behind};
 
 use crate::lines::{done_on, skipped_on, workers_on};
+use crate::read_turns;
 use crate::records::Record;
 use crate::refusals::{Code, refused};
 use ccr_actor::actor_count;
 use ccr_base::{ActorNo, List};
-use ccr_schedule::read_turns;
 use ccr_text::{cut_line, line_of, numbered_line};
 use ccr_wiretext::{ReadRefused, read_wiring};
 use ccr_wiring::Wiring;
@@ -23,7 +24,7 @@ const MAX_WIRING_TEXT: usize = 1_048_576;
 /// The number of the line at which the byte of this place stands.
 fn line_at(place: usize, text: &[u8]) -> u32
     requires within { place ≤ length text.now }
-    requires small { place ≤ 1048576 }
+    requires small { place ≤ most_wiring_bytes }
     ensures { result ≡ line_at place text.now }
 {
     let mut line = 1;
@@ -49,7 +50,7 @@ pub fn read_part(alloc: Global, part: &[u8]) -> Result<Wiring, ReadRefused>
 
 /// All lines of the text are skipped, where so many stand before them.
 fn read_skipped(alloc: Global, text: &[u8], before: u32) -> Result<(), ReadRefused>
-    requires text { length text.now ≤ 33554432 }
+    requires text { length text.now ≤ most_bytes }
     requires before { before ≤ 100000000 }
     ensures { IsReading result (skipped_lines (numbered (before + 1) (cut text.now))) }
 {
@@ -71,7 +72,7 @@ fn read_skipped(alloc: Global, text: &[u8], before: u32) -> Result<(), ReadRefus
 
 /// The last line of the record, and skipped ones behind it.
 fn read_ending(alloc: Global, text: &[u8], before: u32) -> Result<(), ReadRefused>
-    requires text { length text.now ≤ 33554432 }
+    requires text { length text.now ≤ most_bytes }
     requires before { before ≤ 70000000 }
     ensures { IsReading result (ending before (cut text.now)) }
 {
@@ -95,7 +96,7 @@ fn read_turns_behind(
     before: u32,
     actors: u32,
 ) -> Result<List<ActorNo>, ReadRefused>
-    requires text { length text.now ≤ 33554432 }
+    requires text { length text.now ≤ most_bytes }
     requires before { before ≤ 33554433 }
     ensures turns { IsReading result (turns_behind actors before text.now) }
     ensures below { IfOk result (λ turns. All (λ actor. actor < actors) turns) }
@@ -119,11 +120,11 @@ fn read_record_behind(
     before: u32,
     workers: u32,
 ) -> Result<Record, ReadRefused>
-    requires text { length text.now ≤ 33554432 }
+    requires text { length text.now ≤ most_bytes }
     requires before { before ≤ 33554433 }
-    requires workers { workers ≤ 16 }
+    requires workers { workers ≤ most_workers }
     ensures reading { IsReading result (record_behind wiring before workers text.now) }
-    ensures workers { IfOk result (λ read. read.workers ≤ 16) }
+    ensures workers { IfOk result (λ read. read.workers ≤ most_workers) }
     ensures turns { IfOk result (λ read. All (λ actor. actor < length read.wiring.posters + read.workers) read.turns) }
 {
     let actors = actor_count(&wiring, workers);
@@ -144,10 +145,10 @@ fn read_behind(
     text: &[u8],
     before: u32,
 ) -> Result<Record, ReadRefused>
-    requires text { length text.now ≤ 33554432 }
-    requires before { before ≤ 33554432 }
+    requires text { length text.now ≤ most_bytes }
+    requires before { before ≤ most_bytes }
     ensures reading { IsReading result (reading_behind wiring before text.now) }
-    ensures workers { IfOk result (λ read. read.workers ≤ 16) }
+    ensures workers { IfOk result (λ read. read.workers ≤ most_workers) }
     ensures turns { IfOk result (λ read. All (λ actor. actor < length read.wiring.posters + read.workers) read.turns) }
 {
     if text.is_empty() {
@@ -190,9 +191,9 @@ fn part_before(text: &[u8], place: usize) -> &[u8]
 }
 
 fn read_text(alloc: Global, text: &[u8]) -> Result<Record, ReadRefused>
-    requires { length text.now ≤ 33554432 }
+    requires { length text.now ≤ most_bytes }
     ensures reading { IsReading result (reading_record text.now) }
-    ensures workers { IfOk result (λ read. read.workers ≤ 16) }
+    ensures workers { IfOk result (λ read. read.workers ≤ most_workers) }
     ensures turns { IfOk result (λ read. All (λ actor. actor < length read.wiring.posters + read.workers) read.turns) }
 {
     let (place, before) = line_of(text, b"record");
@@ -206,11 +207,11 @@ fn read_text(alloc: Global, text: &[u8]) -> Result<Record, ReadRefused>
 /// end; then stand that line with the number of workers, a line for each turn, and the last line. Or the first offending line
 /// and its code (docs/FORMATS.md).
 pub fn read_record(alloc: Global, text: &[u8]) -> Result<Record, ReadRefused>
-    requires { length text.now ≤ 33554432 }
+    requires { length text.now ≤ most_bytes }
     ensures reading { IsReading result (reading_record text.now) }
     ensures grammar { IfOk result (Says text.now) }
     ensures refused { IfErr result (SaysNothing text.now) }
-    ensures workers { IfOk result (λ read. read.workers ≤ 16) }
+    ensures workers { IfOk result (λ read. read.workers ≤ most_workers) }
     ensures turns { IfOk result (λ read. All (λ actor. actor < length read.wiring.posters + read.workers) read.turns) }
 {
     read_text(alloc, text)

@@ -3,7 +3,7 @@
 ghost use Rattle.std.specs.Prelude.{◌≡◌, ◌++◌, IfOk, Ok, OnOk, map};
 ghost use Rattle.ccr_text.specs.Spelling.{text_of};
 ghost use Rattle.ccr_wiring.specs.declared.parts.Parts.{Parts};
-ghost use Rattle.ccr_replay.specs.Lawful.{WhereRecorded};
+ghost use Rattle.ccr_replay.specs.Lawful.{record_of, WhereRecorded};
 ghost use Rattle.ccr_replay.specs.Reading.{reading_record};
 ghost use Rattle.ccr_replay.specs.Records.{record_text, turn_words};
 
@@ -70,7 +70,7 @@ pub fn write_record(
     turns: &[ActorNo],
 ) -> Result<List<u8>, OutOfMemory>
     ensures text { IfOk result (λ text. text ≡ record_text wiring_text.now workers turns.now) }
-    ensures again { (wiring : Parts) → WhereRecorded wiring_text.now wiring workers turns.now (IfOk result (λ text. reading_record text ≡ Ok (record { wiring = wiring; workers = workers; turns = turns.now }))) }
+    ensures again { (wiring : Parts) → WhereRecorded wiring_text.now wiring workers turns.now (IfOk result (λ text. reading_record text ≡ Ok (record_of wiring workers turns.now))) }
 {
     records_are_read_again();
     put_record(alloc, wiring_text, workers, turns)

@@ -3,8 +3,8 @@
 ghost use Rattle.std.specs.Prelude.{◌≡◌, true, false};
 
 use ccr_base::{By, CauseNo, How, List, Msg, MsgId, Slot, Spot, TaskId};
-use ccr_net::Entry;
 use ccr_places::{ClaimNote, Note};
+use ccr_runs::Entry;
 
 fn same_task(one: Option<TaskId>, other: Option<TaskId>) -> bool
     ensures yes { result ≡ true → one ≡ other }

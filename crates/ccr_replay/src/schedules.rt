@@ -1,13 +1,15 @@
 //! The schedule of a run.
 
 ghost use Rattle.std.specs.Prelude.{◌≡◌, ◌≤◌, ◌<◌, All, true, false, IfOk, IfSome, Ok, None};
+ghost use Rattle.ccr_base.specs.Bounds.{most_workers};
 ghost use Rattle.ccr_replay.specs.Schedules.{schedule, IsOfNextSteps};
 
 use crate::laws::schedules_give_runs_again;
 use crate::same::are_same;
 use ccr_actor::actor_count;
 use ccr_base::{ActorNo, List, OutOfMemory};
-use ccr_net::{Entry, Full, run_schedule};
+use ccr_net::run_schedule;
+use ccr_runs::{Entry, Full};
 use ccr_wiring::Wiring;
 use std::alloc::Global;
 
@@ -38,7 +40,7 @@ pub fn schedule_of(
     workers: u32,
     full: &Full,
 ) -> Result<Option<List<ActorNo>>, OutOfMemory>
-    requires { workers ≤ 16 }
+    requires { workers ≤ most_workers }
     ensures schedule { IfOk result (λ found. IfSome found (λ turns. turns ≡ schedule full.now.entries)) }
     ensures some { IfOk result (λ found. IfSome found (λ _. IsOfNextSteps wiring.now workers full.now.entries)) }
     ensures none { result ≡ Ok None → IsOfNextSteps wiring.now workers full.now.entries → ⊥ }

@@ -7,11 +7,10 @@ ghost use Rattle.ccr_replay.specs.Steps.{step_words, steps_text};
 
 use crate::words::{put_note, put_place, put_stamp};
 use ccr_base::{List, Name, OutOfMemory};
-use ccr_net::{Entry, Full};
-use ccr_spots::branch_names;
+use ccr_runs::{Entry, Full};
 use ccr_text::put_bytes;
 use ccr_trace::put_number_word;
-use ccr_wiring::{Parts, Wiring};
+use ccr_wiring::{Parts, Wiring, branch_names};
 use std::alloc::Global;
 
 /// How many bytes the line of a step has, about.

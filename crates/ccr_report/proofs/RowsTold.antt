@@ -10,7 +10,7 @@ use Rattle.ccr_model.specs.declared.history.Totals.{Totals}
 use Rattle.ccr_model.specs.Posts.{posted, held}
 use Rattle.ccr_model.specs.Firings.{fired_at}
 use Rattle.ccr_text.specs.Spelling.{text_of}
-use Rattle.ccr_spots.specs.Words.{branch_names}
+use Rattle.ccr_wiring.specs.SpotWords.{branch_names}
 use Rattle.ccr_report.specs.Counting.{put_at, dropped_at}
 use Rattle.ccr_report.specs.Counted.{IsCounted}
 use Rattle.ccr_report.specs.Report.{port_words, port_lines, spot_words, queue_words, queue_lines, total_words, report_text}

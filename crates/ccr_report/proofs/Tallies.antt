@@ -20,6 +20,7 @@ use Rattle.ccr_model.specs.Firings.{spot_of}
 use Rattle.ccr_model.specs.Tasks.{is_for_queue}
 use Rattle.ccr_model.proofs.Filters.{filter_swap}
 use Rattle.ccr_report.specs.Counting.{times, taken_at, ports_of, queues_in, branch_queues}
+pub use Rattle.std.proofs.lemmas.List.{map-append as map-both}
 
 -- numbers that are counted belong to members that pass a test
 pub times-map : {X : Type 0} (f : X → ℕ) (k : ℕ) (xs : List X) → times k (map f xs) ≡ length (filter (λ x. f x == k) xs)
@@ -54,10 +55,6 @@ times-some f test k says (x ∷ xs) = of_number (f x) (test x) (says x) (times-s
 pub placements_queues : (number : ℕ) (arbiter : ArbiterPart) (branches : List BranchPart) → map (λ (part : BranchPart). part.queue) branches ≡ map (λ (s : Placement). s.branch.queue) (map (λ branch. record { arbiter = number; kind = arbiter.kind; branch = branch }) branches)
 placements_queues number arbiter [] = refl
 placements_queues number arbiter (branch ∷ branches) = ap (λ (queues : List ℕ). branch.queue ∷ queues) (placements_queues number arbiter branches)
-
-pub map-both : {X Y : Type 0} (f : X → Y) (xs ys : List X) → map f (xs ++ ys) ≡ map f xs ++ map f ys
-map-both f [] ys = refl
-map-both f (x ∷ xs) ys = ap (λ zs. f x ∷ zs) (map-both f xs ys)
 
 -- the branches' queues, by their placements
 pub branch_queues_placements : (number : ℕ) (arbiters : List ArbiterPart) → flat_map queues_in arbiters ≡ map (λ (s : Placement). s.branch.queue) (placements_from number arbiters)

@@ -5,7 +5,7 @@ use Rattle.ccr_base.specs.declared.names.Spot.{Spot}
 use Rattle.ccr_wiring.specs.declared.parts.Parts.{Parts}
 use Rattle.ccr_wiring.specs.Wirings.{spots}
 use Rattle.ccr_text.specs.Spelling.{line_text, text_of}
-use Rattle.ccr_spots.specs.Words.{branch_names}
+use Rattle.ccr_wiring.specs.SpotWords.{branch_names}
 use Rattle.ccr_report.specs.declared.counted.Counts.{Counts}
 use Rattle.ccr_report.specs.Report.{total_words}
 use Rattle.ccr_report.specs.Rows.{port_rows, spot_rows, queue_rows, counted_text}

@@ -1,12 +1,14 @@
 -- What a report counts at a port and at a queue.
-use Rattle.std.specs.Prelude.{ℕ, ◌==◌, List, map, filter, flat_map, length, Option, option_map, option_to_list}
+use Rattle.std.specs.Prelude.{ℕ, ◌==◌, List, map, filter, flat_map, length, Option, option_map, option_to_list, option_and_then}
+use Rattle.std.specs.List.{slice_get}
 use Rattle.ccr_base.specs.declared.names.TaskId.{TaskId}
+use Rattle.ccr_base.specs.declared.names.Spot.{Spot}
 use Rattle.ccr_base.specs.declared.messages.Msg.{Msg}
 use Rattle.ccr_base.specs.Names.{has_message}
 use Rattle.ccr_wiring.specs.declared.parts.Parts.{Parts}
 use Rattle.ccr_wiring.specs.declared.parts.ArbiterPart.{ArbiterPart}
 use Rattle.ccr_wiring.specs.declared.parts.BranchPart.{BranchPart}
-use Rattle.ccr_wiring.specs.Wirings.{Placement}
+use Rattle.ccr_wiring.specs.Wirings.{Placement, branch_of}
 use Rattle.ccr_model.specs.declared.history.Event.{Event}
 use Rattle.ccr_model.specs.Posts.{posted, taken}
 use Rattle.ccr_model.specs.Firings.{put, dropped}
@@ -40,6 +42,14 @@ queue_of wiring history task = option_map (λ (s : Placement). s.branch.queue) (
 -- the queues of tasks
 abbrev pub queues_of : Parts → List Event → List TaskId → List ℕ
 queues_of wiring history tasks = flat_map (λ task. option_to_list (queue_of wiring history task)) tasks
+
+-- the task's queue, by where it fired and by the queues of the branches
+abbrev pub queue_by : (TaskId → Option Spot) → List ℕ → TaskId → Option ℕ
+queue_by spot_at queues task = option_and_then (λ spot. slice_get queues (branch_of spot)) (spot_at task)
+
+-- the queues of tasks, in order, by the same
+abbrev pub queues_by : (TaskId → Option Spot) → List ℕ → List TaskId → List ℕ
+queues_by spot_at queues tasks = flat_map (λ task. option_to_list (queue_by spot_at queues task)) tasks
 
 -- the queues of the arbiter's branches
 abbrev pub queues_in : ArbiterPart → List ℕ

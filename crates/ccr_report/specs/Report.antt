@@ -10,7 +10,7 @@ use Rattle.ccr_model.specs.Posts.{posted, held}
 use Rattle.ccr_model.specs.Firings.{fired_at}
 use Rattle.ccr_model.specs.Counts.{totals}
 use Rattle.ccr_text.specs.Spelling.{text_of}
-use Rattle.ccr_spots.specs.Words.{branch_names, spot_word}
+use Rattle.ccr_wiring.specs.SpotWords.{branch_names, spot_word}
 use Rattle.ccr_report.specs.Counting.{taken_at, put_at, dropped_at}
 
 -- the line of a port
@@ -46,6 +46,10 @@ message_amounts total = amount_text (codes "posted") total.posted ++ (amount_tex
 -- and how tasks ended
 abbrev pub end_amounts : Totals → List ℕ
 end_amounts total = amount_text (codes "done") total.done ++ (amount_text (codes "failed") total.failed ++ (amount_text (codes "shed") total.shed ++ amount_text (codes "yield") total.yielded))
+
+-- and what became of those that came to no end
+abbrev pub other_amounts : Totals → List ℕ
+other_amounts total = amount_text (codes "cut") total.cut ++ (amount_text (codes "dropped") total.dropped ++ amount_text (codes "left") total.unended)
 
 -- the line of the totals
 abbrev pub total_words : Totals → List (List ℕ)

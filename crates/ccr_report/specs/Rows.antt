@@ -5,7 +5,7 @@ use Rattle.ccr_wiring.specs.declared.parts.Parts.{Parts}
 use Rattle.ccr_wiring.specs.declared.parts.QueuePart.{QueuePart}
 use Rattle.ccr_wiring.specs.Wirings.{spots}
 use Rattle.ccr_text.specs.Spelling.{text_of}
-use Rattle.ccr_spots.specs.Words.{branch_names, spot_word}
+use Rattle.ccr_wiring.specs.SpotWords.{branch_names, spot_word}
 use Rattle.ccr_report.specs.Report.{total_words}
 use Rattle.ccr_report.specs.declared.counted.Counts.{Counts}
 

@@ -4,17 +4,16 @@ ghost use Rattle.std.specs.Prelude.{◌≡◌, ◌++◌, ◌∷◌, [], List as 
 ghost use Rattle.ccr_wiring.specs.Wirings.{spots as spots_of};
 ghost use Rattle.ccr_model.specs.declared.history.Event.{Event as SomeEvent};
 ghost use Rattle.ccr_text.specs.Spelling.{line_text, text_of};
-ghost use Rattle.ccr_spots.specs.Words.{branch_names};
+ghost use Rattle.ccr_wiring.specs.SpotWords.{branch_names};
 ghost use Rattle.ccr_report.specs.Counted.{HasRows, IsCounted};
-ghost use Rattle.ccr_report.specs.Report.{amount_text, end_amounts, message_amounts, total_words, report_text};
+ghost use Rattle.ccr_report.specs.Report.{amount_text, end_amounts, message_amounts, other_amounts, total_words, report_text};
 ghost use Rattle.ccr_report.specs.Rows.{port_fields, port_rows, spot_rows, queue_rows, counted_text};
 
 use crate::counted::{Counts, counts_of};
 use ccr_base::{List, Name, OutOfMemory, Spot};
 use ccr_model::{History, Totals};
-use ccr_spots::{branch_names, spot_text};
 use ccr_text::{put_bytes, put_line, put_number};
-use ccr_wiring::{Parts, Wiring};
+use ccr_wiring::{Parts, Wiring, branch_names, spot_text};
 use std::alloc::Global;
 
 /// The report on the history (docs/FORMATS.md, "The report"): a line for each port, each spot and each queue, and the totals.
@@ -222,7 +221,7 @@ fn put_end_amounts(line: &mut List<u8>, totals: &Totals) -> Result<(), OutOfMemo
 }
 
 fn put_other_amounts(line: &mut List<u8>, totals: &Totals) -> Result<(), OutOfMemory>
-    ensures { OnOk result (line.new ≡ line.old ++ (amount_text (codes "cut") totals.now.cut ++ (amount_text (codes "dropped") totals.now.dropped ++ amount_text (codes "left") totals.now.unended))) }
+    ensures { OnOk result (line.new ≡ line.old ++ other_amounts totals.now) }
 {
     put_amount(line, b"cut", totals.cut)?;
     put_amount(line, b"dropped", totals.dropped)?;

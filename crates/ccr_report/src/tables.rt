@@ -1,12 +1,10 @@
 //! The counts of a report, one for each port, spot and queue.
 
-ghost use Rattle.std.specs.Prelude.{◌≡◌, ◌<◌, ℕ, IfOk, length, slice_index, flat_map, option_to_list, option_and_then};
-ghost use Rattle.std.specs.List.{slice_get};
+ghost use Rattle.std.specs.Prelude.{◌≡◌, ◌<◌, ℕ, IfOk, length, slice_index};
 ghost use Rattle.std.specs.HashMap.{get};
 ghost use Rattle.ccr_base.specs.Names.{same_task};
-ghost use Rattle.ccr_wiring.specs.Wirings.{branch_of};
 ghost use Rattle.ccr_model.specs.Posts.{posted, held};
-ghost use Rattle.ccr_report.specs.Counting.{times, put_at, dropped_at, branch_queues};
+ghost use Rattle.ccr_report.specs.Counting.{times, put_at, dropped_at, branch_queues, queues_by};
 
 use crate::messages::{held_ports, posted_ports};
 use crate::tally::tally;
@@ -79,7 +77,7 @@ fn queue_tally(
     tasks: &[TaskId],
 ) -> Result<Vec<u64>, OutOfMemory>
     ensures len { IfOk result (λ counts. length counts.items ≡ length parts.now.queues) }
-    ensures counts { IfOk result (λ counts. (k : ℕ) → k < length parts.now.queues → slice_index counts.items k ≡ times k (flat_map (λ task. option_to_list (option_and_then (λ spot. slice_get (branch_queues parts.now) (branch_of spot)) (get same_task spots.now task))) tasks.now)) }
+    ensures counts { IfOk result (λ counts. (k : ℕ) → k < length parts.now.queues → slice_index counts.items k ≡ times k (queues_by (get same_task spots.now) (branch_queues parts.now) tasks.now)) }
 {
     let of_branches = branch_queues(alloc, parts)?;
     let queues = queues_of(alloc, spots, &of_branches, tasks)?;

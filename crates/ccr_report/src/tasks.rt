@@ -1,14 +1,12 @@
 //! The tasks of a history: where they fired, and which queues they belong to.
 
-ghost use Rattle.std.specs.Prelude.{◌≡◌, [], ◌∷◌, ◌++◌, IfOk, OnOk, map, flat_map, option_map, option_to_list, option_and_then, Some, None, if◌then◌else◌};
-ghost use Rattle.std.specs.List.{slice_get};
+ghost use Rattle.std.specs.Prelude.{◌≡◌, [], ◌∷◌, ◌++◌, IfOk, OnOk, map, option_map, Some, None, if◌then◌else◌};
 ghost use Rattle.std.specs.Option.{option_or};
 ghost use Rattle.std.specs.HashMap.{get};
 ghost use Rattle.ccr_base.specs.declared.names.TaskId.{TaskId as Named};
 ghost use Rattle.ccr_base.specs.Names.{same_task};
-ghost use Rattle.ccr_wiring.specs.Wirings.{branch_of};
 ghost use Rattle.ccr_model.specs.Firings.{spot_of};
-ghost use Rattle.ccr_report.specs.Counting.{branch_queues, queues_in};
+ghost use Rattle.ccr_report.specs.Counting.{branch_queues, queue_by, queues_by, queues_in};
 
 use ccr_base::{OutOfMemory, QueueNo, Spot, TaskId};
 use ccr_model::Event;
@@ -68,7 +66,7 @@ fn add_queues(queues: &mut Vec<QueueNo>, arbiter: &ArbiterPart) -> Result<(), Ou
 
 /// The task's queue.
 fn queue_of(spots: &HashMap<TaskId, Spot>, queues: &[QueueNo], task: TaskId) -> Option<QueueNo>
-    ensures { result ≡ option_and_then (λ spot. slice_get queues.now (branch_of spot)) (get same_task spots.now task) }
+    ensures { result ≡ queue_by (get same_task spots.now) queues.now task }
 {
     let spot = spots.get(&task)?;
     queues.get(branch_of(*spot) as usize).copied()
@@ -81,7 +79,7 @@ pub fn queues_of(
     queues: &[QueueNo],
     tasks: &[TaskId],
 ) -> Result<Vec<QueueNo>, OutOfMemory>
-    ensures { IfOk result (λ numbers. numbers.items ≡ flat_map (λ task. option_to_list (option_and_then (λ spot. slice_get queues.now (branch_of spot)) (get same_task spots.now task))) tasks.now) }
+    ensures { IfOk result (λ numbers. numbers.items ≡ queues_by (get same_task spots.now) queues.now tasks.now) }
 {
     let mut numbers = Vec::new(alloc);
     for task in tasks {

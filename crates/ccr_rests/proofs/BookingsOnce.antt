@@ -26,10 +26,10 @@ use Rattle.ccr_claim.specs.Plans.{resumes, slots_in}
 use Rattle.ccr_claim.specs.Attempts.{Phase, booking, claiming, attempt_ask}
 use Rattle.ccr_actor.specs.Plans.{plan_of}
 use Rattle.ccr_actor.specs.Actors.{State, after, after_attempt, after_in, name_at, shorten}
-use Rattle.ccr_net.specs.declared.entries.Entry.{Entry}
-use Rattle.ccr_net.specs.Places.{note_of, queue_note}
-use Rattle.ccr_net.specs.Runs.{IsRunAfter, Lacks, made_by, notes_at, reply_of, reply_to, same_place, state_of}
-use Rattle.ccr_net.specs.Visible.{visible}
+use Rattle.ccr_runs.specs.declared.entries.Entry.{Entry}
+use Rattle.ccr_runs.specs.Places.{note_of, queue_note}
+use Rattle.ccr_runs.specs.EntryRuns.{IsRunAfter, Lacks, made_by, notes_at, reply_of, reply_to, same_place, state_of}
+use Rattle.ccr_runs.specs.Visible.{visible}
 use Rattle.ccr_net.proofs.Kept.Assembly.{Holds, begins, IsBegun}
 use Rattle.ccr_net.proofs.Parts.Booking.{in-less, in-more}
 use Rattle.ccr_net.proofs.Parts.Invariant.{IsOwed}

@@ -21,10 +21,10 @@ use Rattle.ccr_claim.specs.declared.plan.ClaimPlan.{ClaimPlan}
 use Rattle.ccr_claim.specs.Attempts.{Phase, booking, claiming, consume_ask, cut_ask, free_ask, over_dropped, put_asks, release, unbook_ask}
 use Rattle.ccr_actor.specs.Plans.{plan_of}
 use Rattle.ccr_actor.specs.Actors.{State, after, after_work, in_attempt, name_at}
-use Rattle.ccr_net.specs.declared.entries.Entry.{Entry}
-use Rattle.ccr_net.specs.Runs.{Lacks, reply_of, state_of, waits}
-use Rattle.ccr_net.specs.Views.{cut_view, view}
-use Rattle.ccr_net.specs.Visible.{visible}
+use Rattle.ccr_runs.specs.declared.entries.Entry.{Entry}
+use Rattle.ccr_runs.specs.EntryRuns.{Lacks, reply_of, state_of, waits}
+use Rattle.ccr_runs.specs.Views.{cut_view, view}
+use Rattle.ccr_runs.specs.Visible.{visible}
 use Rattle.ccr_net.proofs.Parts.ActorSteps.{unfired}
 use Rattle.ccr_net.proofs.Kept.Assembly.{Holds}
 use Rattle.ccr_net.proofs.Owed.GoingOn.{Worked, worked}

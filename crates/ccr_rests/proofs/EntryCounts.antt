@@ -9,8 +9,8 @@ use Rattle.ccr_wiring.specs.declared.parts.Parts.{Parts}
 use Rattle.ccr_model.proofs.Booleans.{both}
 use Rattle.ccr_model.proofs.Members.{Among, Among-either}
 use Rattle.ccr_places.specs.declared.notes.Note.{Note}
-use Rattle.ccr_net.specs.declared.entries.Entry.{Entry}
-use Rattle.ccr_net.specs.Runs.{Lacks, IsRunAfter, made_by, same_place}
+use Rattle.ccr_runs.specs.declared.entries.Entry.{Entry}
+use Rattle.ccr_runs.specs.EntryRuns.{Lacks, IsRunAfter, made_by, same_place}
 use Rattle.ccr_net.proofs.Parts.Meter.{bit}
 use Rattle.ccr_net.proofs.Parts.Noted.{filter_among}
 use Rattle.ccr_rests.specs.Ends.{EndsOnce, tells, telling, telling_of}

@@ -18,10 +18,10 @@ use Rattle.ccr_model.proofs.TaskLists.{among_left, among_right, of_more, of_one}
 use Rattle.ccr_places.specs.declared.notes.Note.{Note}
 use Rattle.ccr_places.specs.declared.notes.Note.TheVariants as notes
 use Rattle.ccr_actor.specs.Actors.{State, after, after_attempt, after_in, fire}
-use Rattle.ccr_net.specs.declared.entries.Entry.{Entry}
-use Rattle.ccr_net.specs.Runs.{Lacks, notes_at, reply_of, reply_to, same_place, state_of, waits}
-use Rattle.ccr_net.specs.Views.{cut_view, view}
-use Rattle.ccr_net.specs.Visible.{event_of, shown, visible}
+use Rattle.ccr_runs.specs.declared.entries.Entry.{Entry}
+use Rattle.ccr_runs.specs.EntryRuns.{Lacks, notes_at, reply_of, reply_to, same_place, state_of, waits}
+use Rattle.ccr_runs.specs.Views.{cut_view, view}
+use Rattle.ccr_runs.specs.Visible.{event_of, shown, visible}
 use Rattle.ccr_net.proofs.Kept.Assembly.{Holds}
 use Rattle.ccr_net.proofs.Parts.Meter.{bit}
 use Rattle.ccr_net.proofs.Parts.Pushes.{Step, visible-push}

@@ -24,10 +24,10 @@ use Rattle.ccr_places.specs.Ports.{PortState, first_fitting, without_first}
 use Rattle.ccr_places.specs.Ports as ports
 use Rattle.ccr_claim.specs.declared.asks.Ask.{Ask}
 use Rattle.ccr_claim.specs.declared.asks.Ask.TheVariants as asks
-use Rattle.ccr_net.specs.declared.entries.Entry.{Entry}
-use Rattle.ccr_net.specs.Places.{note_of, port_note}
-use Rattle.ccr_net.specs.Runs.{IsRunAfter, Lacks, made_by, notes_at, port_at, same_place}
-use Rattle.ccr_net.specs.Visible.{event_of, shown, visible}
+use Rattle.ccr_runs.specs.declared.entries.Entry.{Entry}
+use Rattle.ccr_runs.specs.Places.{note_of, port_note}
+use Rattle.ccr_runs.specs.EntryRuns.{IsRunAfter, Lacks, made_by, notes_at, port_at, same_place}
+use Rattle.ccr_runs.specs.Visible.{event_of, shown, visible}
 use Rattle.ccr_net.proofs.Parts.Noted.{filter_among, given_some}
 use Rattle.ccr_net.proofs.Played.Places.{same_place-is}
 use Rattle.ccr_net.proofs.Parts.Pushes.{Step, Step-made, along_run, port_at-push, visible-push}

@@ -53,11 +53,11 @@ use Rattle.ccr_claim.specs.Attempts.{Phase, booking, claiming, attempt_ask}
 use Rattle.ccr_claim.specs.Plans.{commit_place, firing_task, in_pattern, names_of}
 use Rattle.ccr_actor.specs.Plans.{plan_of}
 use Rattle.ccr_actor.specs.Actors.{ask_in, name_at}
-use Rattle.ccr_net.specs.declared.entries.Entry.{Entry}
-use Rattle.ccr_net.specs.Places.{arbiter_after, commit_note, first_branch, interleave_after, note_at_arbiter, note_by_kind, note_of, site_after}
-use Rattle.ccr_net.specs.Runs.{IsRunAfter, Lacks, made_by, notes_at, port_at, reply_of, reply_to, state_of, waits}
-use Rattle.ccr_net.specs.Views.{cut_view, view}
-use Rattle.ccr_net.specs.Visible.{event_of, shown, visible}
+use Rattle.ccr_runs.specs.declared.entries.Entry.{Entry}
+use Rattle.ccr_runs.specs.Places.{arbiter_after, commit_note, first_branch, interleave_after, note_at_arbiter, note_by_kind, note_of, site_after}
+use Rattle.ccr_runs.specs.EntryRuns.{IsRunAfter, Lacks, made_by, notes_at, port_at, reply_of, reply_to, state_of, waits}
+use Rattle.ccr_runs.specs.Views.{cut_view, view}
+use Rattle.ccr_runs.specs.Visible.{event_of, shown, visible}
 use Rattle.ccr_net.proofs.Parts.Arbiter.{fired_note, fired_there, is_of, kept_shape, none_at_first}
 use Rattle.ccr_net.proofs.Kept.Assembly.{Holds}
 use Rattle.ccr_net.proofs.Parts.DomainHistory.{cut_fired}
@@ -76,6 +76,7 @@ use Rattle.ccr_rests.proofs.NoteKinds.{kind_asked, kind_noted}
 use Rattle.ccr_rests.proofs.EntryCounts.{passing}
 use Rattle.ccr_rests.proofs.PortItems.{Contains-among, all_posted, among_fitting, posted_on}
 use Rattle.ccr_rests.proofs.Rising.{Tries, tries}
+use Rattle.ccr_net.proofs.Owed.Overs.{first_has}
 
 -- ---- what retired an arbiter's branches
 
@@ -116,10 +117,6 @@ torn_there place seen (note ∷ earlier) known u is = subst (λ ts. has_task ts 
     by (notes.Draw k) v at = still [] v at
     by notes.Leave v at = still [] v at
     by (notes.Left k) v at = still [] v at
-
-first_has : (ts : List TaskId) (t : TaskId) → slice_get ts 0 ≡ Some t → has_task ts t ≡ true
-first_has [] t is = absurd (cc)
-first_has (x ∷ ts) t is = or_left (same_task t x) (has_task ts t) (let same : x ≡ t = cc in rw same (same_task-self t))
 
 -- a commit that is answered so was of a spot that this retired
 abbrev RetiredBy : List TaskId → By → Type 0

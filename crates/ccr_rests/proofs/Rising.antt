@@ -15,9 +15,9 @@ use Rattle.ccr_claim.specs.Plans.{commit_place, firing_task, in_pattern, names_o
 use Rattle.ccr_claim.specs.Attempts.{Phase, booking, claiming, at_place, attempt_ask}
 use Rattle.ccr_actor.specs.Plans.{plan_of}
 use Rattle.ccr_actor.specs.Actors.{State, Turn, settle, admit, drive, go_on, stop, turn, ask_in, spots_left, name_at, after, after_work, shorten}
-use Rattle.ccr_net.specs.declared.entries.Entry.{Entry}
-use Rattle.ccr_net.specs.Runs.{Lacks, notes_at, reply_of, state_of}
-use Rattle.ccr_net.specs.Visible.{visible}
+use Rattle.ccr_runs.specs.declared.entries.Entry.{Entry}
+use Rattle.ccr_runs.specs.EntryRuns.{Lacks, notes_at, reply_of, state_of}
+use Rattle.ccr_runs.specs.Visible.{visible}
 use Rattle.ccr_net.proofs.Kept.Assembly.{Holds, hand_settles}
 use Rattle.ccr_net.proofs.Owed.GoingOn.{Worked, worked}
 use Rattle.ccr_net.proofs.Parts.Invariant.{IsOwed}

@@ -36,11 +36,11 @@ use Rattle.ccr_places.specs.Interleaves as interleaves
 use Rattle.ccr_places.specs.TaskSets.{task_cmp}
 use Rattle.ccr_claim.specs.declared.asks.Ask.{Ask}
 use Rattle.ccr_claim.specs.declared.asks.Ask.TheVariants as asks
-use Rattle.ccr_net.specs.declared.entries.Entry.{Entry}
-use Rattle.ccr_net.specs.Places.{arbiter_after, arbiter_note, commit_note, first_branch, interleave_after, interleave_note, note_at_arbiter, note_by_kind, note_of}
-use Rattle.ccr_net.specs.Runs.{IsRunAfter, Lacks, made_by, notes_at, port_at, same_place, state_of}
-use Rattle.ccr_net.specs.Views.{arbiter_of}
-use Rattle.ccr_net.specs.Visible.{event_of, visible}
+use Rattle.ccr_runs.specs.declared.entries.Entry.{Entry}
+use Rattle.ccr_runs.specs.Places.{arbiter_after, arbiter_note, commit_note, first_branch, interleave_after, interleave_note, note_at_arbiter, note_by_kind, note_of}
+use Rattle.ccr_runs.specs.EntryRuns.{IsRunAfter, Lacks, made_by, notes_at, port_at, same_place, state_of}
+use Rattle.ccr_runs.specs.Views.{arbiter_of}
+use Rattle.ccr_runs.specs.Visible.{event_of, visible}
 use Rattle.ccr_net.proofs.Parts.ActorSteps.{unfired}
 use Rattle.ccr_net.proofs.Parts.Arbiter.{fired_note, fired_there, is_of, none_at_first}
 use Rattle.ccr_net.proofs.Kept.Assembly.{Holds}
@@ -57,6 +57,7 @@ use Rattle.ccr_rests.proofs.BookingsOnce.{less}
 use Rattle.ccr_rests.proofs.EntryCounts.{AreOwn, Parted, count, count-first, count-push, ends_once, none_else, own-push, parted}
 use Rattle.ccr_rests.proofs.Fires.{IsFiring, fired_told, firing_told, told_firing}
 use Rattle.ccr_rests.proofs.Rising.{fires_itself}
+use Rattle.ccr_net.proofs.Owed.Overs.{arbiter-push, domain-push}
 
 -- ---- a note at a receiver or a choice
 
@@ -175,20 +176,6 @@ domain_may place asks.Leave note r is = absurd (cc)
 domain_may place asks.Left note r is = absurd (cc)
 
 -- ---- at whichever arbiter
-
-arbiter-push : (first : ℕ) (part : ArbiterPart) (earlier : List Note) (note : Note) → arbiter_after first part (earlier ++ note ∷ []) ≡ arbiters.after (arbiter_after first part earlier) note
-arbiter-push first part earlier note = pushed (arbiter_after first part []) earlier
-  where
-    pushed : (st : ArbiterState) (earlier : List Note) → arbiters.kept st (earlier ++ note ∷ []) ≡ arbiters.after (arbiters.kept st earlier) note
-    pushed st [] = refl
-    pushed st (x ∷ earlier) = pushed (arbiters.after st x) earlier
-
-domain-push : (w : Parts) (i : ℕ) (earlier : List Note) (note : Note) → interleave_after w i (earlier ++ note ∷ []) ≡ interleaves.after (interleave_after w i earlier) note
-domain-push w i earlier note = pushed (interleave_after w i []) earlier
-  where
-    pushed : (st : InterleaveState) (earlier : List Note) → interleaves.kept st (earlier ++ note ∷ []) ≡ interleaves.after (interleaves.kept st earlier) note
-    pushed st [] = refl
-    pushed st (x ∷ earlier) = pushed (interleaves.after st x) earlier
 
 -- how often the root may still be noted over there
 abbrev may_in : Parts → ℕ → Kind → ArbiterPart → List Note → TaskId → ℕ

@@ -8,9 +8,9 @@ use Rattle.ccr_model.specs.Firings.{fired}
 use Rattle.ccr_places.specs.declared.notes.ClaimNote.TheVariants.{Got}
 use Rattle.ccr_places.specs.declared.notes.Note.{Note}
 use Rattle.ccr_places.specs.declared.notes.Note.TheVariants as notes
-use Rattle.ccr_net.specs.declared.entries.Entry.{Entry}
-use Rattle.ccr_net.specs.Runs.{same_place}
-use Rattle.ccr_net.specs.Visible.{visible}
+use Rattle.ccr_runs.specs.declared.entries.Entry.{Entry}
+use Rattle.ccr_runs.specs.EntryRuns.{same_place}
+use Rattle.ccr_runs.specs.Visible.{visible}
 
 -- ---- of which task a note tells what
 

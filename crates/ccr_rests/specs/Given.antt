@@ -16,12 +16,12 @@ use Rattle.ccr_actor.specs.Plans.{is_interleave_number}
 use Rattle.ccr_object.specs.declared.deed.Deed.{Deed}
 use Rattle.ccr_object.specs.declared.object.Object.{Object}
 use Rattle.ccr_runs.specs.declared.acts.Act.{Act}
-use Rattle.ccr_net.specs.declared.entries.Entry.{Entry}
+use Rattle.ccr_runs.specs.declared.entries.Entry.{Entry}
 use Rattle.ccr_net.specs.Acted.{act_after}
-use Rattle.ccr_net.specs.Lawful.{IsPlayed}
-use Rattle.ccr_net.specs.Played.{entries_of, given_in}
-use Rattle.ccr_net.specs.Runs.{Lacks, IsRunAfter, replies_of}
-use Rattle.ccr_net.specs.Visible.{visible}
+use Rattle.ccr_net.specs.Lawful.{IsPlayedRun}
+use Rattle.ccr_runs.specs.Played.{entries_of, given_in}
+use Rattle.ccr_runs.specs.EntryRuns.{Lacks, IsRunAfter, replies_of}
+use Rattle.ccr_runs.specs.Visible.{visible}
 use Rattle.ccr_rests.specs.Going.{GoesOn, AreAtRest, ComesToRest, first}
 use Rattle.ccr_rests.specs.Ends.{EndsOnce}
 use Rattle.ccr_rests.specs.Keeping.{WaitsFor, interleave_in, queue_in}
@@ -110,7 +110,7 @@ pub record PlayedRun : Type 0 where
   pub acts : List (Act Deed)
   pub valid : IsValid wiring
   pub few : workers ≤ 16
-  pub steps : IsPlayed wiring workers lacks acts
+  pub steps : IsPlayedRun wiring workers lacks acts
 
 -- the number of an actor of it
 abbrev pub IsPlayer : PlayedRun → ℕ → Type 0
@@ -126,7 +126,7 @@ act_by run actor one = act_after run.wiring run.acts actor one.place one.ask
 
 -- with that act more it is a run too
 abbrev pub PlaysOn : PlayedRun → ℕ → Asked → Type 0
-PlaysOn run actor one = IsPlayed run.wiring run.workers run.lacks (run.acts ++ act_by run actor one ∷ [])
+PlaysOn run actor one = IsPlayedRun run.wiring run.workers run.lacks (run.acts ++ act_by run actor one ∷ [])
 
 -- the entries of its acts
 abbrev pub played : PlayedRun → List Entry

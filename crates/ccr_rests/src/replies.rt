@@ -1,8 +1,8 @@
 //! What the replies of a run name. The law is the contract of a function that does nothing.
 
 ghost use Rattle.std.specs.Prelude.{◌+◌, length};
-ghost use Rattle.ccr_net.specs.Runs.{reply_of};
-ghost use Rattle.ccr_net.specs.Visible.{visible};
+ghost use Rattle.ccr_runs.specs.EntryRuns.{reply_of};
+ghost use Rattle.ccr_runs.specs.Visible.{visible};
 ghost use Rattle.ccr_rests.specs.Replies.{NamesKnown};
 ghost use Rattle.ccr_rests.specs.Given.{RunAt, until};
 

@@ -1,6 +1,7 @@
 //! The engine that keeps its history.
 
 ghost use Rattle.std.specs.Prelude.{◌≡◌, ◌≤◌, ◌^◌, [], length, IfOk, IfErr, IfSome, IfNone, OnErr, OnOk, Some, is_some, true};
+ghost use Rattle.ccr_base.specs.Bounds.{most_actors};
 ghost use Rattle.ccr_model.specs.Firings.{fired};
 ghost use Rattle.ccr_model.specs.Legal.{IsAllowed, IsLegal, IsQuiet, is_complete};
 ghost use Rattle.ccr_model.specs.Order.{next_attempt, IsFinished};
@@ -77,7 +78,7 @@ fn resumed<'w>(
     events: &[Event],
 ) -> Result<Box<Engine<'w>>, OutOfMemory>
     requires no_poster { length wiring.now.posters ≤ closer }
-    requires low { closer ≤ 32 }
+    requires low { closer ≤ most_actors }
     requires legal { IsLegal wiring.now events.now }
     requires attempts { next_attempt closer (fired events.now) ≤ 2 ^ 31 }
     ensures { IfOk result (λ engine. engine.value ≡ record { wiring = wiring.now; closer = closer; history = events.now }) }
@@ -91,7 +92,7 @@ impl<'w> Serial<'w> {
     /// An engine with the empty history.
     pub fn start(alloc: Global, wiring: &'w Wiring, closer: ActorNo) -> Result<Self, OutOfMemory>
         requires no_poster { length wiring.now.posters ≤ closer }
-        requires low { closer ≤ 32 }
+        requires low { closer ≤ most_actors }
         ensures { IfOk result (λ engine. engine ≡ record { wiring = wiring.now; closer = closer; history = [] }) }
     {
         wiring.parts();
@@ -115,7 +116,7 @@ impl<'w> Serial<'w> {
         history: History,
     ) -> Result<Self, (OutOfMemory, History)>
         requires no_poster { length wiring.now.posters ≤ closer }
-        requires low { closer ≤ 32 }
+        requires low { closer ≤ most_actors }
         requires legal { IsLegal wiring.now history }
         requires attempts { next_attempt closer (fired history) ≤ 2 ^ 31 }
         ensures ok { IfOk result (λ engine. engine ≡ record { wiring = wiring.now; closer = closer; history = history }) }

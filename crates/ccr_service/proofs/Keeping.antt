@@ -5,7 +5,7 @@ use Rattle.std.specs.List.{list_all}
 use Rattle.std.specs.Option.{option_and_then}
 use Rattle.std.specs.Str.{bytes_eq}
 use Rattle.std.specs.Cmp.Lexicographic.{bytes_decides}
-use Rattle.std.proofs.lemmas.List.{length-append}
+use Rattle.std.proofs.lemmas.List.{length-append, map-append as mapped_append}
 use Rattle.std.proofs.lemmas.Bool.Decides.{nat_tests}
 use Rattle.ccr_base.specs.declared.policies.Policy.{Policy}
 use Rattle.ccr_base.specs.declared.policies.Policy.TheVariants as policies
@@ -189,10 +189,6 @@ record IsKept (rule : Policy) (ops : List OpPart) (clients : List ClientPart) (n
   asked : list_all (λ (c : ClientPart). are_asked (length ops) c.asks) clients ≡ true
   fresh : (n : List ℕ) → meaning_of names n ≡ None → (Among n (op_names ops) → ⊥) × (Among n (client_names clients) → ⊥)
   numbered : (n : List ℕ) (k : ℕ) → meaning_of names n ≡ Some (named.Op k) → k < length ops
-
-mapped_append : {X Y : Type 0} (f : X → Y) (xs ys : List X) → map f (xs ++ ys) ≡ map f xs ++ map f ys
-mapped_append f [] ys = refl
-mapped_append f (x ∷ xs) ys = ap (λ zs. f x ∷ zs) (mapped_append f xs ys)
 
 all_append : {X : Type 0} (p : X → Bool) (xs : List X) (x : X) → list_all p xs ≡ true → p x ≡ true → list_all p (xs ++ x ∷ []) ≡ true
 all_append p [] x all is = rw is refl

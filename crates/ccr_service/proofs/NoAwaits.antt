@@ -11,14 +11,14 @@ use Rattle.ccr_base.specs.Names.{has_task}
 use Rattle.ccr_handler.specs.Playing.{play}
 use Rattle.ccr_cause.specs.Causes.{with_cause, without_cause}
 use Rattle.ccr_wiring.specs.declared.parts.Parts.{Parts}
-use Rattle.ccr_wiring.specs.Wirings.{Placement, placement, actions_of, awaited, site_port, exception_port}
+use Rattle.ccr_wiring.specs.Wirings.{Placement, placement, actions_of, awaited, site_port, exception_port, actions_at}
 use Rattle.ccr_model.specs.declared.history.Event.{Event}
 use Rattle.ccr_model.specs.declared.history.Event.TheVariants.{Post, Fire, Admit, Put, Start, End}
 use Rattle.ccr_model.specs.declared.history.EndHow.TheVariants as ends
 use Rattle.ccr_model.specs.Choice.{is_choice, are_oldest}
 use Rattle.ccr_model.specs.Posts.{held}
 use Rattle.ccr_model.specs.Firings.{Firing, firing_named, yielded, ended, dropped, last_segments}
-use Rattle.ccr_model.specs.TaskData.{play_of, load_at, actions_at}
+use Rattle.ccr_model.specs.TaskData.{play_of, load_at}
 use Rattle.ccr_model.specs.Tasks.{running, has_post_left}
 use Rattle.ccr_model.specs.Rules.{is_new, may_end, ends_so}
 use Rattle.ccr_model.specs.Live.{is_live}
@@ -41,9 +41,9 @@ no_port w none b k port is = by_placement (placement w b) refl is
 
 pub no_site_fires : (w : Parts) → HasNoAwaits w → (h : List Event) (t : TaskId) (b k : ℕ) (ms : List MsgId) (cs : List TaskId) → IsAllowed w h (Fire t (Site b k) ms cs) → ⊥
 no_site_fires w none h t b k ms cs allowed =
-    let a = refused_not (is_new h t) 4 _ allowed in
-    let c = refused_not (is_live w h (Site b k)) 5 _ a.1 in
-    let d = refused_not (is_choice w h (Site b k) ms) 6 _ c.1 in
+    let a = refused_not (is_new h t) _ _ allowed in
+    let c = refused_not (is_live w h (Site b k)) _ _ a.1 in
+    let d = refused_not (is_choice w h (Site b k) ms) _ _ c.1 in
     let found = some_of (λ port. are_oldest (held h port) ms) (site_port w b k) d.0 in
     no_port w none b k found.0 found.1
 
@@ -99,8 +99,8 @@ record Goes (h : List Event) : Type 0 where
 
 yield_refused : (w : Parts) → HasNoAwaits w → (h : List Event) (t : TaskId) → FireAtBranches h → IsAllowed w h (End t ends.Yield) → ⊥
 yield_refused w none h t known allowed =
-    let a = refused_not (has_task (running h) t) 15 _ allowed in
-    let b = (refused_not (may_end w h t ends.Yield) 16 None a.1).0 in
+    let a = refused_not (has_task (running h) t) _ _ allowed in
+    let b = (refused_not (may_end w h t ends.Yield) _ None a.1).0 in
     let parts = both (not (has_post_left w h t)) (ends_so ends.Yield (play_of w h t).end) b in
     no_both parts.1 (no_yield w none h known t)
 

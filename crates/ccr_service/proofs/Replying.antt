@@ -74,7 +74,7 @@ reply_on s h e m t k old =
 reply_now : (s : ServiceParts) (h : List Event) → IsLegal (expansion s) h → (m : Msg) (t : TaskId) (k : ℕ) → refusal_of_post (expansion s) h m (Task t k) ≡ None → IsReply s h m t k
 reply_now s h legal m t k allowed =
     let w = expansion s in
-    let line = (refused_not (is_play_post w h t k m) 2 _ allowed).0 in
+    let line = (refused_not (is_play_post w h t k m) _ _ allowed).0 in
     let parts = both (has_task (running h) t && (k == posts_of_task h t)) (option_map_or (is_post m) (slice_get (play_of w h t).posts k) false) line in
     let front = both (has_task (running h) t) (k == posts_of_task h t) parts.0 in
     let its = some_of (is_post m) (slice_get (play_of w h t).posts k) parts.1 in

@@ -41,6 +41,7 @@ use Rattle.ccr_service.specs.declared.parts.ServiceParts.{ServiceParts}
 use Rattle.ccr_service.specs.Expansion.{request_port, response_port, request, causes_from, posters_from, expansion}
 use Rattle.ccr_service.proofs.NoAwaits.{at_branches}
 use Rattle.ccr_service.proofs.Shape.{Role, PlacementFacts, PlacementFacts-placement, awaits_none, op_actions, fault_actions}
+use Rattle.ccr_laws.proofs.ScriptLines.{same_causes as same_numbers}
 
 -- ---- requests
 
@@ -67,16 +68,6 @@ ask_at client k [] x is = absurd (cc)
 ask_at client zero (a ∷ asks) x is = (a, refl, cc)
 ask_at client (suc k) (a ∷ asks) x is = ask_at client k asks x is
 
-same_numbers : (xs ys : List ℕ) → same_lists (λ c d. c == d) xs ys ≡ true → xs ≡ ys
-same_numbers [] [] is = refl
-same_numbers [] (y ∷ ys) is = absurd (cc)
-same_numbers (x ∷ xs) [] is = absurd (cc)
-same_numbers (x ∷ xs) (y ∷ ys) is =
-    let parts = both (x == y) (same_lists (λ c d. c == d) xs ys) is in
-    let one = same_number x y parts.0 in
-    let rest = same_numbers xs ys parts.1 in
-    cc
-
 same_values : (xs ys : List ℕ) → same_value xs ys ≡ true → xs ≡ ys
 same_values [] [] is = refl
 same_values [] (y ∷ ys) is = absurd (cc)
@@ -100,7 +91,7 @@ IsPost-test m x is =
 
 asked_now : (s : ServiceParts) (h : List Event) (m : Msg) (client place : ℕ) → refusal_of_post (expansion s) h m (Script client place) ≡ None → IsAsked s m client place
 asked_now s h m client place allowed =
-    let line = (refused_not (is_script_line (expansion s) h client place m) 1 None allowed).0 in
+    let line = (refused_not (is_script_line (expansion s) h client place m) _ None allowed).0 in
     let parts = both (place == posts_of_poster h client) (option_map_or (is_post m) (option_and_then (λ (p : PosterPart). slice_get p.posts place) (slice_get (expansion s).posters client)) false) line in
     let its = some_of (is_post m) (option_and_then (λ (p : PosterPart). slice_get p.posts place) (slice_get (expansion s).posters client)) parts.1 in
     let poster = some_then (λ (p : PosterPart). slice_get p.posts place) (slice_get (expansion s).posters client) its.0 its.1 in
@@ -158,7 +149,7 @@ play_elsewhere s b r is load place x got op few at = by_role facts.serves.role
 
 elsewhere_now : (s : ServiceParts) (h : List Event) → IsLegal (expansion s) h → (m : Msg) (t : TaskId) (place : ℕ) → refusal_of_post (expansion s) h m (Task t place) ≡ None → NoRequests s m.port
 elsewhere_now s h legal m t place allowed op few at =
-    let line = (refused_not (is_play_post (expansion s) h t place m) 2 _ allowed).0 in
+    let line = (refused_not (is_play_post (expansion s) h t place m) _ _ allowed).0 in
     let parts = both (has_task (running h) t && (place == posts_of_task h t)) (option_map_or (is_post m) (slice_get (play_of (expansion s) h t).posts place) false) line in
     let its = some_of (is_post m) (slice_get (play_of (expansion s) h t).posts place) parts.1 in
     let post = IsPost-test m its.0 its.2 in

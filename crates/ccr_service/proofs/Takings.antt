@@ -34,6 +34,7 @@ use Rattle.ccr_service.specs.Expansion.{request_port, expansion}
 use Rattle.ccr_service.proofs.NoAwaits.{no_site_fires}
 use Rattle.ccr_service.proofs.Shape.{PlacementFacts, PlacementFacts-placement, one_slot, awaits_none}
 use Rattle.ccr_service.proofs.Sent.{named_so}
+use Rattle.ccr_laws.proofs.OneFates.{posts-append}
 
 -- ---- over plain lists
 
@@ -111,9 +112,6 @@ pub record Takes (s : ServiceParts) (h : List Event) (t : TaskId) (f : Firing) :
   pub port : message.port ≡ request_port facts.op
   pub holds_so : holds facts.pred message.value ≡ true
   pub its : messages_of h t ≡ message ∷ []
-
-posts-append : (h es : List Event) → posts (h ++ es) ≡ posts h ++ posts es
-posts-append h es = grind (arith, common_steps)
 
 messages-append : (h es : List Event) (t : TaskId) (f : Firing) → firing_named h t ≡ Some f → messages_of (h ++ es) t ≡ messages_of h t
 messages-append h es t f is = rw (firing_named-append h es t f is, is, before-append h es t f is) refl

@@ -41,6 +41,7 @@ use Rattle.ccr_service.specs.Served.{asks_in_all}
 use Rattle.ccr_service.proofs.Pigeons.{Apart, no_longer}
 use Rattle.ccr_service.proofs.Plays.{TakesAsk-legal}
 use Rattle.ccr_service.proofs.Replying.{running_fired, one_play, all_replies, its_name}
+use Rattle.ccr_laws.proofs.Ending.{fired-length as fired_length}
 
 -- ---- the shed tasks
 
@@ -94,7 +95,7 @@ poster_runs : (w : Parts) (h : List Event) (m : Msg) (t : TaskId) → IsAllowed 
 poster_runs w h m t allowed is =
     let name = its_name t m.id is in
     let so : refusal_of_post w h m (Task t name.0) ≡ None = subst (λ n. refusal_of_post w h m n ≡ None) name.1 allowed in
-    let line = (refused_not (is_play_post w h t name.0 m) 2 _ so).0 in
+    let line = (refused_not (is_play_post w h t name.0 m) _ _ so).0 in
     (both (has_task (running h) t) (name.0 == posts_of_task h t) (both (has_task (running h) t && (name.0 == posts_of_task h t)) _ line).0).0
 
 sheds_kept : (s : ServiceParts) (h : List Event) (e : Event) → IsLegal (expansion s) h → IsAllowed (expansion s) h e → AllShed h → AllShed (h ++ e ∷ [])
@@ -109,8 +110,8 @@ sheds_kept s h (End u ends.Shed) legal allowed known t is =
   where
     now : IsShed (h ++ End u ends.Shed ∷ []) u
     now =
-        let a = refused_not (has_task (running h) u) 15 _ allowed in
-        let b = (refused_not (may_end (expansion s) h u ends.Shed) 16 None a.1).0 in
+        let a = refused_not (has_task (running h) u) _ _ allowed in
+        let b = (refused_not (may_end (expansion s) h u ends.Shed) _ None a.1).0 in
         let left = (both (has_post_left (expansion s) h u) _ b).0 in
         let fired = running_fired (expansion s) h legal u a.0 in
         let one = one_play s h legal u fired in
@@ -297,10 +298,6 @@ names_apart (n ∷ ns) once = (twice, names_apart ns (λ name. let few = once na
         let few = once n in
         let least = some ns is in
         omega (arith, two, few, least)
-
-fired_length : (fs : List Firing) → length (map (λ (f : Firing). f.task) fs) ≡ length fs
-fired_length [] = refl
-fired_length (f ∷ fs) = ap suc (fired_length fs)
 
 task_among : (ts : List TaskId) (t : TaskId) → has_task ts t ≡ true → Among t ts
 task_among [] t is = absurd (cc)

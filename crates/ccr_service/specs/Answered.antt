@@ -15,7 +15,7 @@ use Rattle.ccr_model.specs.declared.history.EndHow.TheVariants.{Done, Failed}
 use Rattle.ccr_model.specs.Posts.{posts, is_message_of, message_named}
 use Rattle.ccr_model.specs.Firings.{cut, dropped}
 use Rattle.ccr_model.specs.Fates.{taker}
-use Rattle.ccr_model.specs.Legal.{has_shed}
+use Rattle.ccr_model.specs.Legal.{IsLegal, IsQuiet, has_shed, is_complete}
 use Rattle.ccr_laws.specs.OneFate.{IsHeld, IsTakenBy, HasEnded}
 use Rattle.ccr_service.specs.declared.replies.Answer.{Answer}
 use Rattle.ccr_service.specs.declared.replies.Answer.TheVariants as told
@@ -92,3 +92,7 @@ pub record IsServedWhole (service : ServiceParts) (history : List Event) : Type 
   pub unshed : has_shed history ≡ false
   pub still : IsStill (expansion service) history
   pub answered : (client place : ℕ) (part : ClientPart) (ask : AskPart) (op : OpPart) → slice_get service.clients client ≡ Some part → slice_get part.asks place ≡ Some ask → slice_get service.ops ask.op ≡ Some op → HasOneAnswer service history client place ask op
+
+-- the law holds of each whole run of the service: a legal history in which its script is posted and behind which nothing more is allowed
+abbrev pub OfWholeRuns : ServiceParts → (List Event → Type 0) → Type 0
+OfWholeRuns service law = (history : List Event) → IsLegal (expansion service) history → is_complete (expansion service) history ≡ true → IsQuiet (expansion service) history → law history

@@ -1,6 +1,6 @@
 -- The answers of all requests, and the tables by which they are told.
 use Rattle.std.specs.Prelude.{◌≡◌, ℕ, ◌+◌, ◌==◌, ◌&&◌, Bool, true, false, List, [], ◌∷◌, ◌++◌, find, Option, Some, None, option_map, if◌then◌else◌}
-use Rattle.std.specs.Option.{option_map_or}
+use Rattle.std.specs.Option.{option_map_or, option_or}
 use Rattle.std.specs.Borrow.{Bor}
 use Rattle.indexmap.specs.IndexMap.{get}
 use Rattle.indexmap.specs.IndexSet.{contains}
@@ -8,7 +8,7 @@ use Rattle.ccr_base.specs.declared.names.TaskId.{TaskId}
 use Rattle.ccr_base.specs.declared.names.MsgId.{MsgId}
 use Rattle.ccr_base.specs.declared.names.MsgId.TheVariants.{Script}
 use Rattle.ccr_base.specs.declared.messages.Msg.{Msg}
-use Rattle.ccr_base.specs.Names.{same_task, has_task}
+use Rattle.ccr_base.specs.Names.{same_task, has_task, has_message}
 use Rattle.ccr_model.specs.declared.history.Event.{Event}
 use Rattle.ccr_model.specs.Posts.{posts, is_message_of}
 use Rattle.ccr_model.specs.Firings.{cut, dropped}
@@ -48,12 +48,24 @@ same_request r q = (r.client == q.client) && (r.place == q.place)
 abbrev pub name_of : RequestId → MsgId
 name_of r = Script r.client r.place
 
+-- the message that was found, if any
+abbrev pub message_in : Option (Bor Msg) → Option Msg
+message_in found = option_map (λ (m : Bor Msg). m.now) found
+
+-- the task took the requests of these names that nobody had taken
+abbrev pub AreTaken : List MsgId → TaskId → (RequestId → Option TaskId) → (RequestId → Option TaskId) → Type 0
+AreTaken names task old new = (request : RequestId) → new request ≡ option_or (old request) (if has_message names (name_of request) then Some task else None)
+
+-- the task posted the message first, unless another of it was known
+abbrev pub IsPosted : TaskId → Msg → (TaskId → Option (Bor Msg)) → (TaskId → Option (Bor Msg)) → Type 0
+IsPosted task message old new = (other : TaskId) → message_in (new other) ≡ option_or (message_in (old other)) (if same_task task other then Some message else None)
+
 -- the tables tell who took a message, who was cut or dropped, and what a task posted first
 pub record Tells (history : List Event) (tables : Tables) : Type 0 where
   pub takers : (request : RequestId) → get same_request tables.takers request ≡ taker history (name_of request)
   pub cuts : (task : TaskId) → contains same_task tables.cuts task ≡ has_task (cut history) task
   pub drops : (task : TaskId) → contains same_task tables.drops task ≡ has_task (dropped history) task
-  pub posts : (task : TaskId) → option_map (λ (m : Bor Msg). m.now) (get same_task tables.posts task) ≡ first_post history task
+  pub posts : (task : TaskId) → message_in (get same_task tables.posts task) ≡ first_post history task
 
 -- the answer by the task's first post, where faults go to this port
 abbrev pub told_by : ℕ → Bool → Bool → Option Msg → Answer

@@ -1,6 +1,7 @@
 //! What the lines so far declare.
 
 ghost use Rattle.std.specs.Prelude.{◌≡◌, ◌<◌, None, OnOk, IfOk, length, [], ◌∷◌, ◌++◌};
+ghost use Rattle.ccr_base.specs.Bounds.{most_asks, most_ops};
 ghost use Rattle.ccr_service.specs.Naming.{meaning_of};
 ghost use Rattle.ccr_service.specs.Drafts.{nothing, with_policy, with_op, with_client, with_ask, end_client, policy_form, op_form, client_form, ask_form, outside_line, client_line, line_in};
 ghost use Rattle.ccr_service.specs.Readings.{Gives, GivesBy, GivesState};
@@ -74,7 +75,7 @@ impl Draft {
 
     fn add_op(&mut self, part: OpPart) -> Result<(), OutOfMemory>
         requires new { meaning_of self.old.names part.name ≡ None }
-        requires room { length self.old.parts.ops < 32 }
+        requires room { length self.old.parts.ops < most_ops }
         ensures { OnOk result (self.new ≡ with_op self.old part) }
     {
         let number = self.parts.ops.len() as u32;
@@ -95,7 +96,7 @@ impl Draft {
 
     /// A request more in the open block.
     fn add_ask(&mut self, mut part: ClientPart, ask: AskPart) -> Result<(), OutOfMemory>
-        requires { self.old.asks < 10000 }
+        requires { self.old.asks < most_asks }
         ensures { OnOk result (self.new ≡ with_ask self.old part ask) }
     {
         part.asks.add(ask)?;
@@ -128,7 +129,7 @@ impl Draft {
     fn op_form(&self, mut words: Cursor<'_>) -> Result<OpPart, Stop>
         ensures form { Gives result (op_form self.now words.entry) }
         ensures new { IfOk result (λ part. meaning_of self.now.names part.name ≡ None) }
-        ensures room { OnOk result (length self.now.parts.ops < 32) }
+        ensures room { OnOk result (length self.now.parts.ops < most_ops) }
     {
         if self.parts.ops.len() >= MAX_OPS {
             return Err(Stop::Refused(Code::Limit));
@@ -164,7 +165,7 @@ impl Draft {
     #[tactic(auto, unfolding(crate::specs::Drafts::ask_form))]
     fn ask_form(&self, mut words: Cursor<'_>) -> Result<AskPart, Stop>
         ensures form { Gives result (ask_form self.now words.entry) }
-        ensures room { OnOk result (self.now.asks < 10000) }
+        ensures room { OnOk result (self.now.asks < most_asks) }
     {
         if self.asks >= MAX_ASKS {
             return Err(Stop::Refused(Code::Limit));

@@ -2,6 +2,7 @@
 
 ghost use Rattle.std.specs.Prelude.{◌≡◌, ◌+◌, ◌<◌, ◌≤◌, ◌^◌, ◌++◌, [], ◌∷◌, true, IfOk, OnOk, length, map, codes};
 ghost use Rattle.std.specs.List.{list_any};
+ghost use Rattle.ccr_base.specs.Bounds.{most_ops};
 ghost use Rattle.ccr_service.specs.declared.parts.ClientPart.{ClientPart};
 ghost use Rattle.ccr_service.specs.Expansion.{op_ports, ports, causes_from, one_action, handlers_from, handlers, is_bounded, takes_one, op_branches, branches_from, interleave, request, posters_from, expansion};
 ghost use Rattle.ccr_service.specs.Services.{IsService, are_asked};
@@ -99,7 +100,7 @@ fn add_handlers(
     parts: &mut Vec<HandlerPart>,
     ops: &[OpPart],
 ) -> Result<(), OutOfMemory>
-    requires { length ops.now ≤ 32 }
+    requires { length ops.now ≤ most_ops }
     ensures { OnOk result (parts.new.items ≡ parts.old.items ++ handlers_from 0 ops.now) }
 {
     for (number, op) in ops.iter().enumerate() {
@@ -117,7 +118,7 @@ fn has_bounded(ops: &[OpPart]) -> bool
 }
 
 fn handlers(alloc: Global, ops: &[OpPart]) -> Result<List<HandlerPart>, OutOfMemory>
-    requires { length ops.now ≤ 32 }
+    requires { length ops.now ≤ most_ops }
     ensures { IfOk result (λ parts. parts ≡ handlers ops.now) }
 {
     let mut parts = Vec::new(alloc);
@@ -162,7 +163,7 @@ fn add_op_branches(
     number: HandlerNo,
     op: &OpPart,
 ) -> Result<(), OutOfMemory>
-    requires { number < 32 }
+    requires { number < most_ops }
     ensures { OnOk result (parts.new.items ≡ parts.old.items ++ op_branches faults number op.now op.now.below) }
 {
     let port = number + number;
@@ -185,7 +186,7 @@ fn branches(
     faults: HandlerNo,
     ops: &[OpPart],
 ) -> Result<List<BranchPart>, OutOfMemory>
-    requires { length ops.now ≤ 32 }
+    requires { length ops.now ≤ most_ops }
     ensures { IfOk result (λ parts. parts ≡ branches_from faults 0 ops.now) }
 {
     let mut parts = Vec::new(alloc);
@@ -196,7 +197,7 @@ fn branches(
 }
 
 fn interleave(alloc: Global, ops: &[OpPart]) -> Result<ArbiterPart, OutOfMemory>
-    requires { length ops.now ≤ 32 }
+    requires { length ops.now ≤ most_ops }
     ensures { IfOk result (λ part. part ≡ interleave ops.now) }
 {
     Ok(ArbiterPart {
@@ -208,7 +209,7 @@ fn interleave(alloc: Global, ops: &[OpPart]) -> Result<ArbiterPart, OutOfMemory>
 
 /// The post of a request of this client.
 fn request(alloc: Global, client: CauseNo, ask: AskPart) -> Result<Sent, OutOfMemory>
-    requires { ask.op < 32 }
+    requires { ask.op < most_ops }
     ensures { IfOk result (λ sent. sent ≡ request client ask) }
 {
     Ok(Sent {
@@ -224,7 +225,7 @@ fn script(
     ops: u32,
     asks: &[AskPart],
 ) -> Result<List<ScriptPost>, OutOfMemory>
-    requires few { ops ≤ 32 }
+    requires few { ops ≤ most_ops }
     requires asked { are_asked ops asks.now ≡ true }
     ensures { IfOk result (λ posts. posts ≡ map (request client) asks.now) }
 {

@@ -1,6 +1,7 @@
 //! A service text, line by line.
 
 ghost use Rattle.std.specs.Prelude.{◌≡◌, ◌≤◌, length, None, IfOk, IfErr};
+ghost use Rattle.ccr_base.specs.Bounds.{most_wiring_bytes};
 ghost use Rattle.ccr_wiretext.specs.Reading.{is_comment};
 ghost use Rattle.ccr_service.specs.Grammar.{IsText, IsNoText};
 ghost use Rattle.ccr_service.specs.Reading.{is_version, after_all, after_line, at_end, reading, reading_text};
@@ -149,7 +150,7 @@ fn read_lines(alloc: Global, lines: &[Line]) -> Result<ServiceParts, ReadRefused
 }
 
 fn read_text(alloc: Global, text: &[u8]) -> Result<ServiceParts, ReadRefused>
-    requires { length text.now ≤ 1048576 }
+    requires { length text.now ≤ most_wiring_bytes }
     ensures { IsReading result (reading_text text.now) }
 {
     let Ok(lines) = split_lines(alloc, text) else {
@@ -160,7 +161,7 @@ fn read_text(alloc: Global, text: &[u8]) -> Result<ServiceParts, ReadRefused>
 
 /// The service that a text says, or its first offending line and the code (docs/FORMATS.md). Near linear in the text's length.
 pub fn read_service(alloc: Global, text: &[u8]) -> Result<Service, ReadRefused>
-    requires { length text.now ≤ 1048576 }
+    requires { length text.now ≤ most_wiring_bytes }
     ensures reading { IsReading result (reading_text text.now) }
     ensures grammar { IfOk result (λ service. IsText text.now service) }
     ensures refused { IfErr result (λ refused. IsNoText text.now refused) }

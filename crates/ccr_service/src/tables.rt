@@ -1,17 +1,15 @@
 //! What became of requests and tasks, found by their names.
 
-ghost use Rattle.std.specs.Prelude.{◌≡◌, ◌||◌, Some, None, OnOk, IfOk, if◌then◌else◌, option_map};
+ghost use Rattle.std.specs.Prelude.{◌≡◌, ◌||◌, Some, None, OnOk, IfOk, if◌then◌else◌};
 ghost use Rattle.std.specs.Option.{option_or};
-ghost use Rattle.std.specs.Borrow.{Bor};
 ghost use Rattle.indexmap.specs.IndexMap.{get};
 ghost use Rattle.indexmap.specs.IndexSet.{contains};
-ghost use Rattle.ccr_base.specs.declared.messages.Msg.{Msg};
 ghost use Rattle.ccr_base.specs.declared.names.TaskId.{TaskId};
-ghost use Rattle.ccr_base.specs.Names.{same_task, has_task, has_message};
+ghost use Rattle.ccr_base.specs.Names.{same_task, has_task};
 ghost use Rattle.ccr_model.specs.Firings.{cut, dropped};
 ghost use Rattle.ccr_model.specs.Fates.{taker};
 ghost use Rattle.ccr_service.specs.declared.tables.RequestId.{RequestId};
-ghost use Rattle.ccr_service.specs.Telling.{first_post, name_of, same_request, Tells, told_from};
+ghost use Rattle.ccr_service.specs.Telling.{first_post, message_in, name_of, same_request, AreTaken, IsPosted, Tells, told_from};
 
 use crate::Answer;
 use ccr_base::{ActorNo, Msg, MsgId, OutOfMemory, PortNo, TaskId};
@@ -55,7 +53,7 @@ fn add_taken(
     names: &[MsgId],
     task: TaskId,
 ) -> Result<(), OutOfMemory>
-    ensures { OnOk result ((request : RequestId) → get same_request table.new request ≡ option_or (get same_request table.old request) (if has_message names.now (name_of request) then Some task else None)) }
+    ensures { OnOk result (AreTaken names.now task (get same_request table.old) (get same_request table.new)) }
 {
     for name in names {
         if let MsgId::Script { actor, place } = *name {
@@ -124,7 +122,7 @@ fn add_post<'a>(
     task: TaskId,
     message: &'a Msg,
 ) -> Result<(), OutOfMemory>
-    ensures { OnOk result ((other : TaskId) → option_map (λ (m : Bor Msg). m.now) (get same_task table.new other) ≡ option_or (option_map (λ (m : Bor Msg). m.now) (get same_task table.old other)) (if same_task task other then Some message.now else None)) }
+    ensures { OnOk result (IsPosted task message.now (get same_task table.old) (get same_task table.new)) }
 {
     if !table.contains_key(&task) {
         table.insert(task, message)?;
@@ -133,7 +131,7 @@ fn add_post<'a>(
 }
 
 fn posts(alloc: Global, events: &[Event]) -> Result<IndexMap<TaskId, &Msg>, OutOfMemory>
-    ensures { IfOk result (λ table. (task : TaskId) → option_map (λ (m : Bor Msg). m.now) (get same_task table task) ≡ first_post events.now task) }
+    ensures { IfOk result (λ table. (task : TaskId) → message_in (get same_task table task) ≡ first_post events.now task) }
 {
     let mut table = IndexMap::new(alloc);
     for event in events {

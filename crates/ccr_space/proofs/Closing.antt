@@ -36,9 +36,9 @@ use Rattle.ccr_object.specs.declared.object.PlaceObject.{PlaceObject}
 use Rattle.ccr_object.specs.Events.{has_event}
 use Rattle.ccr_object.specs.Objects.{IsGiven, after_deed, note_of, nothing, placed}
 use Rattle.ccr_object.specs.Starts.{placed_at, places_of}
-use Rattle.ccr_net.specs.declared.entries.Entry.{Entry}
-use Rattle.ccr_net.specs.Played.{entries_of, rules, scene}
-use Rattle.ccr_net.specs.Runs.{never}
+use Rattle.ccr_runs.specs.declared.entries.Entry.{Entry}
+use Rattle.ccr_runs.specs.Played.{entries_of, rules, scene}
+use Rattle.ccr_runs.specs.EntryRuns.{never}
 use Rattle.ccr_space.specs.Spaces.{HasPlaces, HasSeat, IsPassOf, Pass, Space, actor_count, log, number, wiring_of}
 use Rattle.ccr_space.specs.Closes.{IsClosed, IsKeptOf, IsOfLocks, Kept}
 

@@ -22,9 +22,9 @@ use Rattle.ccr_runs.specs.declared.acts.Act.{Act}
 use Rattle.ccr_runs.specs.Merges.{tag, tagged}
 use Rattle.ccr_runs.specs.Orders.{in_order, merged}
 use Rattle.ccr_runs.proofs.InOrder.{shown_in_order}
-use Rattle.ccr_net.specs.declared.entries.Entry.{Entry}
-use Rattle.ccr_net.specs.Played.{entries_of, place_at}
-use Rattle.ccr_net.specs.Visible.{shown, visible}
+use Rattle.ccr_runs.specs.declared.entries.Entry.{Entry}
+use Rattle.ccr_runs.specs.Played.{entries_of, place_at}
+use Rattle.ccr_runs.specs.Visible.{shown, visible}
 use Rattle.ccr_space.specs.Closes.{Kept}
 use Rattle.ccr_space.specs.Shows.{act_shown, acts_shown, note_shown}
 

@@ -2,7 +2,6 @@
 use Rattle.std.proofs.Common.{Bool, true, false, ◌≡◌, ℕ, ◌+◌, max, List, [], ◌∷◌, ◌++◌, map, sym, refl, ap, ◌∙◌, subst, Option, Some, None, Ok}
 use Rattle.std.specs.Option.{is_some, option_map}
 use Rattle.std.proofs.lemmas.List.{map-append}
-use Rattle.ccr_base.specs.declared.names.Place.{Place}
 use Rattle.ccr_wiring.specs.declared.parts.Parts.{Parts}
 use Rattle.ccr_turns.specs.Logs.{mark}
 use Rattle.ccr_turns.specs.Locks.{Acts}
@@ -13,20 +12,18 @@ use Rattle.ccr_places.specs.declared.notes.Note.{Note}
 use Rattle.ccr_claim.specs.declared.asks.Ask.{Ask}
 use Rattle.ccr_claim.specs.declared.asks.Asked.{Asked}
 use Rattle.ccr_claim.specs.declared.asks.Reply.{Reply}
-use Rattle.ccr_claim.specs.Asks.{fits}
 use Rattle.ccr_object.specs.declared.deed.Answer.{Answer}
 use Rattle.ccr_object.specs.declared.deed.Answer.TheVariants.{Replied, Unmet}
 use Rattle.ccr_object.specs.declared.deed.Deed.{Deed}
 use Rattle.ccr_object.specs.declared.object.Placed.{Placed}
 use Rattle.ccr_object.specs.Objects.{IsGiven, is_due, note_of, reply_of, answered, noted, answer_at}
-use Rattle.ccr_actor.specs.Acting.{Acting, at_state, due_in, next as next_of, pair_of, sent, IsAfter}
+use Rattle.ccr_actor.specs.Acting.{Acting, at_state, next as next_of, sent, IsAfter}
 use Rattle.ccr_actor.specs.Actors.{next, state_after as state_of}
 use Rattle.ccr_actor.specs.Following.{Follows}
 use Rattle.ccr_actor.specs.Nets.{Step, replies_of}
 use Rattle.ccr_actor.proofs.Followed.{follows_long, follows_next, follows_reply}
-use Rattle.ccr_actor.proofs.Dues.{due_sent}
-use Rattle.ccr_net.specs.Played.{Heard, heard, numbered, number_at, rules}
-use Rattle.ccr_net.specs.Runs.{never}
+use Rattle.ccr_runs.specs.Played.{Heard, heard, numbered, number_at, rules}
+use Rattle.ccr_runs.specs.EntryRuns.{never}
 use Rattle.ccr_space.specs.declared.space.step.Step.{Step as Came}
 use Rattle.ccr_space.specs.declared.space.step.Step.TheVariants as came
 use Rattle.ccr_space.specs.Spaces.{IsGoing, IsHeard, IsTaught, heard_in}
@@ -39,13 +36,6 @@ is_met (Replied reply) = true
 with_note : (given : Option (Reply × Note)) → is_some (noted given) ≡ is_met (answered given)
 with_note None = refl
 with_note (Some given) = refl
-
-pub asks_of : (o : Option Asked) (place : Place) (ask : Ask) → Some (place, ask) ≡ option_map pair_of o → o ≡ Some (record { place = place; ask = ask })
-asks_of None place ask is = cc is
-asks_of (Some one) place ask is =
-    let same : pair_of one ≡ (place, ask) = cc is in
-    let P : (Place × Ask) → Option Asked = λ p. Some (record { place = p.0; ask = p.1 }) in
-    ap P same
 
 -- what an actor hears leaves its number
 heard_actor : (s : Heard) (answer : Answer) → (heard s answer).actor ≡ s.actor
@@ -123,12 +113,8 @@ pub heard_on : (wiring : Parts) (k : ℕ) (old new : List (Mark Deed Placed)) (a
 heard_on wiring k old new a b one Unmet going asks taught state = absurd taught
 heard_on wiring k old new a b one (Replied reply) going asks taught state = goes_on wiring k old new a b one reply going asks taught state
 
--- ---- what is replied fits what is unanswered
+-- ---- what is answered is due
 
 -- an act's answer is one that its ask may have
 pub acts_due : (place : ℕ) (ask : Ask) (answer : Answer) (old new : List (Mark Deed Placed)) → Acts IsGiven place ask answer old new → is_due ask answer ≡ true
 acts_due place ask answer old new (stamp, note, before, earlier, more, high, given) = given.3
-
-pub due_reply : (a : Acting) (one : Asked) (answer : Answer) (reply : Reply) → next_of a ≡ Some one → is_due one.ask answer ≡ true → answer ≡ Replied reply → fits (due_in (sent a).asking) reply ≡ true
-due_reply a one answer reply asks due is =
-    ap (λ d. fits d reply) (due_sent a one asks) ∙ (ap (is_due one.ask) (sym is) ∙ due)

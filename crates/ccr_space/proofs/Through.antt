@@ -12,8 +12,8 @@ use Rattle.ccr_actor.specs.Actors.{next}
 use Rattle.ccr_object.specs.declared.deed.Deed.{Deed}
 use Rattle.ccr_object.specs.declared.object.Placed.{Placed}
 use Rattle.ccr_object.specs.Objects.{after_deed}
-use Rattle.ccr_net.specs.declared.entries.Entry.{Entry}
-use Rattle.ccr_net.specs.Played.{scene}
+use Rattle.ccr_runs.specs.declared.entries.Entry.{Entry}
+use Rattle.ccr_runs.specs.Played.{scene}
 use Rattle.ccr_space.specs.Spaces.{Space, Pass, IsAtRest, IsPassOf, actor_count, heard_in, log, number, stopped_of, wiring_of}
 use Rattle.ccr_wiring.specs.declared.parts.Parts.{Parts}
 use Rattle.ccr_space.specs.Closes.{IsBroughtToRest, IsClosed, IsDone, IsRested, IsThrough}

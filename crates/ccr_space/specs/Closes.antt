@@ -21,10 +21,10 @@ use Rattle.ccr_runs.specs.Orders.{merged}
 use Rattle.ccr_runs.specs.Runs.{IsRunFrom, cast}
 use Rattle.ccr_runs.specs.Stories.{story}
 use Rattle.ccr_actor.specs.Actors.{next}
-use Rattle.ccr_net.specs.declared.entries.Entry.{Entry}
-use Rattle.ccr_net.specs.Played.{rules, scene, given_in, entries_of}
-use Rattle.ccr_net.specs.Runs.{IsRunAfter, never, replies_of}
-use Rattle.ccr_net.specs.Visible.{visible}
+use Rattle.ccr_runs.specs.declared.entries.Entry.{Entry}
+use Rattle.ccr_runs.specs.Played.{rules, scene, given_in, entries_of}
+use Rattle.ccr_runs.specs.EntryRuns.{IsRunAfter, never, replies_of}
+use Rattle.ccr_runs.specs.Visible.{visible}
 use Rattle.ccr_model.specs.declared.history.Event.{Event}
 use Rattle.ccr_space.specs.Spaces.{HasPass, HasPlaces, IsAtRest, IsPassOf, Pass, Space, actor_count, log, number, stopped_of, wiring_of}
 
@@ -95,12 +95,6 @@ pub record IsBroughtToRest (wiring : Parts) (count : ℕ) (entries : List Entry)
   pub closed : IsClosed space passes entries
   pub short_are : short ≡ stopped_of passes count
 
--- the history is what the entries of some passes show that came to rest
-pub record IsShownAtRest (wiring : Parts) (count : ℕ) (history : List Event) (short : List ℕ) : Type 0 where
-  pub entries : List Entry
-  pub brought : IsBroughtToRest wiring count entries short
-  pub shown : history ≡ visible entries
-
 -- the actor is among the short, or asks nothing more after its part of the acts
 abbrev pub IsThrough : Parts → List (Act Deed) → List ℕ → ℕ → Type 0
 IsThrough wiring acts short actor = (list_any (λ n. n == actor) short ≡ true) ⊎ (next wiring actor None (given_in wiring never acts actor) ≡ None)
@@ -111,6 +105,13 @@ pub record IsDone (wiring : Parts) (count : ℕ) (entries : List Entry) (short :
   pub entries_are : entries ≡ entries_of wiring acts
   pub played : IsPlayed wiring count acts
   pub through : (actor : ℕ) → actor < count → IsThrough wiring acts short actor
+
+-- the history is what the entries of some passes show that came to rest
+pub record IsShownAtRest (wiring : Parts) (count : ℕ) (history : List Event) (short : List ℕ) : Type 0 where
+  pub entries : List Entry
+  pub brought : IsBroughtToRest wiring count entries short
+  pub done : IsDone wiring count entries short
+  pub shown : history ≡ visible entries
 
 -- the actor is among the short, or has no next step after the entries
 abbrev pub IsAtEnd : Parts → List Entry → List ℕ → ℕ → Type 0

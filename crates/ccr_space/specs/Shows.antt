@@ -4,7 +4,7 @@ use Rattle.ccr_model.specs.declared.history.Event.{Event}
 use Rattle.ccr_places.specs.declared.notes.Note.{Note}
 use Rattle.ccr_object.specs.declared.deed.Deed.{Deed}
 use Rattle.ccr_runs.specs.declared.acts.Act.{Act}
-use Rattle.ccr_net.specs.Visible.{shown}
+use Rattle.ccr_runs.specs.Visible.{shown}
 
 -- what was noted shows; nothing where the condition wasn't met
 abbrev pub note_shown : ℕ → Option Note → List Event

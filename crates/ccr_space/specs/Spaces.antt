@@ -24,8 +24,8 @@ use Rattle.ccr_runs.specs.Runs.{IsProper, state_after}
 use Rattle.ccr_actor.specs.Acting.{Acting, IsAfter, is_at_rest}
 use Rattle.ccr_actor.specs.Following.{Follows}
 use Rattle.ccr_actor.specs.Nets.{Step, counted, replies_of}
-use Rattle.ccr_net.specs.Played.{Heard, rules}
-use Rattle.ccr_net.specs.Runs.{never}
+use Rattle.ccr_runs.specs.Played.{Heard, rules}
+use Rattle.ccr_runs.specs.EntryRuns.{never}
 use Rattle.ccr_space.specs.declared.space.SpaceOf.{SpaceOf}
 use Rattle.ccr_space.specs.declared.space.PassOf.{PassOf}
 

@@ -4,5 +4,5 @@
 mod space;
 
 pub use space::{
-    Closed, Left, Pass, PassOf, Seen, Space, SpaceOf, Step, run_threads, run_threads_in_full,
+    Closed, Left, Pass, PassOf, Seen, Space, SpaceOf, Step, closed_threads, shown_threads,
 };

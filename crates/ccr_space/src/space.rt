@@ -1,8 +1,8 @@
 //! The locks of all places, and the passes of the actors through them.
 
 use ccr_actor::Actor;
-use ccr_net::Directory;
 use ccr_object::PlaceObject;
+use ccr_runs::Directory;
 use ccr_turns::{Seat, Turns};
 use ccr_wiring::Wiring;
 
@@ -16,7 +16,7 @@ mod threads;
 pub use close::{Closed, Left};
 pub use showing::Seen;
 pub use step::Step;
-pub use threads::{run_threads, run_threads_in_full};
+pub use threads::{closed_threads, shown_threads};
 
 /// The locks, the numbers of the places, and the wiring. A struct with type parameters goes to other threads with no
 /// proof file; one over the locks of these objects alone does not.

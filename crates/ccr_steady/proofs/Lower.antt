@@ -23,7 +23,7 @@ use Rattle.ccr_base.specs.Choice.{is_choosable, fitting}
 use Rattle.ccr_base.specs.Names.{same_task, has_task}
 use Rattle.ccr_wiring.specs.declared.parts.Parts.{Parts}
 use Rattle.ccr_wiring.specs.declared.parts.QueuePart.{QueuePart}
-use Rattle.ccr_wiring.specs.Wirings.{Placement, placement, placements, spots, policy_of, exception_port, branch_of, segment_of}
+use Rattle.ccr_wiring.specs.Wirings.{Placement, placement, placements, spots, policy_of, exception_port, branch_of, segment_of, actions_at}
 use Rattle.ccr_wiring.specs.Valid.{IsValid, IsSound}
 use Rattle.ccr_wiring.specs.Limits.{policy_is_outside, queue_is_outside}
 use Rattle.ccr_wiring.proofs.Lists.{none_at}
@@ -37,7 +37,7 @@ use Rattle.ccr_model.specs.declared.history.EndHow.TheVariants as ends
 use Rattle.ccr_model.specs.Posts.{posts, held, posts_of_task, is_message_of}
 use Rattle.ccr_model.specs.Firings.{Firing, firings, firing_named, started, ended, dropped, cut}
 use Rattle.ccr_model.specs.Tasks.{has_post_left, running, coming, fired_by}
-use Rattle.ccr_model.specs.TaskData.{Load, actions_at, play_at, load_at, play_of, no_play}
+use Rattle.ccr_model.specs.TaskData.{Load, play_at, load_at, play_of, no_play}
 use Rattle.ccr_model.specs.Rules.{may_end, is_shed}
 use Rattle.ccr_model.specs.Live.{is_live, is_live_in, has_room, has_room_in}
 use Rattle.ccr_model.specs.Enough.{can_fire, can_take, has_enough}
@@ -119,8 +119,8 @@ end_done w h t how legal allowed old unshed u is = by (has_task (ended h) u) ref
         let own : has_task (t ∷ []) u ≡ true = subst (λ (b : Bool). b || has_task (t ∷ []) u ≡ true) e any in
         let mine : same_task u t ≡ true = one (same_task u t) own in
         let same : u ≡ t = same_task-is u t mine in
-        let a = refused_not (has_task (running h) t) 15 _ allowed in
-        let may = (refused_not (may_end w h t how) 16 None a.1).0 in
+        let a = refused_not (has_task (running h) t) _ _ allowed in
+        let may = (refused_not (may_end w h t how) _ None a.1).0 in
         let ways : not (has_post_left w h t) && Rattle.ccr_model.specs.Rules.ends_so how (play_of w h t).end ≡ true = subst (λ (b : Bool). (if b then Rattle.ccr_model.specs.Rules.may_shed w h t else not (has_post_left w h t) && Rattle.ccr_model.specs.Rules.ends_so how (play_of w h t).end) ≡ true) (not_shed how t parts.1) may in
         let none = not_true (has_post_left w h t) (both (not (has_post_left w h t)) _ ways).0 in
         let runs = RunningFacts-running h t a.0 in

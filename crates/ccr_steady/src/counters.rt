@@ -2,6 +2,7 @@
 
 ghost use Rattle.std.specs.Prelude.{◌≡◌, ◌<◌, ◌≤◌, ℕ, ◌+◌, ◌*◌, nat_lt, true, false, length, map, slice_index, slice_set, IfOk, IfSome, None};
 ghost use Rattle.std.specs.List.{list_any, slice_get};
+ghost use Rattle.ccr_base.specs.Bounds.{most_script_posts};
 ghost use Rattle.ccr_wiring.specs.Limits.{posts_in_all};
 ghost use Rattle.ccr_wiring.specs.Placements.{placement_seen};
 ghost use Rattle.ccr_wiring.specs.Wirings.{Placement, placements};
@@ -36,7 +37,7 @@ fn count_script(got: &mut [u64], posts: &[ScriptPost])
 
 /// Counts the posts of all scripts.
 fn count_scripts(got: &mut [u64], posters: &[PosterPart])
-    requires few { posts_in_all posters.now ≤ 10000 }
+    requires few { posts_in_all posters.now ≤ most_script_posts }
     requires none { (place : ℕ) → place < length got.old → slice_index got.old place ≡ 0 }
     ensures { (place : ℕ) → place < length got.old → slice_index got.new place ≡ scripts (at_port place) posters.now }
 {

@@ -3,10 +3,11 @@ use Rattle.std.proofs.Common.{◌≡◌, ◌∙◌, ℕ, ◌+◌, true, false, L
 use Rattle.std.specs.Prelude.{is_some}
 use Rattle.ccr_wiring.specs.declared.parts.Parts.{Parts}
 use Rattle.ccr_model.specs.declared.history.Event.{Event}
+use Rattle.ccr_model.specs.declared.rule.Rule.{Rule}
 use Rattle.ccr_model.specs.Rules.{refusal}
 use Rattle.ccr_model.specs.Legal.{first_refusal}
 use Rattle.ccr_checker.specs.Judges.{Judged}
-use Rattle.ccr_counts.specs.Tallies.{Tallies, IsCounting}
+use Rattle.ccr_telling.specs.Tallies.{Tallies, IsCounting}
 use Rattle.ccr_trace.specs.declared.reading.ReadHistory.{ReadHistory}
 use Rattle.ccr_trace.specs.EventReaders.{Reader, HasRead, HasReadAll, reading_of}
 use Rattle.ccr_trace.proofs.Outcomes.{done}
@@ -28,7 +29,7 @@ pub judged_none : (reader : Reader) (judged : Judged) (tallies : Tallies) → re
 judged_none reader judged tallies none agrees = record { wiring = refl; reads = refl; first = sym (ap (first_refusal reader.wiring [] 0) none); agrees = λ is. agrees }
 
 -- behind a refusal events are read alone
-pub judged_past : (old now next : Reader) (judged : Judged) (tallies : Tallies) (at : ℕ × ℕ) (e : Event) → IsJudgedSoFar old now judged tallies (Some at) → HasRead now e next → IsJudgedSoFar old next judged tallies (Some at)
+pub judged_past : (old now next : Reader) (judged : Judged) (tallies : Tallies) (at : ℕ × Rule) (e : Event) → IsJudgedSoFar old now judged tallies (Some at) → HasRead now e next → IsJudgedSoFar old next judged tallies (Some at)
 judged_past old now next judged tallies at e so_far read = record {
   wiring = read.wiring ∙ so_far.wiring;
   reads = read.reads ∙ so_far.reads;
@@ -37,7 +38,7 @@ judged_past old now next judged tallies at e so_far read = record {
 }
 
 -- what is refused first, where nothing was so far
-first_so : (old now next : Reader) (judged : Judged) (tallies : Tallies) (e : Event) (rule : Option ℕ) → IsJudgedSoFar old now judged tallies None → HasRead now e next → rule ≡ refusal judged.wiring judged.history e
+first_so : (old now next : Reader) (judged : Judged) (tallies : Tallies) (e : Event) (rule : Option Rule) → IsJudgedSoFar old now judged tallies None → HasRead now e next → rule ≡ refusal judged.wiring judged.history e
     → first_refusal old.wiring [] 0 next.so_far.history ≡ at_last (length now.so_far.history) rule
 first_so old now next judged tallies e rule so_far read asked =
     let agrees = (so_far.agrees refl).accepted in
@@ -46,7 +47,7 @@ first_so old now next judged tallies e rule so_far read asked =
     ap (first_refusal old.wiring [] 0) read.history ∙ (refusal_next old.wiring [] 0 now.so_far.history e (sym so_far.first) ∙ (ap (λ (n : ℕ). at_last n (refusal old.wiring now.so_far.history e)) place ∙ ap (at_last (length now.so_far.history)) (sym (asked ∙ same))))
 
 -- the event is refused
-pub judged_refused : (old now next : Reader) (judged new : Judged) (tallies counted : Tallies) (e : Event) (at rule : ℕ) → IsJudgedSoFar old now judged tallies None → HasRead now e next → Some rule ≡ refusal judged.wiring judged.history e
+pub judged_refused : (old now next : Reader) (judged new : Judged) (tallies counted : Tallies) (e : Event) (at : ℕ) (rule : Rule) → IsJudgedSoFar old now judged tallies None → HasRead now e next → Some rule ≡ refusal judged.wiring judged.history e
     → at ≡ length now.so_far.history → IsJudgedSoFar old next new counted (Some (at, rule))
 judged_refused old now next judged new tallies counted e at rule so_far read asked here = record {
   wiring = read.wiring ∙ so_far.wiring;
@@ -73,27 +74,27 @@ judged_accepted old now next judged new tallies counted e so_far read asked acce
     }
 
 -- the same where it is known whether something was refused before
-pub judged_past_if : (refused : Option (ℕ × ℕ)) → is_some refused ≡ true → (old now next : Reader) (judged : Judged) (tallies : Tallies) (e : Event) → IsJudgedSoFar old now judged tallies refused → HasRead now e next → IsJudgedSoFar old next judged tallies refused
+pub judged_past_if : (refused : Option (ℕ × Rule)) → is_some refused ≡ true → (old now next : Reader) (judged : Judged) (tallies : Tallies) (e : Event) → IsJudgedSoFar old now judged tallies refused → HasRead now e next → IsJudgedSoFar old next judged tallies refused
 judged_past_if None some old now next judged tallies e so_far read = absurd (cc)
 judged_past_if (Some at) some old now next judged tallies e so_far read = judged_past old now next judged tallies at e so_far read
 
-pub judged_refused_if : (refused : Option (ℕ × ℕ)) → is_some refused ≡ false → (old now next : Reader) (judged new : Judged) (tallies counted : Tallies) (e : Event) (at rule : ℕ) → IsJudgedSoFar old now judged tallies refused → HasRead now e next
+pub judged_refused_if : (refused : Option (ℕ × Rule)) → is_some refused ≡ false → (old now next : Reader) (judged new : Judged) (tallies counted : Tallies) (e : Event) (at : ℕ) (rule : Rule) → IsJudgedSoFar old now judged tallies refused → HasRead now e next
     → Some rule ≡ refusal judged.wiring judged.history e → at ≡ length now.so_far.history → IsJudgedSoFar old next new counted (Some (at, rule))
 judged_refused_if None none old now next judged new tallies counted e at rule so_far read asked here = judged_refused old now next judged new tallies counted e at rule so_far read asked here
 judged_refused_if (Some before) none old now next judged new tallies counted e at rule so_far read asked here = absurd (cc)
 
-pub judged_accepted_if : (refused : Option (ℕ × ℕ)) → is_some refused ≡ false → (old now next : Reader) (judged new : Judged) (tallies counted : Tallies) (e : Event) → IsJudgedSoFar old now judged tallies refused → HasRead now e next → None ≡ refusal judged.wiring judged.history e
+pub judged_accepted_if : (refused : Option (ℕ × Rule)) → is_some refused ≡ false → (old now next : Reader) (judged new : Judged) (tallies counted : Tallies) (e : Event) → IsJudgedSoFar old now judged tallies refused → HasRead now e next → None ≡ refusal judged.wiring judged.history e
     → new ≡ record judged { history = judged.history ++ e ∷ [] } → (IsCounting judged.wiring judged.history tallies → IsCounting judged.wiring (judged.history ++ e ∷ []) counted) → IsJudgedSoFar old next new counted refused
 judged_accepted_if None none old now next judged new tallies counted e so_far read asked accepted counts = judged_accepted old now next judged new tallies counted e so_far read asked accepted counts
 judged_accepted_if (Some before) none old now next judged new tallies counted e so_far read asked accepted counts = absurd (cc)
 
 -- all is read
-pub judged_whole : (old now new : Reader) (judged : Judged) (tallies : Tallies) (refused : Option (ℕ × ℕ)) → IsJudgedSoFar old now judged tallies refused → HasReadAll now new → IsJudgedWhole old.wiring new judged tallies refused
+pub judged_whole : (old now new : Reader) (judged : Judged) (tallies : Tallies) (refused : Option (ℕ × Rule)) → IsJudgedSoFar old now judged tallies refused → HasReadAll now new → IsJudgedWhole old.wiring new judged tallies refused
 judged_whole old now new judged tallies refused so_far read = record {
   wiring_is = read.wiring ∙ so_far.wiring;
   first = so_far.first ∙ ap (λ (r : ReadHistory). first_refusal old.wiring [] 0 r.history) (sym read.so_far);
   agrees = λ is. agrees_moved now new judged tallies read.wiring (ap (λ (r : ReadHistory). r.history) read.so_far) (so_far.agrees is);
 }
 
-pub read_whole : (old now new : Reader) (judged : Judged) (tallies : Tallies) (refused : Option (ℕ × ℕ)) → IsJudgedSoFar old now judged tallies refused → HasReadAll now new → reading_of old ≡ Ok new.so_far
+pub read_whole : (old now new : Reader) (judged : Judged) (tallies : Tallies) (refused : Option (ℕ × Rule)) → IsJudgedSoFar old now judged tallies refused → HasReadAll now new → reading_of old ≡ Ok new.so_far
 read_whole old now new judged tallies refused so_far read = sym so_far.reads ∙ (read.reads ∙ ap done (sym read.so_far))

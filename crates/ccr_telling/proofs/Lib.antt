@@ -1,3 +1,11 @@
+pub mod Numbers
+pub mod Places
+pub mod Few
+pub mod Counting
+pub mod Along
+pub mod Spots
+pub mod CountsTold
+pub mod Heard
 pub mod Ends
 pub mod Refusals
 pub mod JudgedText

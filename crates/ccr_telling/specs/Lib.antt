@@ -1,2 +1,4 @@
+pub mod Tallies
+pub mod Totals
 pub mod Telling
 pub mod Judging

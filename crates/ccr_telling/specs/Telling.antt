@@ -7,7 +7,7 @@ use Rattle.ccr_model.specs.Order.{IsFinished}
 use Rattle.ccr_trace.specs.Written.{IsWritten}
 use Rattle.ccr_report.specs.declared.counted.Counts.{Counts}
 use Rattle.ccr_report.specs.Counted.{IsCounted}
-use Rattle.ccr_counts.specs.Tallies.{IsCounting}
+use Rattle.ccr_telling.specs.Tallies.{IsCounting}
 use Rattle.ccr_telling.specs.declared.telling.Telling.{Telling}
 use Rattle.ccr_telling.specs.declared.ending.Told.{Told}
 

@@ -1,15 +1,16 @@
 //! The serial order behind a history, to its end.
 
 ghost use Rattle.std.specs.Prelude.{◌≡◌, ◌≤◌, ◌^◌, IfOk, length};
+ghost use Rattle.ccr_base.specs.Bounds.{most_actors};
 ghost use Rattle.ccr_model.specs.Firings.{fired};
 ghost use Rattle.ccr_model.specs.Legal.{IsLegal};
 ghost use Rattle.ccr_model.specs.Order.{next_attempt};
-ghost use Rattle.ccr_counts.specs.Tallies.{IsCounting};
+ghost use Rattle.ccr_telling.specs.Tallies.{IsCounting};
 ghost use Rattle.ccr_telling.specs.Telling.{HasTold, IsCountedToEnd, IsToldToEnd};
 
+use crate::Tally;
 use crate::telling::{Counting, Telling};
 use ccr_base::{ActorNo, List, OutOfMemory};
-use ccr_counts::Tally;
 use ccr_engine::Engine;
 use ccr_model::History;
 use ccr_report::Counts;
@@ -31,7 +32,7 @@ fn engine_behind<'w>(
     first: &History,
 ) -> Result<(Box<Engine<'w>>, Tally), OutOfMemory>
     requires no_poster { length wiring.now.posters ≤ closer }
-    requires low { closer ≤ 32 }
+    requires low { closer ≤ most_actors }
     requires legal { IsLegal wiring.now first.now }
     requires attempts { next_attempt closer (fired first.now) ≤ 2 ^ 31 }
     ensures engine { IfOk result (λ both. both.0.value ≡ record { wiring = wiring.now; closer = closer; history = first.now }) }
@@ -53,7 +54,7 @@ fn telling_behind<'w>(
     first: History,
 ) -> Result<(Box<Engine<'w>>, Telling<'w>), OutOfMemory>
     requires no_poster { length wiring.now.posters ≤ closer }
-    requires low { closer ≤ 32 }
+    requires low { closer ≤ most_actors }
     requires legal { IsLegal wiring.now first }
     requires attempts { next_attempt closer (fired first) ≤ 2 ^ 31 }
     ensures engine { IfOk result (λ both. both.0.value ≡ record { wiring = wiring.now; closer = closer; history = first }) }
@@ -72,7 +73,7 @@ fn counting_behind<'w>(
     first: History,
 ) -> Result<(Box<Engine<'w>>, Counting), OutOfMemory>
     requires no_poster { length wiring.now.posters ≤ closer }
-    requires low { closer ≤ 32 }
+    requires low { closer ≤ most_actors }
     requires legal { IsLegal wiring.now first }
     requires attempts { next_attempt closer (fired first) ≤ 2 ^ 31 }
     ensures engine { IfOk result (λ both. both.0.value ≡ record { wiring = wiring.now; closer = closer; history = first }) }
@@ -91,7 +92,7 @@ pub fn tell_to_end(
     first: History,
 ) -> Result<Told, OutOfMemory>
     requires no_poster { length wiring.now.posters ≤ closer }
-    requires low { closer ≤ 32 }
+    requires low { closer ≤ most_actors }
     requires legal { IsLegal wiring.now first }
     requires attempts { next_attempt closer (fired first) ≤ 2 ^ 31 }
     ensures { IfOk result (IsToldToEnd wiring.now closer first) }
@@ -112,7 +113,7 @@ pub fn count_to_end(
     first: History,
 ) -> Result<Counts, OutOfMemory>
     requires no_poster { length wiring.now.posters ≤ closer }
-    requires low { closer ≤ 32 }
+    requires low { closer ≤ most_actors }
     requires legal { IsLegal wiring.now first }
     requires attempts { next_attempt closer (fired first) ≤ 2 ^ 31 }
     ensures { IfOk result (IsCountedToEnd wiring.now closer first) }

@@ -1,17 +1,18 @@
 //! A history's text judged while it is read.
 
 ghost use Rattle.std.specs.Prelude.{◌≡◌, ◌≤◌, ◌++◌, ◌∷◌, [], Err, IfErr, IfNone, IfOk, Ok, OnOk, length};
+ghost use Rattle.ccr_base.specs.Bounds.{most_bytes};
 ghost use Rattle.ccr_model.specs.Rules.{refusal};
-ghost use Rattle.ccr_counts.specs.Tallies.{IsCounting};
+ghost use Rattle.ccr_telling.specs.Tallies.{IsCounting};
 ghost use Rattle.ccr_trace.specs.Answers.{IsReading};
-ghost use Rattle.ccr_trace.specs.EventReaders.{HasRead, Reader, reading_of};
+ghost use Rattle.ccr_trace.specs.EventReaders.{reading_of};
 ghost use Rattle.ccr_trace.specs.Reading.{reading};
-ghost use Rattle.ccr_telling.specs.Judging.{AgreesSoFar, IsJudged, IsJudgedHistory, IsJudgedSoFar, IsJudgedWhole, IsToldOf};
+ghost use Rattle.ccr_telling.specs.Judging.{AgreesSoFar, HasJudged, IsJudged, IsJudgedHistory, IsJudgedWhole, IsToldOf};
 
+use crate::Tally;
 use ccr_base::OutOfMemory;
 use ccr_checker::Checker;
-use ccr_counts::Tally;
-use ccr_model::Event;
+use ccr_model::{Event, Rule};
 use ccr_report::Counts;
 use ccr_trace::{EventReader, HistoryRefused};
 use ccr_wiring::Wiring;
@@ -31,7 +32,7 @@ pub struct LegalText {
 #[derive(Drop)]
 pub enum Judgement {
     /// The event at this place is refused after those before it, first by this rule.
-    Illegal { at: u32, rule: u8 },
+    Illegal { at: u32, rule: Rule },
     Legal(LegalText),
 }
 
@@ -40,7 +41,7 @@ fn judge_event(
     checker: &mut Checker<'_>,
     tally: &mut Tally,
     event: &Event,
-) -> Result<Option<u8>, OutOfMemory>
+) -> Result<Option<Rule>, OutOfMemory>
     ensures rule { IfOk result (λ rule. rule ≡ refusal checker.old.wiring checker.old.history event.now) }
     ensures accepted { IfOk result (λ rule. IfNone rule (checker.new ≡ record checker.old { history = checker.old.history ++ event.now ∷ [] })) }
     ensures counted { IfOk result (λ rule. IfNone rule (IsCounting checker.old.wiring checker.old.history tally.old → IsCounting checker.old.wiring (checker.old.history ++ event.now ∷ []) tally.new)) }
@@ -58,11 +59,11 @@ fn judge_event(
 fn judge_next(
     checker: &mut Checker<'_>,
     tally: &mut Tally,
-    refusal: &mut Option<(u32, u8)>,
+    refusal: &mut Option<(u32, Rule)>,
     at: u32,
     event: &Event,
 ) -> Result<(), OutOfMemory>
-    ensures { OnOk result ((old now next : Reader) → IsJudgedSoFar old now checker.old tally.old refusal.old → HasRead now event.now next → at ≡ length now.so_far.history → IsJudgedSoFar old next checker.new tally.new refusal.new) }
+    ensures { OnOk result (HasJudged at event.now checker.old tally.old refusal.old checker.new tally.new refusal.new) }
 {
     if refusal.is_some() {
         return Ok(());
@@ -79,14 +80,14 @@ fn judge_events(
     reader: &mut EventReader<'_>,
     checker: &mut Checker<'_>,
     tally: &mut Tally,
-) -> Result<Option<(u32, u8)>, HistoryRefused>
+) -> Result<Option<(u32, Rule)>, HistoryRefused>
     requires none { reader.old.so_far.history ≡ [] }
     requires agrees { AgreesSoFar reader.old checker.old tally.old }
     ensures reads { IfOk result (λ refusal. reading_of reader.old ≡ Ok reader.new.so_far) }
     ensures judged { IfOk result (IsJudgedWhole reader.old.wiring reader.new checker.new tally.new) }
     ensures refused { IfErr result (λ refusal. IsReading (Err refusal) (reading_of reader.old)) }
 {
-    let mut refusal: Option<(u32, u8)> = None;
+    let mut refusal: Option<(u32, Rule)> = None;
     'events: while let Some(event) = reader.next()? {
         judge_next(checker, tally, &mut refusal, reader.lines() - 2, &event)?;
     }
@@ -135,7 +136,7 @@ fn conclude(
     reader: &EventReader<'_>,
     checker: &mut Checker<'_>,
     tally: Tally,
-    refusal: Option<(u32, u8)>,
+    refusal: Option<(u32, Rule)>,
 ) -> Result<Judgement, OutOfMemory>
     requires { IsJudgedWhole wiring.now reader.now checker.old tally refusal }
     ensures { IfOk result (IsJudgedHistory wiring.now reader.now.so_far) }
@@ -167,7 +168,7 @@ fn judge_history(
 
 /// What is found of the history that a text begins with. Each event is judged when its line is read, and isn't kept.
 pub fn judge_text(alloc: Global, wiring: &Wiring, text: &[u8]) -> Result<Judgement, HistoryRefused>
-    requires { length text.now ≤ 33554432 }
+    requires { length text.now ≤ most_bytes }
     ensures judged { IfOk result (IsJudged wiring.now text.now) }
     ensures refused { IfErr result (λ refusal. IsReading (Err refusal) (reading wiring.now text.now)) }
 {

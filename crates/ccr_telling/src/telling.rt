@@ -1,11 +1,11 @@
 //! What is told of a history so far.
 
 ghost use Rattle.std.specs.Prelude.{IfOk};
-ghost use Rattle.ccr_counts.specs.Tallies.{IsCounting};
+ghost use Rattle.ccr_telling.specs.Tallies.{IsCounting};
 ghost use Rattle.ccr_telling.specs.Telling.{HasTold};
 
+use crate::Tally;
 use ccr_base::{List, OutOfMemory};
-use ccr_counts::Tally;
 use ccr_engine::Listener;
 use ccr_ledger::Ledger;
 use ccr_model::{Event, History};

@@ -7,10 +7,7 @@ use Rattle.std.proofs.lemmas.List.Concat.{flat_map-cons}
 use Rattle.ccr_text.specs.Words.{is_mark, is_blank, is_clean, pieces, words_of}
 use Rattle.ccr_text.specs.Lines.{cut, numbered_line, numbered, lines_of}
 use Rattle.ccr_text.specs.Spelling.{joined, line_text, text_of, spelled_lines, AreWords, AreLines}
-
-both : (a b : Bool) → (a && b) ≡ true → (a ≡ true) × (b ≡ true)
-both true b e = (refl, e)
-both false b e = absurd cc
+use Rattle.std.proofs.lemmas.Bool.{and_parts as both}
 
 abbrev not_feed : ℕ → Bool
 not_feed b = not (b == 10)

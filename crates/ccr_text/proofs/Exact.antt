@@ -12,10 +12,7 @@ use Rattle.ccr_text.specs.Words.{value_after, is_digits, number_of}
 use Rattle.ccr_text.specs.Exact.{where_spelled, exact_number_of, parts, number_first, may_begin, first_part}
 use Rattle.ccr_text.proofs.Digits.{read_after, read_word}
 use Rattle.ccr_text.proofs.Decimals.{own}
-
-both : (a b : Bool) → (a && b) ≡ true → (a ≡ true) × (b ≡ true)
-both true b e = (refl, e)
-both false b e = absurd cc
+use Rattle.std.proofs.lemmas.Bool.{and_parts as both}
 
 abbrev one : ℕ → Option ℕ
 one x = Some x
@@ -23,7 +20,7 @@ one x = Some x
 some_is : (x y : ℕ) → one x ≡ one y → x ≡ y
 some_is x y e = cc
 
-same_text : (text : List ℕ) → bytes_eq text text ≡ true
+pub same_text : (text : List ℕ) → bytes_eq text text ≡ true
 same_text text = (bytes_eq-Decides text text).1 refl
 
 -- decimal digits whose first may begin a number

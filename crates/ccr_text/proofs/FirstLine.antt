@@ -5,10 +5,7 @@ use Rattle.std.specs.List.{list_all, onto_first}
 use Rattle.std.proofs.lemmas.Bool.Decides.{nat_tests}
 use Rattle.ccr_text.specs.Words.{is_blank, is_mark, is_clean, pieces, words_of}
 use Rattle.ccr_text.specs.Lines.{cut, first_line}
-
-both : (a b : Bool) → (a && b) ≡ true → (a ≡ true) × (b ≡ true)
-both true b e = (refl, e)
-both false b e = absurd cc
+use Rattle.std.proofs.lemmas.Bool.{and_parts as both}
 
 abbrev pub AreMarks : List ℕ → Type 0
 AreMarks word = list_all is_mark word ≡ true

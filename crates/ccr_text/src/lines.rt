@@ -2,6 +2,7 @@
 
 ghost use Rattle.std.specs.Prelude.{◌≡◌, ◌≢◌, ◌≤◌, ◌<◌, false, [], ◌∷◌, ◌++◌, IfOk, IfSome, IfNone, length};
 ghost use Rattle.std.specs.Option.{option_map_or};
+ghost use Rattle.ccr_base.specs.Bounds.{most_bytes};
 ghost use Rattle.ccr_text.specs.Lines.{cut, has_feed, numbered_line, lines_of};
 
 use crate::words::{is_clean_line, words_in};
@@ -49,7 +50,7 @@ pub fn numbered_line(alloc: Global, number: u32, bytes: &[u8]) -> Result<Line, O
 /// The lines of a text, cut at each LF. What follows the last LF is a line where it isn't empty.
 /// One pass; a line takes some 40 bytes beside its words.
 pub fn split_lines(alloc: Global, text: &[u8]) -> Result<List<Line>, OutOfMemory>
-    requires { length text.now ≤ 33554432 }
+    requires { length text.now ≤ most_bytes }
     ensures { IfOk result (λ lines. lines ≡ lines_of text.now) }
 {
     let mut lines = List::new(alloc);

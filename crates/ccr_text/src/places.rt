@@ -2,6 +2,7 @@
 
 ghost use Rattle.std.specs.Prelude.{◌≡◌, ◌≤◌, [], Some, IfSome, IfNone, length};
 ghost use Rattle.std.specs.List.{slice_get};
+ghost use Rattle.ccr_base.specs.Bounds.{most_bytes};
 ghost use Rattle.ccr_text.specs.Words.{words_of};
 ghost use Rattle.ccr_text.specs.Lines.{begins_with, line_of};
 
@@ -37,7 +38,7 @@ fn begins_with(word: &[u8], line: &[u8]) -> bool
 /// Finds the first line that opens with `word`: the byte it begins at and the lines before it. Where none does, the end of
 /// the text and all its lines. One pass, which takes no memory.
 pub fn line_of(text: &[u8], word: &[u8]) -> (usize, u32)
-    requires { length text.now ≤ 33554432 }
+    requires { length text.now ≤ most_bytes }
     ensures place { result ≡ line_of text.now word.now }
     ensures within { result.0 ≤ length text.now }
     ensures few { result.1 ≤ length text.now }

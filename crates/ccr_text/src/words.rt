@@ -2,7 +2,8 @@
 
 ghost use Rattle.std.specs.Prelude.{◌≡◌, ◌<◌, [], ◌∷◌, ◌++◌, true, false, IfOk, IfSome, IfNone, length};
 ghost use Rattle.std.specs.List.{list_all};
-ghost use Rattle.ccr_text.specs.Words.{is_blank, is_mark, is_clean, pieces, words_of, is_name_of, may_be_in_name};
+ghost use Rattle.std.specs.Str.{bytes_eq};
+ghost use Rattle.ccr_text.specs.Words.{is_blank, is_mark, is_clean, pieces, words_of, is_comment, is_name_of, may_be_in_name};
 
 use ccr_base::{List, Name, OutOfMemory};
 use std::alloc::Global;
@@ -75,6 +76,23 @@ pub fn words_in(alloc: Global, line: &[u8]) -> Result<List<Name>, OutOfMemory>
         rest = after;
     }
     Ok(words)
+}
+
+/// Whether the word is that text.
+pub fn is_text(word: &[u8], text: &str) -> bool
+    ensures { result ≡ bytes_eq word.now text.now }
+{
+    word == text.as_bytes()
+}
+
+/// Whether a line that begins with the word is a comment.
+pub fn is_comment(word: &[u8]) -> bool
+    ensures { result ≡ is_comment word.now }
+{
+    match word.first() {
+        Some(byte) => *byte == b'#',
+        None => false,
+    }
 }
 
 fn is_name_byte(byte: u8) -> bool

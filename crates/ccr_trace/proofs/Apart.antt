@@ -24,10 +24,7 @@ use Rattle.ccr_wiring.specs.Valid.{IsValid}
 use Rattle.ccr_wiring.specs.Versions.{has_strange_version, has_newer}
 use Rattle.ccr_wiring.specs.Wirings.{Placement, placements_of, placements_from, placements, in_domain}
 use Rattle.ccr_trace.specs.Words.{branch_names, branch_names_of, cause_names}
-
-neither : (a b : Bool) → (a || b) ≡ false → (a ≡ false) × (b ≡ false)
-neither true b e = absurd cc
-neither false b e = (refl, e)
+use Rattle.std.proofs.lemmas.Bool.{and_parts as both, or_parts as neither}
 
 no_code : (test : Bool) (code : ℕ) (rest : Option ℕ) → cond test (Some code) rest ≡ None → (test ≡ false) × (rest ≡ None)
 no_code true code rest e = absurd cc
@@ -130,10 +127,6 @@ Named arbiter = (front : List (List ℕ)) × (arbiter_names arbiter ≡ front ++
 not_true : (b : Bool) → not b ≡ false → b ≡ true
 not_true true e = refl
 not_true false e = absurd cc
-
-both : (a b : Bool) → (a && b) ≡ true → (a ≡ true) × (b ≡ true)
-both true b e = (refl, e)
-both false b e = absurd cc
 
 one_named : (name : List ℕ) (branches : List BranchPart) → is_one_named name branches ≡ true → map (λ (part : BranchPart). part.name) branches ≡ name ∷ []
 one_named name [] e = absurd cc

@@ -10,10 +10,7 @@ use Rattle.ccr_trace.specs.Words.{name_at}
 use Rattle.ccr_trace.specs.Said.{IsName}
 use Rattle.ccr_trace.specs.Known.{number_in}
 use Rattle.ccr_trace.proofs.Steps.{some_is, same_word, same_text}
-
-neither : (a b : Bool) → (a || b) ≡ false → (a ≡ false) × (b ≡ false)
-neither true b e = absurd cc
-neither false b e = (refl, e)
+use Rattle.std.proofs.lemmas.Bool.{or_parts as neither}
 
 abbrev place_of : List (List ℕ) → List ℕ → ℕ
 place_of names word = position_or_len (λ name. bytes_eq word name) names

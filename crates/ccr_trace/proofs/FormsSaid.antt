@@ -19,10 +19,7 @@ use Rattle.ccr_trace.specs.Places.{◌>>=◌, each, exact_number, short_number, 
 use Rattle.ccr_trace.specs.Forms.{Words, word, no_more, only, place, is_some_of, cuts, fired, post_said, fire_said, admit_said, dropped_said, put_said, start_said, plain_end, failed, how_said, end_said, form_said, said_on}
 use Rattle.ccr_trace.proofs.Steps.{bind_some, some_is, only_one, only_some, word_some, no_more_some, place_some, chosen, same_word, some_of}
 use Rattle.ccr_trace.proofs.WordsSaid.{value_said, short_said, task_said, message_said, name_said, spot_said, each_said}
-
-both : (a b : Bool) → (a && b) ≡ true → (a ≡ true) × (b ≡ true)
-both true b e = (refl, e)
-both false b e = absurd cc
+use Rattle.std.proofs.lemmas.Bool.{and_parts as both}
 
 names_said : (words : Words) → list_all is_name_of words ≡ true → All IsName words
 names_said [] e = All-nil IsName

@@ -6,13 +6,10 @@ use Rattle.std.specs.List.{list_any, prefix_len, position_or_len}
 use Rattle.std.specs.Str.{bytes_eq}
 use Rattle.ccr_wiring.specs.Names.{has_name, has_repeated}
 use Rattle.ccr_trace.specs.Known.{number_in}
+use Rattle.std.proofs.lemmas.Bool.{or_parts as neither}
 
 abbrev pub seen : List (Bor (List ℕ)) → List (List ℕ)
 seen keys = map (λ key. key.now) keys
-
-neither : (a b : Bool) → (a || b) ≡ false → (a ≡ false) × (b ≡ false)
-neither true b e = absurd cc
-neither false b e = (refl, e)
 
 other_at : (names : List (Bor (List ℕ))) (i : ℕ) (d : Bor (List ℕ)) (name : List ℕ) → i < length names → has_name (seen names) name ≡ false → bytes_eq (get_or names i d).now name ≡ false
 other_at [] i d name below none = absurd (omega arith)

@@ -7,10 +7,7 @@ use Rattle.std.proofs.lemmas.List.Elements.{recursion_from_All}
 use Rattle.ccr_text.specs.Words.{is_mark}
 use Rattle.ccr_text.specs.Spelling.{joined}
 use Rattle.ccr_trace.specs.Pieces.{pieces}
-
-both : (a b : Bool) → (a && b) ≡ true → (a ≡ true) × (b ≡ true)
-both true b e = (refl, e)
-both false b e = absurd cc
+use Rattle.std.proofs.lemmas.Bool.{and_parts as both}
 
 -- no byte is the separator
 abbrev pub lacks : ℕ → List ℕ → Bool

@@ -12,10 +12,7 @@ use Rattle.ccr_trace.specs.Forms.{Words, place}
 use Rattle.ccr_trace.proofs.Cutting.{pieces_some}
 use Rattle.ccr_trace.proofs.Parting.{lacks, other, lacks-append, lacks_tested, pieces_first, pieces_only}
 use Rattle.ccr_trace.proofs.Steps.{bind_some, place_some}
-
-both : (a b : Bool) → (a && b) ≡ true → (a ≡ true) × (b ≡ true)
-both true b e = (refl, e)
-both false b e = absurd cc
+use Rattle.std.proofs.lemmas.Bool.{and_parts as both}
 
 -- what stands before the first separator, and what behind it
 cut_at : (separator : ℕ) (bytes word rest : List ℕ) → pieces separator bytes ≡ word ∷ pieces separator rest → bytes ≡ word ++ separator ∷ rest

@@ -9,6 +9,7 @@ use Rattle.ccr_trace.specs.Places.{◌>>=◌, where_spelled, where_short, where_
 use Rattle.ccr_trace.specs.Pieces.{pieces}
 use Rattle.ccr_trace.proofs.Cutting.{pieces_some}
 use Rattle.ccr_trace.specs.Forms.{Words, word, no_more, only, place, is_some_of}
+pub use Rattle.ccr_text.proofs.Exact.{same_text}
 
 -- the value of a step that found something
 pub bind_some : {A B : Type 0} (found : Option A) (next : A → Option B) (y : B) → (found >>= next) ≡ Some y → (x : A) × (found ≡ Some x) × (next x ≡ Some y)
@@ -47,9 +48,6 @@ chosen false x y z e = inr (refl, e)
 
 pub same_word : (w text : List ℕ) → bytes_eq w text ≡ true → w ≡ text
 same_word w text e = (bytes_eq-Decides w text).0 e
-
-pub same_text : (text : List ℕ) → bytes_eq text text ≡ true
-same_text text = (bytes_eq-Decides text text).1 refl
 
 pub some_of : {A : Type 0} (values : List A) → is_some_of values ≡ true → 0 < length values
 some_of [] e = absurd cc

@@ -17,14 +17,11 @@ use Rattle.ccr_trace.specs.Places.{◌>>=◌, each, where_spelled, where_short, 
 use Rattle.ccr_trace.specs.Forms.{Words}
 use Rattle.ccr_trace.proofs.Steps.{same_text}
 use Rattle.ccr_trace.proofs.Parting.{lacks, AreLacking, pieces_first, pieces_only, pieces_join, lacks_tested, tested_by, marked, marked-append}
+use Rattle.std.proofs.lemmas.Bool.{and_parts as both}
 
 -- the digits of each number are read as that number
 abbrev pub AreNumbers : Type 0
 AreNumbers = (n : ℕ) → n < 2 ^ 64 → number_of (decimal n) ≡ Some n
-
-both : (a b : Bool) → (a && b) ≡ true → (a ≡ true) × (b ≡ true)
-both true b e = (refl, e)
-both false b e = absurd cc
 
 pub name_read : (name : List ℕ) → IsName name → name_of name ≡ Some name
 name_read name good = rw good refl

@@ -6,7 +6,7 @@ use Rattle.ccr_base.specs.declared.names.MsgId.{MsgId}
 use Rattle.ccr_base.specs.declared.names.MsgId.TheVariants.{Script, Task}
 use Rattle.ccr_wiring.specs.declared.parts.CausePart.{CausePart}
 use Rattle.ccr_wiring.specs.declared.parts.Parts.{Parts}
-pub use Rattle.ccr_spots.specs.Words.{name_at, branch_names_of, branch_names, spot_word}
+pub use Rattle.ccr_wiring.specs.SpotWords.{name_at, branch_names_of, branch_names, spot_word}
 
 -- tA.K
 abbrev pub task_word : TaskId → List ℕ

@@ -1,6 +1,7 @@
 //! A history's text, read event by event.
 
 ghost use Rattle.std.specs.Prelude.{◌≡◌, ◌<◌, ◌≤◌, ◌+◌, ◌^◌, Err, IfErr, IfNone, IfOk, IfSome, OnOk, length};
+ghost use Rattle.ccr_base.specs.Bounds.{most_bytes};
 ghost use Rattle.ccr_trace.specs.Pieces.{bytes_in};
 ghost use Rattle.ccr_trace.specs.Codes.{code_number};
 ghost use Rattle.ccr_trace.specs.declared.refused.HistoryRefused.TheVariants.{At};
@@ -98,7 +99,7 @@ impl<'a> Model for EventReader<'a> {
 impl<'a> EventReader<'a> {
     /// Before the events of a text.
     pub fn new(alloc: Global, wiring: &'a Wiring, text: &'a [u8]) -> Result<Self, HistoryRefused>
-        requires { length text.now ≤ 33554432 }
+        requires { length text.now ≤ most_bytes }
         ensures before { IfOk result (IsBefore wiring.now text.now) }
         ensures refused { IfErr result (λ refusal. IsReading (Err refusal) (reading wiring.now text.now)) }
     {

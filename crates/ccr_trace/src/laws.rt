@@ -1,15 +1,14 @@
 //! What holds of every text of a history.
 
-ghost use Rattle.std.specs.Prelude.{◌≡◌, ℕ, ◌+◌, List, ◌∷◌, ◌++◌, length, codes, Some, Ok};
+ghost use Rattle.std.specs.Prelude.{◌≡◌, ℕ, List, Some, Ok};
 ghost use Rattle.ccr_wiring.specs.declared.parts.Parts.{Parts};
-ghost use Rattle.ccr_wiring.specs.Valid.{IsValid};
 ghost use Rattle.ccr_model.specs.declared.history.Event.{Event};
 ghost use Rattle.ccr_trace.specs.declared.reading.ReadHistory.{ReadHistory};
 ghost use Rattle.ccr_trace.specs.HistoryText.{history_text};
 ghost use Rattle.ccr_trace.specs.Said.{Said, IsSaid, spelled};
 ghost use Rattle.ccr_trace.specs.Forms.{said_on};
-ghost use Rattle.ccr_trace.specs.Known.{AreKnown, HaveMessages, AreShort};
 ghost use Rattle.ccr_trace.specs.Reading.{reading};
+ghost use Rattle.ccr_trace.specs.Written.{IsReadBefore, IsTextOf, WhereTellable};
 
 use ccr_text::numbers_are_read_again;
 
@@ -23,14 +22,12 @@ pub fn lines_are_read_exactly()
 
 /// What is written of a history is read again as that history, whatever stands behind the line `report 1`.
 pub fn what_is_written_is_read()
-    ensures { (wiring : Parts) (history : List Event) (more : List ℕ) → IsValid wiring → AreKnown wiring history → HaveMessages history → AreShort history
-        → reading wiring (history_text wiring history ++ (codes "report 1" ++ 10 ∷ more)) ≡ Ok (record { history = history; rest = length (history_text wiring history); lines = length history + 1 }) }
+    ensures { (wiring : Parts) (history : List Event) (more : List ℕ) → WhereTellable wiring history (IsReadBefore more wiring history (history_text wiring history)) }
 {
     numbers_are_read_again();
 }
 
 /// What is read is what would be written, up to the line `report 1`.
 pub fn what_is_read_is_written()
-    ensures { (wiring : Parts) (text : List ℕ) (read : ReadHistory) → reading wiring text ≡ Ok read
-        → (more : List ℕ) × (text ≡ history_text wiring read.history ++ (codes "report 1" ++ 10 ∷ more)) × (read.rest ≡ length (history_text wiring read.history)) }
+    ensures { (wiring : Parts) (text : List ℕ) (read : ReadHistory) → reading wiring text ≡ Ok read → IsTextOf wiring text read }
 {}

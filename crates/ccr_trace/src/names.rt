@@ -4,8 +4,7 @@ ghost use Rattle.std.specs.Prelude.{◌≡◌, IfOk, map};
 ghost use Rattle.ccr_trace.specs.Words.{branch_names, name_at};
 
 use ccr_base::{CauseNo, List, Name, OutOfMemory};
-use ccr_spots::branch_names;
-use ccr_wiring::{CausePart, Parts, Wiring};
+use ccr_wiring::{CausePart, Parts, Wiring, branch_names};
 use std::alloc::Global;
 use std::marker::Model;
 

@@ -3,6 +3,7 @@
 ghost use Rattle.std.specs.Prelude.{◌≡◌, ◌<◌, ◌≤◌, false, [], ◌∷◌, ◌++◌, IfOk, OnOk, length, map};
 ghost use Rattle.std.specs.List.{list_any};
 ghost use Rattle.std.specs.Str.{bytes_eq};
+ghost use Rattle.ccr_base.specs.Bounds.{most_branches};
 ghost use Rattle.ccr_wiring.specs.Names.{has_repeated};
 ghost use Rattle.ccr_trace.specs.Known.{number_in};
 
@@ -38,7 +39,7 @@ impl<'w> Numbers<'w> {
 
     fn add(&mut self, name: &'w [u8]) -> Result<(), OutOfMemory>
         requires fresh { list_any (bytes_eq name.now) self.old ≡ false }
-        requires room { length self.old < 256 }
+        requires room { length self.old < most_branches }
         ensures { OnOk result (self.new ≡ self.old ++ name.now ∷ []) }
     {
         self.names.insert(name)?;
@@ -48,7 +49,7 @@ impl<'w> Numbers<'w> {
     /// The numbers of these names, of which there are at most 256.
     pub fn of(alloc: Global, names: &[&'w [u8]]) -> Result<Self, OutOfMemory>
         requires apart { has_repeated (map (λ name. name.now) names.now) ≡ false }
-        requires few { length names.now ≤ 256 }
+        requires few { length names.now ≤ most_branches }
         ensures { IfOk result (λ numbers. numbers ≡ map (λ name. name.now) names.now) }
     {
         let mut numbers = Numbers::new(alloc);

@@ -2,6 +2,7 @@
 
 ghost use Rattle.std.specs.Prelude.{◌≡◌, ◌≤◌, ◌<◌, ◌+◌, ◌^◌, ◌++◌, ◌∷◌, [], OnOk, IfSome, IsTrue, length, map, codes, decimal};
 ghost use Rattle.std.specs.List.{All};
+ghost use Rattle.ccr_base.specs.Bounds.{most_name_bytes};
 ghost use Rattle.ccr_text.specs.Spelling.{line_text};
 ghost use Rattle.ccr_text.specs.Room.{Fits};
 ghost use Rattle.ccr_trace.specs.Words.{task_word, message_word};
@@ -45,7 +46,7 @@ pub(crate) fn put_plain_post(
     port: &[u8],
     number: u64,
 ) -> Result<(), OutOfMemory>
-    requires { length port.now ≤ 16 }
+    requires { length port.now ≤ most_name_bytes }
     ensures text { OnOk result (out.new ≡ out.old ++ line_text (codes "post" ∷ message_word id ∷ port.now ∷ decimal number ∷ [])) }
     ensures numbers { IsMessage id }
 {
@@ -78,7 +79,7 @@ fn prepend_messages(line: &mut LineBuffer, messages: &[MsgId]) -> bool
 /// A firing of the branch of this name, without cuts; none where its messages don't fit.
 #[inline(always)]
 pub(crate) fn fire_line(task: TaskId, branch: &[u8], messages: &[MsgId]) -> Option<LineBuffer>
-    requires { length branch.now ≤ 16 }
+    requires { length branch.now ≤ most_name_bytes }
     ensures text { IfSome result (λ line. line ≡ line_text (codes "fire" ∷ task_word task ∷ branch.now ∷ map message_word messages.now)) }
     ensures numbers { IfSome result (λ _. IsTask task × All IsMessage messages.now) }
 {
@@ -99,7 +100,7 @@ pub(crate) fn put_task_line(
     word: &[u8],
     task: TaskId,
 ) -> Result<(), OutOfMemory>
-    requires { length word.now ≤ 16 }
+    requires { length word.now ≤ most_name_bytes }
     ensures text { OnOk result (out.new ≡ out.old ++ line_text (word.now ∷ task_word task ∷ [])) }
     ensures numbers { IsTask task }
 {
@@ -140,7 +141,7 @@ pub(crate) fn put_start(out: &mut List<u8>, task: TaskId, actor: u32) -> Result<
 
 /// The end of a task by a word.
 pub(crate) fn put_end_line(out: &mut List<u8>, task: TaskId, how: &[u8]) -> Result<(), OutOfMemory>
-    requires { length how.now ≤ 16 }
+    requires { length how.now ≤ most_name_bytes }
     ensures text { OnOk result (out.new ≡ out.old ++ line_text (codes "end" ∷ task_word task ∷ how.now ∷ [])) }
     ensures numbers { IsTask task }
 {

@@ -1,6 +1,7 @@
 //! The history that a text says.
 
 ghost use Rattle.std.specs.Prelude.{◌≡◌, ◌≤◌, ◌+◌, length, IfOk};
+ghost use Rattle.ccr_base.specs.Bounds.{most_bytes};
 ghost use Rattle.ccr_trace.specs.Known.{AreKnown, HaveMessages};
 ghost use Rattle.ccr_trace.specs.Answers.{IsReading};
 ghost use Rattle.ccr_trace.specs.Reading.{reading};
@@ -21,7 +22,7 @@ pub struct ReadHistory {
 
 /// The events of the text, kept.
 fn read_text(alloc: Global, wiring: &Wiring, text: &[u8]) -> Result<ReadHistory, HistoryRefused>
-    requires { length text.now ≤ 33554432 }
+    requires { length text.now ≤ most_bytes }
     ensures { IsReading result (reading wiring.now text.now) }
 {
     let mut reader = EventReader::new(alloc, wiring, text)?;
@@ -43,7 +44,7 @@ pub fn read_history(
     wiring: &Wiring,
     text: &[u8],
 ) -> Result<ReadHistory, HistoryRefused>
-    requires { length text.now ≤ 33554432 }
+    requires { length text.now ≤ most_bytes }
     ensures reading { IsReading result (reading wiring.now text.now) }
     ensures rest { IfOk result (λ read. read.rest ≤ length text.now) }
     ensures known { IfOk result (λ read. AreKnown wiring.now read.history) }

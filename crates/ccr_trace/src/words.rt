@@ -8,8 +8,8 @@ ghost use Rattle.ccr_trace.specs.Known.{IsShortSpot};
 
 use crate::prepending::{prepend_message, prepend_task};
 use ccr_base::{List, MsgId, Name, OutOfMemory, Spot, TaskId, Value};
-use ccr_spots::put_spot_word;
 use ccr_text::{LineBuffer, put_bytes, put_number};
+use ccr_wiring::put_spot_word;
 
 pub fn put_word(out: &mut List<u8>, word: &[u8]) -> Result<(), OutOfMemory>
     ensures { OnOk result (out.new ≡ out.old ++ 32 ∷ word.now) }

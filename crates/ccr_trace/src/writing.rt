@@ -1,13 +1,12 @@
 //! The text of a history, whole or event by event.
 
-ghost use Rattle.std.specs.Prelude.{◌≡◌, ◌+◌, ◌++◌, ◌∷◌, [], ℕ, List as Listed, IfOk, OnOk, Ok, length, codes};
+ghost use Rattle.std.specs.Prelude.{◌≡◌, ◌++◌, ◌∷◌, [], ℕ, List as Listed, IfOk, OnOk};
 ghost use Rattle.ccr_model.specs.declared.history.Event.{Event as SomeEvent};
 ghost use Rattle.ccr_text.specs.Spelling.{line_text};
 ghost use Rattle.ccr_trace.specs.HistoryText.{event_words, history_text};
 ghost use Rattle.ccr_trace.specs.Known.{AreKnown, HaveMessages, AreShort, IsShort};
-ghost use Rattle.ccr_trace.specs.Reading.{reading};
 ghost use Rattle.ccr_trace.specs.Values.{HasSmallValue};
-ghost use Rattle.ccr_trace.specs.Written.{IsWritten};
+ghost use Rattle.ccr_trace.specs.Written.{IsReadBefore, IsWritten};
 
 use crate::events::put_event;
 use crate::first::first_line;
@@ -76,7 +75,7 @@ pub fn write_history(
     ensures text { IfOk result (λ text. text ≡ history_text wiring.now history.now) }
     ensures numbers { OnOk result (AreShort history.now) }
     ensures written { IfOk result (IsWritten wiring.now history.now) }
-    ensures again { IfOk result (λ text. (more : Listed ℕ) → AreKnown wiring.now history.now → HaveMessages history.now → reading wiring.now (text ++ (codes "report 1" ++ 10 ∷ more)) ≡ Ok (record { history = history.now; rest = length text; lines = length history.now + 1 })) }
+    ensures again { IfOk result (λ text. (more : Listed ℕ) → AreKnown wiring.now history.now → HaveMessages history.now → IsReadBefore more wiring.now history.now text) }
 {
     what_is_written_is_read();
     let _parts = wiring.parts();

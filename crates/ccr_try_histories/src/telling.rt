@@ -6,9 +6,8 @@ use ccr_base::{List, Spot};
 use ccr_json::{report_json, totals_json, wiring_json};
 use ccr_model::History;
 use ccr_report::{put_total, report_text, totals};
-use ccr_spots::{branch_names, spot_text};
 use ccr_try::{Row, first_number, put};
-use ccr_wiring::Wiring;
+use ccr_wiring::{Wiring, branch_names, spot_text};
 use std::alloc::Global;
 
 /// The wiring as JSON.

@@ -2,7 +2,7 @@
 
 use crate::making::{at, first_part, message, pred_in, word_and_numbers};
 use ccr_base::{List, Msg, MsgId};
-use ccr_rows::{HeldMessages, Rows};
+use ccr_ledger::{HeldMessages, Rows};
 use ccr_try::{first_number, numbers_of, put_number, put_truth, put_word};
 use std::alloc::Global;
 

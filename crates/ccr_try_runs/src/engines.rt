@@ -4,12 +4,13 @@ ghost use Rattle.std.specs.Prelude.{◌≡◌, ◌+◌, ◌≤◌, ◌^◌, IfOk
 ghost use Rattle.ccr_model.specs.Firings.{fired};
 ghost use Rattle.ccr_model.specs.Legal.{IsLegal};
 ghost use Rattle.ccr_model.specs.Order.{next_attempt};
-ghost use Rattle.ccr_net.specs.Runs.{IsRun};
+ghost use Rattle.ccr_runs.specs.EntryRuns.{IsRun};
 
 use crate::schedules::shortened;
 use ccr_base::{List, OutOfMemory};
 use ccr_model::History;
-use ccr_net::{Full, closers_are_new_to_runs, visible};
+use ccr_net::{closers_are_new_to_runs, visible};
+use ccr_runs::Full;
 use ccr_serial::{Serial, Stepped};
 use ccr_service::{Answer, Service, answers, expand, read_service};
 use ccr_trace::write_history;

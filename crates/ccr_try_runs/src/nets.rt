@@ -1,13 +1,14 @@
 //! Actors over the net of one thread, brought to rest one after the other.
 
 ghost use Rattle.std.specs.Prelude.{◌≡◌, ◌≢◌, [], ℕ};
-ghost use Rattle.ccr_net.specs.Played.{steps_in};
+ghost use Rattle.ccr_runs.specs.Played.{steps_in};
 
 use ccr_actor::Actor;
 use ccr_base::{ActorNo, List, OpenGate};
 use ccr_dispatch::drive;
-use ccr_net::{Full, PlainNet};
+use ccr_net::PlainNet;
 use ccr_places::Note;
+use ccr_runs::Full;
 use ccr_try::{put_spot, put_truth, put_word};
 use ccr_wiring::Wiring;
 use std::alloc::Global;

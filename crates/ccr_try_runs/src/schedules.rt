@@ -1,11 +1,13 @@
 //! Runs by turns.
 
 ghost use Rattle.std.specs.Prelude.{◌≡◌, ◌≤◌, ◌<◌, ◌+◌, All, IfOk, IsTrue, length};
-ghost use Rattle.ccr_net.specs.Runs.{IsRun};
+ghost use Rattle.ccr_base.specs.Bounds.{most_workers};
+ghost use Rattle.ccr_runs.specs.EntryRuns.{IsRun};
 
 use ccr_base::{ActorNo, List, OutOfMemory};
-use ccr_net::{Full, run_schedule, run_short};
+use ccr_net::{run_schedule, run_short};
 use ccr_replay::{schedule_of, steps_text};
+use ccr_runs::Full;
 use ccr_try::{first_number, numbers_of, put, put_number, put_numbers, put_word};
 use ccr_wiring::Wiring;
 use std::alloc::Global;
@@ -21,7 +23,7 @@ fn are_below(turns: &[ActorNo], count: usize) -> bool
 
 /// Whether the turns are of actors of the wiring.
 fn are_turns(wiring: &Wiring, workers: u32, turns: &[ActorNo]) -> bool
-    requires { workers ≤ 16 }
+    requires { workers ≤ most_workers }
     ensures { IsTrue result → All (λ turn. turn < length wiring.now.posters + workers) turns.now }
 {
     let posters = wiring.parts().posters.as_slice().len();

@@ -3,10 +3,10 @@
 use ccr_base::{ActorNo, How, List, Place, TaskId};
 use ccr_claim::Ask;
 use ccr_model::Event;
-use ccr_net::{Directory, Entry, Full, full_of, visible};
+use ccr_net::visible;
 use ccr_object::Deed;
 use ccr_places::Note;
-use ccr_runs::Act;
+use ccr_runs::{Act, Directory, Entry, Full, full_of};
 use ccr_try::{first_number, put_number, put_task, put_word};
 use ccr_wiring::Wiring;
 use std::alloc::Global;

@@ -2,8 +2,7 @@
 
 use crate::wirings::put_refusal;
 use ccr_base::List;
-use ccr_replay::{read_record, write_record};
-use ccr_schedule::read_turns;
+use ccr_replay::{read_record, read_turns, write_record};
 use ccr_try::{first_number, numbers_of, put, put_number, put_numbers, text_of};
 use std::alloc::Global;
 

@@ -2,6 +2,8 @@
 use Rattle.std.proofs.Common.{◌≡◌, Bool, true, false, List, [], ◌∷◌, ◌++◌, refl}
 use Rattle.std.specs.Prelude.{◌&&◌, ◌||◌}
 use Rattle.std.specs.List.{list_any}
+pub use Rattle.std.proofs.lemmas.Bool.{and_parts as both}
+pub use Rattle.std.proofs.lemmas.Bool.{or_parts as neither}
 
 abbrev pub Each : {X : Type 0} → (X → Type 0) → List X → Type 0
 Each P [] = Unit {0}
@@ -26,14 +28,6 @@ each_insert P (y ∷ xs) ys x each here = (each.0, each_insert P xs ys x each.1 
 pub none_passes : {X : Type 0} (f : X → Bool) → ((x : X) → f x ≡ false) → (xs : List X) → list_any f xs ≡ false
 none_passes f none [] = refl
 none_passes f none (x ∷ xs) = rw (none x, none_passes f none xs) refl
-
-pub both : (a b : Bool) → (a && b) ≡ true → (a ≡ true) × (b ≡ true)
-both true b e = (refl, e)
-both false b e = absurd cc
-
-pub neither : (a b : Bool) → (a || b) ≡ false → (a ≡ false) × (b ≡ false)
-neither true b e = absurd cc
-neither false b e = (refl, e)
 
 pub none_inserted : {X : Type 0} (f : X → Bool) (xs ys : List X) (x : X) → list_any f (xs ++ ys) ≡ false → f x ≡ false → list_any f (xs ++ x ∷ ys) ≡ false
 none_inserted f [] ys x none here = rw (here, none) refl

@@ -23,12 +23,9 @@ use Rattle.ccr_wiretext.specs.Blocks.{apart, line_in, poster_line}
 use Rattle.ccr_wiretext.specs.Scanning.{MayPost, IsLineTaken}
 use Rattle.ccr_wiretext.specs.Reading.{after_all, after_words}
 use Rattle.ccr_wiretext.proofs.ValuesRead.{value_in_read}
+use Rattle.std.proofs.lemmas.Bool.{and_parts as both}
 
 -- ---- the number before the LF
-
-both : (a b : Bool) → (a && b) ≡ true → (a ≡ true) × (b ≡ true)
-both true b e = (refl, e)
-both false b e = absurd cc
 
 parts_some : (rest : List ℕ) → (length (parts 10 rest) == 0) ≡ false
 parts_some rest = let some = length-slice_split (λ (b : ℕ). b == 10) rest in grind (arith, nat_tests, some)
@@ -90,7 +87,7 @@ digits_alone digits n e = by (is_digits digits) (nat_lt (value_after 0 digits) (
 digit_mark : (b : ℕ) → is_ascii_digit b ≡ true → is_mark b ≡ true
 digit_mark b e = grind (arith, nat_tests, e)
 
-digits_marks : (digits : List ℕ) → list_all is_ascii_digit digits ≡ true → list_all is_mark digits ≡ true
+pub digits_marks : (digits : List ℕ) → list_all is_ascii_digit digits ≡ true → list_all is_mark digits ≡ true
 digits_marks [] e = refl
 digits_marks (b ∷ digits) e = let parts = both (is_ascii_digit b) (list_all is_ascii_digit digits) e in rw (digit_mark b parts.0, digits_marks digits parts.1) refl
 

@@ -1,6 +1,7 @@
 //! What the lines so far declare.
 
 ghost use Rattle.std.specs.Prelude.{◌≡◌, ◌<◌, None, OnOk, IfOk, length, [], ◌∷◌, ◌++◌};
+ghost use Rattle.ccr_base.specs.Bounds.{most_arbiters, most_causes, most_handlers, most_ports, most_queues, most_sets};
 ghost use Rattle.ccr_wiring.specs.Spots.{branch_named};
 ghost use Rattle.ccr_wiretext.specs.Names.{meaning_of};
 ghost use Rattle.ccr_wiretext.specs.Drafts.{nothing, with_budget, with_queue, with_port, with_set, with_cause, with_receive, with_handler, with_arbiter, with_poster, with_domain, with_action, with_branch, with_post, end_handler, end_arbiter, end_poster};
@@ -102,7 +103,7 @@ impl Draft {
 
     pub fn add_queue(&mut self, part: QueuePart) -> Result<(), OutOfMemory>
         requires new { meaning_of self.old.names part.name ≡ None }
-        requires room { length self.old.parts.queues < 16 }
+        requires room { length self.old.parts.queues < most_queues }
         ensures { OnOk result (self.new ≡ with_queue self.old part) }
     {
         let number = self.parts.queues.as_slice().len() as u32;
@@ -112,7 +113,7 @@ impl Draft {
 
     pub fn add_port(&mut self, name: &[u8]) -> Result<(), OutOfMemory>
         requires new { meaning_of self.old.names name.now ≡ None }
-        requires room { length self.old.parts.ports < 256 }
+        requires room { length self.old.parts.ports < most_ports }
         ensures { OnOk result (self.new ≡ with_port self.old name.now) }
     {
         let number = self.parts.ports.as_slice().len() as u32;
@@ -123,7 +124,7 @@ impl Draft {
 
     pub fn add_set(&mut self, part: SetPart) -> Result<(), OutOfMemory>
         requires new { meaning_of self.old.names part.name ≡ None }
-        requires room { length self.old.parts.sets < 64 }
+        requires room { length self.old.parts.sets < most_sets }
         ensures { OnOk result (self.new ≡ with_set self.old part) }
     {
         let number = self.parts.sets.as_slice().len() as u32;
@@ -133,7 +134,7 @@ impl Draft {
 
     pub fn add_cause(&mut self, part: CausePart) -> Result<(), OutOfMemory>
         requires new { meaning_of self.old.names part.name ≡ None }
-        requires room { length self.old.parts.causes < 32 }
+        requires room { length self.old.parts.causes < most_causes }
         ensures { OnOk result (self.new ≡ with_cause self.old part) }
     {
         let number = self.parts.causes.as_slice().len() as u32;
@@ -162,7 +163,7 @@ impl Draft {
 
     pub fn begin_handler(&mut self, name: &[u8]) -> Result<(), OutOfMemory>
         requires new { meaning_of self.old.names name.now ≡ None }
-        requires room { length self.old.parts.handlers < 256 }
+        requires room { length self.old.parts.handlers < most_handlers }
         ensures { OnOk result (self.new ≡ with_handler self.old name.now) }
     {
         let number = self.parts.handlers.as_slice().len() as u32;
@@ -178,7 +179,7 @@ impl Draft {
 
     pub fn begin_arbiter(&mut self, kind: Kind, name: &[u8]) -> Result<(), OutOfMemory>
         requires new { meaning_of self.old.names name.now ≡ None }
-        requires room { length self.old.parts.arbiters < 256 }
+        requires room { length self.old.parts.arbiters < most_arbiters }
         ensures { OnOk result (self.new ≡ with_arbiter self.old kind name.now) }
     {
         let number = self.parts.arbiters.as_slice().len() as u32;

@@ -2,6 +2,7 @@
 
 ghost use Rattle.std.specs.Prelude.{◌≡◌, ◌<◌, ◌+◌, ◌++◌, None, IfOk, OnOk, length, nat_lt, sum, map};
 ghost use Rattle.std.specs.List.{list_any};
+ghost use Rattle.ccr_base.specs.Bounds.{most_branches, most_causes, most_queues, most_script_posts, most_sets, most_spots};
 ghost use Rattle.ccr_wiring.specs.Spots.{times};
 ghost use Rattle.ccr_wiretext.specs.Drafts.{script_count};
 ghost use Rattle.ccr_wiretext.specs.Names.{meaning_of};
@@ -21,7 +22,7 @@ use ccr_wiring::{
 
 /// Whether there is room for a branch behind those of the arbiters and those of an open block.
 fn has_branch_room(arbiters: &[ArbiterPart], begun: usize) -> bool
-    ensures { result ≡ nat_lt (sum (map (λ arbiter. length arbiter.branches) arbiters.now) + begun) 256 }
+    ensures { result ≡ nat_lt (sum (map (λ arbiter. length arbiter.branches) arbiters.now) + begun) most_branches }
 {
     let mut left: usize = MAX_BRANCHES;
     for arbiter in arbiters {
@@ -36,14 +37,14 @@ fn has_branch_room(arbiters: &[ArbiterPart], begun: usize) -> bool
 
 /// Whether there is room for a branch behind those of the arbiters.
 fn has_receive_room(arbiters: &[ArbiterPart]) -> bool
-    ensures { result ≡ nat_lt (sum (map (λ arbiter. length arbiter.branches) arbiters.now)) 256 }
+    ensures { result ≡ nat_lt (sum (map (λ arbiter. length arbiter.branches) arbiters.now)) most_branches }
 {
     has_branch_room(arbiters, 0)
 }
 
 /// Whether there is room for a post behind those of the posters and those of an open block.
 fn has_post_room(posters: &[PosterPart], begun: usize) -> bool
-    ensures { result ≡ nat_lt (sum (map (λ poster. length poster.posts) posters.now) + begun) 10000 }
+    ensures { result ≡ nat_lt (sum (map (λ poster. length poster.posts) posters.now) + begun) most_script_posts }
 {
     let mut left: usize = MAX_SCRIPT_POSTS;
     for poster in posters {
@@ -64,7 +65,7 @@ fn times(port: PortNo, ports: &[PortNo]) -> usize
 
 /// Whether a port stands more than 16 times in the two lists together.
 fn is_crowded(port: PortNo, before: &Spotted, new: &[PortNo]) -> bool
-    ensures { result ≡ nat_lt 16 (times port (before.now ++ new.now)) }
+    ensures { result ≡ nat_lt most_spots (times port (before.now ++ new.now)) }
 {
     let count = before.times(port);
     let most = MAX_SPOTS as usize;
@@ -73,7 +74,7 @@ fn is_crowded(port: PortNo, before: &Spotted, new: &[PortNo]) -> bool
 
 /// Whether one of the new ports stands more than 16 times in the two lists together.
 fn is_one_crowded(before: &Spotted, new: &[PortNo]) -> bool
-    ensures { result ≡ list_any (λ port. nat_lt 16 (times port (before.now ++ new.now))) new.now }
+    ensures { result ≡ list_any (λ port. nat_lt most_spots (times port (before.now ++ new.now))) new.now }
 {
     new.iter().any(|port| is_crowded(*port, before, new))
 }
@@ -97,7 +98,7 @@ impl Draft {
     pub fn queue_form(&self, mut words: Cursor<'_>) -> Result<QueuePart, Stop>
         ensures form { Gives result (queue_form self.now words.entry) }
         ensures new { IfOk result (λ part. meaning_of self.now.names part.name ≡ None) }
-        ensures room { OnOk result (length self.now.parts.queues < 16) }
+        ensures room { OnOk result (length self.now.parts.queues < most_queues) }
     {
         if self.parts.queues.as_slice().len() >= MAX_QUEUES {
             return Err(Stop::Refused(Code::Limit));
@@ -134,7 +135,7 @@ impl Draft {
     pub fn set_form(&self, mut words: Cursor<'_>) -> Result<SetPart, Stop>
         ensures form { Gives result (set_form self.now words.entry) }
         ensures new { IfOk result (λ part. meaning_of self.now.names part.name ≡ None) }
-        ensures room { OnOk result (length self.now.parts.sets < 64) }
+        ensures room { OnOk result (length self.now.parts.sets < most_sets) }
     {
         if self.parts.sets.as_slice().len() >= MAX_SETS {
             return Err(Stop::Refused(Code::Limit));
@@ -150,7 +151,7 @@ impl Draft {
     pub fn cause_form(&self, mut words: Cursor<'_>) -> Result<CausePart, Stop>
         ensures form { Gives result (cause_form self.now words.entry) }
         ensures new { IfOk result (λ part. meaning_of self.now.names part.name ≡ None) }
-        ensures room { OnOk result (length self.now.parts.causes < 32) }
+        ensures room { OnOk result (length self.now.parts.causes < most_causes) }
     {
         if self.parts.causes.as_slice().len() >= MAX_CAUSES {
             return Err(Stop::Refused(Code::Limit));
@@ -310,7 +311,7 @@ impl Draft {
 
     /// Whether there is room for a post more in the open poster.
     pub fn has_post_room(&self, part: &PosterPart) -> bool
-        ensures { result ≡ nat_lt (script_count self.now.parts + length part.now.posts) 10000 }
+        ensures { result ≡ nat_lt (script_count self.now.parts + length part.now.posts) most_script_posts }
     {
         let begun = part.posts.as_slice().len();
         has_post_room(self.parts.posters.as_slice(), begun)

@@ -1,6 +1,7 @@
 //! A text, line by line.
 
 ghost use Rattle.std.specs.Prelude.{◌≡◌, ◌≢◌, ◌≤◌, [], length, None, IfErr, IfNone, IfOk, IfSome};
+ghost use Rattle.ccr_base.specs.Bounds.{most_wiring_bytes};
 ghost use Rattle.ccr_wiring.specs.Valid.{IsValid};
 ghost use Rattle.ccr_wiretext.specs.Answers.{Gives, GivesState, IsReading, IsNoText, refused};
 ghost use Rattle.ccr_wiretext.specs.Lines.{IsText};
@@ -174,7 +175,7 @@ fn refused(line: u32, stop: Stop) -> ReadRefused
 
 #[tactic(auto, unfolding(crate::specs::Reading::reading_after, crate::specs::Reading::after_line))]
 fn read_text(alloc: Global, text: &[u8]) -> Result<Parts, ReadRefused>
-    requires { length text.now ≤ 1048576 }
+    requires { length text.now ≤ most_wiring_bytes }
     ensures { IsReading result (reading_text text.now) }
 {
     let mut reader = Reader::new(alloc);
@@ -196,7 +197,7 @@ fn read_text(alloc: Global, text: &[u8]) -> Result<Parts, ReadRefused>
 
 /// The parts that a text says, or its first offending line and the code. Near linear in the text's length.
 pub fn read_parts(alloc: Global, text: &[u8]) -> Result<Parts, ReadRefused>
-    requires { length text.now ≤ 1048576 }
+    requires { length text.now ≤ most_wiring_bytes }
     ensures reading { IsReading result (reading_text text.now) }
     ensures grammar { IfOk result (λ parts. IsText text.now parts) }
     ensures valid { IfOk result (λ parts. IsValid parts) }
@@ -208,7 +209,7 @@ pub fn read_parts(alloc: Global, text: &[u8]) -> Result<Parts, ReadRefused>
 /// The wiring that a text says, or its first offending line and the code (docs/FORMATS.md). Near linear in the text's
 /// length.
 pub fn read_wiring(alloc: Global, text: &[u8]) -> Result<Wiring, ReadRefused>
-    requires { length text.now ≤ 1048576 }
+    requires { length text.now ≤ most_wiring_bytes }
     ensures reading { IsReading result (reading_text text.now) }
     ensures grammar { IfOk result (λ wiring. IsText text.now wiring) }
     ensures refused { IfErr result (λ refused. IsNoText text.now refused) }

@@ -48,7 +48,7 @@ placement_of_arbiter first (arbiter ∷ arbiters) branch s at = of_either (here_
         let p = others later.0 later.1 in
         record { place = suc p.place; arbiter = p.arbiter; number = omega (arith, p.number); at = p.at; kind = p.kind }
 
-no_less : (p : ℕ → Bool) (a b : ℕ) → p a ≡ false → p b ≡ false → p (min a b) ≡ false
+pub no_less : (p : ℕ → Bool) (a b : ℕ) → p a ≡ false → p b ≡ false → p (min a b) ≡ false
 no_less p a b fails other = by_test (nat_le a b) refl
   where
     by_test : (t : Bool) → nat_le a b ≡ t → p (min a b) ≡ false
@@ -56,14 +56,14 @@ no_less p a b fails other = by_test (nat_le a b) refl
     by_test false more = let above : b ≤ a = grind (arith, nat_tests, more) in let e : min a b ≡ b = omega arith in rw e other
 
 -- what none of the numbers passes, the least doesn't
-least_fails : (p : ℕ → Bool) (least : ℕ) (numbers : List ℕ) → p least ≡ false → list_any p numbers ≡ false → p (least_with least numbers) ≡ false
+pub least_fails : (p : ℕ → Bool) (least : ℕ) (numbers : List ℕ) → p least ≡ false → list_any p numbers ≡ false → p (least_with least numbers) ≡ false
 least_fails p least [] fails none = fails
 least_fails p least (number ∷ numbers) fails none =
     let both = neither (p number) (list_any p numbers) none in
     least_fails p (min least number) numbers (no_less p least number fails both.0) both.1
 
 -- what none of the numbers passes, a number among them doesn't
-member_fails : (p : ℕ → Bool) (numbers : List ℕ) (number : ℕ) → has_port numbers number ≡ true → list_any p numbers ≡ false → p number ≡ false
+pub member_fails : (p : ℕ → Bool) (numbers : List ℕ) (number : ℕ) → has_port numbers number ≡ true → list_any p numbers ≡ false → p number ≡ false
 member_fails p [] number there none = absurd cc
 member_fails p (other ∷ numbers) number there none =
     let both = neither (p other) (list_any p numbers) none in

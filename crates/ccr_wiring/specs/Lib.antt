@@ -8,6 +8,7 @@ pub mod Limits
 pub mod Versions
 pub mod Compact
 pub mod Spots
+pub mod SpotWords
 pub mod Takers
 pub mod Placements
 pub mod Codes

@@ -51,6 +51,10 @@ policy_of wiring queue = option_map_or (λ (part : QueuePart). part.policy) (sli
 abbrev pub actions_of : Parts → ℕ → List Action
 actions_of wiring handler = option_map_or (λ part. part.handler.actions) (slice_get wiring.handlers handler) []
 
+-- the actions of the branch's handler; none where the wiring has no such branch
+abbrev pub actions_at : Parts → ℕ → List Action
+actions_at wiring branch = option_map_or (λ (s : Placement). actions_of wiring s.branch.handler) (placement wiring branch) []
+
 -- the port to which failures under the cause post
 abbrev pub exception_port : Parts → ℕ → Option ℕ
 exception_port wiring cause = option_map (λ part. part.port) (slice_get wiring.causes cause)

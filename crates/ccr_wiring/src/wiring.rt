@@ -4,7 +4,7 @@ ghost use Rattle.std.specs.Prelude.{◌≡◌, ◌<◌, [], OnOk, IfOk, IfErr, l
 ghost use Rattle.std.specs.Option.{option_map, option_map_or};
 ghost use Rattle.ccr_wiring.specs.Answers.{IsCause};
 ghost use Rattle.ccr_wiring.specs.Placements.{placement_seen};
-ghost use Rattle.ccr_wiring.specs.Wirings.{Placement, actions_of, placement, policy_of, site_port, spots as spots_of};
+ghost use Rattle.ccr_wiring.specs.Wirings.{actions_at, actions_of, placement, policy_of, site_port, spots as spots_of};
 ghost use Rattle.ccr_wiring.specs.Takers.{branches_of, spots_at};
 ghost use Rattle.ccr_wiring.specs.Valid.{IsValid};
 ghost use Rattle.ccr_wiring.specs.Domains.{domain_of};
@@ -137,7 +137,7 @@ impl Wiring {
 
     /// The handler of the branch.
     pub fn handler_of(&self, branch: BranchNo) -> Option<&Handler>
-        ensures { option_map_or (λ handler. handler.now.actions) result [] ≡ option_map_or (λ (s : Placement). actions_of self.now s.branch.handler) (placement self.now branch) [] }
+        ensures { option_map_or (λ handler. handler.now.actions) result [] ≡ actions_at self.now branch }
     {
         let placement = self.placement(branch)?;
         let part = self

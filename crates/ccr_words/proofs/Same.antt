@@ -20,6 +20,7 @@ use Rattle.ccr_words.specs.declared.requests.Request.{Request}
 use Rattle.ccr_words.specs.declared.requests.Request.TheVariants.{Read}
 use Rattle.ccr_words.specs.declared.requests.Command.{Command}
 use Rattle.ccr_words.specs.declared.requests.Command.TheVariants.{Run, Verify, Record, Replay, Steps, Steady, Service, Expand}
+use Rattle.std.proofs.lemmas.Bool.{and_parts}
 
 -- ---- texts that no meaning takes
 
@@ -154,10 +155,6 @@ text_new p u (x ∷ g) new = go (bytes_eq (name_of x.0) (name_of p)) new (text_n
     go false e more = more e
 
 -- ---- ASCII
-
-and_parts : (a b : Bool) → (a && b) ≡ true → (a ≡ true) × (b ≡ true)
-and_parts true b e = (refl, e)
-and_parts false b e = absurd (cc)
 
 abbrev ascii : Text → Bool
 ascii text = list_all (λ b. nat_lt b 128) text

@@ -3,6 +3,7 @@
 ghost use Rattle.std.specs.Prelude.{◌≡◌, ◌≤◌, IfSome, option_map};
 ghost use Rattle.std.specs.List.{list_all};
 ghost use Rattle.std.specs.Char.{is_ascii_digit};
+ghost use Rattle.ccr_base.specs.Bounds.{most_workers};
 ghost use Rattle.ccr_words.specs.Table.{is_number, number, number_or, check_request, run_request, plain_request, workers_alone, record_request, service_request, load_request, wiring_word, further_word, request_of, HasFewWorkers, IsWithin};
 
 use crate::requests::{Command, Request};
@@ -120,7 +121,7 @@ fn workers_alone(
     json: bool,
 ) -> Option<u32>
     ensures workers { result ≡ workers_alone (option_map (λ t. t.now) workers.entry) (option_map (λ t. t.now) size.entry) schedule json }
-    ensures few { IfSome result (λ n. n ≤ 16) }
+    ensures few { IfSome result (λ n. n ≤ most_workers) }
 {
     if size.is_some() || schedule || json {
         return None;

@@ -45,10 +45,10 @@ use Rattle.ccr_claim.specs.Attempts.{at_place, Phase, booking, claiming, had_in,
 use Rattle.ccr_actor.specs.Plans.{plan_of, is_interleave_number, pattern_at}
 use Rattle.ccr_actor.specs.Plans as plans
 use Rattle.ccr_actor.specs.Actors.{State, Turn, settle, admit, drive, go_on, stop, Work, lines, round, taking, playing, posting, shedding, resting, turn, ask_in, spots_left, name_at, work_ask, play_ask, end_ask, next}
-use Rattle.ccr_net.specs.declared.entries.Entry.{Entry}
-use Rattle.ccr_net.specs.Places.{note_of, note_at_arbiter, note_by_kind, port_after}
-use Rattle.ccr_net.specs.Runs.{IsRunAfter, Lacks, notes_at, replies_of, state_of, port_at}
-use Rattle.ccr_net.specs.Visible.{visible}
+use Rattle.ccr_runs.specs.declared.entries.Entry.{Entry}
+use Rattle.ccr_runs.specs.Places.{note_of, note_at_arbiter, note_by_kind, port_after}
+use Rattle.ccr_runs.specs.EntryRuns.{IsRunAfter, Lacks, notes_at, replies_of, state_of, port_at}
+use Rattle.ccr_runs.specs.Visible.{visible}
 use Rattle.ccr_net.proofs.Parts.ActorSteps.{unfired}
 use Rattle.ccr_net.proofs.Kept.Assembly.{meter_at, hand_settles, arbiters_admit, spots_drive}
 use Rattle.ccr_net.proofs.Parts.Meter.{bit, count-some}

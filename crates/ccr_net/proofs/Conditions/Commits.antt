@@ -38,10 +38,10 @@ use Rattle.ccr_claim.specs.Plans.{names_of, firing_task}
 use Rattle.ccr_claim.specs.Attempts.{commit_ask}
 use Rattle.ccr_actor.specs.Plans.{plan_of, is_interleave_number}
 use Rattle.ccr_actor.specs.Plans as plans
-use Rattle.ccr_net.specs.declared.entries.Entry.{Entry}
-use Rattle.ccr_net.specs.Places.{note_of, note_at_arbiter, note_by_kind, given, first_branch, arbiter_after, interleave_after, site_after}
-use Rattle.ccr_net.specs.Runs.{Lacks, notes_at, note_at, same_place}
-use Rattle.ccr_net.specs.Visible.{visible, event_of, shown}
+use Rattle.ccr_runs.specs.declared.entries.Entry.{Entry}
+use Rattle.ccr_runs.specs.Places.{note_of, note_at_arbiter, note_by_kind, given, first_branch, arbiter_after, interleave_after, site_after}
+use Rattle.ccr_runs.specs.EntryRuns.{Lacks, notes_at, note_at, same_place}
+use Rattle.ccr_runs.specs.Visible.{visible, event_of, shown}
 use Rattle.ccr_net.proofs.Parts.Arbiter.{fired_there, fired_note, kept_shape, none_at_first, KeepsShape}
 use Rattle.ccr_net.proofs.Kept.Assembly.{Holds}
 use Rattle.ccr_net.proofs.Parts.Domain.{domain_at, group_so}

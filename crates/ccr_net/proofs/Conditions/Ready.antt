@@ -11,8 +11,8 @@ use Rattle.ccr_actor.specs.Actors.{State}
 use Rattle.ccr_model.proofs.Booleans.{no_both}
 use Rattle.ccr_model.proofs.Members.{Among}
 use Rattle.ccr_places.specs.TaskSets.{task_cmp}
-use Rattle.ccr_net.specs.declared.entries.Entry.{Entry}
-use Rattle.ccr_net.specs.Runs.{IsRunAfter, Lacks, state_of}
+use Rattle.ccr_runs.specs.declared.entries.Entry.{Entry}
+use Rattle.ccr_runs.specs.EntryRuns.{IsRunAfter, Lacks, state_of}
 use Rattle.ccr_net.proofs.Parts.Pushes.{queue_at, along_run, Step, Step-made}
 use Rattle.ccr_net.proofs.Kept.Assembly.{Holds, IsBegun, begins}
 use Rattle.ccr_net.proofs.Kept.PlainFacts.{PlainFacts}

@@ -19,7 +19,7 @@ use Rattle.ccr_wiring.proofs.Positions.{placement-here, placement-later, placeme
 use Rattle.ccr_wiring.proofs.Validity.{no_codes}
 use Rattle.ccr_model.proofs.Booleans.{neither, no_both}
 use Rattle.ccr_places.specs.Arbiters as arbiters
-use Rattle.ccr_net.specs.Places.{arbiter_after, branches_before, first_branch}
+use Rattle.ccr_runs.specs.Places.{arbiter_after, branches_before, first_branch}
 use Rattle.ccr_net.proofs.Kept.PlainWirings.{one_branch}
 
 -- ---- positions

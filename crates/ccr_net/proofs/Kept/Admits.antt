@@ -33,11 +33,11 @@ use Rattle.ccr_claim.specs.declared.asks.Asked.{Asked}
 use Rattle.ccr_claim.specs.Attempts.{at_place}
 use Rattle.ccr_actor.specs.Plans.{is_interleave_number}
 use Rattle.ccr_actor.specs.Actors.{State, turn, turn_of, admit, strike, put_admitted, spots_left}
-use Rattle.ccr_net.specs.declared.entries.Entry.{Entry}
-use Rattle.ccr_net.specs.Places.{note_at_arbiter, note_by_kind}
-use Rattle.ccr_net.specs.Runs.{Lacks, state_of, port_at, notes_at}
-use Rattle.ccr_net.specs.Views.{view}
-use Rattle.ccr_net.specs.Visible.{visible}
+use Rattle.ccr_runs.specs.declared.entries.Entry.{Entry}
+use Rattle.ccr_runs.specs.Places.{note_at_arbiter, note_by_kind}
+use Rattle.ccr_runs.specs.EntryRuns.{Lacks, state_of, port_at, notes_at}
+use Rattle.ccr_runs.specs.Views.{view}
+use Rattle.ccr_runs.specs.Visible.{visible}
 use Rattle.ccr_net.proofs.Parts.Pushes.{visible-push, queue_at, Step}
 use Rattle.ccr_net.proofs.Parts.Invariant.{IsToPut, puts_in}
 use Rattle.ccr_net.proofs.Parts.PortSteps.{PortsMatch-event}

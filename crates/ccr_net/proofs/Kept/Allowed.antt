@@ -18,6 +18,7 @@ use Rattle.ccr_model.specs.declared.history.Event.{Event}
 use Rattle.ccr_model.specs.declared.history.Event.TheVariants as events
 use Rattle.ccr_model.specs.declared.history.EndHow.{EndHow}
 use Rattle.ccr_model.specs.declared.history.EndHow.TheVariants as ends
+use Rattle.ccr_model.specs.declared.rule.Rule.{Rule}
 use Rattle.ccr_model.specs.Choice.{is_choice, is_choice_of, are_oldest}
 use Rattle.ccr_model.specs.Firings.{fired}
 use Rattle.ccr_model.specs.Legal.{IsAllowed}
@@ -29,9 +30,7 @@ use Rattle.ccr_model.specs.Tasks.{queued, running, running_by, has_post_left, co
 use Rattle.ccr_model.proofs.Booleans.{eq-self}
 use Rattle.ccr_model.proofs.SameNames.{same_task-self, same_value-self}
 use Rattle.ccr_net.proofs.Parts.Invariant.{IsToPut}
-
-pub refused_pass : (b : Bool) (n : ℕ) (o : Option ℕ) → b ≡ true → o ≡ None → refused b n o ≡ None
-refused_pass b n o is rest = rw (is, rest) refl
+pub use Rattle.ccr_model.proofs.Allowing.{passed as refused_pass}
 
 same_all : (ts : List TaskId) → same_lists same_task ts ts ≡ true
 same_all [] = refl
@@ -43,13 +42,13 @@ fire_allowed w h t b s names cs sits fresh low live left chosen cut_so =
     let choice : is_choice w h (Branch b) names ≡ true = rw sits chosen in
     let room : has_room w h (Branch b) ≡ true = rw sits left in
     let cuts : same_lists same_task cs (cuts_at w h (Branch b)) ≡ true = subst (λ ts. same_lists same_task cs ts ≡ true) cut_so (same_all cs) in
-    refused_pass (is_new h t) 4 _ new (refused_pass (is_live w h (Branch b)) 5 _ live (refused_pass (is_choice w h (Branch b) names) 6 _ choice (refused_pass (has_room w h (Branch b)) 7 _ room (refused_pass (same_lists same_task cs (cuts_at w h (Branch b))) 8 None cuts refl))))
+    refused_pass (is_new h t) _ _ new (refused_pass (is_live w h (Branch b)) _ _ live (refused_pass (is_choice w h (Branch b) names) _ _ choice (refused_pass (has_room w h (Branch b)) _ _ room (refused_pass (same_lists same_task cs (cuts_at w h (Branch b))) _ None cuts refl))))
 
 pub resume_allowed : (w : Parts) (h : List Event) (t : TaskId) (b k port : ℕ) (names : List MsgId) → site_port w b k ≡ Some port → has_task (fired h) t ≡ false → t.actor ≤ 32 → is_live w h (Site b k) ≡ true → are_oldest (held h port) names ≡ true → IsAllowed w h (events.Fire t (Site b k) names [])
 resume_allowed w h t b k port names awaits fresh low live oldest =
     let new : is_new h t ≡ true = grind (arith, nat_tests, fresh, low) in
     let choice : is_choice w h (Site b k) names ≡ true = ap (λ o. option_map_or (λ p. are_oldest (held h p) names) o false) awaits ∙ oldest in
-    refused_pass (is_new h t) 4 _ new (refused_pass (is_live w h (Site b k)) 5 _ live (refused_pass (is_choice w h (Site b k) names) 6 _ choice refl))
+    refused_pass (is_new h t) _ _ new (refused_pass (is_live w h (Site b k)) _ _ live (refused_pass (is_choice w h (Site b k) names) _ _ choice refl))
 
 same_causes : (cs : List ℕ) → same_lists (λ c d. c == d) cs cs ≡ true
 same_causes [] = refl
@@ -62,14 +61,14 @@ pub script_allowed : (w : Parts) (h : List Event) (a place : ℕ) (poster : Post
 script_allowed w h a place poster sent is line next =
     let same = post_so (record { id = names.Script a place; port = sent.port; value = sent.value; causes = sent.causes }) sent refl refl refl in
     let counts : (place == posts_of_poster h a) ≡ true = grind (arith, nat_tests, next) in
-    refused_pass (is_script_line w h a place (record { id = names.Script a place; port = sent.port; value = sent.value; causes = sent.causes })) 1 None (rw (counts, is, line, same) refl) refl
+    refused_pass (is_script_line w h a place (record { id = names.Script a place; port = sent.port; value = sent.value; causes = sent.causes })) _ None (rw (counts, is, line, same) refl) refl
 
 pub play_allowed : (w : Parts) (h : List Event) (t : TaskId) (place : ℕ) (sent : Sent) → has_task (running h) t ≡ true → slice_get (play_of w h t).posts place ≡ Some sent → place ≡ posts_of_task h t → posts_of_tasks h < w.budget → IsAllowed w h (events.Post (record { id = names.Task t place; port = sent.port; value = sent.value; causes = sent.causes }))
 play_allowed w h t place sent runs line next room =
     let same = post_so (record { id = names.Task t place; port = sent.port; value = sent.value; causes = sent.causes }) sent refl refl refl in
     let counts : (place == posts_of_task h t) ≡ true = grind (arith, nat_tests, next) in
     let left : has_budget w h ≡ true = grind (arith, nat_tests, room) in
-    refused_pass (is_play_post w h t place (record { id = names.Task t place; port = sent.port; value = sent.value; causes = sent.causes })) 2 _ (rw (runs, counts, line, same) refl) (refused_pass (has_budget w h) 3 None left refl)
+    refused_pass (is_play_post w h t place (record { id = names.Task t place; port = sent.port; value = sent.value; causes = sent.causes })) _ _ (rw (runs, counts, line, same) refl) (refused_pass (has_budget w h) _ None left refl)
 
 same_drop : (d : Option TaskId) → same_options same_task d d ≡ true
 same_drop None = refl
@@ -79,23 +78,23 @@ pub put_allowed : (w : Parts) (h : List Event) (t : TaskId) (d : Option TaskId) 
 put_allowed w h t d is drops =
     let may : may_put w h t ≡ true = rw (is.unput, is.uncut, is.fires.1) is.entered in
     let drop : same_options same_task d (drop_at w h t) ≡ true = subst (λ o. same_options same_task d o ≡ true) (sym drops) (same_drop d) in
-    refused_pass (may_put w h t) 11 _ may (refused_pass (same_options same_task d (drop_at w h t)) 12 None drop refl)
+    refused_pass (may_put w h t) _ _ may (refused_pass (same_options same_task d (drop_at w h t)) _ None drop refl)
 
 pub start_allowed : (w : Parts) (h : List Event) (t : TaskId) (a : ℕ) (s : Placement) (rest : List TaskId) → placement_of w h t ≡ Some s → queued w h s.branch.queue ≡ t ∷ rest → length w.posters ≤ a → a ≤ 32 → running_by h a ≡ [] → IsAllowed w h (events.Start t a)
 start_allowed w h t a s rest sits head above below idle =
     let oldest : is_oldest_queued w h t ≡ true = rw (sits, head, same_task-self t) refl in
     let may : may_start w h a ≡ true = grind (arith, nat_tests, above, below, idle) in
-    refused_pass (is_oldest_queued w h t) 13 _ oldest (refused_pass (may_start w h a) 14 None may refl)
+    refused_pass (is_oldest_queued w h t) _ _ oldest (refused_pass (may_start w h a) _ None may refl)
 
 pub end_allowed : (w : Parts) (h : List Event) (t : TaskId) (how : EndHow) → has_task (running h) t ≡ true → length (play_of w h t).posts ≤ posts_of_task h t → is_shed how ≡ false → ends_so how (play_of w h t).end ≡ true → IsAllowed w h (events.End t how)
 end_allowed w h t how runs all unshed so =
     let left : has_post_left w h t ≡ false = grind (arith, nat_tests, all) in
     let may : may_end w h t how ≡ true = rw (unshed, left, so) refl in
-    refused_pass (has_task (running h) t) 15 _ runs (refused_pass (may_end w h t how) 16 None may refl)
+    refused_pass (has_task (running h) t) _ _ runs (refused_pass (may_end w h t how) _ None may refl)
 
 pub shed_allowed : (w : Parts) (h : List Event) (t : TaskId) → has_task (running h) t ≡ true → posts_of_task h t < length (play_of w h t).posts → w.budget ≤ posts_of_tasks h + (count_unfinished w h - 1) → IsAllowed w h (events.End t ends.Shed)
 shed_allowed w h t runs some full =
     let left : has_post_left w h t ≡ true = grind (arith, nat_tests, some) in
     let paid : nat_le w.budget (posts_of_tasks h + (count_unfinished w h - 1)) ≡ true = grind (arith, nat_tests, full) in
     let may : may_end w h t ends.Shed ≡ true = rw (left, paid) refl in
-    refused_pass (has_task (running h) t) 15 _ runs (refused_pass (may_end w h t ends.Shed) 16 None may refl)
+    refused_pass (has_task (running h) t) _ _ runs (refused_pass (may_end w h t ends.Shed) _ None may refl)

@@ -14,9 +14,9 @@ use Rattle.ccr_model.proofs.Booleans.{same_number}
 use Rattle.ccr_model.proofs.SameNames.{same_task-self}
 use Rattle.ccr_claim.specs.declared.asks.Reply.{Reply}
 use Rattle.ccr_actor.specs.Actors.{State, state_after, start, shorten}
-use Rattle.ccr_net.specs.declared.entries.Entry.{Entry}
-use Rattle.ccr_net.specs.Runs.{Lacks, IsRun, IsRunAfter, replies_from, replies_of, state_of}
-use Rattle.ccr_net.specs.Visible.{visible}
+use Rattle.ccr_runs.specs.declared.entries.Entry.{Entry}
+use Rattle.ccr_runs.specs.EntryRuns.{Lacks, IsRun, IsRunAfter, replies_from, replies_of, state_of}
+use Rattle.ccr_runs.specs.Visible.{visible}
 use Rattle.ccr_net.proofs.Kept.Assembly.{Holds, IsBegun, begins}
 use Rattle.ccr_net.proofs.Kept.PlainWirings.{plain_facts}
 use Rattle.ccr_net.proofs.Kept.Refines.{visible_holds}

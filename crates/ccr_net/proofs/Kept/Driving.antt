@@ -60,11 +60,11 @@ use Rattle.ccr_claim.specs.declared.asks.Asked.{Asked}
 use Rattle.ccr_claim.specs.Attempts.{at_place, Phase, booking, claiming, had_in, attempt_ask}
 use Rattle.ccr_actor.specs.Plans.{one_of, no_pattern, plan_of, pattern_at, is_interleave_number, queue_at as queue_number, arbiter_at}
 use Rattle.ccr_actor.specs.Actors.{State, settle, drive, turn, name_at, spots_left}
-use Rattle.ccr_net.specs.declared.entries.Entry.{Entry}
-use Rattle.ccr_net.specs.Places.{note_of, note_at_arbiter, note_by_kind, arbiter_note, interleave_note, first_branch, arbiter_after, commit_note}
-use Rattle.ccr_net.specs.Runs.{Lacks, state_of, port_at, notes_at}
-use Rattle.ccr_net.specs.Views.{queue_of}
-use Rattle.ccr_net.specs.Visible.{visible}
+use Rattle.ccr_runs.specs.declared.entries.Entry.{Entry}
+use Rattle.ccr_runs.specs.Places.{note_of, note_at_arbiter, note_by_kind, arbiter_note, interleave_note, first_branch, arbiter_after, commit_note}
+use Rattle.ccr_runs.specs.EntryRuns.{Lacks, state_of, port_at, notes_at}
+use Rattle.ccr_runs.specs.Views.{queue_of}
+use Rattle.ccr_runs.specs.Visible.{visible}
 use Rattle.ccr_net.proofs.Parts.Pushes.{queue_at, Step}
 use Rattle.ccr_net.proofs.Parts.Invariant.{IsOwed, put_in}
 use Rattle.ccr_net.proofs.Parts.ActorSteps.{unfired}

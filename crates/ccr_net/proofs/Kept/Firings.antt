@@ -53,10 +53,10 @@ use Rattle.ccr_claim.specs.Attempts.{had_in}
 use Rattle.ccr_wiring.specs.Takers.{is_for as is_branch_for}
 use Rattle.ccr_actor.specs.Plans.{pattern_at, one_of, throttled}
 use Rattle.ccr_actor.specs.Actors.{State, round, playing, resting, turn, settle, drive, go_on, after_in, name_at, spots_left, fire, begin_play, play_in, after_over, next_round, driving, settled, admit_too}
-use Rattle.ccr_net.specs.declared.entries.Entry.{Entry}
-use Rattle.ccr_net.specs.Runs.{Lacks, state_of, port_at, notes_at, reply_of, reply_to, waits}
-use Rattle.ccr_net.specs.Views.{view, cut_view, queue_of}
-use Rattle.ccr_net.specs.Visible.{visible, event_of, shown}
+use Rattle.ccr_runs.specs.declared.entries.Entry.{Entry}
+use Rattle.ccr_runs.specs.EntryRuns.{Lacks, state_of, port_at, notes_at, reply_of, reply_to, waits}
+use Rattle.ccr_runs.specs.Views.{view, cut_view, queue_of}
+use Rattle.ccr_runs.specs.Visible.{visible, event_of, shown}
 use Rattle.ccr_net.proofs.Parts.Pushes.{visible-push, queue_at}
 use Rattle.ccr_net.proofs.Parts.Invariant.{ActorMatches, IsToPut, put_in, puts_in}
 use Rattle.ccr_net.proofs.Parts.Marks.{has_name}

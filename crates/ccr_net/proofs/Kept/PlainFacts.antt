@@ -37,7 +37,7 @@ use Rattle.ccr_model.proofs.TaskLists.{among_left}
 use Rattle.ccr_net.proofs.Parts.Phases.{SpotFits}
 use Rattle.ccr_places.specs.Arbiters as arbiters
 use Rattle.ccr_actor.specs.Actors.{play_in}
-use Rattle.ccr_net.specs.Places.{arbiter_after, first_branch}
+use Rattle.ccr_runs.specs.Places.{arbiter_after, first_branch}
 
 -- each slot takes a fixed number; a gather as it is
 abbrev pub IsEven : Pattern → Type 0
@@ -75,7 +75,7 @@ posts_started-kept w h (events.Post m) known allowed t some = rw (started-push, 
     new : (name : MsgId) → refusal_of_post w h m name ≡ None → is_message_of t name ≡ true → has_task (started h) t ≡ true
     new (names.Script a k) now is = absurd (cc)
     new (names.Task u k) now is =
-        let one = refused_not (is_play_post w h u k m) 2 _ now in
+        let one = refused_not (is_play_post w h u k m) _ _ now in
         let parts = both (has_task (running h) u && (k == posts_of_task h u)) _ one.0 in
         let run = (both (has_task (running h) u) (k == posts_of_task h u) parts.0).0 in
         subst (λ x. has_task (started h) x ≡ true) (sym (same_task-is t u is)) (of_without (started h) _ u run).0

@@ -32,7 +32,7 @@ use Rattle.ccr_model.proofs.Booleans.{both}
 use Rattle.ccr_model.proofs.Members.{Among, Among-either}
 use Rattle.ccr_actor.specs.Actors.{play_in}
 use Rattle.ccr_places.specs.Arbiters as arbiters
-use Rattle.ccr_net.specs.Places.{arbiter_after, branches_before, first_branch, is_once}
+use Rattle.ccr_runs.specs.Places.{arbiter_after, branches_before, first_branch, is_once}
 use Rattle.ccr_net.proofs.Parts.Phases.{SpotFits}
 use Rattle.ccr_net.proofs.Parts.Work.{drop-next}
 use Rattle.ccr_net.proofs.Kept.PlainFacts.{PlainFacts, IsEven, Retires}

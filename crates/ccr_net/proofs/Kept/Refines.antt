@@ -16,9 +16,9 @@ use Rattle.ccr_model.specs.Tasks.{count_unfinished}
 use Rattle.ccr_model.proofs.Options.{none-above}
 use Rattle.ccr_model.proofs.Covered.{IsCovered-legal}
 use Rattle.ccr_actor.specs.Actors.{State, Work, lines, round, work_of, fresh_state}
-use Rattle.ccr_net.specs.declared.entries.Entry.{Entry}
-use Rattle.ccr_net.specs.Runs.{Lacks, IsRun, port_at, state_of}
-use Rattle.ccr_net.specs.Visible.{visible}
+use Rattle.ccr_runs.specs.declared.entries.Entry.{Entry}
+use Rattle.ccr_runs.specs.EntryRuns.{Lacks, IsRun, port_at, state_of}
+use Rattle.ccr_runs.specs.Visible.{visible}
 use Rattle.ccr_net.proofs.Parts.Booking.{QueueSound-start}
 use Rattle.ccr_net.proofs.Parts.Pushes.{queue_at, along_run, Step-made}
 use Rattle.ccr_net.proofs.Parts.Domain.{DomainMatches-begins}

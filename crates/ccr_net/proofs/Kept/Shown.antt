@@ -24,9 +24,9 @@ use Rattle.ccr_places.specs.Ports as ports
 use Rattle.ccr_places.specs.Queues.{QueueState}
 use Rattle.ccr_claim.specs.Attempts.{Phase, had_in, booking, claiming}
 use Rattle.ccr_actor.specs.Actors.{State, Work, name_at, turn, go_on, after_in, spots_left}
-use Rattle.ccr_net.specs.declared.entries.Entry.{Entry}
-use Rattle.ccr_net.specs.Runs.{Lacks, state_of, port_at, reply_of}
-use Rattle.ccr_net.specs.Visible.{visible, event_of}
+use Rattle.ccr_runs.specs.declared.entries.Entry.{Entry}
+use Rattle.ccr_runs.specs.EntryRuns.{Lacks, state_of, port_at, reply_of}
+use Rattle.ccr_runs.specs.Visible.{visible, event_of}
 use Rattle.ccr_net.proofs.Parts.Pushes.{visible-push, queue_at}
 use Rattle.ccr_net.proofs.Parts.Marks.{first_fitting-post}
 use Rattle.ccr_net.proofs.Parts.Invariant.{ActorMatches, puts_in}

@@ -37,9 +37,9 @@ use Rattle.ccr_claim.specs.declared.asks.Asked.{Asked}
 use Rattle.ccr_claim.specs.Attempts.{booking, claiming, had_in}
 use Rattle.ccr_actor.specs.Plans.{pattern_at, plan_of, queue_at as queue_number}
 use Rattle.ccr_actor.specs.Actors.{State, Work, settle, drive, turn, name_at, after_in, spots_left, give_up}
-use Rattle.ccr_net.specs.declared.entries.Entry.{Entry}
-use Rattle.ccr_net.specs.Runs.{Lacks, state_of, port_at, reply_of}
-use Rattle.ccr_net.specs.Visible.{visible, event_of}
+use Rattle.ccr_runs.specs.declared.entries.Entry.{Entry}
+use Rattle.ccr_runs.specs.EntryRuns.{Lacks, state_of, port_at, reply_of}
+use Rattle.ccr_runs.specs.Visible.{visible, event_of}
 use Rattle.ccr_net.proofs.Parts.Pushes.{visible-push, queue_at}
 use Rattle.ccr_net.proofs.Parts.Invariant.{PortsMatch, claim_for, put_in, puts_in}
 use Rattle.ccr_net.proofs.Parts.DomainHistory.{cut_fired}

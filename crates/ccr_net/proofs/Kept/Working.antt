@@ -37,11 +37,12 @@ use Rattle.ccr_places.specs.Queues as queues
 use Rattle.ccr_places.specs.Meters as meters
 use Rattle.ccr_claim.specs.declared.asks.Ask.TheVariants as asks
 use Rattle.ccr_claim.specs.Attempts.{at_place, had_in}
+use Rattle.ccr_claim.specs.Lines.{script_message}
 use Rattle.ccr_wiring.specs.Takers.{spots_at, takes_from}
-use Rattle.ccr_actor.specs.Actors.{State, Work, name_at, lines, round, taking, playing, posting, shedding, resting, go_on, turn, ask_in, after_in, play_in, take_from, after_over, driving, work_ask, script_message, task_message}
-use Rattle.ccr_net.specs.declared.entries.Entry.{Entry}
-use Rattle.ccr_net.specs.Runs.{Lacks, state_of, port_at, notes_at, reply_of}
-use Rattle.ccr_net.specs.Visible.{visible, event_of}
+use Rattle.ccr_actor.specs.Actors.{State, Work, name_at, lines, round, taking, playing, posting, shedding, resting, go_on, turn, ask_in, after_in, play_in, take_from, after_over, driving, work_ask, task_message}
+use Rattle.ccr_runs.specs.declared.entries.Entry.{Entry}
+use Rattle.ccr_runs.specs.EntryRuns.{Lacks, state_of, port_at, notes_at, reply_of}
+use Rattle.ccr_runs.specs.Visible.{visible, event_of}
 use Rattle.ccr_net.proofs.Parts.Pushes.{visible-push, queue_at, Step}
 use Rattle.ccr_net.proofs.Parts.ActorSteps.{ActorMatches-same}
 use Rattle.ccr_net.proofs.Parts.Queue.{QueueChanges, takes}

@@ -42,10 +42,10 @@ use Rattle.ccr_claim.specs.Plans.{firing_task, in_pattern, ports_in}
 use Rattle.ccr_actor.specs.Plans.{pattern_at, plan_of}
 use Rattle.ccr_actor.specs.Actors.{State, Turn, Work, admit, ask_in, asked, drive, end_ask, go_on, lines, name_at, play_ask, play_in, playing, posting, resting, round, settle, shedding, spots_left, stop, taking, turn, work_ask}
 use Rattle.ccr_claim.specs.Wired.{AreCausesOf, IsKnown, IsTaskOf}
-use Rattle.ccr_net.specs.declared.entries.Entry.{Entry}
-use Rattle.ccr_net.specs.Places.{arbiter_after, first_branch, given, note_at_arbiter, note_by_kind, note_of}
-use Rattle.ccr_net.specs.Runs.{Lacks, notes_at, port_at, same_place, state_of}
-use Rattle.ccr_net.specs.Visible.{visible}
+use Rattle.ccr_runs.specs.declared.entries.Entry.{Entry}
+use Rattle.ccr_runs.specs.Places.{arbiter_after, first_branch, given, note_at_arbiter, note_by_kind, note_of}
+use Rattle.ccr_runs.specs.EntryRuns.{Lacks, notes_at, port_at, same_place, state_of}
+use Rattle.ccr_runs.specs.Visible.{visible}
 use Rattle.ccr_net.proofs.Parts.Arbiter.{none_at_first}
 use Rattle.ccr_net.proofs.Parts.ActorSteps.{unfired}
 use Rattle.ccr_net.proofs.Kept.Assembly.{Holds, arbiters_admit, hand_settles, spots_drive}

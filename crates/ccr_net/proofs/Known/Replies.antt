@@ -19,7 +19,7 @@ use Rattle.ccr_object.proofs.Numbering.{reply_none, reply_to}
 use Rattle.ccr_runs.specs.declared.acts.Act.{Act}
 use Rattle.ccr_runs.specs.Stories.{Scene, moved}
 use Rattle.ccr_net.specs.Acted.{scene_after, scene_from}
-use Rattle.ccr_net.specs.Played.{scene}
+use Rattle.ccr_runs.specs.Played.{scene}
 
 -- the place keeps only what its numbers have, and these are the wiring's, or none
 record IsOwn (w : Parts) (place : Placed) : Type 0 where

@@ -14,11 +14,11 @@ use Rattle.ccr_places.specs.declared.notes.Note.{Note}
 use Rattle.ccr_places.specs.declared.notes.Note.TheVariants as notes
 use Rattle.ccr_claim.specs.declared.asks.Asked.{Asked}
 use Rattle.ccr_actor.specs.Actors.{State, after_in, next, turn}
-use Rattle.ccr_net.specs.declared.entries.Entry.{Entry}
-use Rattle.ccr_net.specs.Places.{note_of}
-use Rattle.ccr_net.specs.Runs.{IsRunAfter, Lacks, made_by, notes_at, replies_of, reply_of, state_of}
-use Rattle.ccr_net.specs.Views.{view}
-use Rattle.ccr_net.specs.Visible.{shown, visible}
+use Rattle.ccr_runs.specs.declared.entries.Entry.{Entry}
+use Rattle.ccr_runs.specs.Places.{note_of}
+use Rattle.ccr_runs.specs.EntryRuns.{IsRunAfter, Lacks, made_by, notes_at, replies_of, reply_of, state_of}
+use Rattle.ccr_runs.specs.Views.{view}
+use Rattle.ccr_runs.specs.Visible.{shown, visible}
 use Rattle.ccr_net.proofs.Kept.Assembly.{IsBegun, begins}
 use Rattle.ccr_net.proofs.Known.Asks.{ArePlaced, IsNamed, ask_named}
 use Rattle.ccr_net.proofs.Known.Places.{IsPlaceOf}

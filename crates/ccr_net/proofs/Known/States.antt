@@ -31,8 +31,8 @@ use Rattle.ccr_claim.specs.declared.asks.Reply.{Reply}
 use Rattle.ccr_claim.specs.declared.asks.Reply.TheVariants as replies
 use Rattle.ccr_actor.specs.Plans.{is_interleave_number}
 use Rattle.ccr_actor.specs.Actors.{State, Work, lines, round, taking, playing, posting, shedding, resting, Turn, settle, admit, drive, go_on, stop, turn, spots_left, start, settled, add_arbiter, admissions_after, after_admit, after_attempt, after_over, give_up, after_work, after_in, take_from, after_end, after_play, next_round, shorten}
-use Rattle.ccr_net.specs.Runs.{reply_to}
-use Rattle.ccr_net.specs.Views.{view}
+use Rattle.ccr_runs.specs.EntryRuns.{reply_to}
+use Rattle.ccr_runs.specs.Views.{view}
 use Rattle.ccr_net.proofs.Kept.Assembly.{arbiters_admit, spots_drive}
 use Rattle.ccr_net.proofs.Known.Tasks.{IsDomain, spot_domain, view_domain}
 use Rattle.ccr_net.proofs.Parts.Phases.{SpotFits}

@@ -36,7 +36,7 @@ use Rattle.ccr_model.proofs.TakenOnce.{FireFacts-allowed}
 use Rattle.ccr_claim.specs.Wired.{IsDomainOf, IsSpotOf, IsTaskOf}
 use Rattle.ccr_claim.specs.Plans.{firing_task}
 use Rattle.ccr_actor.specs.Plans.{arbiter_at, plan_of, queue_at}
-use Rattle.ccr_net.specs.Views.{view}
+use Rattle.ccr_runs.specs.Views.{view}
 use Rattle.ccr_net.proofs.Known.Causes.{AreFine, causes_below, fine_causes, load_of-fine, play_of-fine, posted_fine, union_fine}
 use Rattle.ccr_net.proofs.Parts.Phases.{SpotFits}
 use Rattle.ccr_net.proofs.Played.Objects.{suspended_view}

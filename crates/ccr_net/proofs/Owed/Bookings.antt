@@ -42,11 +42,11 @@ use Rattle.ccr_claim.specs.Plans.{in_pattern, names_of, resumes, commit_place}
 use Rattle.ccr_claim.specs.Attempts.{at_place, attempt_ask, booking, claiming, free_ask, consume_ask, unbook_ask, cut_ask, put_asks}
 use Rattle.ccr_actor.specs.Plans.{plan_of}
 use Rattle.ccr_actor.specs.Actors.{State, name_at}
-use Rattle.ccr_net.specs.declared.entries.Entry.{Entry}
-use Rattle.ccr_net.specs.Places.{queue_note}
-use Rattle.ccr_net.specs.Runs.{Lacks, state_of, port_at, same_place, waits}
-use Rattle.ccr_net.specs.Views.{view, cut_view, queue_of}
-use Rattle.ccr_net.specs.Visible.{visible, shown}
+use Rattle.ccr_runs.specs.declared.entries.Entry.{Entry}
+use Rattle.ccr_runs.specs.Places.{queue_note}
+use Rattle.ccr_runs.specs.EntryRuns.{Lacks, state_of, port_at, same_place, waits}
+use Rattle.ccr_runs.specs.Views.{view, cut_view, queue_of}
+use Rattle.ccr_runs.specs.Visible.{visible, shown}
 use Rattle.ccr_net.proofs.Parts.Pushes.{Step, queue_at, queue_at-push, visible-push}
 use Rattle.ccr_net.proofs.Parts.Invariant.{IsOwed, IsToPut}
 use Rattle.ccr_net.proofs.Parts.ActorSteps.{unfired}

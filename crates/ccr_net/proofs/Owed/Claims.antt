@@ -26,15 +26,15 @@ use Rattle.ccr_claim.specs.declared.plan.Had.{Had}
 use Rattle.ccr_claim.specs.Attempts.{at_place, attempt_ask, claiming, free_ask, consume_ask, unbook_ask, cut_ask, put_asks}
 use Rattle.ccr_actor.specs.Plans.{plan_of}
 use Rattle.ccr_actor.specs.Actors.{State, name_at}
-use Rattle.ccr_net.specs.declared.entries.Entry.{Entry}
-use Rattle.ccr_net.specs.Places.{port_note}
-use Rattle.ccr_net.specs.Runs.{Lacks, state_of, port_at, same_place}
+use Rattle.ccr_runs.specs.declared.entries.Entry.{Entry}
+use Rattle.ccr_runs.specs.Places.{port_note}
+use Rattle.ccr_runs.specs.EntryRuns.{Lacks, state_of, port_at, same_place}
 use Rattle.ccr_net.proofs.Parts.Pushes.{Step, port_at-push}
 use Rattle.ccr_net.proofs.Kept.Assembly.{Holds, port_changes}
 use Rattle.ccr_net.proofs.Parts.Meter.{bit}
 use Rattle.ccr_net.proofs.Parts.Noted.{Given, given_some}
-use Rattle.ccr_net.specs.Views.{cut_view}
-use Rattle.ccr_net.specs.Visible.{visible}
+use Rattle.ccr_runs.specs.Views.{cut_view}
+use Rattle.ccr_runs.specs.Visible.{visible}
 use Rattle.ccr_net.proofs.Owed.Moves.{handed}
 use Rattle.ccr_net.proofs.Owed.Owing.{Owes, less, dropped, admitted, booked, got, fired, same, ended, owes, is_quiet}
 use Rattle.ccr_net.proofs.Owed.Once.{owed_by}

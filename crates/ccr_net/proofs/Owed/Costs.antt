@@ -29,8 +29,9 @@ use Rattle.ccr_claim.specs.declared.plan.ClaimPlan.{ClaimPlan}
 use Rattle.ccr_claim.specs.declared.plan.Had.{Had}
 use Rattle.ccr_claim.specs.Asks.{due_of, fits, is_settling}
 use Rattle.ccr_claim.specs.Attempts.{at_place, Phase, booking, claiming, claimed, had_in, attempt_ask, free_ask, consume_ask, unbook_ask, cut_ask, put_asks, release, firing_hand}
+use Rattle.ccr_claim.specs.Lines.{line_ask}
 use Rattle.ccr_actor.specs.Plans.{plan_of}
-use Rattle.ccr_actor.specs.Actors.{State, Work, lines, round, taking, playing, posting, shedding, resting, Turn, settle, admit, drive, go_on, stop, turn, turn_of, spots_left, name_at, asked, ask_in, settled, after_admit, after_attempt, after_work, after_line, after_round, after_take, after_play, after_end, after_over, take_from, next_round, work_ask, line_ask, play_ask, post_ask, end_ask, after_in, after, in_attempt, shorten, start, state_after, next}
+use Rattle.ccr_actor.specs.Actors.{State, Work, lines, round, taking, playing, posting, shedding, resting, Turn, settle, admit, drive, go_on, stop, turn, turn_of, spots_left, name_at, asked, ask_in, settled, after_admit, after_attempt, after_work, after_line, after_round, after_take, after_play, after_end, after_over, take_from, next_round, work_ask, play_ask, post_ask, end_ask, after_in, after, in_attempt, shorten, start, state_after, next}
 use Rattle.ccr_actor.specs.Nets.{Step, AreNext, replies_of}
 use Rattle.ccr_net.specs.Owed.{cost, gain, most, owed_after, owed_by, AreFitting}
 use Rattle.ccr_net.proofs.Parts.Pushes.{IsNextState, state_after-push}

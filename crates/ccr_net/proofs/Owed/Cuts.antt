@@ -41,7 +41,7 @@ use Rattle.ccr_object.specs.Starts.{fresh_arbiter, kind_of, members, placed_at, 
 use Rattle.ccr_runs.specs.declared.acts.Act.{Act}
 use Rattle.ccr_runs.specs.Stories.{Scene, moved}
 use Rattle.ccr_net.specs.Acted.{scene_from, scene_after}
-use Rattle.ccr_net.specs.Played.{scene}
+use Rattle.ccr_runs.specs.Played.{scene}
 use Rattle.ccr_net.proofs.Owed.Costs.{cuts_in}
 
 -- how many tasks wait at the object

@@ -20,10 +20,10 @@ use Rattle.ccr_claim.specs.declared.asks.Asked.{Asked}
 use Rattle.ccr_claim.specs.Attempts.{Phase, booking, claiming, attempt_ask}
 use Rattle.ccr_actor.specs.Plans.{plan_of}
 use Rattle.ccr_actor.specs.Actors.{State, Work, lines, round, taking, playing, posting, shedding, resting, after, after_work, name_at, work_ask, play_ask, end_ask}
-use Rattle.ccr_net.specs.declared.entries.Entry.{Entry}
-use Rattle.ccr_net.specs.Places.{meter_note}
-use Rattle.ccr_net.specs.Runs.{Lacks, state_of, same_place, reply_of}
-use Rattle.ccr_net.specs.Visible.{visible}
+use Rattle.ccr_runs.specs.declared.entries.Entry.{Entry}
+use Rattle.ccr_runs.specs.Places.{meter_note}
+use Rattle.ccr_runs.specs.EntryRuns.{Lacks, state_of, same_place, reply_of}
+use Rattle.ccr_runs.specs.Visible.{visible}
 use Rattle.ccr_net.proofs.Parts.Pushes.{Step, state_of-own, state_of-other}
 use Rattle.ccr_net.proofs.Parts.Invariant.{IsOwed}
 use Rattle.ccr_net.proofs.Parts.Meter.{bit, count, count-one, count-same}

@@ -24,10 +24,10 @@ use Rattle.ccr_claim.specs.declared.asks.Ask.TheVariants as asks
 use Rattle.ccr_claim.specs.declared.asks.Asked.{Asked}
 use Rattle.ccr_claim.specs.Attempts.{Phase, booking, claiming}
 use Rattle.ccr_actor.specs.Actors.{State, Work, lines, round, taking, playing, posting, shedding, resting, after, after_work, shorten, name_at, work_ask, play_ask, end_ask}
-use Rattle.ccr_net.specs.declared.entries.Entry.{Entry}
-use Rattle.ccr_net.specs.Places.{queue_note}
-use Rattle.ccr_net.specs.Runs.{Lacks, state_of, same_place, reply_of}
-use Rattle.ccr_net.specs.Visible.{visible}
+use Rattle.ccr_runs.specs.declared.entries.Entry.{Entry}
+use Rattle.ccr_runs.specs.Places.{queue_note}
+use Rattle.ccr_runs.specs.EntryRuns.{Lacks, state_of, same_place, reply_of}
+use Rattle.ccr_runs.specs.Visible.{visible}
 use Rattle.ccr_net.proofs.Parts.Pushes.{Step, queue_at, queue_at-push, IsNextState, state_of-own, state_of-other}
 use Rattle.ccr_net.proofs.Parts.Invariant.{IsOwed}
 use Rattle.ccr_net.proofs.Kept.Assembly.{Holds}
@@ -78,7 +78,7 @@ any_last p (y ∷ xs) x is = of_or (or_cases (p y) (list_any p (xs ++ x ∷ []))
     of_or (inl now) later = inl (or_left (p y) (list_any p xs) now)
     of_or (inr now) later = of_rest (later now)
 
-was_there : (tasks : TaskSet) (u t : TaskId) → set.contains (set.remove tasks u) t ≡ true → set.contains tasks t ≡ true
+pub was_there : (tasks : TaskSet) (u t : TaskId) → set.contains (set.remove tasks u) t ≡ true → set.contains tasks t ≡ true
 was_there tasks u t is = (both (not (same_task t u)) (set.contains tasks t) (sym (in-less tasks u t) ∙ is)).1
 
 was_booked : (queue : QueueState) (u t : TaskId) → set.contains (set.remove queue.fresh u) t || set.contains (set.remove queue.resuming u) t ≡ true → queues.is_booked queue t ≡ true

@@ -37,10 +37,10 @@ use Rattle.ccr_claim.specs.declared.asks.Ask.{Ask}
 use Rattle.ccr_claim.specs.declared.asks.Ask.TheVariants as asks
 use Rattle.ccr_claim.specs.declared.asks.Asked.{Asked}
 use Rattle.ccr_actor.specs.Actors.{State}
-use Rattle.ccr_net.specs.declared.entries.Entry.{Entry}
-use Rattle.ccr_net.specs.Places.{note_of, given, note_at_arbiter, note_by_kind, interleave_after}
-use Rattle.ccr_net.specs.Runs.{Lacks, state_of, notes_at, note_at, same_place}
-use Rattle.ccr_net.specs.Visible.{visible, event_of, shown}
+use Rattle.ccr_runs.specs.declared.entries.Entry.{Entry}
+use Rattle.ccr_runs.specs.Places.{note_of, given, note_at_arbiter, note_by_kind, interleave_after}
+use Rattle.ccr_runs.specs.EntryRuns.{Lacks, state_of, notes_at, note_at, same_place}
+use Rattle.ccr_runs.specs.Visible.{visible, event_of, shown}
 use Rattle.ccr_net.proofs.Parts.Pushes.{Step, notes_at-push, visible-push}
 use Rattle.ccr_net.proofs.Parts.Invariant.{IsOwed}
 use Rattle.ccr_net.proofs.Parts.DomainHistory.{over_now}

@@ -9,15 +9,15 @@ use Rattle.ccr_model.proofs.Booleans.{same_number}
 use Rattle.ccr_model.proofs.Members.{Among, Among-either}
 use Rattle.ccr_claim.specs.declared.asks.Ask.{Ask}
 use Rattle.ccr_claim.specs.declared.asks.Asked.{Asked}
-use Rattle.ccr_net.specs.declared.entries.Entry.{Entry}
+use Rattle.ccr_runs.specs.declared.entries.Entry.{Entry}
 use Rattle.ccr_base.specs.declared.names.Spot.{Spot}
 use Rattle.ccr_model.specs.declared.history.Event.{Event}
 use Rattle.ccr_model.specs.Legal.{IsLegal, IsAllowed}
 use Rattle.ccr_model.proofs.LegalParts.{legal_split}
 use Rattle.ccr_actor.specs.Plans.{plan_of}
 use Rattle.ccr_actor.specs.Actors.{in_attempt}
-use Rattle.ccr_net.specs.Runs.{Lacks, state_of, same_place, port_at}
-use Rattle.ccr_net.specs.Visible.{visible}
+use Rattle.ccr_runs.specs.EntryRuns.{Lacks, state_of, same_place, port_at}
+use Rattle.ccr_runs.specs.Visible.{visible}
 use Rattle.ccr_net.proofs.Parts.Invariant.{IsOwed}
 use Rattle.ccr_net.proofs.Parts.ActorSteps.{release_owed}
 use Rattle.ccr_net.proofs.Parts.Pushes.{state_of-other}

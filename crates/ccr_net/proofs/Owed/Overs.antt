@@ -54,11 +54,11 @@ use Rattle.ccr_claim.specs.Attempts.{at_place, attempt_ask, claiming, consume_as
 use Rattle.ccr_actor.specs.Plans.{plan_of, is_interleave_number}
 use Rattle.ccr_actor.specs.Plans as plans
 use Rattle.ccr_actor.specs.Actors.{State, name_at}
-use Rattle.ccr_net.specs.declared.entries.Entry.{Entry}
-use Rattle.ccr_net.specs.Places.{note_of, note_at_arbiter, note_by_kind, arbiter_note, interleave_note, first_branch, arbiter_after, interleave_after, commit_note}
-use Rattle.ccr_net.specs.Runs.{Lacks, state_of, notes_at, same_place}
-use Rattle.ccr_net.specs.Views.{cut_view, arbiter_of}
-use Rattle.ccr_net.specs.Visible.{visible, shown}
+use Rattle.ccr_runs.specs.declared.entries.Entry.{Entry}
+use Rattle.ccr_runs.specs.Places.{note_of, note_at_arbiter, note_by_kind, arbiter_note, interleave_note, first_branch, arbiter_after, interleave_after, commit_note}
+use Rattle.ccr_runs.specs.EntryRuns.{Lacks, state_of, notes_at, same_place}
+use Rattle.ccr_runs.specs.Views.{cut_view, arbiter_of}
+use Rattle.ccr_runs.specs.Visible.{visible, shown}
 use Rattle.ccr_net.proofs.Parts.Pushes.{Step, notes_at-push, visible-push}
 use Rattle.ccr_net.proofs.Parts.Invariant.{IsOwed}
 use Rattle.ccr_net.proofs.Parts.Arbiter.{fired_there, is_of, kept_shape, none_at_first}
@@ -221,14 +221,14 @@ domain_kept place asks.Draw note r is stands = absurd (cc)
 domain_kept place asks.Leave note r is stands = absurd (cc)
 domain_kept place asks.Left note r is stands = absurd (cc)
 
-arbiter-push : (first : ℕ) (part : ArbiterPart) (earlier : List Note) (note : Note) → arbiter_after first part (earlier ++ note ∷ []) ≡ arbiters.after (arbiter_after first part earlier) note
+pub arbiter-push : (first : ℕ) (part : ArbiterPart) (earlier : List Note) (note : Note) → arbiter_after first part (earlier ++ note ∷ []) ≡ arbiters.after (arbiter_after first part earlier) note
 arbiter-push first part earlier note = pushed (arbiter_after first part []) earlier
   where
     pushed : (st : ArbiterState) (earlier : List Note) → arbiters.kept st (earlier ++ note ∷ []) ≡ arbiters.after (arbiters.kept st earlier) note
     pushed st [] = refl
     pushed st (x ∷ earlier) = pushed (arbiters.after st x) earlier
 
-domain-push : (w : Parts) (i : ℕ) (earlier : List Note) (note : Note) → interleave_after w i (earlier ++ note ∷ []) ≡ interleaves.after (interleave_after w i earlier) note
+pub domain-push : (w : Parts) (i : ℕ) (earlier : List Note) (note : Note) → interleave_after w i (earlier ++ note ∷ []) ≡ interleaves.after (interleave_after w i earlier) note
 domain-push w i earlier note = pushed (interleave_after w i []) earlier
   where
     pushed : (st : InterleaveState) (earlier : List Note) → interleaves.kept st (earlier ++ note ∷ []) ≡ interleaves.after (interleaves.kept st earlier) note
@@ -271,7 +271,7 @@ kept_admitted : (b : Bool) (place : InterleaveState) (r : TaskId) → IsKeptRoot
 kept_admitted true place r is = or_left _ _ is
 kept_admitted false place r is = or_right (set.contains place.shared r) _ is
 
-first_has : (ts : List TaskId) (t : TaskId) → slice_get ts 0 ≡ Some t → has_task ts t ≡ true
+pub first_has : (ts : List TaskId) (t : TaskId) → slice_get ts 0 ≡ Some t → has_task ts t ≡ true
 first_has [] t is = absurd (cc)
 first_has (x ∷ ts) t is = or_left (same_task t x) (has_task ts t) (let same : x ≡ t = cc in rw same (same_task-self t))
 

@@ -29,10 +29,10 @@ use Rattle.ccr_claim.specs.Plans.{in_pattern, names_of, resumes}
 use Rattle.ccr_claim.specs.Attempts.{at_place, Phase, booking, claiming, attempt_ask, release, free_ask, unbook_ask, firing_hand, put_ask, over_dropped}
 use Rattle.ccr_actor.specs.Plans.{plan_of}
 use Rattle.ccr_actor.specs.Actors.{State, Work, lines, round, taking, playing, posting, shedding, resting, go_on, turn, after, after_work, in_attempt, shorten, fire, give_up, driven_on, admit_too, put_admitted, work_ask, play_ask, end_ask, name_at, spots_left}
-use Rattle.ccr_net.specs.declared.entries.Entry.{Entry}
-use Rattle.ccr_net.specs.Runs.{Lacks, state_of, port_at, reply_of}
-use Rattle.ccr_net.specs.Views.{view, cut_view}
-use Rattle.ccr_net.specs.Visible.{visible}
+use Rattle.ccr_runs.specs.declared.entries.Entry.{Entry}
+use Rattle.ccr_runs.specs.EntryRuns.{Lacks, state_of, port_at, reply_of}
+use Rattle.ccr_runs.specs.Views.{view, cut_view}
+use Rattle.ccr_runs.specs.Visible.{visible}
 use Rattle.ccr_net.proofs.Parts.Pushes.{Step, state_of-own}
 use Rattle.ccr_net.proofs.Parts.Work.{WorkMatches, RunsTask}
 use Rattle.ccr_net.proofs.Parts.Phases.{StateFits, PhaseFits}
@@ -98,7 +98,7 @@ attempt_same : (w : Parts) (a : ℕ) (st st' : State) (spots : List Spot) → st
 attempt_same w a st st' [] phase attempt = refl
 attempt_same w a st st' (spot ∷ more) phase attempt = λ i. release (plan_of w spot) (record { actor = a; attempt = attempt i }) (phase i)
 
-attempt_none : (w : Parts) (a : ℕ) (st : State) (spots : List Spot) → st.phase ≡ booking → in_attempt w a st spots ≡ []
+pub attempt_none : (w : Parts) (a : ℕ) (st : State) (spots : List Spot) → st.phase ≡ booking → in_attempt w a st spots ≡ []
 attempt_none w a st [] phase = refl
 attempt_none w a st (spot ∷ more) phase = ap (release (plan_of w spot) (name_at a st)) phase
 

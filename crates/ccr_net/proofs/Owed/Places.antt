@@ -24,10 +24,10 @@ use Rattle.ccr_claim.specs.Attempts.{consume_ask, cut_ask, put_asks}
 use Rattle.ccr_actor.specs.Plans.{is_interleave_number, arbiter_at}
 use Rattle.ccr_actor.specs.Plans as plans
 use Rattle.ccr_actor.specs.Actors.{State, after, add_arbiter, admissions_after, name_at}
-use Rattle.ccr_net.specs.declared.entries.Entry.{Entry}
-use Rattle.ccr_net.specs.Runs.{Lacks, state_of, reply_of, waits}
-use Rattle.ccr_net.specs.Views.{view, cut_view}
-use Rattle.ccr_net.specs.Visible.{visible}
+use Rattle.ccr_runs.specs.declared.entries.Entry.{Entry}
+use Rattle.ccr_runs.specs.EntryRuns.{Lacks, state_of, reply_of, waits}
+use Rattle.ccr_runs.specs.Views.{view, cut_view}
+use Rattle.ccr_runs.specs.Visible.{visible}
 use Rattle.ccr_net.proofs.Parts.Pushes.{Step, IsNextState, state_of-own, state_of-other}
 use Rattle.ccr_net.proofs.Kept.Assembly.{Holds, differ}
 use Rattle.ccr_net.proofs.Owed.GoingOn.{AreInterleaves, worked, add_interleave}

@@ -31,9 +31,9 @@ use Rattle.ccr_places.specs.declared.notes.Note.{Note}
 use Rattle.ccr_places.specs.declared.notes.Note.TheVariants as notes
 use Rattle.ccr_places.specs.Ports.{PortState, without_first}
 use Rattle.ccr_places.specs.Ports as ports
-use Rattle.ccr_net.specs.declared.entries.Entry.{Entry}
-use Rattle.ccr_net.specs.Runs.{port_at, same_place}
-use Rattle.ccr_net.specs.Visible.{visible, event_of, shown}
+use Rattle.ccr_runs.specs.declared.entries.Entry.{Entry}
+use Rattle.ccr_runs.specs.EntryRuns.{port_at, same_place}
+use Rattle.ccr_runs.specs.Visible.{visible, event_of, shown}
 use Rattle.ccr_net.proofs.Parts.Meter.{bit}
 use Rattle.ccr_net.proofs.Parts.Pushes.{port_at-push, visible-push}
 
@@ -95,7 +95,7 @@ few_lines-kept w h (events.Post m) few allowed a = by m.id refl allowed
     of_test actor k id line false is = let none : bit (is_script_of a m.id) ≡ 0 = ap (λ i. bit (is_script_of a i)) id ∙ ap bit is in let old = few a in omega (arith, longer, none, old)
 
     by : (name : MsgId) → m.id ≡ name → refusal_of_post w h m name ≡ None → by_poster a (posts (h ++ events.Post m ∷ [])) ≤ script_lines w a
-    by (names.Script actor k) id may = of_test actor k id (refused_not (is_script_line w h actor k m) 1 None may).0 (actor == a) refl
+    by (names.Script actor k) id may = of_test actor k id (refused_not (is_script_line w h actor k m) _ None may).0 (actor == a) refl
     by (names.Task t k) id may = let none : bit (is_script_of a m.id) ≡ 0 = ap (λ i. bit (is_script_of a i)) id in let old = few a in omega (arith, longer, none, old)
 few_lines-kept w h (events.Fire t s ms cs) few allowed a = rw (posts-push h (events.Fire t s ms cs), append-nil (posts h)) (few a)
 few_lines-kept w h (events.Admit t) few allowed a = rw (posts-push h (events.Admit t), append-nil (posts h)) (few a)

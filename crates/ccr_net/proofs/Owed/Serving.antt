@@ -28,11 +28,11 @@ use Rattle.ccr_turns.specs.Logs.{mark}
 use Rattle.ccr_runs.specs.declared.acts.Act.{Act}
 use Rattle.ccr_runs.specs.Runs.{IsRunFrom, cast}
 use Rattle.ccr_runs.specs.Stories.{Scene, moved, story}
-use Rattle.ccr_net.specs.declared.entries.Entry.{Entry}
+use Rattle.ccr_runs.specs.declared.entries.Entry.{Entry}
 use Rattle.ccr_net.specs.Acted.{act_after, scene_from, scene_after, Stage}
 use Rattle.ccr_net.specs.Owed.{cost, gain, most, owed_after, owed_by, owed_to, AreFitting}
-use Rattle.ccr_net.specs.Played.{entries_of, entry_of, number_at, place_at, reply_in, rules, scene, step_of, steps_in}
-use Rattle.ccr_net.specs.Runs.{Lacks, IsRun, entry_for, never, replies_of, with_made}
+use Rattle.ccr_runs.specs.Played.{entries_of, entry_of, number_at, place_at, reply_in, rules, scene, step_of, steps_in}
+use Rattle.ccr_runs.specs.EntryRuns.{Lacks, IsRun, entry_for, never, replies_of, with_made}
 use Rattle.ccr_net.specs.Served.{seats, IsRoomy, IsServing, Served}
 use Rattle.ccr_net.proofs.Owed.Cuts.{cuts_within}
 use Rattle.ccr_net.proofs.Owed.Costs.{gains_within, owed_enough, settling_costs, settling_some}

@@ -43,7 +43,7 @@ use Rattle.ccr_claim.specs.declared.asks.Asked.{Asked}
 use Rattle.ccr_claim.specs.Attempts.{Phase, booking, claiming, had_in, release, free_ask, unbook_ask, consume_ask, cut_ask, put_ask, put_asks, firing_hand, over_dropped}
 use Rattle.ccr_actor.specs.Plans.{plan_of}
 use Rattle.ccr_actor.specs.Actors.{State, name_at, end_attempt, shorten, in_attempt, fire, give_up}
-use Rattle.ccr_net.specs.Views.{queue_of}
+use Rattle.ccr_runs.specs.Views.{queue_of}
 use Rattle.ccr_net.proofs.Parts.Invariant.{IsOwed, IsOwedOver, IsToPut, ActorMatches, put_in, puts_in, claim_for}
 use Rattle.ccr_net.proofs.Parts.DomainHistory.{cut_fired, cuts_fired}
 use Rattle.ccr_net.proofs.Parts.PortSteps.{Changes}

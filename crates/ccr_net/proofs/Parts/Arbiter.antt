@@ -23,10 +23,10 @@ use Rattle.ccr_places.specs.declared.notes.Note.{Note}
 use Rattle.ccr_places.specs.declared.notes.Note.TheVariants as notes
 use Rattle.ccr_places.specs.Arbiters.{ArbiterState}
 use Rattle.ccr_places.specs.Arbiters as arbiters
-use Rattle.ccr_net.specs.declared.entries.Entry.{Entry}
-use Rattle.ccr_net.specs.Places.{arbiter_after}
-use Rattle.ccr_net.specs.Runs.{notes_at, note_at, same_place}
-use Rattle.ccr_net.specs.Visible.{visible, event_of, shown}
+use Rattle.ccr_runs.specs.declared.entries.Entry.{Entry}
+use Rattle.ccr_runs.specs.Places.{arbiter_after}
+use Rattle.ccr_runs.specs.EntryRuns.{notes_at, note_at, same_place}
+use Rattle.ccr_runs.specs.Visible.{visible, event_of, shown}
 use Rattle.ccr_net.proofs.Parts.Pushes.{visible-push, notes_at-push}
 
 -- the task that the note says fired

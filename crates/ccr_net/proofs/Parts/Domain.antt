@@ -46,9 +46,9 @@ use Rattle.ccr_places.specs.Interleaves.{InterleaveState, Waiting, group_among, 
 use Rattle.ccr_places.specs.Interleaves as interleaves
 use Rattle.ccr_places.specs.TaskSets.{TaskSet, len-there}
 use Rattle.ccr_actor.specs.Plans.{is_interleave_number}
-use Rattle.ccr_net.specs.declared.entries.Entry.{Entry}
-use Rattle.ccr_net.specs.Places.{interleave_after, branches_from, groups_in}
-use Rattle.ccr_net.specs.Runs.{notes_at, same_place}
+use Rattle.ccr_runs.specs.declared.entries.Entry.{Entry}
+use Rattle.ccr_runs.specs.Places.{interleave_after, branches_from, groups_in}
+use Rattle.ccr_runs.specs.EntryRuns.{notes_at, same_place}
 use Rattle.ccr_net.proofs.Kept.Allowed.{refused_pass}
 use Rattle.ccr_net.proofs.Parts.Booking.{in-more, in-less}
 use Rattle.ccr_net.proofs.Parts.Room.{some_once, fired_once}
@@ -313,7 +313,7 @@ empty_out tasks t none is = let some = len-there tasks t is in let zero_so : set
 -- where the object admits it, the rules do
 pub admit_allowed : (w : Parts) (h : List Event) (i : ℕ) (place : InterleaveState) (found : Oldest w h i place) → DomainMatches w h i place → interleaves.may_admit place found.first.spot ≡ true → IsAllowed w h (events.Admit found.first.task)
 admit_allowed w h i place found match may =
-    refused_pass (is_oldest_waiting w h found.first.task) 9 _ first_so (refused_pass (may_admit w h found.first.task) 10 None may_so refl)
+    refused_pass (is_oldest_waiting w h found.first.task) _ _ first_so (refused_pass (may_admit w h found.first.task) _ None may_so refl)
   where
     first_so : is_oldest_waiting w h found.first.task ≡ true
     first_so = rw (found.placed, found.at_i, found.waits) (same_task-self found.first.task)

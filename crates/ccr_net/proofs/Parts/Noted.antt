@@ -19,9 +19,9 @@ use Rattle.ccr_claim.specs.declared.asks.Ask.{Ask}
 use Rattle.ccr_claim.specs.declared.asks.Ask.TheVariants as asks
 use Rattle.ccr_claim.specs.declared.asks.Asked.{Asked}
 use Rattle.ccr_actor.specs.Actors.{Turn, turn, ask_in}
-use Rattle.ccr_net.specs.declared.entries.Entry.{Entry}
-use Rattle.ccr_net.specs.Places.{note_of, given, note_at_arbiter, note_by_kind, arbiter_note, interleave_note, first_branch, arbiter_after, interleave_after}
-use Rattle.ccr_net.specs.Runs.{Lacks, state_of, notes_at}
+use Rattle.ccr_runs.specs.declared.entries.Entry.{Entry}
+use Rattle.ccr_runs.specs.Places.{note_of, given, note_at_arbiter, note_by_kind, arbiter_note, interleave_note, first_branch, arbiter_after, interleave_after}
+use Rattle.ccr_runs.specs.EntryRuns.{Lacks, state_of, notes_at}
 use Rattle.ccr_net.proofs.Parts.Pushes.{Step}
 
 pub given_some : (b : Bool) (m note : Note) → given b m ≡ Some note → (b ≡ true) × (note ≡ m)

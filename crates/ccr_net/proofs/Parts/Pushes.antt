@@ -14,10 +14,10 @@ use Rattle.ccr_places.specs.Queues.{QueueState}
 use Rattle.ccr_claim.specs.declared.asks.Reply.{Reply}
 use Rattle.ccr_claim.specs.declared.asks.Asked.{Asked}
 use Rattle.ccr_actor.specs.Actors.{State, asked, after, after_all, shorten, start, state_after}
-use Rattle.ccr_net.specs.declared.entries.Entry.{Entry}
-use Rattle.ccr_net.specs.Visible.{visible, event_of}
-use Rattle.ccr_net.specs.Places.{note_of, queue_after}
-use Rattle.ccr_net.specs.Runs.{Lacks, IsRunAfter, made_by, entry_for, next_stamp, notes_at, note_at, port_at, replies_from, replies_of, reply_of, reply_for, state_of, same_place}
+use Rattle.ccr_runs.specs.declared.entries.Entry.{Entry}
+use Rattle.ccr_runs.specs.Visible.{visible, event_of}
+use Rattle.ccr_runs.specs.Places.{note_of, queue_after}
+use Rattle.ccr_runs.specs.EntryRuns.{Lacks, IsRunAfter, made_by, entry_for, next_stamp, notes_at, note_at, port_at, replies_from, replies_of, reply_of, reply_for, state_of, same_place}
 
 -- the queue of this number
 abbrev pub queue_at : Parts → List Entry → ℕ → QueueState

@@ -239,7 +239,7 @@ fired_once-kept w h (events.Put t d) once allowed = rw (fired-same h (events.Put
 fired_once-kept w h (events.Start t a) once allowed = rw (fired-same h (events.Start t a) refl) once
 fired_once-kept w h (events.End t how) once allowed = rw (fired-same h (events.End t how) refl) once
 fired_once-kept w h (events.Fire t s ms cs) once allowed =
-    let new = (refused_not (is_new h t) 4 _ allowed).0 in
+    let new = (refused_not (is_new h t) _ _ allowed).0 in
     rw (fired-fire h t s ms cs) (distinct-push (fired h) t once (not_true (has_task (fired h) t) (both (not (has_task (fired h) t)) _ new).0))
 
 pub fired_once : (w : Parts) (h : List Event) → IsLegal w h → are_distinct_tasks (fired h) ≡ true

@@ -58,7 +58,7 @@ AreStarted-kept w h (events.Admit u) known allowed = AreStarted-other h (events.
 AreStarted-kept w h (events.Put u d) known allowed = AreStarted-other h (events.Put u d) (λ a. refl) refl refl known
 AreStarted-kept w h (events.End u how) known allowed = record {
   by_one = λ a b t at_a at_b. known.by_one a b t (rw (starts-push, append-nil (starts h a)) at at_a) (rw (starts-push, append-nil (starts h b)) at at_b);
-  ended_so = λ t is. rw (started-push, append-nil (started h)) (of_more (ended h) (u ∷ []) t (has_task (started h) t ≡ true) (rw ended-push at is) (known.ended_so t) (λ one. subst (λ x. has_task (started h) x ≡ true) (sym (of_one u t one)) (of_without (started h) (ended h) u (refused_not (has_task (running h) u) 15 _ allowed).0).0));
+  ended_so = λ t is. rw (started-push, append-nil (started h)) (of_more (ended h) (u ∷ []) t (has_task (started h) t ≡ true) (rw ended-push at is) (known.ended_so t) (λ one. subst (λ x. has_task (started h) x ≡ true) (sym (of_one u t one)) (of_without (started h) (ended h) u (refused_not (has_task (running h) u) _ _ allowed).0).0));
 }
 AreStarted-kept w h (events.Start u c) known allowed = record {
   by_one = λ a b t at_a at_b. one a b t (rw starts-push at at_a) (rw starts-push at at_b);

@@ -25,8 +25,9 @@ use Rattle.ccr_model.proofs.Pushes.{posts-push}
 use Rattle.ccr_model.proofs.SameNames.{same_task-is, same_task-self}
 use Rattle.ccr_model.proofs.Stable.{firing_named-append, root_at-append, load_at-append}
 use Rattle.ccr_actor.specs.Actors.{Work, lines, round, taking, playing, posting, shedding, resting, play_in}
-use Rattle.ccr_net.specs.Views.{view}
+use Rattle.ccr_runs.specs.Views.{view}
 use Rattle.ccr_net.proofs.Parts.Starts.{starts, running_by-push, AreStarted, run_apart}
+use Rattle.ccr_model.proofs.TasksLeft.{without_both}
 
 -- the task that a worker runs, how many of its posts are made, and those that are left
 pub record RunsTask (w : Parts) (h : List Event) (a : ℕ) (task : Task) (place : ℕ) (left : List Sent) : Type 0 where
@@ -177,10 +178,6 @@ start_says h u a b other = record {
 
     same : running_by (h ++ events.Start u b ∷ []) a ≡ running_by h a
     same = running_by-push h (events.Start u b) a ∙ rw (out, append-nil (starts h a), append-nil (ended h)) refl
-
-without_both : (ts gone more : List TaskId) → without ts (gone ++ more) ≡ without (without ts gone) more
-without_both [] gone more = refl
-without_both (t ∷ ts) gone more = grind (arith, common_steps, without_both ts gone more)
 
 pub running_by-end : (h : List Event) (u : TaskId) (how : EndHow) (a : ℕ) → running_by (h ++ events.End u how ∷ []) a ≡ without (running_by h a) (u ∷ [])
 running_by-end h u how a = running_by-push h (events.End u how) a ∙ rw (append-nil (starts h a)) (without_both (starts h a) (ended h) (u ∷ []))

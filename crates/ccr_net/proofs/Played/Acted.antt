@@ -20,7 +20,7 @@ use Rattle.ccr_object.specs.Objects.{after_at, after_deed, note_of, nothing, pla
 use Rattle.ccr_object.specs.Starts.{placed_at, places_of}
 use Rattle.ccr_runs.specs.declared.acts.Act.{Act}
 use Rattle.ccr_runs.specs.Stories.{Scene, moved}
-use Rattle.ccr_net.specs.Played.{scene}
+use Rattle.ccr_runs.specs.Played.{scene}
 use Rattle.ccr_net.specs.Acted.{scene_from, scene_after, stamp_from, stamp_of, deed_at, act_at, placed_in, IsLeft}
 
 -- ---- outcomes

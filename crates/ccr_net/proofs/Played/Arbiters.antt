@@ -32,11 +32,11 @@ use Rattle.ccr_object.specs.declared.object.Object.TheVariants.{Arbiter}
 use Rattle.ccr_object.specs.Arbiters as arbiter_objects
 use Rattle.ccr_object.specs.Commits.{committed}
 use Rattle.ccr_object.specs.Objects.{answer, after}
-use Rattle.ccr_net.specs.declared.entries.Entry.{Entry}
-use Rattle.ccr_net.specs.Places.{arbiter_after, arbiter_note, commit_note, first_branch, note_at_arbiter, note_by_kind}
-use Rattle.ccr_net.specs.Runs.{notes_at, reply_of, reply_to, same_place, waits}
-use Rattle.ccr_net.specs.Views.{view}
-use Rattle.ccr_net.specs.Visible.{visible}
+use Rattle.ccr_runs.specs.declared.entries.Entry.{Entry}
+use Rattle.ccr_runs.specs.Places.{arbiter_after, arbiter_note, commit_note, first_branch, note_at_arbiter, note_by_kind}
+use Rattle.ccr_runs.specs.EntryRuns.{notes_at, reply_of, reply_to, same_place, waits}
+use Rattle.ccr_runs.specs.Views.{view}
+use Rattle.ccr_runs.specs.Visible.{visible}
 use Rattle.ccr_net.proofs.Played.BuiltTasks.{IsBuilt}
 use Rattle.ccr_net.proofs.Parts.Noted.{Given, given_some}
 use Rattle.ccr_net.proofs.Kept.PlainFacts.{PlainFacts}

@@ -4,9 +4,9 @@ use Rattle.std.specs.Prelude.{is_some}
 use Rattle.ccr_wiring.specs.declared.parts.Parts.{Parts}
 use Rattle.ccr_wiring.specs.Valid.{IsValid}
 use Rattle.ccr_claim.specs.declared.asks.Asked.{Asked}
-use Rattle.ccr_net.specs.declared.entries.Entry.{Entry}
-use Rattle.ccr_net.specs.Places.{note_of}
-use Rattle.ccr_net.specs.Runs.{Lacks, notes_at}
+use Rattle.ccr_runs.specs.declared.entries.Entry.{Entry}
+use Rattle.ccr_runs.specs.Places.{note_of}
+use Rattle.ccr_runs.specs.EntryRuns.{Lacks, notes_at}
 use Rattle.ccr_net.proofs.Conditions.Asks.{asks_met}
 use Rattle.ccr_net.proofs.Known.Asks.{IsNamed}
 use Rattle.ccr_net.proofs.Known.Places.{place_stands}

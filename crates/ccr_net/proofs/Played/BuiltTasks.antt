@@ -44,10 +44,10 @@ use Rattle.ccr_claim.specs.Attempts.{at_place, Phase, booking, claiming, had_in,
 use Rattle.ccr_claim.specs.Plans.{had_at, ports_in, in_pattern, names_of, firing_task}
 use Rattle.ccr_actor.specs.Plans.{plan_of, pattern_at, arbiter_at, queue_at as queue_number}
 use Rattle.ccr_actor.specs.Actors.{State, Work, lines, round, taking, playing, posting, shedding, resting, Turn, settle, admit, drive, go_on, stop, turn, ask_in, work_ask, play_ask, end_ask, name_at, spots_left}
-use Rattle.ccr_net.specs.declared.entries.Entry.{Entry}
-use Rattle.ccr_net.specs.Runs.{Lacks, state_of, port_at}
-use Rattle.ccr_net.specs.Views.{view}
-use Rattle.ccr_net.specs.Visible.{visible, shown}
+use Rattle.ccr_runs.specs.declared.entries.Entry.{Entry}
+use Rattle.ccr_runs.specs.EntryRuns.{Lacks, state_of, port_at}
+use Rattle.ccr_runs.specs.Views.{view}
+use Rattle.ccr_runs.specs.Visible.{visible, shown}
 use Rattle.ccr_net.proofs.Parts.ActorSteps.{unfired}
 use Rattle.ccr_net.proofs.Kept.Assembly.{Holds, hand_settles, spots_drive}
 use Rattle.ccr_net.proofs.Parts.Choices.{in_ports}

@@ -30,11 +30,11 @@ use Rattle.ccr_object.specs.declared.object.Object.TheVariants.{Interleave}
 use Rattle.ccr_object.specs.Interleaves as objects
 use Rattle.ccr_object.specs.Objects.{answer, after}
 use Rattle.ccr_actor.specs.Plans.{is_interleave_number}
-use Rattle.ccr_net.specs.declared.entries.Entry.{Entry}
-use Rattle.ccr_net.specs.Places.{branches_from, groups_in, note_of, note_at_arbiter, note_by_kind, interleave_note, commit_note}
-use Rattle.ccr_net.specs.Runs.{Lacks, notes_at, reply_to, same_place, waits}
-use Rattle.ccr_net.specs.Views.{view, cut_view}
-use Rattle.ccr_net.specs.Visible.{visible, event_of}
+use Rattle.ccr_runs.specs.declared.entries.Entry.{Entry}
+use Rattle.ccr_runs.specs.Places.{branches_from, groups_in, note_of, note_at_arbiter, note_by_kind, interleave_note, commit_note}
+use Rattle.ccr_runs.specs.EntryRuns.{Lacks, notes_at, reply_to, same_place, waits}
+use Rattle.ccr_runs.specs.Views.{view, cut_view}
+use Rattle.ccr_runs.specs.Visible.{visible, event_of}
 use Rattle.ccr_net.proofs.Kept.Assembly.{Holds}
 use Rattle.ccr_net.proofs.Played.BuiltTasks.{IsBuilt}
 use Rattle.ccr_net.proofs.Parts.Domain.{domain_at}

@@ -23,9 +23,9 @@ use Rattle.ccr_places.specs.Interleaves as interleaves
 use Rattle.ccr_places.specs.Interleaves.{InterleaveState, Waiting, group_at}
 use Rattle.ccr_object.specs.declared.object.Object.TheVariants.{Queue, Interleave, Site}
 use Rattle.ccr_object.specs.Starts.{start_at, fresh_arbiter, kind_of, members, branches_of, groups_of}
-use Rattle.ccr_net.specs.declared.entries.Entry.{Entry}
-use Rattle.ccr_net.specs.Runs.{Lacks, notes_at, same_place}
-use Rattle.ccr_net.specs.Visible.{visible, event_of}
+use Rattle.ccr_runs.specs.declared.entries.Entry.{Entry}
+use Rattle.ccr_runs.specs.EntryRuns.{Lacks, notes_at, same_place}
+use Rattle.ccr_runs.specs.Visible.{visible, event_of}
 use Rattle.ccr_net.proofs.Parts.Arbiter.{fired_note, fired_there, is_of}
 use Rattle.ccr_net.proofs.Kept.Assembly.{Holds}
 use Rattle.ccr_net.proofs.Played.Objects.{object_of, told_object}

@@ -11,9 +11,9 @@ use Rattle.ccr_wiring.specs.Valid.{IsValid}
 use Rattle.ccr_claim.specs.declared.asks.Ask.{Ask}
 use Rattle.ccr_claim.specs.declared.asks.Ask.TheVariants as asks
 use Rattle.ccr_claim.specs.Attempts.{at_place}
-use Rattle.ccr_net.specs.declared.entries.Entry.{Entry}
-use Rattle.ccr_net.specs.Places.{note_at_arbiter, note_of}
-use Rattle.ccr_net.specs.Runs.{Lacks, IsRunAfter, notes_at}
+use Rattle.ccr_runs.specs.declared.entries.Entry.{Entry}
+use Rattle.ccr_runs.specs.Places.{note_at_arbiter, note_of}
+use Rattle.ccr_runs.specs.EntryRuns.{Lacks, IsRunAfter, notes_at}
 use Rattle.ccr_net.proofs.Played.BuiltTasks.{commit_tells}
 use Rattle.ccr_net.proofs.Parts.Noted.{Given, no_some}
 use Rattle.ccr_net.proofs.Kept.PlainWirings.{plain_facts}

@@ -31,10 +31,10 @@ use Rattle.ccr_claim.specs.declared.plan.ClaimPlan.{ClaimPlan}
 use Rattle.ccr_claim.specs.Attempts.{Phase, booking, claiming, had_in, attempt_ask, free_ask, unbook_ask, consume_ask, cut_ask, put_ask, put_asks, release, firing_hand, over_dropped}
 use Rattle.ccr_actor.specs.Plans.{plan_of}
 use Rattle.ccr_actor.specs.Actors.{State, Work, lines, round, taking, playing, posting, shedding, resting, Turn, settle, admit, drive, go_on, stop, turn, ask_in, work_ask, play_ask, end_ask, name_at, play_in, spots_left, start, settled, after_admit, after_attempt, give_up, after_work, after_in, take_from, after_end, after_play, next_round, in_attempt, shorten}
-use Rattle.ccr_net.specs.declared.entries.Entry.{Entry}
-use Rattle.ccr_net.specs.Runs.{Lacks, state_of, notes_at, reply_of, reply_to, waits}
-use Rattle.ccr_net.specs.Views.{view, cut_view}
-use Rattle.ccr_net.specs.Visible.{visible, event_of}
+use Rattle.ccr_runs.specs.declared.entries.Entry.{Entry}
+use Rattle.ccr_runs.specs.EntryRuns.{Lacks, state_of, notes_at, reply_of, reply_to, waits}
+use Rattle.ccr_runs.specs.Views.{view, cut_view}
+use Rattle.ccr_runs.specs.Visible.{visible, event_of}
 use Rattle.ccr_net.proofs.Kept.Assembly.{Holds, IsBegun, begins, hand_settles}
 use Rattle.ccr_net.proofs.Parts.Invariant.{IsOwed}
 use Rattle.ccr_net.proofs.Played.Objects.{suspended_view}

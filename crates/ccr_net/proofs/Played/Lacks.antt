@@ -14,9 +14,9 @@ use Rattle.ccr_turns.specs.declared.history.Mark.{Mark}
 use Rattle.ccr_runs.specs.declared.acts.Act.{Act}
 use Rattle.ccr_runs.specs.Runs.{Cast, IsRunFrom, cast, taught}
 use Rattle.ccr_runs.specs.Stories.{Scene, moved, story}
-use Rattle.ccr_net.specs.declared.entries.Entry.{Entry}
-use Rattle.ccr_net.specs.Played.{rules, scene, next_of, number_at, numbered, place_at, heard, reply_in, step_of, steps_in}
-use Rattle.ccr_net.specs.Runs.{Lacks}
+use Rattle.ccr_runs.specs.declared.entries.Entry.{Entry}
+use Rattle.ccr_runs.specs.Played.{rules, scene, next_of, number_at, numbered, place_at, heard, reply_in, step_of, steps_in}
+use Rattle.ccr_runs.specs.EntryRuns.{Lacks}
 use Rattle.ccr_net.proofs.Played.Runs.{Adds, Matches, Matches-begins, act_adds}
 use Rattle.ccr_net.proofs.Played.Steps.{StepFacts}
 

@@ -27,11 +27,12 @@ use Rattle.ccr_model.proofs.Booleans.{eq-self, same_number}
 use Rattle.ccr_object.specs.declared.object.Object.TheVariants.{Arbiter}
 use Rattle.ccr_object.specs.Starts.{fresh_arbiter, kind_of, member_at, member_of, members}
 use Rattle.ccr_object.specs.Starts as starts
-use Rattle.ccr_net.specs.declared.entries.Entry.{Entry}
-use Rattle.ccr_net.specs.Places.{arbiter_after, branches_before, first_branch, is_once}
-use Rattle.ccr_net.specs.Runs.{notes_at}
-use Rattle.ccr_net.specs.Visible.{visible}
+use Rattle.ccr_runs.specs.declared.entries.Entry.{Entry}
+use Rattle.ccr_runs.specs.Places.{arbiter_after, branches_before, first_branch, is_once}
+use Rattle.ccr_runs.specs.EntryRuns.{notes_at}
+use Rattle.ccr_runs.specs.Visible.{visible}
 use Rattle.ccr_net.proofs.Played.Objects.{object_of, told_object}
+use Rattle.ccr_wiring.proofs.DomainLemmas.{no_less, least_fails, member_fails}
 
 -- ---- the branches of a domain, from branch to branch
 
@@ -57,29 +58,6 @@ pub members_walk : (w : Parts) (i : ℕ) → members w i ≡ members_from i 0 (p
 members_walk w i = members_in w i 0 (placements w) (λ k s at. ap (placement w) (let same : 0 + k ≡ k = omega arith in same) ∙ at)
 
 -- ---- domains of what is no Interleave
-
-no_less : (p : ℕ → Bool) (a b : ℕ) → p a ≡ false → p b ≡ false → p (min a b) ≡ false
-no_less p a b fails other = by_test (nat_le a b) refl
-  where
-    by_test : (t : Bool) → nat_le a b ≡ t → p (min a b) ≡ false
-    by_test true less = let below : a ≤ b = grind (arith, nat_tests, less) in let e : min a b ≡ a = omega arith in rw e fails
-    by_test false more = let above : b ≤ a = grind (arith, nat_tests, more) in let e : min a b ≡ b = omega arith in rw e other
-
-least_fails : (p : ℕ → Bool) (least : ℕ) (numbers : List ℕ) → p least ≡ false → list_any p numbers ≡ false → p (least_with least numbers) ≡ false
-least_fails p least [] fails none = fails
-least_fails p least (number ∷ numbers) fails none =
-    let both = neither (p number) (list_any p numbers) none in
-    least_fails p (min least number) numbers (no_less p least number fails both.0) both.1
-
-member_fails : (p : ℕ → Bool) (numbers : List ℕ) (number : ℕ) → has_port numbers number ≡ true → list_any p numbers ≡ false → p number ≡ false
-member_fails p [] number there none = absurd cc
-member_fails p (other ∷ numbers) number there none =
-    let both = neither (p other) (list_any p numbers) none in
-    by_test (other == number) refl (λ among. member_fails p numbers number among both.1)
-  where
-    by_test : (t : Bool) → (other == number) ≡ t → (has_port numbers number ≡ true → p number ≡ false) → p number ≡ false
-    by_test true same others = ap p (sym (same_number other number same)) ∙ (neither (p other) (list_any p numbers) none).0
-    by_test false apart others = others (ap (λ b. b || has_port numbers number) (sym apart) ∙ there)
 
 -- an arbiter's domain is its own, or is an Interleave's, and so is the arbiter
 domain_or : (w : Parts) (ds : List DomainPart) (j : ℕ) → list_any (domain_is_dangling w) ds ≡ false → (domain_of ds j ≡ j) ⊎ ((no_interleave w j ≡ false) × (no_interleave w (domain_of ds j) ≡ false))

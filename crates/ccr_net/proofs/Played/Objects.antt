@@ -24,10 +24,10 @@ use Rattle.ccr_object.specs.declared.object.Object.{Object}
 use Rattle.ccr_object.specs.declared.object.Object.TheVariants.{Port, Arbiter, Interleave, Site, Queue, Meter}
 use Rattle.ccr_object.specs.Objects.{answer, after}
 use Rattle.ccr_object.specs.Starts.{start_at}
-use Rattle.ccr_net.specs.declared.entries.Entry.{Entry}
-use Rattle.ccr_net.specs.Runs.{notes_at, reply_of}
-use Rattle.ccr_net.specs.Views.{view}
-use Rattle.ccr_net.specs.Visible.{visible}
+use Rattle.ccr_runs.specs.declared.entries.Entry.{Entry}
+use Rattle.ccr_runs.specs.EntryRuns.{notes_at, reply_of}
+use Rattle.ccr_runs.specs.Views.{view}
+use Rattle.ccr_runs.specs.Visible.{visible}
 
 -- a suspended task, with the causes at the end of its play
 abbrev pub suspended_view : Parts → List Event → TaskId → Task

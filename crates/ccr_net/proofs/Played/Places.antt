@@ -6,8 +6,8 @@ use Rattle.ccr_base.specs.declared.names.Place.TheVariants as places
 use Rattle.ccr_wiring.specs.declared.parts.Parts.{Parts}
 use Rattle.ccr_model.proofs.Booleans.{same_number, eq-self, both}
 use Rattle.ccr_object.specs.Starts.{places_of}
-use Rattle.ccr_net.specs.Played.{position_of, number_at, place_at}
-use Rattle.ccr_net.specs.Runs.{same_place}
+use Rattle.ccr_runs.specs.Played.{position_of, number_at, place_at}
+use Rattle.ccr_runs.specs.EntryRuns.{same_place}
 
 pub same_place-is : (p q : Place) → same_place p q ≡ true → p ≡ q
 same_place-is (places.Port p) (places.Port q) is = ap places.Port (same_number p q is)

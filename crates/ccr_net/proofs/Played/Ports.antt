@@ -25,10 +25,10 @@ use Rattle.ccr_claim.specs.Attempts.{at_place}
 use Rattle.ccr_object.specs.declared.object.Object.TheVariants.{Port, Meter}
 use Rattle.ccr_object.specs.Ports as port_objects
 use Rattle.ccr_object.specs.Meters as meter_objects
-use Rattle.ccr_net.specs.declared.entries.Entry.{Entry}
-use Rattle.ccr_net.specs.Places.{port_note, meter_note, port_after}
-use Rattle.ccr_net.specs.Runs.{notes_at, port_at, reply_of, reply_to, same_place, claim_reply, draw_reply}
-use Rattle.ccr_net.specs.Visible.{visible}
+use Rattle.ccr_runs.specs.declared.entries.Entry.{Entry}
+use Rattle.ccr_runs.specs.Places.{port_note, meter_note, port_after}
+use Rattle.ccr_runs.specs.EntryRuns.{notes_at, port_at, reply_of, reply_to, same_place, claim_reply, draw_reply}
+use Rattle.ccr_runs.specs.Visible.{visible}
 use Rattle.ccr_net.proofs.Kept.Assembly.{meter_at, meter_at-push}
 use Rattle.ccr_net.proofs.Parts.Noted.{Given, given_some}
 use Rattle.ccr_net.proofs.Played.Objects.{AnswersAs}

@@ -24,11 +24,11 @@ use Rattle.ccr_claim.specs.declared.asks.Reply.TheVariants as replies
 use Rattle.ccr_claim.specs.Attempts.{at_place}
 use Rattle.ccr_object.specs.declared.object.Object.TheVariants.{Queue}
 use Rattle.ccr_object.specs.Queues as objects
-use Rattle.ccr_net.specs.declared.entries.Entry.{Entry}
-use Rattle.ccr_net.specs.Places.{queue_note}
-use Rattle.ccr_net.specs.Runs.{Lacks, notes_at, reply_to, book_reply, same_place}
-use Rattle.ccr_net.specs.Views.{view}
-use Rattle.ccr_net.specs.Visible.{visible, event_of}
+use Rattle.ccr_runs.specs.declared.entries.Entry.{Entry}
+use Rattle.ccr_runs.specs.Places.{queue_note}
+use Rattle.ccr_runs.specs.EntryRuns.{Lacks, notes_at, reply_to, book_reply, same_place}
+use Rattle.ccr_runs.specs.Views.{view}
+use Rattle.ccr_runs.specs.Visible.{visible, event_of}
 use Rattle.ccr_net.proofs.Kept.Assembly.{Holds}
 use Rattle.ccr_net.proofs.Parts.Noted.{Given, given_some}
 use Rattle.ccr_net.proofs.Played.HandedTasks.{PutTells}

@@ -28,10 +28,10 @@ use Rattle.ccr_object.specs.Objects.{after_deed, reply_of}
 use Rattle.ccr_runs.specs.declared.acts.Act.{Act}
 use Rattle.ccr_runs.specs.Runs.{Cast, IsRunFrom, cast, taught}
 use Rattle.ccr_runs.specs.Stories.{Scene, moved}
-use Rattle.ccr_net.specs.declared.entries.Entry.{Entry}
+use Rattle.ccr_runs.specs.declared.entries.Entry.{Entry}
 use Rattle.ccr_net.specs.Acted.{Stage}
-use Rattle.ccr_net.specs.Played.{Heard, entries_of, heard, next_of, numbered, rules, scene}
-use Rattle.ccr_net.specs.Runs.{Lacks, entry_for, made_by, never, replies_of, scheduled, scheduled_from, with_made, IsRun, IsRunAfter}
+use Rattle.ccr_runs.specs.Played.{Heard, entries_of, heard, next_of, numbered, rules, scene}
+use Rattle.ccr_runs.specs.EntryRuns.{Lacks, entry_for, made_by, never, replies_of, scheduled, scheduled_from, with_made, IsRun, IsRunAfter}
 use Rattle.ccr_net.specs.Schedules.{IsActing, IsPlayed, IsShortAfter, IsStep}
 use Rattle.ccr_net.specs.Shortages.{SoFar, counted, is_refused, lacking, make, refuse, shortened as run_shortened, turned, turned_by, turned_from, HasRun, IsTaken, IsTurn}
 use Rattle.ccr_net.proofs.Played.Acted.{differs}

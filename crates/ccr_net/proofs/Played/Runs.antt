@@ -27,10 +27,10 @@ use Rattle.ccr_object.proofs.Numbering.{known_from}
 use Rattle.ccr_runs.specs.declared.acts.Act.{Act}
 use Rattle.ccr_runs.specs.Runs.{Cast, IsGiven, IsRunFrom, cast, state_after, taught}
 use Rattle.ccr_runs.specs.Stories.{Scene, moved, story}
-use Rattle.ccr_net.specs.declared.entries.Entry.{Entry}
-use Rattle.ccr_net.specs.Places.{note_of}
-use Rattle.ccr_net.specs.Played.{rules, scene, next_of, numbered, number_at, place_at, heard, entry_of, entries_of}
-use Rattle.ccr_net.specs.Runs.{Lacks, IsRunAfter, entry_for, last_stamp, made_by, next_stamp, notes_at, replies_of, reply_for, reply_of, same_place}
+use Rattle.ccr_runs.specs.declared.entries.Entry.{Entry}
+use Rattle.ccr_runs.specs.Places.{note_of}
+use Rattle.ccr_runs.specs.Played.{rules, scene, next_of, numbered, number_at, place_at, heard, entry_of, entries_of}
+use Rattle.ccr_runs.specs.EntryRuns.{Lacks, IsRunAfter, entry_for, last_stamp, made_by, next_stamp, notes_at, replies_of, reply_for, reply_of, same_place}
 use Rattle.ccr_net.proofs.Played.Objects.{AnswersAs, object_of, told_object}
 use Rattle.ccr_net.proofs.Played.Places.{Stands, stands, place_at-stands, number_test, same_place-is}
 use Rattle.ccr_net.proofs.Played.Steps.{IsNextAsk, StepFacts}

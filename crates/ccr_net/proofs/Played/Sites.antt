@@ -30,11 +30,11 @@ use Rattle.ccr_claim.specs.Attempts.{at_place}
 use Rattle.ccr_object.specs.declared.object.Object.TheVariants.{Site}
 use Rattle.ccr_object.specs.Commits.{committed}
 use Rattle.ccr_object.specs.Sites as objects
-use Rattle.ccr_net.specs.declared.entries.Entry.{Entry}
-use Rattle.ccr_net.specs.Places.{site_note, commit_note}
-use Rattle.ccr_net.specs.Runs.{Lacks, notes_at, reply_to, same_place, waits}
-use Rattle.ccr_net.specs.Views.{view}
-use Rattle.ccr_net.specs.Visible.{visible, event_of}
+use Rattle.ccr_runs.specs.declared.entries.Entry.{Entry}
+use Rattle.ccr_runs.specs.Places.{site_note, commit_note}
+use Rattle.ccr_runs.specs.EntryRuns.{Lacks, notes_at, reply_to, same_place, waits}
+use Rattle.ccr_runs.specs.Views.{view}
+use Rattle.ccr_runs.specs.Visible.{visible, event_of}
 use Rattle.ccr_net.proofs.Kept.Assembly.{Holds}
 use Rattle.ccr_net.proofs.Played.BuiltTasks.{IsResuming}
 use Rattle.ccr_net.proofs.Parts.Noted.{Given, given_some}

@@ -20,10 +20,10 @@ use Rattle.ccr_object.specs.declared.object.Object.TheVariants.{Interleave}
 use Rattle.ccr_object.specs.Starts.{start_at, fresh_arbiter, kind_of, member_at, member_of, members, branches_of, groups_of}
 use Rattle.ccr_actor.specs.Plans.{is_interleave_number}
 use Rattle.ccr_actor.specs.Plans as plans
-use Rattle.ccr_net.specs.declared.entries.Entry.{Entry}
-use Rattle.ccr_net.specs.Places.{branches_from, groups_in}
-use Rattle.ccr_net.specs.Runs.{notes_at}
-use Rattle.ccr_net.specs.Visible.{visible}
+use Rattle.ccr_runs.specs.declared.entries.Entry.{Entry}
+use Rattle.ccr_runs.specs.Places.{branches_from, groups_in}
+use Rattle.ccr_runs.specs.EntryRuns.{notes_at}
+use Rattle.ccr_runs.specs.Visible.{visible}
 use Rattle.ccr_net.proofs.Parts.Domain.{domain_at}
 use Rattle.ccr_net.proofs.Kept.PlainFacts.{PlainFacts}
 use Rattle.ccr_net.proofs.Played.Objects.{object_of, told_interleave, told_object}

@@ -7,9 +7,9 @@ use Rattle.ccr_claim.specs.declared.asks.Asked.{Asked}
 use Rattle.ccr_actor.specs.Actors.{next}
 use Rattle.ccr_claim.specs.Wired.{IsKnown}
 use Rattle.ccr_object.specs.Starts.{places_of}
-use Rattle.ccr_net.specs.declared.entries.Entry.{Entry}
-use Rattle.ccr_net.specs.Places.{note_of}
-use Rattle.ccr_net.specs.Runs.{Lacks, IsRunAfter, notes_at, replies_of, same_place}
+use Rattle.ccr_runs.specs.declared.entries.Entry.{Entry}
+use Rattle.ccr_runs.specs.Places.{note_of}
+use Rattle.ccr_runs.specs.EntryRuns.{Lacks, IsRunAfter, notes_at, replies_of, same_place}
 use Rattle.ccr_net.proofs.Played.Objects.{AnswersAs, object_of}
 use Rattle.ccr_net.proofs.Parts.Pushes.{Step}
 

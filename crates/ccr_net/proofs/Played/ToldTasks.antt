@@ -19,9 +19,10 @@ use Rattle.ccr_model.proofs.FiredTasks.{IsFired}
 use Rattle.ccr_model.proofs.Members.{Among}
 use Rattle.ccr_model.proofs.SameNames.{same_task-self}
 use Rattle.ccr_model.proofs.Stable.{play_of-append}
-use Rattle.ccr_net.specs.Views.{view, cut_view}
+use Rattle.ccr_runs.specs.Views.{view, cut_view}
 use Rattle.ccr_net.proofs.Parts.Work.{view-stays}
 use Rattle.ccr_net.proofs.Played.Objects.{suspended_view}
+pub use Rattle.std.proofs.lemmas.List.{map-append as map_behind}
 
 -- ---- lists
 
@@ -32,10 +33,6 @@ map_on f g (x ∷ xs) same = ap (λ y. y ∷ map f xs) (same x (inl refl)) ∙ a
 pub map_twice : {X Y Z : Type 0} (f : Y → Z) (g : X → Y) (xs : List X) → map f (map g xs) ≡ map (λ x. f (g x)) xs
 map_twice f g [] = refl
 map_twice f g (x ∷ xs) = ap (λ ys. f (g x) ∷ ys) (map_twice f g xs)
-
-pub map_behind : {X Y : Type 0} (f : X → Y) (xs ys : List X) → map f (xs ++ ys) ≡ map f xs ++ map f ys
-map_behind f [] ys = refl
-map_behind f (x ∷ xs) ys = ap (λ zs. f x ∷ zs) (map_behind f xs ys)
 
 pub map_drop : {X Y : Type 0} (f : X → Y) (n : ℕ) (xs : List X) → map f (drop n xs) ≡ drop n (map f xs)
 map_drop f zero xs = refl

@@ -17,8 +17,8 @@ use Rattle.ccr_claim.specs.declared.asks.Asked.{Asked}
 use Rattle.ccr_claim.specs.declared.asks.Reply.{Reply}
 use Rattle.ccr_actor.specs.Actors.{State, after, state_after, turn}
 use Rattle.ccr_actor.specs.Actors as actors
-use Rattle.ccr_actor.specs.Acting.{Acting, Asking, quiet, settling, going, answered, at_state, is_at_rest, kept, next, pair_of, rests_by, sent, shortened, started, IsAfter}
-use Rattle.ccr_actor.proofs.Followed.{state_more, step_is}
+use Rattle.ccr_actor.specs.Acting.{Acting, Asking, quiet, settling, going, answered, at_state, is_at_rest, kept, next, rests_by, sent, shortened, started, IsAfter}
+use Rattle.ccr_actor.proofs.Followed.{state_more, step_is, no-ask as resting}
 use Rattle.ccr_actor.proofs.Kept.{after_short, kept_after, kept_asked, kept_short}
 use Rattle.ccr_object.specs.declared.deed.Answer.TheVariants.{Replied}
 use Rattle.ccr_object.specs.declared.deed.Deed.{Deed}
@@ -27,10 +27,10 @@ use Rattle.ccr_object.specs.Objects.{after_deed, reply_of}
 use Rattle.ccr_runs.specs.declared.acts.Act.{Act}
 use Rattle.ccr_runs.specs.Runs.{Cast, IsGiven, IsRunFrom, cast, taught}
 use Rattle.ccr_runs.specs.Stories.{Scene, moved}
-use Rattle.ccr_net.specs.declared.entries.Entry.{Entry}
+use Rattle.ccr_runs.specs.declared.entries.Entry.{Entry}
 use Rattle.ccr_net.specs.Acted.{Stage, act_after, scene_from, scene_after, stamp_from}
-use Rattle.ccr_net.specs.Played.{entries_of, entry_of, heard, next_of, number_at, numbered, place_at, rules, scene}
-use Rattle.ccr_net.specs.Runs.{Lacks, IsRunAfter, entry_for, made_by, never, replies_of, scheduled_from, with_made}
+use Rattle.ccr_runs.specs.Played.{entries_of, entry_of, heard, next_of, number_at, numbered, place_at, rules, scene}
+use Rattle.ccr_runs.specs.EntryRuns.{Lacks, IsRunAfter, entry_for, made_by, never, replies_of, scheduled_from, with_made}
 use Rattle.ccr_net.specs.Schedules.{AreStarted, IsActing, IsAnswered, IsMet, IsPlayed, IsShortAfter, IsStep}
 use Rattle.ccr_net.proofs.Played.Acted.{differs}
 use Rattle.ccr_net.proofs.Played.Facts.{step_facts}
@@ -201,12 +201,6 @@ acting_reply w lacks es more k a b one reply acting asks so long heard =
 
 -- ---- at rest
 
-resting : (asking : Asking) (o : Option Asked) → rests_by asking o ≡ true → o ≡ None
-resting quiet None rest = refl
-resting quiet (Some one) rest = absurd (cc)
-resting (settling due) o rest = absurd (cc)
-resting (going due) o rest = absurd (cc)
-
 pub rests : (a : Acting) → is_at_rest a ≡ true → next a ≡ None
 rests a rest = resting a.asking (next a) rest
 
@@ -324,13 +318,6 @@ module _ (workers : ℕ) (lacks : Lacks) (stage : Stage) (team : List Acting) (e
     wiring_so = step.made.wiring
 
 -- ---- what was asked
-
-pub asks_of : (o : Option Asked) (place : Place) (ask : Ask) → Some (place, ask) ≡ option_map pair_of o → o ≡ Some (record { place = place; ask = ask })
-asks_of None place ask is = absurd (cc)
-asks_of (Some one) place ask is =
-    let same : pair_of one ≡ (place, ask) = cc in
-    let P : (Place × Ask) → Option Asked = λ p. Some (record { place = p.0; ask = p.1 }) in
-    ap P same
 
 -- a step, once what was asked is answered
 pub step_of : (stage later : Stage) (a before b : Acting) (entries more : List Entry) (place : Place) (ask : Ask) → next a ≡ Some (record { place = place; ask = ask }) → before ≡ sent a → IsAnswered stage before entries place ask later b more → IsStep stage a entries later b more

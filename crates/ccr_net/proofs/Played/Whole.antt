@@ -9,9 +9,9 @@ use Rattle.ccr_claim.specs.declared.asks.Ask.{Ask}
 use Rattle.ccr_claim.specs.declared.asks.Ask.TheVariants as asks
 use Rattle.ccr_claim.specs.Attempts.{at_place}
 use Rattle.ccr_actor.specs.Plans.{is_interleave_number}
-use Rattle.ccr_net.specs.declared.entries.Entry.{Entry}
-use Rattle.ccr_net.specs.Places.{note_of}
-use Rattle.ccr_net.specs.Runs.{Lacks, IsRunAfter, made_by, notes_at, same_place}
+use Rattle.ccr_runs.specs.declared.entries.Entry.{Entry}
+use Rattle.ccr_runs.specs.Places.{note_of}
+use Rattle.ccr_runs.specs.EntryRuns.{Lacks, IsRunAfter, made_by, notes_at, same_place}
 use Rattle.ccr_net.proofs.Kept.Assembly.{Holds}
 use Rattle.ccr_net.proofs.Played.BuiltTasks.{commit_tells, resume_tells}
 use Rattle.ccr_net.proofs.Played.HandedTasks.{Handed, Handed-begins, Handed-kept, put_tells, suspend_tells}

@@ -21,26 +21,17 @@ use Rattle.ccr_wiring.specs.declared.parts.ArbiterPart.{ArbiterPart}
 use Rattle.ccr_wiring.specs.declared.parts.Kind.{Kind}
 use Rattle.ccr_places.specs.declared.notes.Note.{Note}
 use Rattle.ccr_places.specs.TaskSets.{TaskSet, task_cmp, task_cmp_total}
-use Rattle.ccr_net.specs.declared.entries.Entry.{Entry}
-
--- sets of tasks, step by step
-pub in-none : (t : TaskId) → set.contains (set.empty {R = task_cmp}) t ≡ false
-in-none = set.contains-empty task_cmp
-
-pub in-more : (tasks : TaskSet) (t u : TaskId) → set.contains (set.insert tasks t) u ≡ (eq_by_cmp task_cmp u t || set.contains tasks u)
-in-more = set.contains-insert task_cmp_total
+use Rattle.ccr_runs.specs.declared.entries.Entry.{Entry}
+pub use Rattle.ccr_places.proofs.Worked.{in-none}
+pub use Rattle.ccr_places.proofs.Worked.{in-more}
+pub use Rattle.ccr_places.proofs.Worked.{len-more}
+pub use Rattle.ccr_places.proofs.Worked.{len-less}
 
 pub in-less : (tasks : TaskSet) (t u : TaskId) → set.contains (set.remove tasks t) u ≡ (not (eq_by_cmp task_cmp u t) && set.contains tasks u)
 in-less = set.contains-remove task_cmp_total
 
 pub len-none : set.len (set.empty {R = task_cmp}) ≡ 0
 len-none = set.len-empty task_cmp
-
-pub len-more : (tasks : TaskSet) (t : TaskId) → set.len (set.insert tasks t) ≡ cond (set.contains tasks t) (set.len tasks) (set.len tasks + 1)
-len-more = set.len-insert task_cmp_total
-
-pub len-less : (tasks : TaskSet) (t : TaskId) → set.len (set.remove tasks t) ≡ cond (set.contains tasks t) (set.len tasks - 1) (set.len tasks)
-len-less = set.len-remove task_cmp_total
 
 abbrev pub task : ℕ → ℕ → TaskId
 task a k = record { actor = a; attempt = k }

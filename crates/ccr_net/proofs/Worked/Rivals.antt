@@ -16,9 +16,9 @@ use Rattle.ccr_model.specs.Legal.{first_refusal, is_covered}
 use Rattle.ccr_model.specs.Order.{finished_in}
 use Rattle.ccr_places.specs.declared.notes.Note.TheVariants as notes
 use Rattle.ccr_places.specs.declared.notes.ClaimNote.TheVariants.{Got, Busy, Short}
-use Rattle.ccr_net.specs.declared.entries.Entry.{Entry}
-use Rattle.ccr_net.specs.Visible.{visible}
-use Rattle.ccr_net.specs.Runs.{made_by, never, IsRun}
+use Rattle.ccr_runs.specs.declared.entries.Entry.{Entry}
+use Rattle.ccr_runs.specs.Visible.{visible}
+use Rattle.ccr_runs.specs.EntryRuns.{made_by, never, IsRun}
 use Rattle.ccr_net.proofs.Worked.Nets.{in-none, in-more, in-less, task, message, sent, one_of, queue, arbiter, handler_part, poster_part, parts, entry}
 
 ruleset sets = (in-none, in-more, in-less)

@@ -14,9 +14,9 @@ use Rattle.ccr_model.specs.declared.history.Event.TheVariants.{Post, Fire, Put, 
 use Rattle.ccr_model.specs.Legal.{IsLegal, first_refusal}
 use Rattle.ccr_places.specs.declared.notes.Note.TheVariants as notes
 use Rattle.ccr_places.specs.declared.notes.ClaimNote.TheVariants.{Got}
-use Rattle.ccr_net.specs.declared.entries.Entry.{Entry}
-use Rattle.ccr_net.specs.Visible.{visible}
-use Rattle.ccr_net.specs.Runs.{made_by, never, IsRun}
+use Rattle.ccr_runs.specs.declared.entries.Entry.{Entry}
+use Rattle.ccr_runs.specs.Visible.{visible}
+use Rattle.ccr_runs.specs.EntryRuns.{made_by, never, IsRun}
 use Rattle.ccr_net.proofs.Kept.Refines.{visible_legal}
 use Rattle.ccr_net.proofs.Worked.Nets.{in-none, in-more, in-less, len-none, len-more, len-less, task, message, sent, one_of, queue, arbiter, handler_part, poster_part, parts, entry}
 

@@ -2,16 +2,15 @@
 
 ghost use Rattle.std.specs.Prelude.{◌≡◌, ◌≤◌, ℕ, ◌<◌, ◌++◌, ◌∷◌, [], if◌then◌else◌, length, map, All, IfOk, OnOk, vec_capacity};
 ghost use Rattle.ccr_turns.specs.Locks.{IsSeatOf};
-ghost use Rattle.ccr_net.specs.Visible.{visible as shown};
+ghost use Rattle.ccr_runs.specs.Visible.{visible as shown};
 ghost use Rattle.ccr_space.specs.Spaces.{HasPlaces, HasSeat, IsPassOf, IsSpace, actor_count, is_stopped_in, stopped_of};
 ghost use Rattle.ccr_space.specs.Closes.{IsClosed, IsKeptOf};
 
 use super::{Pass, PassOf, Space, SpaceOf};
 use ccr_base::{ActorNo, List, OutOfMemory};
 use ccr_model::History;
-use ccr_net::{Full, full_of, visible};
 use ccr_object::{Deed, PlaceObject};
-use ccr_runs::merge;
+use ccr_runs::{Full, full_of, history_of, merge};
 use ccr_turns::{Held, Seat};
 use std::alloc::Global;
 
@@ -45,7 +44,7 @@ impl<'w> Space<'w> {
         let kept = self.unlock(alloc, List::from_vec(seats))?;
         let acts = merge(alloc, kept)?;
         let full = full_of(alloc, wiring, acts)?;
-        let history = visible(alloc, wiring, &full)?;
+        let history = history_of(alloc, &full)?;
         Ok(Closed {
             full,
             history,

@@ -2,14 +2,15 @@
 
 ghost use Rattle.std.specs.Prelude.{◌≡◌, ◌+◌, ◌≤◌, [], length, map, All, IfOk};
 ghost use Rattle.std.specs.List.{range_with_len};
+ghost use Rattle.ccr_base.specs.Bounds.{most_workers};
 ghost use Rattle.ccr_turns.specs.Locks.{IsSeatOf, keep_of, number_of, log_of};
 ghost use Rattle.ccr_space.specs.Spaces.{HasPlaces, IsPassOf, IsSpace, actor_count, log, number, wiring_of};
 
 use super::{Pass, PassOf, Space, SpaceOf};
 use ccr_actor::{Actor, actor_count};
 use ccr_base::{List, OutOfMemory};
-use ccr_net::Directory;
 use ccr_object::{PlaceObject, place_objects};
+use ccr_runs::Directory;
 use ccr_turns::{Keep, Seat, Turns};
 use ccr_wiring::Wiring;
 use std::alloc::Global;
@@ -22,7 +23,7 @@ impl<'w> Space<'w> {
         wiring: &'w Wiring,
         workers: u32,
     ) -> Result<(Space<'w>, List<Pass<'w>>), OutOfMemory>
-        requires workers { workers ≤ 16 }
+        requires workers { workers ≤ most_workers }
         requires actors { 1 ≤ length wiring.now.posters + workers }
         ensures space { IfOk result (λ made. IsSpace made.0) }
         ensures wiring { IfOk result (λ made. wiring_of made.0 ≡ wiring.now) }
@@ -41,7 +42,7 @@ impl<'w> Space<'w> {
         workers: u32,
         keep: Keep,
     ) -> Result<(Space<'w>, List<Pass<'w>>), OutOfMemory>
-        requires workers { workers ≤ 16 }
+        requires workers { workers ≤ most_workers }
         requires actors { 1 ≤ length wiring.now.posters + workers }
         ensures space { IfOk result (λ made. HasPlaces made.0) }
         ensures keep { IfOk result (λ made. keep_of made.0.turns ≡ keep) }

@@ -9,9 +9,8 @@ use super::close::{seats_of, short_of};
 use super::{Pass, Space};
 use ccr_base::{ActorNo, List, OutOfMemory};
 use ccr_model::{Event, History};
-use ccr_net::event_of;
 use ccr_object::Deed;
-use ccr_runs::{Act, Deal};
+use ccr_runs::{Act, Deal, event_of};
 use std::alloc::Global;
 
 /// The history that the closed locks show, and the actors whose passes are stopped.

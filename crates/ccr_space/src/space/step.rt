@@ -7,8 +7,8 @@ ghost use Rattle.ccr_space.specs.Spaces.{HasPlaces, IsPassOf, IsAtRest, IsHeard,
 
 use super::pausing::Pausing;
 use super::{Pass, Space};
-use ccr_actor::{Actor, point_after, point_before};
-use ccr_base::{ActorNo, Gate, OpenGate};
+use ccr_actor::Actor;
+use ccr_base::{Gate, OpenGate};
 use ccr_claim::Reply;
 use ccr_object::Answer;
 use std::sync::Wait;
@@ -67,19 +67,13 @@ impl Space<'_> {
         if pass.actor.at_rest() {
             return Step::Rest;
         }
-        let number = pass.seat.number();
-        let Some((place, ask)) = pass.actor.next() else {
-            unreachable!();
-        };
+        let (place, ask) = pass.actor.ask(gate);
         pausing.before(rt, &ask);
-        if let Some(point) = point_before(&ask) {
-            gate.at(point, number);
-        }
         let at = self.directory.number(place);
         match self.turns.act(rt, &mut pass.seat, at, ask) {
             Ok(answer) => {
                 pausing.hear(&answer);
-                let (step, stopped) = heard(gate, number, &mut pass.actor, answer);
+                let (step, stopped) = heard(gate, &mut pass.actor, answer);
                 pass.stopped = stopped;
                 step
             }
@@ -113,29 +107,24 @@ impl Space<'_> {
 }
 
 /// Hands the answer to the actor, and tells what the step came to, and whether the pass is stopped.
-fn heard<G: Gate>(gate: &G, number: ActorNo, actor: &mut Actor<'_>, answer: Answer) -> (Step, bool)
+fn heard<G: Gate>(gate: &G, actor: &mut Actor<'_>, answer: Answer) -> (Step, bool)
     requires fits { (reply : _) → answer ≡ Answer.Replied reply → fits (due_in actor.old.asking) reply ≡ true }
     ensures made { answer ≡ Answer.Unmet → result ≡ (Step.Unmet, true) }
     ensures replied { (reply : _) → answer ≡ Answer.Replied reply → result ≡ (Step.Made, actor.new.state.is_short) }
     ensures going { result.1 ≡ false → IsHeard actor.old answer actor.new }
 {
     match answer {
-        Answer::Replied(reply) => {
-            if let Some(point) = point_after(&reply) {
-                gate.at(point, number);
-            }
-            (Step::Made, told(actor, reply))
-        }
+        Answer::Replied(reply) => (Step::Made, told(gate, actor, reply)),
         Answer::Unmet => (Step::Unmet, true),
     }
 }
 
 /// Hands the reply to the actor, and tells whether it is short.
-fn told(actor: &mut Actor<'_>, reply: Reply) -> bool
+fn told<G: Gate>(gate: &G, actor: &mut Actor<'_>, reply: Reply) -> bool
     requires fits { fits (due_in actor.old.asking) reply ≡ true }
     ensures after { IsAfter actor.old (Ok reply) actor.new }
     ensures short { result ≡ actor.new.state.is_short }
 {
-    actor.got(Ok(reply));
+    actor.hear(gate, Ok(reply));
     actor.short()
 }

@@ -1,16 +1,14 @@
 //! All passes side by side.
 
-ghost use Rattle.std.specs.Prelude.{◌≡◌, ◌+◌, ◌≤◌, ◌<◌, ℕ, [], length, true, All, IfOk};
-ghost use Rattle.ccr_model.specs.Legal.{IsLegal, is_covered};
-ghost use Rattle.ccr_net.specs.Runs.{IsRunAfter, never};
-ghost use Rattle.ccr_net.specs.Visible.{visible as shown};
+ghost use Rattle.std.specs.Prelude.{◌≡◌, ◌+◌, ◌≤◌, length, All, IfOk};
+ghost use Rattle.ccr_base.specs.Bounds.{most_workers};
+ghost use Rattle.ccr_runs.specs.Visible.{visible as shown};
 ghost use Rattle.ccr_turns.specs.Locks.{keep_of};
 ghost use Rattle.ccr_space.specs.Spaces.{HasPlaces, IsAtRest, IsPassOf};
-ghost use Rattle.ccr_space.specs.Closes.{IsAtEnd, IsBroughtToRest, IsOfRunToRest, IsRested, IsShownAtRest};
+ghost use Rattle.ccr_space.specs.Closes.{IsBroughtToRest, IsDone, IsRested, IsShownAtRest};
 
 use super::{Closed, Pass, Seen, Space};
 use ccr_base::{Gate, List, OutOfMemory};
-use ccr_net::{played_runs_are_runs, visible_runs_are_legal_and_covered};
 use ccr_turns::Keep;
 use ccr_wiring::Wiring;
 use std::alloc::{AllocError, Global};
@@ -18,66 +16,41 @@ use std::sync::Wait;
 use std::thread;
 use std::thread::Threads;
 
-/// Runs all posters and so many workers to rest, each in a thread of its own where one can be made, and closes. The history is what
-/// some run shows in which each step was its actor's next one, and after which each actor that isn't short has no next step. What shows
-/// nothing there has no place in memory.
-pub fn run_threads<R: Threads + Wait + Sync, G: Gate + Sync>(
+/// Runs all posters and so many workers to rest, each in a thread of its own where one can be made, and closes. The history is what the
+/// closed locks tell. What shows nothing there has no place in memory.
+pub fn shown_threads<R: Threads + Wait + Sync, G: Gate + Sync>(
     rt: &R,
     alloc: Global,
     wiring: &Wiring,
     workers: u32,
     gate: &G,
 ) -> Result<Seen, OutOfMemory>
-    requires workers { workers ≤ 16 }
-    requires actors { 1 ≤ length wiring.now.posters + workers }
-    ensures run { IfOk result (λ seen. IsOfRunToRest wiring.now workers seen.history seen.short) }
-    ensures legal { IfOk result (λ seen. IsLegal wiring.now seen.history) }
-    ensures covered { IfOk result (λ seen. is_covered wiring.now seen.history ≡ true) }
-{
-    played_runs_are_runs();
-    visible_runs_are_legal_and_covered();
-    let _valid = wiring.parts();
-    let seen = shown_threads(rt, alloc, wiring, workers, gate)?;
-    Ok(seen)
-}
-
-/// The same, with every entry: what shows nothing in the history too.
-pub fn run_threads_in_full<R: Threads + Wait + Sync, G: Gate + Sync>(
-    rt: &R,
-    alloc: Global,
-    wiring: &Wiring,
-    workers: u32,
-    gate: &G,
-) -> Result<Closed, OutOfMemory>
-    requires workers { workers ≤ 16 }
-    requires actors { 1 ≤ length wiring.now.posters + workers }
-    ensures run { IfOk result (λ closed. IsRunAfter wiring.now workers never [] closed.full.entries) }
-    ensures rest { IfOk result (λ closed. (actor : ℕ) → actor < length wiring.now.posters + workers → IsAtEnd wiring.now closed.full.entries closed.short actor) }
-    ensures threads { IfOk result (λ closed. IsBroughtToRest wiring.now (length wiring.now.posters + workers) closed.full.entries closed.short) }
-    ensures history { IfOk result (λ closed. closed.history ≡ shown closed.full.entries) }
-{
-    played_runs_are_runs();
-    let _valid = wiring.parts();
-    let (space, passes) = rested_space(rt, alloc, wiring, workers, gate, Keep::Every)?;
-    let closed = space.close(alloc, passes)?;
-    Ok(closed)
-}
-
-/// The same as `run_threads`, as the closed locks tell it.
-fn shown_threads<R: Threads + Wait + Sync, G: Gate + Sync>(
-    rt: &R,
-    alloc: Global,
-    wiring: &Wiring,
-    workers: u32,
-    gate: &G,
-) -> Result<Seen, OutOfMemory>
-    requires workers { workers ≤ 16 }
+    requires workers { workers ≤ most_workers }
     requires actors { 1 ≤ length wiring.now.posters + workers }
     ensures { IfOk result (λ seen. IsShownAtRest wiring.now (length wiring.now.posters + workers) seen.history seen.short) }
 {
     let (space, passes) = rested_space(rt, alloc, wiring, workers, gate, Keep::Seen)?;
     let seen = space.show(alloc, passes)?;
     Ok(seen)
+}
+
+/// The same, with every entry: what shows nothing in the history too.
+pub fn closed_threads<R: Threads + Wait + Sync, G: Gate + Sync>(
+    rt: &R,
+    alloc: Global,
+    wiring: &Wiring,
+    workers: u32,
+    gate: &G,
+) -> Result<Closed, OutOfMemory>
+    requires workers { workers ≤ most_workers }
+    requires actors { 1 ≤ length wiring.now.posters + workers }
+    ensures threads { IfOk result (λ closed. IsBroughtToRest wiring.now (length wiring.now.posters + workers) closed.full.entries closed.short) }
+    ensures done { IfOk result (λ closed. IsDone wiring.now (length wiring.now.posters + workers) closed.full.entries closed.short) }
+    ensures history { IfOk result (λ closed. closed.history ≡ shown closed.full.entries) }
+{
+    let (space, passes) = rested_space(rt, alloc, wiring, workers, gate, Keep::Every)?;
+    let closed = space.close(alloc, passes)?;
+    Ok(closed)
 }
 
 /// A space of the wiring, whose locks keep so much, and the passes of all its actors, which came to rest in threads.
@@ -89,7 +62,7 @@ fn rested_space<'w, R: Threads + Wait + Sync, G: Gate + Sync>(
     gate: &G,
     keep: Keep,
 ) -> Result<(Space<'w>, List<Pass<'w>>), OutOfMemory>
-    requires workers { workers ≤ 16 }
+    requires workers { workers ≤ most_workers }
     requires actors { 1 ≤ length wiring.now.posters + workers }
     ensures rested { IfOk result (λ made. IsRested wiring.now (length wiring.now.posters + workers) made.0 made.1) }
     ensures keep { IfOk result (λ made. keep_of made.0.turns ≡ keep) }

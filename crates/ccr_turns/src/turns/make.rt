@@ -2,6 +2,7 @@
 
 ghost use Rattle.std.specs.Prelude.{◌≡◌, ◌≤◌, [], length, map, replicate, All, IfOk, vec_capacity};
 ghost use Rattle.std.specs.List.{AllZip, range_with_len};
+ghost use Rattle.ccr_base.specs.Bounds.{most_places};
 ghost use Rattle.ccr_turns.specs.Logs.{fresh};
 ghost use Rattle.ccr_turns.specs.Views.{view};
 ghost use Rattle.ccr_turns.specs.Seated.{IsLaid};
@@ -56,7 +57,7 @@ impl<O: Kept> Turns<O> {
         keep: Keep,
     ) -> Result<(Turns<O>, List<Seat<O>>), OutOfMemory>
         requires seats { (1 ≤ seats) × (seats ≤ 33) }
-        requires places { (1 ≤ length objects) × (length objects ≤ 8192) }
+        requires places { (1 ≤ length objects) × (length objects ≤ most_places) }
 
         ensures objects { IfOk result (λ made. starts made.0 ≡ objects) }
         ensures places { IfOk result (λ made. place_count made.0 ≡ length objects) }

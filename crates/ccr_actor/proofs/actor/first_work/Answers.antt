@@ -7,6 +7,7 @@ use Rattle.std.proofs.lemmas.Option.{get_or_from_slice_get, slice_get_past, slic
 use Rattle.ccr_wiring.specs.declared.parts.PosterPart.{PosterPart}
 use Rattle.ccr_wiring.specs.Limits.{posts_in_all}
 use Rattle.ccr_wiring.proofs.Soundness.{sound}
+use Rattle.ccr_claim.specs.Lines.{LinesLeft}
 use Rattle.ccr_actor.specs.Actors.{lines, round}
 use Rattle.ccr_actor.proofs.actor.first_work.Goals as goal
 
@@ -28,7 +29,9 @@ returns-in-Some-clause-counted c =
     let few = of-all w.posters c.args.number c.in-Some.poster.now (subst (λ posters. slice_get posters c.args.number ≡ Some c.in-Some.poster.now) are there) in
     let limit : posts_in_all w.posters ≤ 10000 = (sound w c.parts.ensures.valid).small.posts in
     let posts = ap length c.as_slice-in-Some.ensures in
-    omega (arith, few, limit, posts)
+    let place = ap (λ (l : LinesLeft). l.place) c.of.ensures in
+    let left = ap (λ (l : LinesLeft). length l.left) c.of.ensures in
+    omega (arith, few, limit, posts, place, left)
 
 pub returns-in-None-clause-work : goal.returns-in-None-clause-work
 returns-in-None-clause-work c =

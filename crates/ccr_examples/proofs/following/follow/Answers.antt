@@ -1,4 +1,4 @@
-use Rattle.ccr_net.specs.Runs.{IsRun, never}
+use Rattle.ccr_runs.specs.EntryRuns.{IsRun, never}
 use Rattle.ccr_examples.proofs.following.follow.Goals as goal
 
 pub returns-clause-legal : goal.returns-clause-legal

@@ -1,5 +1,5 @@
 use Rattle.std.proofs.Common.{◌≡◌, [], ap, sym, ◌∙◌, ◌++◌, append-nil, arith}
-use Rattle.ccr_rows.specs.Rows.{row}
+use Rattle.ccr_ledger.specs.Rows.{row}
 use Rattle.ccr_ledger.proofs.Lacking.{none_past, none_taken}
 use Rattle.ccr_ledger.proofs.choices.add_slot_names.Goals as goal
 

@@ -1,6 +1,6 @@
 use Rattle.std.proofs.Common.{◌≡◌, Some, ap, refl, sym, ◌∙◌, arith, flat_map, append-nil}
 use Rattle.std.proofs.lemmas.List.{drop_all}
-use Rattle.ccr_rows.specs.Rows.{row}
+use Rattle.ccr_ledger.specs.Rows.{row}
 use Rattle.ccr_model.specs.Choice.{names_of}
 use Rattle.ccr_ledger.specs.Taking.{slot_takes}
 use Rattle.ccr_ledger.proofs.Lacking.{no_choice_of_slots, names_of_whole_choice}

@@ -1,6 +1,6 @@
 use Rattle.std.proofs.Common.{◌≡◌, ◌++◌, drop, flat_map}
 use Rattle.ccr_base.specs.declared.patterns.Slot.{Slot}
-use Rattle.ccr_rows.specs.Rows.{row}
+use Rattle.ccr_ledger.specs.Rows.{row}
 use Rattle.ccr_model.specs.Choice.{names_of}
 use Rattle.ccr_ledger.specs.Taking.{slot_takes}
 use Rattle.ccr_ledger.proofs.choices.names_of_slots.Given as goal

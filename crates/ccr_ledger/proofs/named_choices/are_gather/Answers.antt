@@ -1,6 +1,6 @@
 use Rattle.std.proofs.Common.{◌≡◌, ◌∙◌, ap, length, arith, take}
 use Rattle.std.proofs.lemmas.Bool.Decides.{nat_tests}
-use Rattle.ccr_rows.specs.Rows.{row}
+use Rattle.ccr_ledger.specs.Rows.{row}
 use Rattle.ccr_model.specs.Choice.{names_of}
 use Rattle.ccr_ledger.proofs.Fronts.{gather-told}
 use Rattle.ccr_ledger.proofs.named_choices.are_gather.Goals as goal

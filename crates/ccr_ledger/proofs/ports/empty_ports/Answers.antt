@@ -1,4 +1,4 @@
-use Rattle.ccr_rows.proofs.Views.{empty-more}
+use Rattle.ccr_ledger.proofs.Views.{empty-more}
 use Rattle.ccr_ledger.proofs.ports.empty_ports.Goals as goal
 
 pub loop-preserved : goal.loop-preserved

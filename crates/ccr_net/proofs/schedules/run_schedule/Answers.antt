@@ -4,8 +4,8 @@ use Rattle.ccr_wiring.specs.declared.parts.Parts.{Parts}
 use Rattle.ccr_wiring.specs.Valid.{IsValid}
 use Rattle.ccr_wiring.proofs.Soundness.{sound}
 use Rattle.ccr_actor.specs.Acting.{Acting}
-use Rattle.ccr_net.specs.declared.entries.Entry.{Entry}
-use Rattle.ccr_net.specs.Runs.{made_by, never, scheduled_from, with_made, IsRunAfter}
+use Rattle.ccr_runs.specs.declared.entries.Entry.{Entry}
+use Rattle.ccr_runs.specs.EntryRuns.{made_by, never, scheduled_from, with_made, IsRunAfter}
 use Rattle.ccr_net.specs.Schedules.{AreStarted, IsPlayed}
 use Rattle.ccr_net.proofs.Played.Acted.{written}
 use Rattle.ccr_net.proofs.Played.Turns.{ahead_so, played_run, played_start}

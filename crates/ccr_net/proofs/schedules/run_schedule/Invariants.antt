@@ -1,5 +1,5 @@
 use Rattle.std.proofs.Common.{◌≡◌, drop}
-use Rattle.ccr_net.specs.Runs.{never, scheduled, scheduled_from}
+use Rattle.ccr_runs.specs.EntryRuns.{never, scheduled, scheduled_from}
 use Rattle.ccr_net.specs.Schedules.{IsPlayed}
 use Rattle.ccr_net.proofs.schedules.run_schedule.Given as goal
 

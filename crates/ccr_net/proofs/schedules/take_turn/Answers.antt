@@ -1,7 +1,7 @@
 use Rattle.std.proofs.Common.{◌≡◌, false, get_or, sym, ap, ◌∙◌}
 use Rattle.std.proofs.lemmas.Option.{slice_get-get_or}
 use Rattle.ccr_actor.specs.Acting.{is_at_rest}
-use Rattle.ccr_net.specs.Runs.{never}
+use Rattle.ccr_runs.specs.EntryRuns.{never}
 use Rattle.ccr_net.proofs.Played.Acted.{ok_ok}
 use Rattle.ccr_net.proofs.Played.Turns.{acting_quiet, acting_so, asks_one, met_so, rest_made, rests, same_read, seat_few, step_made, step_played}
 use Rattle.ccr_net.proofs.schedules.take_turn.Goals as goal

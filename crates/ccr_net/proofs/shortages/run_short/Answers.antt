@@ -5,7 +5,7 @@ use Rattle.ccr_wiring.specs.declared.parts.Parts.{Parts}
 use Rattle.ccr_wiring.specs.Valid.{IsValid}
 use Rattle.ccr_wiring.proofs.Soundness.{sound}
 use Rattle.ccr_actor.specs.Acting.{Acting}
-use Rattle.ccr_net.specs.Runs.{never, IsRun}
+use Rattle.ccr_runs.specs.EntryRuns.{never, IsRun}
 use Rattle.ccr_net.specs.Schedules.{AreStarted, IsPlayed}
 use Rattle.ccr_net.specs.Shortages.{nothing_yet}
 use Rattle.ccr_net.proofs.Played.Acted.{written}

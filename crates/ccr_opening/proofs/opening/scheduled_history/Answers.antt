@@ -1,7 +1,7 @@
 use Rattle.std.proofs.Common.{◌≤◌, ◌+◌, length, sym, subst, arith, rules}
 use Rattle.ccr_model.specs.Firings.{fired}
 use Rattle.ccr_model.specs.Order.{next_attempt}
-use Rattle.ccr_net.specs.Runs.{IsRun, never}
+use Rattle.ccr_runs.specs.EntryRuns.{IsRun, never}
 use Rattle.ccr_opening.proofs.opening.scheduled_history.Goals as goal
 
 pub returns-clause-legal : goal.returns-clause-legal

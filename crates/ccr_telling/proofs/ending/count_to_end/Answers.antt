@@ -2,7 +2,7 @@ use Rattle.std.proofs.Common.{◌≡◌, ◌∙◌, ap, sym, subst}
 use Rattle.ccr_wiring.specs.declared.parts.Parts.{Parts}
 use Rattle.ccr_ledger.specs.Kept.{Keeps}
 use Rattle.ccr_engine.specs.Engine.{Engine}
-use Rattle.ccr_counts.specs.Tallies.{IsCounting}
+use Rattle.ccr_telling.specs.Tallies.{IsCounting}
 use Rattle.ccr_telling.proofs.Ends.{end_of}
 use Rattle.ccr_telling.proofs.ending.count_to_end.Goals as goal
 

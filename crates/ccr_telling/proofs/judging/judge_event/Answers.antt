@@ -2,7 +2,7 @@ use Rattle.std.proofs.Common.{◌++◌, ◌∷◌, [], subst, arith}
 use Rattle.ccr_model.specs.Legal.{IsAllowed}
 use Rattle.ccr_model.proofs.LegalParts.{legal_push}
 use Rattle.ccr_checker.specs.Judges.{Judged}
-use Rattle.ccr_counts.specs.Tallies.{IsCounting}
+use Rattle.ccr_telling.specs.Tallies.{IsCounting}
 use Rattle.ccr_telling.proofs.judging.judge_event.Goals as goal
 
 pub returns-clause-counted : goal.returns-clause-counted

@@ -1,5 +1,5 @@
 use Rattle.std.proofs.Common.{ℕ}
-use Rattle.ccr_rows.proofs.Views.{empty-more}
+use Rattle.ccr_ledger.proofs.Views.{empty-more}
 use Rattle.ccr_engine.proofs.blocked.Blocked.new.Goals as goal
 
 pub loop-preserved : goal.loop-preserved

@@ -1,5 +1,5 @@
 use Rattle.std.proofs.Common.{◌≡◌}
-use Rattle.ccr_rows.specs.Rows.{empty_rows}
+use Rattle.ccr_ledger.specs.Rows.{empty_rows}
 use Rattle.ccr_engine.proofs.blocked.Blocked.new.Given as goal
 
 abbrev pub invariant-loop : goal.invariant-loop

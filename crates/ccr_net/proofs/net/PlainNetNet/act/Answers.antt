@@ -4,11 +4,11 @@ use Rattle.std.proofs.lemmas.Bool.Decides.{nat_tests}
 use Rattle.ccr_claim.specs.declared.asks.Asked.{Asked}
 use Rattle.ccr_claim.specs.Wired.{IsReplyOf}
 use Rattle.ccr_object.specs.Objects.{reply_of}
-use Rattle.ccr_net.specs.declared.entries.Entry.{Entry}
+use Rattle.ccr_runs.specs.declared.entries.Entry.{Entry}
 use Rattle.ccr_net.specs.Acted.{act_after, scene_after}
 use Rattle.ccr_net.specs.Owed.{cost, gain, most}
-use Rattle.ccr_net.specs.Played.{entry_of, number_at, steps_in}
-use Rattle.ccr_net.specs.Runs.{entry_for, replies_of, with_made}
+use Rattle.ccr_runs.specs.Played.{entry_of, number_at, steps_in}
+use Rattle.ccr_runs.specs.EntryRuns.{entry_for, replies_of, with_made}
 use Rattle.ccr_net.specs.Served.{Served}
 use Rattle.ccr_net.proofs.Known.Replies.{reply_named}
 use Rattle.ccr_net.proofs.Owed.Serving.{acts_from, act_added, act_costs, act_gains, act_heard, act_made, act_met, act_others, act_roomy, act_seat, free_so, push_so, room_so, some_so}

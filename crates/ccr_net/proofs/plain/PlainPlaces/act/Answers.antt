@@ -5,7 +5,7 @@ use Rattle.ccr_object.specs.declared.object.PlaceObject.{PlaceObject}
 use Rattle.ccr_object.specs.Objects.{after_at}
 use Rattle.ccr_runs.specs.declared.acts.Act.{Act}
 use Rattle.ccr_net.specs.Acted.{act_after, act_at, deed_at, scene_after, stamp_of, placed_in, IsLeft, Stage}
-use Rattle.ccr_net.specs.Played.{position_of}
+use Rattle.ccr_runs.specs.Played.{position_of}
 use Rattle.ccr_net.proofs.Played.Acted.{IsLeft-act, act_here, seen-push, seen_acts, written}
 use Rattle.ccr_net.proofs.Played.Fitting.{fitting_answer}
 use Rattle.ccr_net.proofs.plain.PlainPlaces.act.Goals as goal

@@ -1,5 +1,5 @@
 use Rattle.std.proofs.Common.{sym, ◌∙◌}
-use Rattle.ccr_net.specs.Played.{number_at}
+use Rattle.ccr_runs.specs.Played.{number_at}
 use Rattle.ccr_net.specs.Acted.{scene_after}
 use Rattle.ccr_net.proofs.Played.Fitting.{met_replies}
 use Rattle.ccr_net.proofs.plain.PlainPlaces.reply.Goals as goal

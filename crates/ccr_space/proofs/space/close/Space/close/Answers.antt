@@ -3,7 +3,7 @@ use Rattle.std.specs.Prelude.{All}
 use Rattle.ccr_turns.specs.Histories.{history_stamps}
 use Rattle.ccr_turns.specs.Lists.{Rises}
 use Rattle.ccr_turns.specs.Locks.{IsSeatOf}
-use Rattle.ccr_net.specs.Played.{entries_of}
+use Rattle.ccr_runs.specs.Played.{entries_of}
 use Rattle.ccr_runs.specs.Orders.{merged}
 use Rattle.ccr_space.specs.Closes.{Kept, IsOfLocks}
 use Rattle.ccr_space.specs.Spaces.{Pass, wiring_of}

@@ -1,8 +1,8 @@
 use Rattle.std.proofs.Common.{[], sym, subst}
 use Rattle.ccr_runs.specs.Runs.{IsProper}
 use Rattle.ccr_turns.specs.Locks.{number_of}
-use Rattle.ccr_net.specs.Played.{rules}
-use Rattle.ccr_net.specs.Runs.{never}
+use Rattle.ccr_runs.specs.Played.{rules}
+use Rattle.ccr_runs.specs.EntryRuns.{never}
 use Rattle.ccr_space.specs.Spaces.{wiring_of}
 use Rattle.ccr_space.proofs.Dealing.{begun}
 use Rattle.ccr_space.proofs.space.make.Space.pass_of.Goals as goal

@@ -1,21 +1,19 @@
-use Rattle.std.proofs.Common.{◌≡◌, ◌∙◌, ℕ, [], true, sym, ap, subst, Some}
+use Rattle.std.proofs.Common.{◌≡◌, ◌∙◌, ℕ, [], sym, ap, subst}
 use Rattle.ccr_base.specs.declared.names.Place.{Place}
 use Rattle.ccr_turns.specs.Locks.{log_of}
 use Rattle.ccr_runs.specs.Runs.{IsProper}
 use Rattle.ccr_claim.specs.declared.asks.Asked.{Asked}
 use Rattle.ccr_claim.specs.Asks.{fits}
-use Rattle.ccr_actor.specs.Acting.{Acting, due_in, next}
-use Rattle.ccr_net.specs.Played.{number_at, position_of, rules}
-use Rattle.ccr_net.specs.Runs.{never}
+use Rattle.ccr_actor.specs.Acting.{Acting}
+use Rattle.ccr_object.specs.Objects.{is_due}
+use Rattle.ccr_runs.specs.Played.{number_at, position_of, rules}
+use Rattle.ccr_runs.specs.EntryRuns.{never}
 use Rattle.ccr_space.specs.Spaces.{IsGoing, IsHeard, log, number, wiring_of}
-use Rattle.ccr_space.proofs.Stepping.{Stepped, acts_due, asks_of, comes_next, due_reply, heard_on, made_met, stepped, unmet_not}
+use Rattle.ccr_space.proofs.Stepping.{Stepped, acts_due, comes_next, heard_on, made_met, stepped, unmet_not}
 use Rattle.ccr_space.proofs.space.step.Space.advance.Goals as goal
 
 abbrev one_of : (g : _) (c : goal.After-pass-1 g) → Asked
-one_of g c = record { place = c.in-Some.place; ask = c.in-Some.ask }
-
-asks : (g : _) (c : goal.After-pass-1 g) → next c.args.pass.now.actor ≡ Some (one_of g c)
-asks g c = asks_of (next c.args.pass.now.actor) c.in-Some.place c.in-Some.ask c.in-Some.ensures.asked
+one_of g c = record { place = c.ask-place.result.0; ask = c.ask-place.result.1 }
 
 going : (g : _) (c : goal.After-pass-1 g) → IsGoing (wiring_of c.args.self.now) (number c.args.pass.now) (log c.args.pass.now) c.args.pass.now.actor
 going g c = c.requires.pass.going c.if-pass.false
@@ -24,14 +22,13 @@ step : (g : _) (c : goal.After-pass-1 g) → Stepped (wiring_of c.args.self.now)
 step g c =
     let w = wiring_of c.args.self.now in
     let k = number c.args.pass.now in
-    let there : c.number-at.result ≡ number_at w c.in-Some.place = c.number-at.ensures.number ∙ ap (position_of c.in-Some.place) c.requires.space.numbers in
-    stepped w k c.number-at.result (one_of g c) c.in-Ok.answer (log c.args.pass.now) (log_of c.act.new.seat) c.requires.pass.proper (comes_next w k (log c.args.pass.now) c.args.pass.now.actor (one_of g c) (going g c) (asks g c)) there c.in-Ok.ensures.ok
+    let there : c.number-at.result ≡ number_at w c.ask-place.result.0 = c.number-at.ensures.number ∙ ap (position_of c.ask-place.result.0) c.requires.space.numbers in
+    stepped w k c.number-at.result (one_of g c) c.in-Ok.answer (log c.args.pass.now) (log_of c.act.new.seat) c.requires.pass.proper (comes_next w k (log c.args.pass.now) c.args.pass.now.actor (one_of g c) (going g c) c.ask-place.ensures.asked) there c.in-Ok.ensures.ok
 
 pub heard-step-requires : goal.heard-step-requires
 heard-step-requires g c =
-    let asks = asks_of (next c.args.pass.now.actor) c.in-Some.place c.in-Some.ask c.in-Some.ensures.asked in
-    let due = acts_due c.number-at.result c.in-Some.ask c.in-Ok.answer (log c.args.pass.now) (log_of c.act.new.seat) c.in-Ok.ensures.ok in
-    record { fits = λ reply is. subst (λ (a : Acting). fits (due_in a.asking) reply ≡ true) (sym c.in-Some.ensures.sent) (due_reply c.args.pass.now.actor (record { place = c.in-Some.place; ask = c.in-Some.ask }) c.in-Ok.answer reply asks due is) }
+    let due = acts_due c.number-at.result c.ask-place.result.1 c.in-Ok.answer (log c.args.pass.now) (log_of c.act.new.seat) c.in-Ok.ensures.ok in
+    record { fits = λ reply is. ap (λ d. fits d reply) c.ask-place.ensures.due ∙ (ap (is_due c.ask-place.result.1) (sym is) ∙ due) }
 
 pub returns-in-Ok-clause-pass : goal.returns-in-Ok-clause-pass
 returns-in-Ok-clause-pass g c =
@@ -43,8 +40,8 @@ returns-in-Ok-clause-pass g c =
       seat = c.act.ensures.seat.0;
       proper = subst (λ n. IsProper (rules w never) (record { actor = n; given = [] }) 0 (log_of c.act.new.seat)) (sym same) s.proper;
       going = λ on. subst (λ n. IsGoing w n (log_of c.act.new.seat) c.heard-step.new.actor) (sym same)
-          (heard_on w k (log c.args.pass.now) (log_of c.act.new.seat) c.args.pass.now.actor c.heard-step.new.actor (one_of g c) c.in-Ok.answer (going g c) (asks g c)
-          (subst (λ (a : Acting). IsHeard a c.in-Ok.answer c.heard-step.new.actor) c.in-Some.ensures.sent (c.heard-step.ensures.going on)) s.state);
+          (heard_on w k (log c.args.pass.now) (log_of c.act.new.seat) c.args.pass.now.actor c.heard-step.new.actor (one_of g c) c.in-Ok.answer (going g c) c.ask-place.ensures.asked
+          (subst (λ (a : Acting). IsHeard a c.in-Ok.answer c.heard-step.new.actor) c.ask-place.ensures.sent (c.heard-step.ensures.going on)) s.state);
     }
 
 pub returns-in-Ok-clause-made : goal.returns-in-Ok-clause-made

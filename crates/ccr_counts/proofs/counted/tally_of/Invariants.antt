@@ -1,5 +1,0 @@
-use Rattle.ccr_counts.proofs.Along.{IsAlong}
-use Rattle.ccr_counts.proofs.counted.tally_of.Given as goal
-
-abbrev pub invariant-loop-event : goal.invariant-loop-event
-invariant-loop-event l = IsAlong l.ports l.places l.queues l.ledger l.events l.event-index l.tally

@@ -1,0 +1,90 @@
+//! The places of the messages that satisfy one predicate, and how many of these are there.
+
+ghost use Rattle.std.specs.Prelude.{◌≡◌, ◌<◌, [], ◌∷◌, ◌++◌, OnOk, length};
+ghost use Rattle.std.specs.Bool.{Decides};
+ghost use Rattle.std.specs.List.{slice_get, remove};
+ghost use Rattle.ccr_ledger.specs.Lanes.{entered, lost};
+
+use ccr_base::{OutOfMemory, Pred, Value};
+use std::alloc::Global;
+use std::collections::VecDeque;
+use std::marker::Model;
+
+/// Places of messages that satisfy a predicate, rising. A place whose message was taken may still stand here.
+#[derive(Drop)]
+pub(crate) struct Lane {
+    pred: Pred,
+    places: VecDeque<usize>,
+    /// How many messages that satisfy the predicate are there.
+    count: usize,
+}
+
+impl Model for Lane {
+    ghost use Rattle.ccr_ledger.specs.Lanes.{Places};
+
+    ghost Value = { Places };
+
+    ghost view = { λ lane. record { pred = lane.pred; places = lane.places.items; count = lane.count } };
+}
+
+impl Lane {
+    pub fn new(alloc: Global, pred: Pred) -> Lane
+        ensures { result ≡ record { pred = pred; places = []; count = 0 } }
+    {
+        Lane {
+            pred,
+            places: VecDeque::new(alloc),
+            count: 0,
+        }
+    }
+
+    pub fn is_of(&self, pred: Pred) -> bool
+        ensures { Decides result (self.now.pred ≡ pred) }
+    {
+        self.pred == pred
+    }
+
+    pub fn count(&self) -> usize
+        ensures { result ≡ self.now.count }
+    {
+        self.count
+    }
+
+    /// The message of the place comes, which becomes the last where the value satisfies the predicate.
+    pub fn enter(&mut self, place: usize, value: Value) -> Result<(), OutOfMemory>
+        ensures { OnOk result (self.new ≡ entered place value self.old) }
+    {
+        if !self.pred.holds(&value) {
+            return Ok(());
+        }
+        let Some(count) = self.count.checked_add(1) else {
+            return Err(OutOfMemory);
+        };
+        self.places.push_back(place)?;
+        self.count = count;
+        Ok(())
+    }
+
+    /// A message of this value was taken. Its place stays.
+    pub fn lose(&mut self, value: Value)
+        ensures { self.new ≡ lost value self.old }
+    {
+        if self.pred.holds(&value) {
+            self.count = self.count.saturating_sub(1);
+        }
+    }
+
+    pub fn at(&self, number: usize) -> Option<usize>
+        ensures { result ≡ slice_get self.now.places number }
+    {
+        self.places.get(number).copied()
+    }
+
+    /// The place of this number leaves. The places on its shorter side move.
+    pub fn remove(&mut self, number: usize)
+        requires { number < length self.old.places }
+        ensures { self.new ≡ record self.old { places = remove self.old.places number } }
+    {
+        self.places.remove(number);
+    }
+}

@@ -1,4 +1,0 @@
-use Rattle.ccr_model.proofs.refusal.refused_by.Goals as goal
-
-pub returns-in-Start : goal.returns-in-Start
-returns-in-Start c = rw (c.in-Start.is, ← c.events-events.ensures) c.refusal_of_start.ensures

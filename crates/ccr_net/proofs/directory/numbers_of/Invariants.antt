@@ -1,7 +1,0 @@
-use Rattle.std.proofs.Common.{◌≡◌, length}
-use Rattle.ccr_net.specs.Directories.{AreNumbers}
-use Rattle.ccr_net.proofs.directory.numbers_of.Given as goal
-
--- the numbers so far
-abbrev pub invariant-loop-number : goal.invariant-loop-number
-invariant-loop-number l = (length l.numbers.items ≡ l.number) × AreNumbers l.places l.sort l.numbers.items

@@ -1,7 +1,0 @@
-use Rattle.std.proofs.Common.{◌≡◌, length}
-use Rattle.ccr_net.specs.Directories.{AreRows}
-use Rattle.ccr_net.proofs.directory.rows_of.Given as goal
-
--- the rows so far
-abbrev pub invariant-loop-branch : goal.invariant-loop-branch
-invariant-loop-branch l = (length l.rows.items ≡ l.branch) × AreRows l.places l.rows.items

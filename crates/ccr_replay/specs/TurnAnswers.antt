@@ -1,0 +1,35 @@
+-- What a function returned is what reading gives, unless memory ran out.
+use Rattle.std.specs.Prelude.{◌≡◌, ℕ, List, Result, Ok, Err}
+use Rattle.ccr_wiretext.specs.declared.refused.ReadRefused.{ReadRefused}
+use Rattle.ccr_wiretext.specs.declared.refused.ReadRefused.TheVariants as answers
+use Rattle.ccr_replay.specs.declared.turn_refusals.Code.{Code}
+use Rattle.ccr_replay.specs.declared.turn_refusals.Code.TheVariants as refusals
+use Rattle.ccr_replay.specs.TurnGrammar.{Says}
+
+-- the number by which a code is told
+abbrev pub code_number : Code → ℕ
+code_number refusals.Unclean = 1
+code_number refusals.Keyword = 3
+code_number refusals.WordCount = 4
+code_number refusals.Number = 5
+code_number refusals.Limit = 10
+
+-- the reader's answer is this value, or a refusal with this code's number
+abbrev pub Gives : {X : Type 0} → Result X Code → Result X ℕ → Type 0
+Gives (Ok x) read = read ≡ Ok x
+Gives (Err code) read = read ≡ Err (code_number code)
+
+-- what is answered where a line is refused
+abbrev pub refused : ℕ → Code → ReadRefused
+refused line code = answers.At line (code_number code)
+
+-- the turns, or the first offending line and its code
+abbrev pub IsReading : Result (List ℕ) ReadRefused → Result (List ℕ) (ℕ × ℕ) → Type 0
+IsReading (Ok turns) read = read ≡ Ok turns
+IsReading (Err answers.Memory) read = Unit {0}
+IsReading (Err (answers.At line code)) read = read ≡ Err (line, code)
+
+-- where a line is refused, the text says no turns
+abbrev pub SaysNothing : List ℕ → ℕ → ReadRefused → Type 0
+SaysNothing text actors answers.Memory = Unit {0}
+SaysNothing text actors (answers.At line code) = (turns : List ℕ) → Says text actors turns → ⊥

@@ -1,0 +1,72 @@
+//! What one line says.
+
+ghost use Rattle.std.specs.Prelude.{◌≡◌, codes};
+ghost use Rattle.std.specs.Str.{bytes_eq};
+ghost use Rattle.ccr_wiretext.specs.Reading.{is_comment};
+ghost use Rattle.ccr_replay.specs.TurnAnswers.{Gives};
+ghost use Rattle.ccr_replay.specs.Turns.{actor_in, turn_of, turn_in, turn_on};
+
+use crate::turn_refusals::Code;
+use ccr_base::{ActorNo, Name};
+use ccr_text::{Line, read_number};
+
+fn is_comment_word(word: &[u8]) -> bool
+    ensures { result ≡ is_comment word.now }
+{
+    match word.first() {
+        Some(byte) => *byte == b'#',
+        None => false,
+    }
+}
+
+/// The actor that the words behind `turn` name.
+fn actor_in(words: &[Name], actors: u32) -> Result<ActorNo, Code>
+    ensures { Gives result (actor_in actors words.now) }
+{
+    let Some((digits, others)) = words.split_first() else {
+        return Err(Code::WordCount);
+    };
+    let Some(actor) = read_number(digits.as_slice()) else {
+        return Err(Code::Number);
+    };
+    if actor >= u64::from(actors) {
+        return Err(Code::Limit);
+    }
+    if !others.is_empty() {
+        return Err(Code::WordCount);
+    }
+    Ok(actor as u32)
+}
+
+/// The actor of a line whose first word is no comment.
+fn turn_of(first: &[u8], others: &[Name], actors: u32) -> Result<ActorNo, Code>
+    ensures { Gives result (turn_of actors first.now others.now) }
+{
+    if first != b"turn".as_slice() {
+        return Err(Code::Keyword);
+    }
+    actor_in(others, actors)
+}
+
+/// The actor of a line's words; none where the line is skipped.
+fn turn_in(words: &[Name], actors: u32) -> Result<Option<ActorNo>, Code>
+    ensures { Gives result (turn_in actors words.now) }
+{
+    let Some((first, others)) = words.split_first() else {
+        return Ok(None);
+    };
+    if is_comment_word(first.as_slice()) {
+        return Ok(None);
+    }
+    Ok(Some(turn_of(first.as_slice(), others, actors)?))
+}
+
+/// Whose turn a line says it is; none where the line is skipped.
+pub fn turn_on(line: &Line, actors: u32) -> Result<Option<ActorNo>, Code>
+    ensures { Gives result (turn_on actors line.now) }
+{
+    if !line.clean {
+        return Err(Code::Unclean);
+    }
+    turn_in(line.words.as_slice(), actors)
+}

@@ -1,5 +1,0 @@
-use Rattle.ccr_rows.proofs.Taking.{all-fit}
-use Rattle.ccr_rows.proofs.held.HeldMessages.oldest_names.Goals as goal
-
-pub returns-clause-names : goal.returns-clause-names
-returns-clause-names c = rw (all-fit c.args.self.now) at c.names.ensures.names

@@ -1,8 +1,0 @@
-use Rattle.ccr_rows.proofs.Taking.{all-fit, without-any}
-use Rattle.ccr_rows.proofs.held.HeldMessages.take_oldest.Goals as goal
-
-pub returns-clause-rest : goal.returns-clause-rest
-returns-clause-rest c = rw (without-any c.args.count c.args.self.now) at c.take_some.ensures.rest
-
-pub returns-clause-taken : goal.returns-clause-taken
-returns-clause-taken c = rw (all-fit c.args.self.now) at c.take_some.ensures.taken

@@ -1,6 +1,0 @@
-use Rattle.std.proofs.Common.{◌≡◌, take}
-use Rattle.ccr_rows.specs.Lanes.{IsLane}
-use Rattle.ccr_rows.proofs.held.lane_of.Given as goal
-
-abbrev pub invariant-loop-place : goal.invariant-loop-place
-invariant-loop-place l = record { lane : IsLane (take l.place l.items) l.lane; pred : l.lane.pred ≡ l.fn.pred }

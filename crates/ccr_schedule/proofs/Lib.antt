@@ -1,3 +1,0 @@
-pub mod LineSaid
-pub mod LinesSaid
-mod Answered

@@ -1,6 +1,0 @@
-use Rattle.std.proofs.Common.{◌≡◌, ◌++◌, map, take}
-use Rattle.ccr_wiring.specs.declared.parts.BranchPart.{BranchPart}
-use Rattle.ccr_spots.proofs.names.add_branch_names.Given as goal
-
-abbrev pub invariant-loop-part : goal.invariant-loop-part
-invariant-loop-part l = l.names ≡ l.fn.names ++ map (λ (part : BranchPart). part.name) (take l.part-index l.arbiter.branches)

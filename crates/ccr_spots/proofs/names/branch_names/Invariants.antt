@@ -1,7 +1,0 @@
-use Rattle.std.proofs.Common.{◌≡◌, take}
-use Rattle.std.proofs.Common.{flat_map}
-use Rattle.ccr_spots.specs.Words.{branch_names_of}
-use Rattle.ccr_spots.proofs.names.branch_names.Given as goal
-
-abbrev pub invariant-loop-arbiter : goal.invariant-loop-arbiter
-invariant-loop-arbiter l = l.names ≡ flat_map branch_names_of (take l.arbiter-index l.parts.arbiters)
