@@ -1,13 +1,12 @@
 -- A judge stays one: with no event, and with one more.
 use Rattle.std.proofs.Common.{◌≡◌, ◌∙◌, Bool, true, false, ◌||◌, List, [], ◌∷◌, ◌++◌, refl, ap, sym}
 use Rattle.std.specs.Prelude.{Result, Ok, Err, IfOk}
-use Rattle.std.proofs.Math.Bool.{or-false}
-use Rattle.std.proofs.lemmas.List.Folds.{list_any-append}
 use Rattle.ccr_wiring.specs.declared.parts.Parts.{Parts}
 use Rattle.ccr_wiring.specs.Valid.{IsValid}
 use Rattle.ccr_model.specs.declared.history.Event.{Event}
 use Rattle.ccr_model.specs.Legal.{IsAllowed, IsLegal, IsQuiet, is_shed_end, has_shed}
 use Rattle.ccr_model.proofs.LegalParts.{legal_push}
+use Rattle.ccr_model.proofs.Pushes.{has_shed-push}
 use Rattle.ccr_ledger.specs.Books.{Books}
 use Rattle.ccr_ledger.specs.Events.{after_event, empty_books}
 use Rattle.ccr_ledger.specs.Kept.{Keeps}
@@ -22,15 +21,12 @@ use Rattle.ccr_checker.proofs.StillTold.{is_still_told}
 pub IsChecker-none : (w : Parts) (h : List Event) (b : Books) → IsValid w → h ≡ [] → b ≡ empty_books w → IsChecker (record { wiring = w; history = h }) b true false
 IsChecker-none w h b valid none is = rw (none, is) (record { valid = valid; legal = tt; flag = refl; tables = λ whole. keeps-none w })
 
-pub shed-more : (h : List Event) (e : Event) → has_shed (h ++ e ∷ []) ≡ has_shed h || is_shed_end e
-shed-more h e = list_any-append is_shed_end h (e ∷ []) ∙ ap (λ b. has_shed h || b) (or-false (is_shed_end e))
-
 pub IsChecker-more : (j : Judged) (more : List Event) (e : Event) (old new : Books) (before shed : Bool) → IsChecker j old true before → IsAllowed j.wiring j.history e
     → more ≡ j.history ++ e ∷ [] → new ≡ after_event j.wiring e old → shed ≡ before || is_shed_end e → IsChecker (record j { history = more }) new true shed
 IsChecker-more j more e old new before shed kept allowed is entered now = record {
   valid = kept.valid;
   legal = rw is (legal_push j.wiring [] j.history e kept.legal allowed);
-  flag = now ∙ (ap (λ flag. flag || is_shed_end e) kept.flag ∙ (sym (shed-more j.history e) ∙ ap has_shed (sym is)));
+  flag = now ∙ (ap (λ flag. flag || is_shed_end e) kept.flag ∙ (sym (has_shed-push j.history e) ∙ ap has_shed (sym is)));
   tables = λ whole. rw (is, entered) (keeps-event j.wiring kept.valid j.history e old kept.legal allowed (kept.tables refl));
 }
 

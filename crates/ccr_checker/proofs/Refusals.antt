@@ -1,5 +1,5 @@
 -- The first rule that refuses by the tables is the first that refuses after the history, where they keep what the model says.
-use Rattle.std.proofs.Common.{◌≡◌, ◌∙◌, ℕ, Bool, true, false, not, ◌&&◌, List, Option, None, Some, refl, sym}
+use Rattle.std.proofs.Common.{◌≡◌, ◌∙◌, ℕ, Bool, true, false, ◌&&◌, List, Option, None, Some, refl, sym}
 use Rattle.std.specs.Prelude.{◌==◌, option_and_then}
 use Rattle.std.specs.List.{slice_get}
 use Rattle.std.specs.Option.{option_map_or}
@@ -20,7 +20,7 @@ use Rattle.ccr_model.specs.Tasks.{running, running_by}
 use Rattle.ccr_model.specs.Live.{is_none_of}
 use Rattle.ccr_model.specs.Rules.{is_post, is_script_line, is_play_post, is_new, may_start, may_shed, may_end, refusal_of_post, refusal}
 use Rattle.ccr_model.specs.Legal.{IsLegal}
-use Rattle.ccr_model.proofs.Booleans.{and_false}
+use Rattle.ccr_model.proofs.Booleans.{and_false, not_not}
 use Rattle.ccr_model.proofs.Options.{some-below}
 use Rattle.ccr_ledger.specs.Books.{Books, number}
 use Rattle.ccr_ledger.specs.Asked.{made_in}
@@ -28,10 +28,6 @@ use Rattle.ccr_ledger.specs.Kept.{Keeps}
 use Rattle.ccr_ledger.proofs.Telling.{lives_told, room_told, are_choice_told, cuts_told, may_admit_task_told, drops_told, play_told, made_told, budget_told}
 use Rattle.ccr_ledger.proofs.RulesTold.{has_fired_told, waits_first_told, queued_first_told, is_ready_told, is_busy_told, runs_told, has_more_told, unfinished_told}
 use Rattle.ccr_checker.specs.Judging.{is_next_line, is_next_post, is_unused, is_idle, sheds, is_ending, refusal_of_post_in, refusal_in}
-
-not_not : (b : Bool) → not (not b) ≡ b
-not_not true = refl
-not_not false = refl
 
 module _ (w : Parts) (valid : IsValid w) (h : List Event) (legal : IsLegal w h) (b : Books) (keeps : Keeps w h b) where
   next_line : (a p : ℕ) (m : Msg) → is_next_line w b a p m ≡ is_script_line w h a p m

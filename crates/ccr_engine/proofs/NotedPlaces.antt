@@ -3,6 +3,7 @@ use Rattle.std.proofs.Common.{◌≡◌, ◌∙◌, ℕ, zero, suc, ◌+◌, ◌
 use Rattle.std.specs.Prelude.{◌==◌, if◌then◌else◌, slice_set}
 use Rattle.std.specs.List.{slice_get, list_any}
 use Rattle.std.proofs.Math.ListN.{get_or}
+use Rattle.std.proofs.Math.Bool.{or-false}
 use Rattle.std.proofs.lemmas.Bool.Decides.{nat_tests}
 use Rattle.std.proofs.lemmas.List.Folds.{list_any-append}
 use Rattle.std.proofs.lemmas.Option.{slice_get-get_or}
@@ -27,10 +28,6 @@ set_at (other ∷ lists) zero (suc n) list low = grind (arith, nat_tests)
 set_at (other ∷ lists) (suc k) zero list low = grind (arith, nat_tests)
 set_at (other ∷ lists) (suc k) (suc n) list low = set_at lists k n list (omega (arith, low)) ∙ grind (arith, nat_tests)
 
-or_nothing : (a : Bool) → a || false ≡ a
-or_nothing true = refl
-or_nothing false = refl
-
 and_true : (a : Bool) → a && true ≡ a
 and_true true = refl
 and_true false = refl
@@ -49,13 +46,13 @@ noted_one lists k place d now within more = record {
     of_test n other true same =
         let one : n ≡ k = grind (arith, nat_tests, same) in
         rw (one, was, more, and_true (other == place)) (has-more (get_or lists k d).items place other)
-    of_test n other false differs = rw (and_false (other == place)) (sym (or_nothing (has_number (list_at lists n) other)))
+    of_test n other false differs = rw (and_false (other == place)) (sym (or-false (has_number (list_at lists n) other)))
 
 -- into no list
 noted_none : (test : ℕ → Bool) (place : ℕ) (lists : List (Vec ℕ Global)) → ((n : ℕ) → n < length lists → test n ≡ false) → IsNoted test place lists lists
 noted_none test place lists never = record {
   size = refl;
-  each = λ n other low. rw (never n low, and_false (other == place)) (sym (or_nothing (has_number (list_at lists n) other)));
+  each = λ n other low. rw (never n low, and_false (other == place)) (sym (or-false (has_number (list_at lists n) other)));
 }
 
 pub noted_past : (lists : List (Vec ℕ Global)) (k place : ℕ) → length lists ≤ k → IsNoted (λ n. n == k) place lists lists
@@ -78,7 +75,7 @@ noted_or p q r place old mid new both first second = record {
 
 -- the ports of slots, one by one
 any_more : (f : Slot → Bool) (slots : List Slot) (i : ℕ) (x : Slot) → slice_get slots i ≡ Some x → list_any f (take (i + 1) slots) ≡ list_any f (take i slots) || f x
-any_more f slots i x at = rw (take_more slots i x at, list_any-append f (take i slots) (x ∷ [])) (ap (λ b. list_any f (take i slots) || b) (or_nothing (f x)))
+any_more f slots i x at = rw (take_more slots i x at, list_any-append f (take i slots) (x ∷ [])) (ap (λ b. list_any f (take i slots) || b) (or-false (f x)))
 
 pub slots_next : (slots : List Slot) (i : ℕ) (d : Slot) (place : ℕ) (old mid new : List (Vec ℕ Global)) → i < length slots → IsNoted (λ port. list_any (λ (slot : Slot). port == slot.port) (take i slots)) place old mid → IsNoted (λ port. port == (get_or slots i d).port) place mid new → IsNoted (λ port. list_any (λ (slot : Slot). port == slot.port) (take (i + 1) slots)) place old new
 slots_next slots i d place old mid new low before now = noted_or (λ port. list_any (λ (slot : Slot). port == slot.port) (take i slots)) (λ port. port == (get_or slots i d).port) _ place old mid new (λ port. any_more (λ slot. port == slot.port) slots i (get_or slots i d) (slice_get-get_or slots i d low)) before now

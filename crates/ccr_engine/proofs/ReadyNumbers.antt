@@ -10,32 +10,19 @@ use Rattle.ccr_base.specs.declared.names.Spot.{Spot}
 use Rattle.ccr_base.specs.Names.{same_task, has_task}
 use Rattle.ccr_wiring.specs.declared.parts.Parts.{Parts}
 use Rattle.ccr_model.specs.declared.history.Event.{Event}
-use Rattle.ccr_model.specs.declared.history.Event.TheVariants.{Post, Fire, Admit, Put, Start, End}
+use Rattle.ccr_model.specs.declared.history.Event.TheVariants.{Fire, Admit, Put}
 use Rattle.ccr_model.specs.Firings.{firing_of, fired, put_by, admitted_by}
 use Rattle.ccr_model.specs.Rules.{may_put, needs_no_admission}
 use Rattle.ccr_model.specs.Legal.{IsAllowed, IsLegal}
 use Rattle.ccr_model.specs.Consequences.{are_distinct_tasks}
-use Rattle.ccr_model.proofs.LegalParts.{along_legal}
 use Rattle.ccr_model.proofs.Pushes.{fired-fire}
-use Rattle.ccr_model.proofs.TasksLeft.{distinct-push}
 use Rattle.ccr_model.proofs.SameNames.{same_task-is, same_task-self}
 use Rattle.ccr_model.proofs.Booleans.{both, not_true, refuted, no_both, or_left, or_right}
 use Rattle.ccr_model.proofs.Options.{some-below, none-above}
-use Rattle.ccr_model.proofs.FiringFacts.{FiresSo-allowed, firings-other}
+use Rattle.ccr_model.proofs.FiringFacts.{firings-other}
+use Rattle.ccr_model.proofs.TasksOnce.{fired_once}
 use Rattle.ccr_engine.specs.Ready.{has_number, AreReady, IsLeast}
 use Rattle.ccr_engine.proofs.MayPut.{may_put-fire, may_put-new, may_put-admit, may_put-put, may_put-other}
-
--- no task fired twice
-apart_kept : (w : Parts) (h : List Event) (e : Event) → IsLegal w h → IsAllowed w h e → are_distinct_tasks (fired h) ≡ true → are_distinct_tasks (fired (h ++ e ∷ [])) ≡ true
-apart_kept w h (Fire t s ms cs) legal allowed apart = rw fired-fire (distinct-push (fired h) t apart (FiresSo-allowed w h t s ms cs allowed).new_name)
-apart_kept w h (Post m) legal allowed apart = rw (firings-other h (Post m) refl) apart
-apart_kept w h (Admit t) legal allowed apart = rw (firings-other h (Admit t) refl) apart
-apart_kept w h (Put t d) legal allowed apart = rw (firings-other h (Put t d) refl) apart
-apart_kept w h (Start t a) legal allowed apart = rw (firings-other h (Start t a) refl) apart
-apart_kept w h (End t how) legal allowed apart = rw (firings-other h (End t how) refl) apart
-
-pub fired_apart : (w : Parts) (h : List Event) → IsLegal w h → are_distinct_tasks (fired h) ≡ true
-fired_apart w h legal = along_legal w (λ h. are_distinct_tasks (fired h) ≡ true) (apart_kept w) refl h legal
 
 -- who stands at a place is among them
 pub has_at : (ts : List TaskId) (n : ℕ) (t : TaskId) → slice_get ts n ≡ Some t → has_task ts t ≡ true
@@ -95,12 +82,12 @@ at_left p q ts n m t apart there tests = of_option (slice_get ts n) refl
 -- an admission brings the number of its task in
 pub ready-admit : (w : Parts) (h : List Event) (t : TaskId) (m : ℕ) (old new : List ℕ) → IsLegal w h → IsAllowed w h (Admit t) → slice_get (fired h) m ≡ Some t → AreReady w h old → ((n : ℕ) → has_number new n ≡ (n == m) || has_number old n) → AreReady w (h ++ Admit t ∷ []) new
 ready-admit w h t m old new legal allowed there known changed n =
-    rw (firings-other h (Admit t) refl, changed n, known n) (sym (at_entered (may_put w h) (may_put w (h ++ Admit t ∷ [])) (fired h) n m t (fired_apart w h legal) there (λ u. may_put-admit w h t u legal allowed)))
+    rw (firings-other h (Admit t) refl, changed n, known n) (sym (at_entered (may_put w h) (may_put w (h ++ Admit t ∷ [])) (fired h) n m t (fired_once w h legal) there (λ u. may_put-admit w h t u legal allowed)))
 
 -- a put takes the number of its task out
 pub ready-put : (w : Parts) (h : List Event) (t : TaskId) (d : Option TaskId) (m : ℕ) (old new : List ℕ) → IsLegal w h → slice_get (fired h) m ≡ Some t → AreReady w h old → ((n : ℕ) → has_number new n ≡ not (n == m) && has_number old n) → AreReady w (h ++ Put t d ∷ []) new
 ready-put w h t d m old new legal there known changed n =
-    rw (firings-other h (Put t d) refl, changed n, known n) (sym (at_left (may_put w h) (may_put w (h ++ Put t d ∷ [])) (fired h) n m t (fired_apart w h legal) there (λ u. may_put-put w h t u d)))
+    rw (firings-other h (Put t d) refl, changed n, known n) (sym (at_left (may_put w h) (may_put w (h ++ Put t d ∷ [])) (fired h) n m t (fired_once w h legal) there (λ u. may_put-put w h t u d)))
 
 -- an event that neither fires, admits nor puts
 pub ready-other : (w : Parts) (h : List Event) (e : Event) (old : List ℕ) → firing_of e ≡ [] → put_by e ≡ [] → admitted_by e ≡ [] → AreReady w h old → AreReady w (h ++ e ∷ []) old

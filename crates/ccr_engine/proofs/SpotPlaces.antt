@@ -135,7 +135,7 @@ site_place w n k = site_from w n k 0 (placements w) n (omega arith) ∙ of_place
     of_placement (Some s) = refl
 
 -- what is awaited is no more than the actions
-few_awaited : (actions : List Action) → length (awaited actions) ≤ length actions
+pub few_awaited : (actions : List Action) → length (awaited actions) ≤ length actions
 few_awaited [] = omega arith
 few_awaited (Await port ∷ actions) = omega (arith, few_awaited actions)
 few_awaited (Post port expr ∷ actions) = omega (arith, few_awaited actions)

@@ -1,5 +1,5 @@
 -- Which spots come in after an event, by the places of what it touches.
-use Rattle.std.proofs.Common.{◌≡◌, ◌∙◌, ℕ, Bool, true, false, ◌||◌, List, [], ◌∷◌, Option, None, Some, refl, ap, sym}
+use Rattle.std.proofs.Common.{◌≡◌, ◌∙◌, ℕ, Bool, false, ◌||◌, List, [], ◌∷◌, Option, None, Some, refl, ap, sym}
 use Rattle.std.specs.Prelude.{◌==◌}
 use Rattle.std.specs.List.{list_any}
 use Rattle.std.specs.Option.{option_map_or}
@@ -27,10 +27,7 @@ use Rattle.ccr_engine.specs.Places.{first_place, takes_from}
 use Rattle.ccr_engine.specs.Parts.{yields_in, touches_in}
 use Rattle.ccr_engine.proofs.Gaining.{gains-same, gains-none, passes-same, passes-never}
 use Rattle.ccr_engine.proofs.SpotPlaces.{site_once}
-
-or_nothing : (a : Bool) → a || false ≡ a
-or_nothing true = refl
-or_nothing false = refl
+use Rattle.std.proofs.Math.Bool.{or-false}
 
 -- an event that is no post names no port
 slots_silent : (e : Event) → ((port : ℕ) → posts_to e port ≡ false) → (slots : List Slot) → list_any (λ (s : Slot). posts_to e s.port) slots ≡ false
@@ -45,7 +42,7 @@ module _ (w : Parts) (b : Books) where
   -- a post touches the spots that take from its port
   posted : (m : Msg) (s : Spot) → touches_in w b (Post m) s ≡ takes_from w m.port s
   posted m (Branch n) = refl
-  posted m (Site n k) = or_nothing _
+  posted m (Site n k) = or-false _
 
   -- an event that is no post touches the sites of what it suspends, and no branch
   silent_branch : (e : Event) → ((port : ℕ) → posts_to e port ≡ false) → (n : ℕ) → touches_in w b e (Branch n) ≡ false
@@ -65,7 +62,7 @@ module _ (w : Parts) (b : Books) where
 
   -- a yield touches its site
   yielded : (t : TaskId) (s : Spot) → touches_in w b (End t Yield) s ≡ yields_in b s t
-  yielded t (Site n k) = rw (silent_port (End t Yield) (λ port. refl) (site_port w n k)) (or_nothing _)
+  yielded t (Site n k) = rw (silent_port (End t Yield) (λ port. refl) (site_port w n k)) (or-false _)
   yielded t (Branch n) = silent_branch (End t Yield) (λ port. refl) n ∙ of_card (card_at b.tasks t)
     where
       of_card : (o : Option Card) → false ≡ option_map_or (λ (card : Card). same_spot (next_site card.spot) (Branch n)) o false

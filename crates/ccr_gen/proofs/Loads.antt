@@ -20,6 +20,7 @@ use Rattle.ccr_model.proofs.FirstNames.{names_of-append, same_names}
 use Rattle.ccr_model.proofs.Options.{some_of}
 use Rattle.ccr_model.proofs.SameNames.{same_message-self}
 use Rattle.ccr_model.proofs.TakenOnce.{joined_some}
+use Rattle.ccr_model.proofs.MessageNames.{any_fits}
 use Rattle.ccr_gen.specs.Generated.{any_of, generated}
 use Rattle.ccr_gen.specs.Weights.{weight, value, load, is_open}
 
@@ -68,10 +69,10 @@ not_wide true is = refl
 not_wide false is = absurd cc
 
 -- what a firing names is open no more
-all_gone : (gone back : List MsgId) (ms : List Msg) → list_all (λ (x : Msg). not (is_open (gone ++ (names_of ms ++ back)) x)) ms ≡ true
+pub all_gone : (gone back : List MsgId) (ms : List Msg) → list_all (λ (x : Msg). not (is_open (gone ++ (names_of ms ++ back)) x)) ms ≡ true
 all_gone gone back ms = all_weaker (λ (x : Msg). has_message (names_of ms) x.id) (λ (x : Msg). not (is_open (gone ++ (names_of ms ++ back)) x)) (λ x is. not_wide _ (has_more gone (names_of ms ++ back) x.id (has_front (names_of ms) back x.id is))) ms (all_named ms)
 
-still_open : (gone names : List MsgId) (x : Msg) → is_open (gone ++ names) x ≡ true → is_open gone x ≡ true
+pub still_open : (gone names : List MsgId) (x : Msg) → is_open (gone ++ names) x ≡ true → is_open gone x ≡ true
 still_open gone names x is = by (has_message gone x.id) refl is
   where
     by : (b : Bool) → has_message gone x.id ≡ b → not (has_message (gone ++ names) x.id) ≡ true → not (has_message gone x.id) ≡ true
@@ -102,10 +103,6 @@ all_at port (suc n) (m ∷ ms) = by (at_port port m) refl (all_at port n ms) (al
     by true is less same = rw is (and_from _ _ is less)
     by false is less same = rw (is, same) refl
 
-fitting_any : (ms : List Msg) → fitting Any ms ≡ ms
-fitting_any [] = refl
-fitting_any (m ∷ ms) = ap (λ (xs : List Msg). m ∷ xs) (fitting_any ms)
-
 -- the choice of a slot of any messages
 slot_takes : (port count : ℕ) (ms xs : List Msg) → choice (any_of port count) ms ≡ Some xs → (xs ≡ take count ms) × (length xs ≡ count)
 slot_takes port count ms xs is = by (is_choosable (any_of port count) ms) refl is
@@ -114,8 +111,8 @@ slot_takes port count ms xs is = by (is_choosable (any_of port count) ms) refl i
     by false e is = absurd cc
     by true e is =
         let same : take count (fitting Any ms) ≡ xs = cc in
-        let taken : xs ≡ take count ms = sym same ∙ ap (take count) (fitting_any ms) in
-        let enough : nat_le count (length ms) ≡ true = ap (λ (l : List Msg). nat_le count (length l)) (sym (fitting_any ms)) ∙ e in
+        let taken : xs ≡ take count ms = sym same ∙ ap (take count) (any_fits ms) in
+        let enough : nat_le count (length ms) ≡ true = ap (λ (l : List Msg). nat_le count (length l)) (sym (any_fits ms)) ∙ e in
         let many : count ≤ length ms = grind (arith, nat_tests, enough) in
         (taken, ap length taken ∙ omega (arith, length-take count ms))
 

@@ -19,7 +19,7 @@ pub due_firing : (ms : List Msg) (fs : List Firing) (f : Firing) → due ms (fs 
 due_firing ms [] f = grind arith
 due_firing ms (g ∷ fs) f = grind (arith, due_firing ms fs f)
 
-by_more : (ms : List Msg) (m : Msg) (t : TaskId) → by_task (ms ++ m ∷ []) t ≡ by_task ms t + (if is_message_of t m.id then 1 else 0)
+pub by_more : (ms : List Msg) (m : Msg) (t : TaskId) → by_task (ms ++ m ∷ []) t ≡ by_task ms t + (if is_message_of t m.id then 1 else 0)
 by_more ms m t = grind (arith, common_steps)
 
 -- no more is due

@@ -25,10 +25,7 @@ use Rattle.ccr_wiring.specs.SpotWords.{branch_names_of}
 use Rattle.ccr_json.specs.Lines.{is_plain}
 use Rattle.ccr_json.specs.Names.{is_plain_arbiter, HasPlainNames}
 use Rattle.std.proofs.lemmas.Bool.{and_parts as both}
-
-not_not : (b : Bool) → not b ≡ false → b ≡ true
-not_not true e = refl
-not_not false e = absurd cc
+use Rattle.ccr_model.proofs.Booleans.{not_refuted}
 
 letters_plain : (others : List ℕ) → list_all may_be_in_name others ≡ true → is_plain others ≡ true
 letters_plain [] all = refl
@@ -49,7 +46,7 @@ all_plain : (given : List (List ℕ)) → names.has_malformed given ≡ false �
 all_plain [] formed = refl
 all_plain (name ∷ given) formed =
     let parts = neither (not (is_name_of name)) (names.has_malformed given) formed in
-    rw (plain_name name (not_not (is_name_of name) parts.0), all_plain given parts.1) refl
+    rw (plain_name name (not_refuted (is_name_of name) parts.0), all_plain given parts.1) refl
 
 mapped : {X : Type 0} (f : X → List ℕ) (xs : List X) → list_all is_plain (map f xs) ≡ list_all (λ x. is_plain (f x)) xs
 mapped f [] = refl
@@ -75,11 +72,11 @@ arbiter_plain arbiter grouped formed = by (is_receive arbiter.kind) (neither (ha
   where
     by : (r : Bool) → (r && not (is_one_named arbiter.name arbiter.branches)) ≡ false → names.has_malformed (arbiter.name ∷ (if r then [] else names.branch_names arbiter.branches)) ≡ false → is_plain_arbiter arbiter ≡ true
     by true one formed =
-        let plain = plain_name arbiter.name (not_not (is_name_of arbiter.name) (neither (not (is_name_of arbiter.name)) false formed).0) in
-        rw (plain, one_plain arbiter.name arbiter.branches plain (not_not _ one)) refl
+        let plain = plain_name arbiter.name (not_refuted (is_name_of arbiter.name) (neither (not (is_name_of arbiter.name)) false formed).0) in
+        rw (plain, one_plain arbiter.name arbiter.branches plain (not_refuted _ one)) refl
     by false one formed =
         let parts = neither (not (is_name_of arbiter.name)) (names.has_malformed (names.branch_names arbiter.branches)) formed in
-        rw (plain_name arbiter.name (not_not _ parts.0), of_parts (λ (branch : BranchPart). branch.name) arbiter.branches parts.1) refl
+        rw (plain_name arbiter.name (not_refuted _ parts.0), of_parts (λ (branch : BranchPart). branch.name) arbiter.branches parts.1) refl
 
 arbiters_plain : (arbiters : List ArbiterPart) → list_any is_misgrouped arbiters ≡ false → names.has_malformed (flat_map names.arbiter_names arbiters) ≡ false → list_all is_plain_arbiter arbiters ≡ true
 arbiters_plain [] grouped formed = refl

@@ -3,7 +3,6 @@ use Rattle.std.proofs.Common.{◌≡◌, ℕ, suc, ◌<◌, ◌≤◌, Bool, tru
 use Rattle.std.specs.Prelude.{◌==◌, if◌then◌else◌, nat_le, option_and_then}
 use Rattle.std.specs.List.{slice_get}
 use Rattle.std.specs.Option.{option_map_or}
-use Rattle.std.proofs.lemmas.List.Elements.{filter_agree}
 use Rattle.std.proofs.lemmas.Bool.Decides.{nat_tests}
 use Rattle.ccr_base.specs.declared.names.TaskId.{TaskId}
 use Rattle.ccr_base.specs.declared.policies.Policy.TheVariants.{Unbounded, Discard}
@@ -17,25 +16,24 @@ use Rattle.ccr_wiring.proofs.Validity.{no_codes, within}
 use Rattle.ccr_model.specs.declared.history.Event.{Event}
 use Rattle.ccr_model.specs.declared.history.Event.TheVariants.{Post, Fire, Admit, Put, Start, End}
 use Rattle.ccr_base.specs.Names.{has_task, without}
-use Rattle.ccr_model.specs.Firings.{firings, firing_of, fired, put, put_by, dropped, dropped_by, started, started_by}
+use Rattle.ccr_model.specs.Firings.{put, dropped, started}
 use Rattle.ccr_model.specs.TaskData.{placement_of}
 use Rattle.ccr_model.specs.Tasks.{is_for_queue, queued}
 use Rattle.ccr_model.specs.Rules.{drop_at, drop_by}
 use Rattle.ccr_model.specs.Legal.{IsAllowed, IsLegal}
 use Rattle.ccr_model.proofs.TaskSteps.{queued-start, queued-put, queued-fire}
-use Rattle.ccr_model.proofs.Pushes.{put-push, started-push, dropped-push}
 use Rattle.ccr_model.proofs.LegalParts.{along_legal}
 use Rattle.ccr_model.proofs.Options.{some_of}
 use Rattle.ccr_model.proofs.SameNames.{same_task-self}
 use Rattle.ccr_model.proofs.Booleans.{same_number}
-use Rattle.ccr_model.proofs.FiredTasks.{fired_has}
 use Rattle.ccr_laws.specs.Standing.{Stands}
 use Rattle.ccr_laws.specs.Drops.{DropsOldest}
 use Rattle.ccr_laws.proofs.Allowed.{allowed_at, legal_past}
 use Rattle.ccr_model.proofs.TaskLists.{not_more, not_within}
 use Rattle.ccr_model.proofs.DropFacts.{put_allowed, drop_allowed}
 use Rattle.ccr_model.proofs.TaskPlaces.{ArePlaced-legal, PutFacts-allowed, new_drop}
-use Rattle.ccr_model.proofs.FiringFacts.{FiresSo-allowed, firings-other}
+use Rattle.ccr_model.proofs.FiringFacts.{FiresSo-allowed}
+use Rattle.ccr_model.proofs.Queued.{queued-other, new_unput}
 
 -- a policy's number is at least 1
 some_most : (w : Parts) → IsValid w → (q n : ℕ) → policy_of w q ≡ Discard n → 1 ≤ n
@@ -51,18 +49,6 @@ some_most w valid q n is = of_option (slice_get w.queues q) refl is
 few_left : (p : TaskId → Bool) (ts : List TaskId) → length (filter p ts) ≤ length ts
 few_left p [] = omega arith
 few_left p (t ∷ ts) = grind (arith, few_left p ts)
-
-queued_other : (w : Parts) (h : List Event) (q : ℕ) (e : Event) → firing_of e ≡ [] → put_by e ≡ [] → started_by e ≡ [] → dropped_by e ≡ [] → queued w (h ++ e ∷ []) q ≡ queued w h q
-queued_other w h q e fires puts starts drops =
-    let fs : firings (h ++ e ∷ []) ≡ firings h = firings-other h e fires in
-    let ps : put (h ++ e ∷ []) ≡ put h = put-push h e ∙ ap (λ xs. put h ++ xs) puts ∙ append-nil (put h) in
-    let ss : started (h ++ e ∷ []) ≡ started h = started-push h e ∙ ap (λ xs. started h ++ xs) starts ∙ append-nil (started h) in
-    let ds : dropped (h ++ e ∷ []) ≡ dropped h = dropped-push h e ∙ ap (λ xs. dropped h ++ xs) drops ∙ append-nil (dropped h) in
-    filter_agree (is_for_queue w (h ++ e ∷ []) q) (is_for_queue w h q) (λ u. rw fs refl) (without (put (h ++ e ∷ [])) (started (h ++ e ∷ []) ++ dropped (h ++ e ∷ []))) ∙ rw (ps, ss, ds) refl
-
--- a new task wasn't put
-new_unput : (w : Parts) (h : List Event) (t : TaskId) → IsLegal w h → has_task (fired h) t ≡ false → has_task (put h) t ≡ false
-new_unput w h t legal new = not_within (put h) (fired h) t (λ is. fired_has h t ((ArePlaced-legal w h legal).all_fired t is)) new
 
 -- a task that may be put neither started nor was dropped, and isn't the one that is dropped
 put_fresh : (w : Parts) (h : List Event) (t : TaskId) (d : Option TaskId) → IsLegal w h → IsAllowed w h (Put t d) → has_task (started h ++ (dropped h ++ option_to_list d)) t ≡ false
@@ -114,9 +100,9 @@ few_queued w valid q n policy = along_legal w (λ g. length (queued w g q) ≤ n
     same h e is few = subst (λ ts. length ts ≤ n) (sym is) few
 
     kept : (h : List Event) (e : Event) → IsLegal w h → IsAllowed w h e → length (queued w h q) ≤ n → length (queued w (h ++ e ∷ []) q) ≤ n
-    kept h (Post m) legal allowed few = same h (Post m) (queued_other w h q (Post m) refl refl refl refl) few
-    kept h (Admit t) legal allowed few = same h (Admit t) (queued_other w h q (Admit t) refl refl refl refl) few
-    kept h (End t how) legal allowed few = same h (End t how) (queued_other w h q (End t how) refl refl refl refl) few
+    kept h (Post m) legal allowed few = same h (Post m) (queued-other w h q (Post m) refl refl refl refl) few
+    kept h (Admit t) legal allowed few = same h (Admit t) (queued-other w h q (Admit t) refl refl refl refl) few
+    kept h (End t how) legal allowed few = same h (End t how) (queued-other w h q (End t how) refl refl refl refl) few
     kept h (Fire t s ms cs) legal allowed few = same h (Fire t s ms cs) (queued-fire w h q t s ms cs (new_unput w h t legal (FiresSo-allowed w h t s ms cs allowed).new_name)) few
     kept h (Put t d) legal allowed few = put_within w q n (some_most w valid q n policy) policy h t d legal allowed few
     kept h (Start t a) legal allowed few = subst (λ ts. length ts ≤ n) (sym (queued-start w h q t a)) (omega (arith, few_left (λ u. not (has_task (t ∷ []) u)) (queued w h q), few))

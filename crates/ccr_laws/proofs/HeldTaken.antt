@@ -1,5 +1,5 @@
 -- Each message of a legal history is held or taken, and none twice.
-use Rattle.std.proofs.Common.{◌≡◌, ◌+◌, ◌<◌, ◌≤◌, Bool, true, false, not, ◌||◌, List, [], ◌∷◌, ◌++◌, length, filter, refl, sym, ap, ◌∙◌, subst, append-nil, arith}
+use Rattle.std.proofs.Common.{◌≡◌, ◌+◌, ◌<◌, ◌≤◌, Bool, true, false, not, ◌||◌, List, [], ◌∷◌, ◌++◌, length, filter, refl, sym, ◌∙◌, subst, append-nil, arith}
 use Rattle.std.specs.Prelude.{if◌then◌else◌}
 use Rattle.std.proofs.lemmas.Grind.{common_steps}
 use Rattle.ccr_base.specs.declared.names.MsgId.{MsgId}
@@ -13,12 +13,12 @@ use Rattle.ccr_wiring.proofs.Soundness.{sound}
 use Rattle.ccr_model.specs.declared.history.Event.{Event}
 use Rattle.ccr_model.specs.declared.history.Event.TheVariants as events
 use Rattle.ccr_model.specs.Posts.{posts, taken}
-use Rattle.ccr_model.specs.Counts.{totals}
 use Rattle.ccr_model.specs.Legal.{IsAllowed, IsLegal}
 use Rattle.ccr_model.proofs.PostNames.{along, times, posted_once}
 use Rattle.ccr_model.proofs.Pushes.{posts-push}
 use Rattle.ccr_model.proofs.SameNames.{same_message-is, same_message-self}
-use Rattle.ccr_model.proofs.TakenOnce.{FireFacts-allowed, named-choice, named_none, taken-push, taken_once, times-filter, times_named, untaken}
+use Rattle.ccr_model.proofs.TakenOnce.{FireFacts-allowed, named-choice, taken-push, taken_once, times-filter, times_named, untaken}
+use Rattle.ccr_model.proofs.MessageNames.{named_some, has_message-append}
 
 -- the messages that these names leave
 abbrev left_of : List MsgId → List Msg → List Msg
@@ -36,15 +36,6 @@ times_cons name x ms = grind (arith, common_steps)
 
 pub times_push : (name : MsgId) (ms : List Msg) (m : Msg) → times name (ms ++ m ∷ []) ≡ times name ms + (if same_message m.id name then 1 else 0)
 times_push name ms m = grind (arith, common_steps)
-
--- a name that stands there is counted
-named_some : (name : MsgId) (names : List MsgId) → has_message names name ≡ true → 0 < times_named name names
-named_some name [] is = absurd (cc)
-named_some name (n ∷ names) is = by (same_message name n) refl is (named_some name names)
-  where
-    by : (b : Bool) → same_message name n ≡ b → b || has_message names name ≡ true → (has_message names name ≡ true → 0 < times_named name names) → 0 < times_named name (n ∷ names)
-    by true e any rest = let sum = named_cons name n names in grind (arith, sum, e)
-    by false e any rest = let sum = named_cons name n names in let more = rest any in grind (arith, sum, e, more)
 
 -- a name that stands once stands in no rest
 pub not_in_rest : (n : MsgId) (names : List MsgId) → times_named n (n ∷ names) ≤ 1 → has_message names n ≡ false
@@ -88,10 +79,6 @@ names_drop (n ∷ names) ms once some =
 -- what was taken was posted
 abbrev ArePosted : List Event → Type 0
 ArePosted h = (name : MsgId) → has_message (taken h) name ≡ true → 0 < times name (posts h)
-
-has_message-append : (xs ys : List MsgId) (name : MsgId) → has_message (xs ++ ys) name ≡ has_message xs name || has_message ys name
-has_message-append [] ys name = refl
-has_message-append (x ∷ xs) ys name = grind (arith, has_message-append xs ys name)
 
 fire_posted : (w : Parts) → HasPortsApart w → (h : List Event) (t : TaskId) (spot : Spot) (names : List MsgId) (cs : List TaskId) → IsAllowed w h (events.Fire t spot names cs) → ArePosted h → (name : MsgId) → has_message (taken h ++ names) name ≡ true → 0 < times name (posts h)
 fire_posted w apart h t spot names cs allowed old name is = by (has_message (taken h) name) refl (sym (has_message-append (taken h) names name) ∙ is)

@@ -11,7 +11,6 @@ pub mod StartOrder
 pub mod Exclusion
 pub mod AfterTeardown
 pub mod ScriptLines
-pub mod TasksOnce
 pub mod HeldTaken
 pub mod FewCut
 pub mod Counting

@@ -9,12 +9,13 @@ use Rattle.ccr_base.specs.declared.patterns.Pred.TheVariants.{Any}
 use Rattle.ccr_base.specs.Choice.{holds, fitting}
 use Rattle.ccr_base.specs.Names.{same_message, has_message}
 use Rattle.ccr_ledger.specs.Taken.{without_first, without_some, shared}
-use Rattle.ccr_ledger.proofs.Taking.{all-fit, without-any}
+use Rattle.ccr_ledger.proofs.Taking.{without-any}
 use Rattle.ccr_model.specs.Choice.{names_of, are_first, are_split}
 use Rattle.ccr_model.proofs.PostNames.{times}
 use Rattle.ccr_model.proofs.TakenOnce.{times-filter}
 use Rattle.ccr_model.proofs.SameNames.{same_message-self, same_message-sym, same_message-is}
 use Rattle.ccr_model.proofs.Booleans.{both}
+use Rattle.ccr_model.proofs.MessageNames.{any_fits}
 
 -- no name stands twice
 abbrev pub AreApart : List Msg → Type 0
@@ -101,7 +102,7 @@ some-named n pred (m ∷ ms) apart = of_test (holds pred m.value) refl n (λ k. 
 
 -- and of all the oldest
 pub oldest-named : (n : ℕ) (ms : List Msg) → AreApart ms → drop n ms ≡ left_by (names_of (take n ms)) ms
-oldest-named n ms apart = sym (without-any n ms) ∙ (some-named n Any ms apart ∙ ap (λ fs. left_by (names_of (take n fs)) ms) (all-fit ms))
+oldest-named n ms apart = sym (without-any n ms) ∙ (some-named n Any ms apart ∙ ap (λ fs. left_by (names_of (take n fs)) ms) (any_fits ms))
 
 -- names of a first part are those of so many messages
 pub first-names : (ms : List Msg) (names : List MsgId) → are_first ms names ≡ true → names ≡ names_of (take (length names) ms)

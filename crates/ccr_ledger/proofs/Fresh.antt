@@ -1,5 +1,5 @@
 -- An allowed post has a name that no firing took, and messages that are held have names of their own.
-use Rattle.std.proofs.Common.{◌≡◌, ℕ, zero, suc, ◌+◌, ◌<◌, ◌≤◌, true, false, not, List, [], ◌∷◌, ◌++◌, refl, arith, append-nil}
+use Rattle.std.proofs.Common.{◌≡◌, ℕ, zero, suc, ◌+◌, ◌<◌, ◌≤◌, false, not, List, [], ◌∷◌, ◌++◌, refl, arith, append-nil}
 use Rattle.std.specs.Prelude.{◌==◌}
 use Rattle.std.proofs.lemmas.Grind.{common_steps}
 use Rattle.ccr_base.specs.declared.names.MsgId.{MsgId}
@@ -17,10 +17,7 @@ use Rattle.ccr_model.proofs.TakenOnce.{times_named, named-append, named-choice, 
 use Rattle.ccr_model.proofs.LegalParts.{legal_push}
 use Rattle.ccr_model.proofs.SameNames.{same_message-self}
 use Rattle.ccr_model.proofs.Booleans.{refuted, not_false}
-
-named_some : (name : MsgId) (names : List MsgId) → has_message names name ≡ true → 0 < times_named name names
-named_some name [] is = absurd (cc)
-named_some name (n ∷ names) is = grind (arith, named_some name names)
+use Rattle.ccr_model.proofs.MessageNames.{named_some}
 
 -- each name that was taken was posted
 abbrev IsPosted : List Event → Type 0
@@ -58,15 +55,6 @@ fresh_post w apart h m legal allowed =
     let one_more : times m.id (posts (h ++ Post m ∷ [])) ≡ times m.id (posts h) + 1 = rw posts-push (grind (arith, common_steps, same_message-self m.id)) in
     let all_posted = along w IsPosted (posted_kept w apart) (λ name some. omega (arith, some)) h legal in
     refuted (has_message (taken h) m.id) (λ is. (let some = all_posted m.id (named_some m.id (taken h) is) in omega (arith, once, one_more, some)))
-
--- no two messages that a port holds have one name
-pub held_apart : (w : Parts) (h : List Event) → IsLegal w h → (port : ℕ) (name : MsgId) → times name (held h port) ≤ 1
-held_apart w h legal port name = omega (
-  arith,
-  posted_once w h legal name,
-  times-filter name (λ (m : Msg). not (has_message (taken h) m.id)) (posted h port),
-  times-filter name (λ (m : Msg). m.port == port) (posts h),
-)
 
 -- nor have messages that two ports hold
 pub held_alone : (w : Parts) (h : List Event) → IsLegal w h → (p q : ℕ) (name : MsgId) → (p == q) ≡ false → times name (held h p) + times name (held h q) ≤ 1

@@ -17,6 +17,7 @@ use Rattle.ccr_base.specs.Choice.{holds, fitting}
 use Rattle.ccr_ledger.specs.Lanes.{Places, present, is_here, fits, fitting_places, name_at, names_at, entered, entered_item, lost, IsLane, AreLanes, HasLane, HasFront}
 use Rattle.ccr_ledger.specs.Taken.{without_first}
 use Rattle.std.proofs.lemmas.Bool.{and_parts as both}
+use Rattle.ccr_model.proofs.Booleans.{and_false}
 
 -- ---- one place more
 
@@ -33,7 +34,7 @@ fitting_places-last : (n m : ℕ) (pred : Pred) (items : List (Option Msg)) (ite
 fitting_places-last n m pred [] item is = let same : n ≡ m = omega arith in rw same refl
 fitting_places-last n m pred (x ∷ items) item is = grind (arith, common_steps, fitting_places-last (n + 1) m pred items item (omega arith))
 
-below : (k n : ℕ) → nat_lt k n ≡ true → k < n
+pub below : (k n : ℕ) → nat_lt k n ≡ true → k < n
 below k n is = grind (arith, nat_tests, is)
 
 module _ (items : List (Option Msg)) (item : Option Msg) where
@@ -217,10 +218,6 @@ is-at items (l ∷ lanes) zero lane are at = let same : l ≡ lane = cc in rw (�
 is-at items (l ∷ lanes) (suc n) lane are at = is-at items lanes n lane are.1 at
 
 -- ---- a message goes
-
-and_false : (b : Bool) → (b && false) ≡ false
-and_false true = refl
-and_false false = refl
 
 is_here-set : (items : List (Option Msg)) (j k : ℕ) → is_here (set items j None) k ≡ (is_here items k && not (k == j))
 is_here-set [] j k = refl

@@ -23,6 +23,7 @@ use Rattle.ccr_model.proofs.HeldSteps.{held-post, held-fire, held-admit, held-pu
 use Rattle.ccr_model.proofs.Options.{some_of}
 use Rattle.ccr_model.proofs.Suspending.{ResumeFacts, ResumeFacts-allowed}
 use Rattle.ccr_model.proofs.TakenOnce.{FireFacts-allowed}
+use Rattle.ccr_model.proofs.MessageNames.{held_once}
 use Rattle.ccr_ledger.specs.Rows.{row}
 use Rattle.ccr_ledger.specs.declared.cards.Card.{Card}
 use Rattle.ccr_ledger.specs.Books.{Books, card_at, suspended_at}
@@ -32,7 +33,7 @@ use Rattle.ccr_ledger.specs.Firing.{after_fire, resumed_card}
 use Rattle.ccr_ledger.specs.Events.{after_last, after_discard, after_dropped, after_stop, after_yield, after_end, after_event, empty_books, is_yield}
 use Rattle.ccr_ledger.specs.Kept.{HasSizes, Keeps, KeepsPorts, card_of}
 use Rattle.ccr_ledger.proofs.Tables.{row-with_row}
-use Rattle.ccr_ledger.proofs.Fresh.{fresh_post, held_apart, held_alone}
+use Rattle.ccr_ledger.proofs.Fresh.{fresh_post, held_alone}
 use Rattle.ccr_ledger.proofs.PortsLeft.{AreHeld, pattern_left, site_left}
 use Rattle.ccr_ledger.proofs.Empty.{row-none}
 use Rattle.ccr_ledger.proofs.CardTables.{ports-cuts}
@@ -76,7 +77,7 @@ ports-post w sound h m b legal allowed sizes keeps = record {
 are_held : (w : Parts) (h : List Event) (b : Books) → IsLegal w h → HasSizes w b → KeepsPorts w h b → AreHeld b.ports (held h)
 are_held w h b legal sizes keeps = record {
   told = λ port low. keeps.ports port (omega (arith, low, sizes.ports));
-  apart = held_apart w h legal;
+  apart = held_once w h legal;
   alone = held_alone w h legal;
 }
 

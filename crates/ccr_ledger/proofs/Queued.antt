@@ -12,33 +12,29 @@ use Rattle.ccr_model.specs.declared.history.Event.TheVariants.{Post, Fire, Admit
 use Rattle.ccr_model.specs.Firings.{firing_of, put, put_by, started, started_by, dropped, dropped_by}
 use Rattle.ccr_model.specs.Tasks.{is_for_queue, queued}
 use Rattle.ccr_model.specs.Legal.{IsAllowed, IsLegal}
-use Rattle.ccr_model.specs.Consequences.{are_distinct_tasks}
 use Rattle.ccr_model.proofs.Booleans.{refuted, no_both, same_number}
 use Rattle.ccr_model.proofs.Options.{head_rest}
 use Rattle.ccr_model.proofs.Pushes.{put-push, started-push, dropped-push}
-use Rattle.ccr_model.proofs.TasksLeft.{distinct-filter, filter_on}
-use Rattle.ccr_model.proofs.TaskLists.{has_oldest, not_more}
+use Rattle.ccr_model.proofs.TasksLeft.{filter_on}
+use Rattle.ccr_model.proofs.TaskLists.{has_oldest, not_more, none_gone}
 use Rattle.ccr_model.proofs.TaskSteps.{queued-start, queued-put, queued-fire}
 use Rattle.ccr_model.proofs.TaskPlaces.{ArePlaced-legal, PutFacts-allowed, QueuedFacts-queued, StartFacts-allowed, new_drop}
 use Rattle.ccr_model.proofs.DropFacts.{drop_allowed}
 use Rattle.ccr_model.proofs.FiredTasks.{fired_has, placement_fired}
 use Rattle.ccr_model.proofs.FiringFacts.{FiresSo-allowed, firings-other}
+use Rattle.ccr_model.proofs.Queued.{queued_once}
 use Rattle.ccr_ledger.specs.Rows.{row, with_row}
 use Rattle.ccr_ledger.specs.Books.{Books}
 use Rattle.ccr_ledger.specs.Events.{after_dropped, after_event}
 use Rattle.ccr_ledger.specs.Kept.{HasSizes, KeepsTasks}
 use Rattle.ccr_ledger.proofs.Tables.{length-with_row}
-use Rattle.ccr_ledger.proofs.RowMoves.{left_whole, row-left, row-entered}
+use Rattle.ccr_ledger.proofs.RowMoves.{row-left, row-entered}
 use Rattle.ccr_ledger.proofs.TaskRows.{Rows, rows-post, rows-put, rows-dropped, rows-start, rest-branch, rest-site, rest-admit, rest-end}
 use Rattle.ccr_ledger.proofs.TaskCards.{CardFacts, CardFacts-fired, for_queue}
 
 -- the rows say who is queued
 abbrev pub SaysQueued : Parts → List Event → List (List TaskId) → Type 0
 SaysQueued w h rows = (q : ℕ) → q < length w.queues → row rows q ≡ queued w h q
-
--- who is queued stands once, in one queue
-queued_once : (w : Parts) (h : List Event) (q : ℕ) → IsLegal w h → are_distinct_tasks (queued w h q) ≡ true
-queued_once w h q legal = distinct-filter (is_for_queue w h q) (without (put h) (started h ++ dropped h)) (distinct-filter (λ u. _) (put h) (ArePlaced-legal w h legal).lists.once)
 
 queued_elsewhere : (w : Parts) (h : List Event) (t : TaskId) (b : Books) (facts : CardFacts w h t b) (q : ℕ) → (facts.card.queue == q) ≡ false → has_task (queued w h q) t ≡ false
 queued_elsewhere w h t b facts q other = refuted (has_task (queued w h q) t) (λ is. no_both (QueuedFacts-queued w h q t is).for_queue (for_queue w h t b facts q ∙ other))
@@ -77,7 +73,7 @@ module _ (w : Parts) (h : List Event) (t : TaskId) (b : Books) (legal : IsLegal 
       ap (λ (r : Rows). length r.queued) (rows-dropped x b facts.card facts.is_card) ∙ (length-with_row b.queued facts.card.queue _ ∙ sizes.queued)
 
   dropped-left : (d : Option TaskId) → IsAllowed w h (Put t d) → (q : ℕ) → q < length w.queues → row (after_dropped d b).queued q ≡ without (queued w h q) (option_to_list d)
-  dropped-left None allowed q low = known q low ∙ sym (left_whole (queued w h q))
+  dropped-left None allowed q low = known q low ∙ sym (none_gone (queued w h q))
   dropped-left (Some x) allowed q low =
       let facts = dropped_facts x allowed in
       let drop_so = drop_allowed w h t x allowed in

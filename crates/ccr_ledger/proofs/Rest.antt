@@ -14,7 +14,7 @@ row-past [] n past = refl
 row-past (r ∷ rows) zero past = absurd (omega arith)
 row-past (r ∷ rows) (suc n) past = row-past rows n (omega arith)
 
-take-none : (n : ℕ) → take {A = Msg} n [] ≡ []
+pub take-none : (n : ℕ) → take {A = Msg} n [] ≡ []
 take-none zero = refl
 take-none (suc n) = refl
 

@@ -5,13 +5,9 @@ use Rattle.ccr_base.specs.declared.names.TaskId.{TaskId}
 use Rattle.ccr_base.specs.Names.{has_task, without}
 use Rattle.ccr_model.specs.Consequences.{are_distinct_tasks}
 use Rattle.ccr_model.proofs.Booleans.{same_number}
-use Rattle.ccr_model.proofs.TaskLists.{without_first, without_none, without_other}
+use Rattle.ccr_model.proofs.TaskLists.{without_first, without_other}
 use Rattle.ccr_ledger.specs.Rows.{row, with_row}
 use Rattle.ccr_ledger.proofs.Tables.{row-with_row}
-
--- nobody goes
-pub left_whole : (ts : List TaskId) → without ts [] ≡ ts
-left_whole ts = without_none ts [] (λ u is. refl)
 
 -- the first of one row leaves it, and stands in no other
 pub row-left : (rows : List (List TaskId)) (lists : ℕ → List TaskId) (n k : ℕ) (t : TaskId) (others : List TaskId) → k < length rows → row rows k ≡ lists k → lists n ≡ t ∷ others → are_distinct_tasks (lists n) ≡ true → ((n == k) ≡ false → has_task (lists k) t ≡ false)

@@ -39,14 +39,11 @@ use Rattle.ccr_ledger.proofs.Rest.{row-past}
 use Rattle.ccr_ledger.proofs.Tables.{length-with_row, row-with_row}
 use Rattle.ccr_ledger.proofs.TaskRows.{Rows, rows-post, rows-site, rows-yield, rows-end, rest-branch, rest-admit, rest-put, rest-start}
 use Rattle.ccr_ledger.proofs.TaskCards.{CardFacts, CardFacts-fired}
+use Rattle.ccr_ledger.proofs.Lanes.{below}
 
 -- the rows say who is suspended
 abbrev pub SaysSuspended : List Event → List (List TaskId) → Type 0
 SaysSuspended h rows = (b k : ℕ) → suspended_at rows b k ≡ suspended h (Site b k)
-
--- sites by their numbers
-below : (k n : ℕ) → nat_lt k n ≡ true → k < n
-below k n is = grind (arith, nat_tests, is)
 
 above : (k n : ℕ) → nat_lt k n ≡ false → n ≤ k
 above k n is = grind (arith, nat_tests, is)

@@ -11,7 +11,9 @@ use Rattle.ccr_base.specs.Choice.{holds, fitting}
 use Rattle.ccr_base.specs.Names.{same_message}
 use Rattle.ccr_ledger.specs.Lanes.{present}
 use Rattle.ccr_ledger.proofs.Lanes.{IsFirst}
+use Rattle.ccr_ledger.proofs.Rest.{take-none}
 use Rattle.ccr_ledger.specs.Taken.{without_first, without_some, shared, same_front}
+use Rattle.ccr_model.proofs.MessageNames.{any_fits}
 
 -- one more is taken
 pub some_more : (n : ℕ) (pred : Pred) (ms : List Msg) → without_some (n + 1) pred ms ≡ without_first pred (without_some n pred ms)
@@ -40,10 +42,6 @@ drop-drop n (x ∷ xs) = refl
 pub fitting-some : (n : ℕ) (pred : Pred) (ms : List Msg) → fitting pred (without_some n pred ms) ≡ drop n (fitting pred ms)
 fitting-some zero pred ms = refl
 fitting-some (suc n) pred ms = fitting-some n pred (without_first pred ms) ∙ (ap (drop n) (fitting-first pred ms) ∙ drop-drop n (fitting pred ms))
-
-take-none : (n : ℕ) → take {A = Msg} n [] ≡ []
-take-none zero = refl
-take-none (suc n) = refl
 
 -- one more of the first
 take-more : (n : ℕ) (xs : List Msg) → take (n + 1) xs ≡ take n xs ++ option_to_list (slice_get (drop n xs) 0)
@@ -91,18 +89,13 @@ few-present [] = omega arith
 few-present (None ∷ items) = omega (arith, few-present items)
 few-present (Some m ∷ items) = omega (arith, few-present items)
 
--- every message satisfies `any`
-pub all-fit : (ms : List Msg) → fitting Any ms ≡ ms
-all-fit [] = refl
-all-fit (m ∷ ms) = ap (λ (os : List Msg). m ∷ os) (all-fit ms)
-
 shared-front : (ms : List Msg) (names : List MsgId) → same_front (map (λ (m : Msg). m.id) (take (length names) ms)) names ≡ shared ms names
 shared-front ms [] = refl
 shared-front [] (n ∷ names) = refl
 shared-front (m ∷ ms) (n ∷ names) = ap (λ (k : ℕ). if same_message m.id n then suc k else 0) (shared-front ms names)
 
 pub shared-told : (ms : List Msg) (names oldest : List MsgId) → oldest ≡ map (λ (m : Msg). m.id) (take (length names) (fitting Any ms)) → same_front oldest names ≡ shared ms names
-shared-told ms names oldest is = ap (λ ns. same_front ns names) (is ∙ ap (λ os. map (λ (m : Msg). m.id) (take (length names) os)) (all-fit ms)) ∙ shared-front ms names
+shared-told ms names oldest is = ap (λ ns. same_front ns names) (is ∙ ap (λ os. map (λ (m : Msg). m.id) (take (length names) os)) (any_fits ms)) ∙ shared-front ms names
 
 -- without so many of all
 pub without-any : (n : ℕ) (ms : List Msg) → without_some n Any ms ≡ drop n ms

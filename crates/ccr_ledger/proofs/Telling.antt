@@ -40,6 +40,7 @@ use Rattle.ccr_model.proofs.Members.{Among}
 use Rattle.ccr_model.proofs.Covered.{running_started}
 use Rattle.ccr_model.proofs.TaskPlaces.{ArePlaced-legal, placement_by}
 use Rattle.ccr_model.proofs.FiringPlacements.{firing_with_placement}
+use Rattle.ccr_model.proofs.Booleans.{not_not}
 use Rattle.ccr_ledger.specs.Rows.{row}
 use Rattle.ccr_ledger.specs.declared.cards.Card.{Card}
 use Rattle.ccr_ledger.specs.Books.{Books, number}
@@ -53,10 +54,6 @@ arbiter_within w valid n s at = of_arbiter (slice_get w.arbiters s.arbiter) refl
     of_arbiter : (o : Option ArbiterPart) → slice_get w.arbiters s.arbiter ≡ o → IsSomeAnd o (λ (arbiter : ArbiterPart). arbiter.kind ≡ s.kind) → s.arbiter < length w.arbiters
     of_arbiter None there is = absurd is
     of_arbiter (Some arbiter) there is = some-below w.arbiters s.arbiter arbiter there
-
-not_not : (b : Bool) → not (not b) ≡ b
-not_not true = refl
-not_not false = refl
 
 -- what is asked of the ports of a pattern is the same where they hold the same
 slots_same : (f g : ℕ → List Msg) (slots : List Slot) → ((place port : ℕ) → slice_get (slot_ports slots) place ≡ Some port → f port ≡ g port) → choice_of_slots f slots ≡ choice_of_slots g slots

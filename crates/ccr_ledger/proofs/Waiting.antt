@@ -5,7 +5,6 @@ use Rattle.std.specs.Option.{option_map_or}
 use Rattle.std.proofs.lemmas.Grind.{common_steps}
 use Rattle.ccr_base.specs.declared.names.TaskId.{TaskId}
 use Rattle.ccr_base.specs.declared.names.MsgId.{MsgId}
-use Rattle.ccr_base.specs.declared.names.Spot.{Spot}
 use Rattle.ccr_base.specs.declared.names.Spot.TheVariants.{Branch, Site}
 use Rattle.ccr_base.specs.declared.policies.Group.{Group}
 use Rattle.ccr_base.specs.declared.policies.Group.TheVariants as groups
@@ -22,13 +21,12 @@ use Rattle.ccr_model.specs.declared.history.Event.TheVariants.{Post, Fire, Admit
 use Rattle.ccr_model.specs.Firings.{Firing, cut, ever_admitted, admitted_by}
 use Rattle.ccr_model.specs.Interleaves.{is_placement_in}
 use Rattle.ccr_model.specs.TaskData.{placement_of}
-use Rattle.ccr_model.specs.Tasks.{is_interleave, is_teardown, is_branch_where, fired_by, waiting}
+use Rattle.ccr_model.specs.Tasks.{is_interleave, is_teardown, fired_by, waiting}
 use Rattle.ccr_model.specs.Rules.{is_first, is_oldest_waiting}
 use Rattle.ccr_model.specs.Legal.{IsAllowed, IsLegal}
-use Rattle.ccr_model.specs.Consequences.{are_distinct_tasks}
 use Rattle.ccr_model.proofs.Allowing.{OneName-legal}
 use Rattle.ccr_model.proofs.Alone.{ever_admitted_fired}
-use Rattle.ccr_model.proofs.Booleans.{both, refuted, no_both, or_left, or_right, same_number, eq-self}
+use Rattle.ccr_model.proofs.Booleans.{refuted, no_both, or_left, or_right, same_number, eq-self}
 use Rattle.ccr_model.proofs.Cutting.{fired_by-append}
 use Rattle.ccr_model.proofs.FiredTasks.{IsFired, fired_has, placement_fired}
 use Rattle.ccr_model.proofs.FiringFacts.{FiresSo-allowed, WaitingFacts-waiting}
@@ -36,41 +34,23 @@ use Rattle.ccr_model.proofs.Options.{some_of}
 use Rattle.ccr_model.proofs.PostNames.{refused_not}
 use Rattle.ccr_model.proofs.Pushes.{ever_admitted-push, cut-push}
 use Rattle.ccr_model.proofs.SameNames.{same_task-self}
-use Rattle.ccr_model.proofs.TasksLeft.{distinct-filter, without_both}
-use Rattle.ccr_model.proofs.TaskLists.{first_rest, has_oldest, not_more, without-append, without_none}
+use Rattle.ccr_model.proofs.TasksLeft.{without_both}
+use Rattle.ccr_model.proofs.TaskLists.{first_rest, has_oldest, not_more, without-append, without_none, none_gone}
+use Rattle.ccr_model.proofs.TasksOnce.{waiting_once, waits_in_one}
 use Rattle.ccr_ledger.specs.Rows.{row, with_row}
 use Rattle.ccr_ledger.specs.Books.{Books}
 use Rattle.ccr_ledger.specs.Firing.{after_clear}
 use Rattle.ccr_ledger.specs.Events.{after_event}
 use Rattle.ccr_ledger.specs.Kept.{HasSizes, KeepsTasks}
 use Rattle.ccr_ledger.proofs.Tables.{length-with_row, row-with_row}
-use Rattle.ccr_ledger.proofs.RowMoves.{left_whole, row-left, row-entered}
+use Rattle.ccr_ledger.proofs.RowMoves.{row-left, row-entered}
 use Rattle.ccr_ledger.proofs.TaskRows.{Rows, rows-post, rows-branch, rows-admit, rest-site, rest-put, rest-start, rest-end}
 use Rattle.ccr_ledger.proofs.TaskCards.{CardFacts-fired, same_placement}
-use Rattle.ccr_ledger.proofs.FiredOnce.{fired_once, cut_fired}
+use Rattle.ccr_ledger.proofs.FiredOnce.{cut_fired}
 
 -- the rows say who waits
 abbrev pub SaysWaiting : Parts → List Event → List (List TaskId) → Type 0
 SaysWaiting w h rows = (i : ℕ) → i < length w.arbiters → row rows i ≡ waiting w h i
-
--- who waits stands once, in one domain
-waiting_once : (w : Parts) (h : List Event) (i : ℕ) → IsLegal w h → are_distinct_tasks (waiting w h i) ≡ true
-waiting_once w h i legal = distinct-filter (λ u. _) (fired_by w (is_placement_in i) h) (fired_once w (λ f. is_branch_where w (is_placement_in i) f.spot) h legal)
-
-one_domain : (w : Parts) (i j : ℕ) (s : Spot) → is_branch_where w (is_placement_in i) s ≡ true → is_branch_where w (is_placement_in j) s ≡ true → i ≡ j
-one_domain w i j (Site n k) here there = absurd (cc)
-one_domain w i j (Branch n) here there =
-    let found = some_of (is_placement_in i) (placement w n) here in
-    let other : is_placement_in j found.0 ≡ true = sym (ap (λ o. option_map_or (is_placement_in j) o false) found.1) ∙ there in
-    sym (same_number found.0.arbiter i (both (is_interleave found.0.kind) (found.0.arbiter == i) found.2).1) ∙ same_number found.0.arbiter j (both (is_interleave found.0.kind) (found.0.arbiter == j) other).1
-
-waits_in_one : (w : Parts) (h : List Event) (i j : ℕ) (t : TaskId) → IsLegal w h → has_task (waiting w h i) t ≡ true → has_task (waiting w h j) t ≡ true → i ≡ j
-waits_in_one w h i j t legal here there =
-    let a = WaitingFacts-waiting w h i t (OneName-legal w h legal) here in
-    let b = WaitingFacts-waiting w h j t (OneName-legal w h legal) there in
-    let found : Some a.firing ≡ Some b.firing = sym a.is_firing ∙ b.is_firing in
-    let same : b.firing ≡ a.firing = cc in
-    one_domain w i j a.firing.spot a.is_branch (subst (λ (f : Firing). is_branch_where w (is_placement_in j) f.spot ≡ true) same b.is_branch)
 
 waits_elsewhere : (w : Parts) (h : List Event) (i j : ℕ) (t : TaskId) → IsLegal w h → has_task (waiting w h i) t ≡ true → (i == j) ≡ false → has_task (waiting w h j) t ≡ false
 waits_elsewhere w h i j t legal here other = refuted (has_task (waiting w h j) t) (λ there. no_both (subst (λ k. (i == k) ≡ true) (waits_in_one w h i j t legal here there) (eq-self i)) other)
@@ -155,7 +135,7 @@ module _ (w : Parts) (h : List Event) (t : TaskId) (n : ℕ) (ms : List MsgId) (
 
       of_test : (b : Bool) → is_teardown s.branch.group ≡ b → row (if b then with_row rows s.arbiter [] else rows) i ≡ without (waiting w h i) (if b then waiting w h s.arbiter else [])
       of_test true e = row-with_row rows s.arbiter i [] low ∙ of_place (s.arbiter == i) refl
-      of_test false e = known ∙ sym (left_whole (waiting w h i))
+      of_test false e = known ∙ sym (none_gone (waiting w h i))
 
   -- the rows once the new task has entered
   waited : (k : Bool) → is_interleave s.kind ≡ k → may_have s.kind s.branch.group ≡ true → (rows : List (List TaskId)) (i : ℕ) → i < length rows → row rows i ≡ waiting w h i
@@ -167,7 +147,7 @@ module _ (w : Parts) (h : List Event) (t : TaskId) (n : ℕ) (ms : List MsgId) (
       length-cleared true = length-with_row rows s.arbiter []
       length-cleared false = refl
   waited false is may rows i low known =
-      known ∙ (sym (left_whole (waiting w h i)) ∙ (ap (λ ts. without (waiting w h i) ts) (sym none) ∙ sym (append-nil (without (waiting w h i) cs))))
+      known ∙ (sym (none_gone (waiting w h i)) ∙ (ap (λ ts. without (waiting w h i) ts) (sym none) ∙ sym (append-nil (without (waiting w h i) cs))))
     where
       none : cs ≡ []
       none = cuts_so ∙ ap (λ b. if b then waiting w h s.arbiter else []) (no_teardown s.kind s.branch.group may is)

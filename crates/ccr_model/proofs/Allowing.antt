@@ -150,7 +150,7 @@ find_passes p (y ∷ xs) x is = of_test (p y) refl is (find_passes p xs x)
     of_test true e at rest = let same : y ≡ x = cc in rw (← same) e
     of_test false e at rest = rest at
 
-same_option-self : (o : Option TaskId) → same_options same_task o o ≡ true
+pub same_option-self : (o : Option TaskId) → same_options same_task o o ≡ true
 same_option-self None = refl
 same_option-self (Some t) = same_task-self t
 

@@ -54,3 +54,11 @@ eq-self n = grind (arith, nat_tests)
 -- equal by the test, equal
 pub same_number : (a b : ℕ) → (a == b) ≡ true → a ≡ b
 same_number a b is = grind (arith, nat_tests, is)
+
+pub not_not : (b : Bool) → not (not b) ≡ b
+not_not true = refl
+not_not false = refl
+
+pub not_refuted : (b : Bool) → not b ≡ false → b ≡ true
+not_refuted true is = refl
+not_refuted false is = absurd (cc)

@@ -1,4 +1,4 @@
-mod WorkedParts
+pub mod WorkedParts
 mod WorkedRuns
 mod WorkedTasks
 mod WorkedDomains
@@ -37,3 +37,6 @@ pub mod Ending
 pub mod Cutting
 pub mod Suspending
 pub mod Roots
+pub mod MessageNames
+pub mod Queued
+pub mod TasksOnce

@@ -1,6 +1,6 @@
 -- Who is a member of a list.
-use Rattle.std.proofs.Common.{◌≡◌, ℕ, zero, suc, ◌⊎◌, inl, inr, List, [], ◌∷◌, ◌++◌, Some}
-use Rattle.std.specs.List.{slice_get}
+use Rattle.std.proofs.Common.{◌≡◌, ℕ, zero, suc, Bool, true, ◌⊎◌, inl, inr, List, [], ◌∷◌, ◌++◌, Some, refl}
+use Rattle.std.specs.List.{slice_get, list_all}
 
 -- x is a member
 abbrev pub Among : {X : Type 0} → X → List X → Type 0
@@ -25,3 +25,8 @@ pub Among-at : {X : Type 0} (xs : List X) (i : ℕ) (x : X) → slice_get xs i �
 Among-at [] i x is = absurd (cc)
 Among-at (y ∷ xs) zero x is = inl (cc)
 Among-at (y ∷ xs) (suc i) x is = inr (Among-at xs i x is)
+
+-- a test that each member passes
+pub all_from : {X : Type 0} (p : X → Bool) (xs : List X) → ((x : X) → Among x xs → p x ≡ true) → list_all p xs ≡ true
+all_from p [] each = refl
+all_from p (x ∷ xs) each = rw (each x (inl refl), all_from p xs (λ y is. each y (inr is))) refl

@@ -52,7 +52,7 @@ place_next : (w : Parts) (h : List Event) (m : Msg) (name : MsgId) → refusal_o
 place_next w h m (Script a k) is = grind (arith, nat_tests)
 place_next w h m (Task t k) is = grind (arith, nat_tests)
 
-times_more : (name : MsgId) (ms : List Msg) (m : Msg) → times name (ms ++ m ∷ []) ≡ times name ms + (if same_message m.id name then 1 else 0)
+pub times_more : (name : MsgId) (ms : List Msg) (m : Msg) → times name (ms ++ m ∷ []) ≡ times name ms + (if same_message m.id name then 1 else 0)
 times_more name ms m = grind (arith, common_steps)
 
 sent_more : (name : MsgId) (ms : List Msg) (m : Msg) → sent_by name ms ≤ sent_by name (ms ++ m ∷ [])

@@ -1,5 +1,5 @@
 -- What one more event adds to the lists of a history.
-use Rattle.std.proofs.Common.{◌≡◌, List, [], ◌∷◌, ◌++◌, arith}
+use Rattle.std.proofs.Common.{◌≡◌, ◌||◌, List, [], ◌∷◌, ◌++◌, arith}
 use Rattle.std.proofs.lemmas.Grind.{common_steps}
 use Rattle.ccr_base.specs.declared.names.TaskId.{TaskId}
 use Rattle.ccr_base.specs.declared.names.MsgId.{MsgId}
@@ -8,6 +8,7 @@ use Rattle.ccr_model.specs.declared.history.Event.{Event}
 use Rattle.ccr_model.specs.declared.history.Event.TheVariants.{Fire}
 use Rattle.ccr_model.specs.Posts.{posts, post_of}
 use Rattle.ccr_model.specs.Firings.{firings, firing_of, fired, cut, ever_admitted, admitted_by, put, put_by, dropped, dropped_by, started, started_by, ended, ended_by, yielded, yielded_by, last_segments, last_by}
+use Rattle.ccr_model.specs.Legal.{has_shed, is_shed_end}
 
 pub posts-push : (h : List Event) (e : Event) → posts (h ++ e ∷ []) ≡ posts h ++ post_of e
 posts-push h e = grind (arith, common_steps)
@@ -41,3 +42,6 @@ ever_admitted-push h e = grind (arith, common_steps)
 
 pub cut-push : (h : List Event) (e : Event) → cut (h ++ e ∷ []) ≡ cut h ++ cut (e ∷ [])
 cut-push h e = grind (arith, common_steps)
+
+pub has_shed-push : (h : List Event) (e : Event) → has_shed (h ++ e ∷ []) ≡ has_shed h || is_shed_end e
+has_shed-push h e = grind (arith, common_steps)

@@ -183,7 +183,7 @@ one_at_work w h legal t u work_t work_u same =
     IsOneEach-legal w h legal t u (placed.all_fired t work_t.put_so) (placed.all_fired u work_u.put_so) work_t.latest work_u.latest same
 
 -- the root of who is at work isn't over
-not_over : (w : Parts) (h : List Event) → IsLegal w h → (t : TaskId) → IsAtWork h t → is_over h (root_of h t) ≡ false
+pub not_over : (w : Parts) (h : List Event) → IsLegal w h → (t : TaskId) → IsAtWork h t → is_over h (root_of h t) ≡ false
 not_over w h legal t work = refuted (is_over h (root_of h t)) over
   where
     over : is_over h (root_of h t) ≡ true → ⊥

@@ -70,7 +70,7 @@ resumed_fired h site t u is =
 resumed-append : (h es : List Event) (site : Spot) (t : TaskId) (f : Firing) → firing_named h t ≡ Some f → resumed (h ++ es) site t ≡ resumed h site t
 resumed-append h es site t f is = rw (before-append h es t f is) refl
 
-messages_of-append : (h es : List Event) (t : TaskId) (f : Firing) → firing_named h t ≡ Some f → messages_of (h ++ es) t ≡ messages_of h t
+pub messages_of-append : (h es : List Event) (t : TaskId) (f : Firing) → firing_named h t ≡ Some f → messages_of (h ++ es) t ≡ messages_of h t
 messages_of-append h es t f is = rw (before-append h es t f is, firing_named-append h es t f is, is) refl
 
 pub root_at-append : (h es : List Event) (b k : ℕ) (t : TaskId) (f : Firing) → firing_named h t ≡ Some f → root_at (h ++ es) b k t ≡ root_at h b k t

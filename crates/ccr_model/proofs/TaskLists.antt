@@ -141,3 +141,12 @@ drop_some zero [] us t is = absurd (cc)
 drop_some zero (x ∷ ts) us t is = omega arith
 drop_some (suc n) [] us t is = absurd (cc)
 drop_some (suc n) (x ∷ ts) us t is = let less = drop_some n ts us t is in omega arith
+
+-- nobody goes
+pub none_gone : (ts : List TaskId) → without ts [] ≡ ts
+none_gone ts = without_none ts [] (λ u is. refl)
+
+-- a list without members
+pub no_members : (ts : List TaskId) → ((t : TaskId) → has_task ts t ≡ true → ⊥) → ts ≡ []
+no_members [] none = refl
+no_members (t ∷ ts) none = absurd (none t (or_left (same_task t t) (has_task ts t) (same_task-self t)))

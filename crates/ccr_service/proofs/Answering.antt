@@ -3,7 +3,6 @@ use Rattle.std.proofs.Common.{◌≡◌, ◌⊎◌, inl, inr, ℕ, zero, suc, �
 use Rattle.std.specs.Prelude.{◌==◌, if◌then◌else◌, nat_lt, option_map, Contains}
 use Rattle.std.specs.List.{slice_get}
 use Rattle.std.specs.Option.{option_map_or}
-use Rattle.std.specs.Cmp.Lexicographic.{bytes_decides}
 use Rattle.std.proofs.lemmas.Bool.Decides.{nat_tests}
 use lib.ListN.{get_or}
 use Rattle.ccr_base.specs.declared.names.TaskId.{TaskId}
@@ -12,7 +11,6 @@ use Rattle.ccr_base.specs.declared.names.MsgId.TheVariants.{Script, Task}
 use Rattle.ccr_base.specs.declared.messages.Msg.{Msg}
 use Rattle.ccr_base.specs.declared.messages.Sent.{Sent}
 use Rattle.ccr_base.specs.Names.{same_message, has_task, has_message}
-use Rattle.ccr_base.specs.Values.{same_value}
 use Rattle.ccr_handler.specs.declared.segments.Play.{Play}
 use Rattle.ccr_handler.specs.declared.segments.PlayEnd.TheVariants as plays
 use Rattle.ccr_wiring.specs.declared.parts.Parts.{Parts}
@@ -68,7 +66,7 @@ use Rattle.ccr_service.proofs.AtEnd.{held_torn, has_ended}
 use Rattle.ccr_service.proofs.Torn.{cut_torn, dropped_discards}
 use Rattle.ccr_service.proofs.Takings.{of_kept}
 use Rattle.ccr_service.proofs.Plays.{TakesAsk, TakesAsk-legal, play_is}
-use Rattle.ccr_service.proofs.Sent.{named_so}
+use Rattle.ccr_service.proofs.Sent.{named_so, same_values}
 use Rattle.ccr_service.proofs.Replying.{running_fired, one_play, nothing_or_reply, HasReplied, unstarted_nothing, its_name, all_replies}
 use Rattle.ccr_service.proofs.Unshed.{none_shed}
 use Rattle.ccr_service.proofs.Fitting.{valid}
@@ -148,9 +146,6 @@ responses_are s h legal op client value part t plays_so = same_filter (λ (m : M
         ap (is_response_port s client op) reply_so.post.port ∙ reply_port s op part client value reply_so.sent all
 
 -- ---- how the task ended
-
-same_values : (xs ys : List ℕ) → same_value xs ys ≡ true → xs ≡ ys
-same_values xs ys is = (bytes_decides xs ys).0 is
 
 -- what the end of a task that wasn't shed says
 pub record EndsWhole (s : ServiceParts) (h : List Event) (t : TaskId) (how : EndHow) : Type 0 where

@@ -44,7 +44,7 @@ use Rattle.ccr_model.proofs.CanFire.{some_fire_at}
 use Rattle.ccr_model.proofs.TasksLeft.{of_without, out_left}
 use Rattle.ccr_model.proofs.SameNames.{same_task-self}
 use Rattle.ccr_laws.specs.OneFate.{IsIn, HasEnded}
-use Rattle.ccr_model.proofs.TaskLists.{out_right, among_right}
+use Rattle.ccr_model.proofs.TaskLists.{out_right, among_right, no_members}
 use Rattle.ccr_model.proofs.FiringFacts.{fired_by_named, BranchFacts-where}
 use Rattle.ccr_model.proofs.Ending.{AreEnded-legal}
 use Rattle.ccr_laws.proofs.States.{is_in}
@@ -54,7 +54,7 @@ use Rattle.ccr_service.specs.Expansion.{request_port, expansion}
 use Rattle.ccr_service.specs.Served.{is_torn_down}
 use Rattle.ccr_service.specs.Services.{IsService}
 use Rattle.ccr_service.specs.Stillness.{IsStill}
-use Rattle.ccr_service.proofs.Still.{AtEnd, no_members}
+use Rattle.ccr_service.proofs.Still.{AtEnd}
 use Rattle.ccr_service.proofs.Shape.{PlacementFacts-placement, TakesIt, TakesIt-op}
 
 ended-append : (h es : List Event) → ended (h ++ es) ≡ ended h ++ ended es

@@ -1,5 +1,5 @@
 -- What a text says is a service: the reading keeps the limits.
-use Rattle.std.proofs.Common.{◌≡◌, ◌⊎◌, inl, inr, ℕ, ◌+◌, ◌<◌, ◌≤◌, Bool, true, false, not, ◌&&◌, List, [], ◌∷◌, ◌++◌, length, map, Option, Some, None, Result, Ok, Err, refl, sym, ap, ◌∙◌, arith, subst, append-nil, option_to_list}
+use Rattle.std.proofs.Common.{◌≡◌, ◌⊎◌, inl, inr, ℕ, ◌+◌, ◌<◌, ◌≤◌, Bool, true, false, not, ◌&&◌, List, [], ◌∷◌, ◌++◌, length, Option, Some, None, Result, Ok, Err, refl, sym, ap, ◌∙◌, arith, subst, append-nil, option_to_list}
 use Rattle.std.specs.Prelude.{◌==◌, codes, if◌then◌else◌, nat_lt, nat_le, is_some, max}
 use Rattle.std.specs.List.{list_all}
 use Rattle.std.specs.Option.{option_and_then}
@@ -21,7 +21,7 @@ use Rattle.ccr_wiring.specs.Limits.{policy_is_outside, is_outside}
 use Rattle.ccr_wiretext.specs.Places.{number_within as number_between, policy as policy_place}
 use Rattle.ccr_wiretext.specs.Reading.{is_comment, at_line}
 use Rattle.ccr_model.proofs.Booleans.{both, no_both}
-use Rattle.ccr_model.proofs.Members.{Among, Among-either}
+use Rattle.ccr_model.proofs.Members.{Among, Among-either, all_from}
 use Rattle.ccr_service.specs.declared.names.Named.{Named}
 use Rattle.ccr_service.specs.declared.names.Named.TheVariants as named
 use Rattle.ccr_service.specs.declared.parts.AskPart.{AskPart}
@@ -197,10 +197,6 @@ all_append p (y ∷ xs) x all is = let parts = both (p y) (list_all p xs) all in
 all_front : {X : Type 0} (p : X → Bool) (xs : List X) (x : X) → list_all p (xs ++ x ∷ []) ≡ true → (list_all p xs ≡ true) × (p x ≡ true)
 all_front p [] x all = (refl, (both (p x) true all).0)
 all_front p (y ∷ xs) x all = let parts = both (p y) (list_all p (xs ++ x ∷ [])) all in let rest = all_front p xs x parts.1 in (rw (parts.0, rest.0) refl, rest.1)
-
-all_from : {X : Type 0} (p : X → Bool) (xs : List X) → ((x : X) → Among x xs → p x ≡ true) → list_all p xs ≡ true
-all_from p [] each = refl
-all_from p (x ∷ xs) each = rw (each x (inl refl), all_from p xs (λ y is. each y (inr is))) refl
 
 one_more : {X : Type 0} (x y : X) (xs : List X) → Among y (xs ++ x ∷ []) → Among y xs ⊎ (y ≡ x)
 one_more x y xs is = of_side (Among-either y xs (x ∷ []) is)

@@ -35,6 +35,7 @@ use Rattle.ccr_model.proofs.PostNames.{refused_not, times, posted_once}
 use Rattle.ccr_model.proofs.LegalParts.{along_legal}
 use Rattle.ccr_model.proofs.Pushes.{posts-push}
 use Rattle.ccr_model.proofs.SameNames.{same_message-self}
+use Rattle.ccr_model.proofs.MessageNames.{times_some}
 use Rattle.ccr_service.specs.declared.parts.AskPart.{AskPart}
 use Rattle.ccr_service.specs.declared.parts.ClientPart.{ClientPart}
 use Rattle.ccr_service.specs.declared.parts.ServiceParts.{ServiceParts}
@@ -68,7 +69,7 @@ ask_at client k [] x is = absurd (cc)
 ask_at client zero (a ∷ asks) x is = (a, refl, cc)
 ask_at client (suc k) (a ∷ asks) x is = ask_at client k asks x is
 
-same_values : (xs ys : List ℕ) → same_value xs ys ≡ true → xs ≡ ys
+pub same_values : (xs ys : List ℕ) → same_value xs ys ≡ true → xs ≡ ys
 same_values [] [] is = refl
 same_values [] (y ∷ ys) is = absurd (cc)
 same_values (x ∷ xs) [] is = absurd (cc)
@@ -203,15 +204,6 @@ pub all_known : (s : ServiceParts) (h : List Event) → IsLegal (expansion s) h 
 all_known s h legal = along_legal (expansion s) (AreKnown s) (λ g e l a k. known_kept s g e l a k) (λ m is. absurd is) h legal
 
 -- ---- a message is found by its name
-
-times_some : (ms : List Msg) (m : Msg) → Among m ms → 1 ≤ times m.id ms
-times_some [] m is = absurd is
-times_some (x ∷ ms) m (inl e) = let here : same_message x.id m.id ≡ true = ap (λ (y : Msg). same_message y.id m.id) (sym e) ∙ same_message-self m.id in rw here (grind arith)
-times_some (x ∷ ms) m (inr more) = by_test (same_message x.id m.id) (times_some ms m more)
-  where
-    by_test : (b : Bool) → 1 ≤ times m.id ms → 1 ≤ length (if b then x ∷ filter (λ (y : Msg). same_message y.id m.id) ms else filter (λ (y : Msg). same_message y.id m.id) ms)
-    by_test true rest = grind arith
-    by_test false rest = rest
 
 found_once : (ms : List Msg) (m : Msg) → Among m ms → times m.id ms ≤ 1 → find (λ (x : Msg). same_message x.id m.id) ms ≡ Some m
 found_once [] m is once = absurd is

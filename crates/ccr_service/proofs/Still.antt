@@ -1,15 +1,14 @@
 -- Without awaits a quiet history is still.
-use Rattle.std.proofs.Common.{◌≡◌, ℕ, zero, suc, ◌+◌, ◌<◌, ◌≤◌, Bool, true, false, ◌||◌, List, [], ◌∷◌, ◌++◌, length, Option, Some, None, refl, sym, ap, ◌∙◌, arith, subst}
+use Rattle.std.proofs.Common.{◌≡◌, ℕ, ◌+◌, ◌<◌, ◌≤◌, Bool, true, false, ◌||◌, List, [], ◌∷◌, ◌++◌, length, Option, Some, None, refl, sym, ap, ◌∙◌, arith, subst}
 use Rattle.std.specs.Prelude.{◌==◌, if◌then◌else◌, IfSome, option_map}
 use Rattle.std.specs.List.{slice_get, list_any, list_all}
 use Rattle.ccr_base.specs.declared.names.TaskId.{TaskId}
-use Rattle.ccr_base.specs.Names.{same_task, has_task, same_options, without}
+use Rattle.ccr_base.specs.Names.{same_task, has_task, without}
 use Rattle.ccr_wiring.specs.declared.parts.Parts.{Parts}
-use Rattle.ccr_wiring.specs.declared.parts.QueuePart.{QueuePart}
 use Rattle.ccr_wiring.specs.Wirings.{Placement, placement, branch_of, spots}
 use Rattle.ccr_wiring.specs.Valid.{HasQueues}
 use Rattle.ccr_model.specs.declared.history.Event.{Event}
-use Rattle.ccr_model.specs.declared.history.Event.TheVariants.{Admit, Put, Start}
+use Rattle.ccr_model.specs.declared.history.Event.TheVariants.{Admit, Put}
 use Rattle.ccr_model.specs.Firings.{Firing, firing_named, cut, ever_admitted, put, dropped, started, ended, last_segments}
 use Rattle.ccr_model.specs.Sites.{root_of}
 use Rattle.ccr_model.specs.TaskData.{placement_of}
@@ -18,14 +17,14 @@ use Rattle.ccr_model.specs.Live.{is_none_of}
 use Rattle.ccr_model.specs.Rules.{may_put, may_admit, drop_at, is_oldest_waiting, is_concurrent_task, needs_no_admission}
 use Rattle.ccr_model.specs.Order.{first, post_from, fire_from, admit_from, put_first, run_task, start_from}
 use Rattle.ccr_model.specs.Legal.{IsAllowed, IsLegal, IsQuiet}
-use Rattle.ccr_model.proofs.Allowing.{first_allowed}
+use Rattle.ccr_model.proofs.Allowing.{first_allowed, same_option-self}
 use Rattle.ccr_model.proofs.Booleans.{both, no_both, or_left, or_right, refuted, same_number, eq-self}
 use Rattle.ccr_model.proofs.Quiet.{start_none}
 use Rattle.ccr_model.proofs.Options.{none_or, none_map, no_head, some_of}
 use Rattle.ccr_model.proofs.FiredTasks.{IsFired, placement_fired}
 use Rattle.ccr_model.proofs.SameNames.{same_task-self, same_task-is}
 use Rattle.ccr_model.specs.Interleaves.{is_placement_in}
-use Rattle.ccr_model.proofs.TaskLists.{to_filter, to_without, not_more}
+use Rattle.ccr_model.proofs.TaskLists.{to_filter, to_without, not_more, no_members}
 use Rattle.ccr_model.proofs.TaskPlaces.{placement_by, QueuedFacts-queued}
 use Rattle.ccr_model.proofs.FiringFacts.{BranchFacts-where, WaitingFacts-waiting}
 use Rattle.ccr_model.proofs.Cutting.{CutFacts-legal}
@@ -73,16 +72,8 @@ none_queued w fit h end q t = refuted (has_task (queued w h q) t) (λ is. gone i
         let out : has_task (queued w h q) t ≡ false = rw empty refl in
         no_both is out
 
-same_option : (o : Option TaskId) → same_options same_task o o ≡ true
-same_option None = refl
-same_option (Some t) = same_task-self t
-
 none_ready : (w : Parts) (h : List Event) → IsQuiet w h → (t : TaskId) → may_put w h t ≡ false
-none_ready w h quiet t = refuted (may_put w h t) (λ is. quiet (Put t (drop_at w h t)) (rw (is, same_option (drop_at w h t)) refl))
-
-pub no_members : (ts : List TaskId) → ((t : TaskId) → has_task ts t ≡ true → ⊥) → ts ≡ []
-no_members [] none = refl
-no_members (t ∷ ts) none = absurd (none t (or_left (same_task t t) (has_task ts t) (same_task-self t)))
+none_ready w h quiet t = refuted (may_put w h t) (λ is. quiet (Put t (drop_at w h t)) (rw (is, same_option-self (drop_at w h t)) refl))
 
 -- the tests of the readiness of a task that fired and was let in
 ready_so : (w : Parts) (h : List Event) (t : TaskId) (f : Firing) → firing_named h t ≡ Some f → has_task (put h) t ≡ false → has_task (cut h) t ≡ false → has_task (ever_admitted h) t ≡ true → may_put w h t ≡ true

@@ -2,7 +2,6 @@
 use Rattle.std.proofs.Common.{◌≡◌, ◌⊎◌, inl, inr, ℕ, Bool, true, false, not, List, [], ◌∷◌, ◌++◌, length, take, filter, Some, None, refl, sym, ap, ◌∙◌, arith, subst, append-nil}
 use Rattle.std.specs.Prelude.{◌==◌, if◌then◌else◌, nat_le}
 use Rattle.std.proofs.lemmas.Bool.Decides.{nat_tests}
-use Rattle.std.proofs.lemmas.Grind.{common_steps}
 use Rattle.ccr_base.specs.declared.names.TaskId.{TaskId}
 use Rattle.ccr_base.specs.declared.names.MsgId.{MsgId}
 use Rattle.ccr_base.specs.declared.names.Spot.TheVariants.{Branch, Site}
@@ -20,15 +19,15 @@ use Rattle.ccr_model.specs.Choice.{names_of, choice_of_slots, is_choice_of}
 use Rattle.ccr_model.specs.Firings.{Firing, firing_of, firing_named}
 use Rattle.ccr_model.specs.TaskData.{messages_of}
 use Rattle.ccr_model.specs.Legal.{IsAllowed, IsLegal}
-use Rattle.ccr_model.proofs.Booleans.{both, same_number}
+use Rattle.ccr_model.proofs.Booleans.{same_number}
 use Rattle.ccr_model.proofs.Options.{some_of}
 use Rattle.ccr_model.proofs.Members.{Among, Among-left}
 use Rattle.ccr_model.proofs.LegalParts.{along_legal}
-use Rattle.ccr_model.proofs.SameNames.{same_message-is}
-use Rattle.ccr_model.proofs.Stable.{firing_named-append, before-append}
+use Rattle.ccr_model.proofs.Stable.{messages_of-append}
 use Rattle.ccr_model.proofs.TakenOnce.{joined_some, FireFacts-allowed}
 use Rattle.ccr_model.proofs.FiringFacts.{FiresSo-allowed, firing_named-new, before-new}
 use Rattle.ccr_model.proofs.Roots.{of_firing, other_firing}
+use Rattle.ccr_model.proofs.FirstNames.{same_names}
 use Rattle.ccr_service.specs.declared.parts.ServiceParts.{ServiceParts}
 use Rattle.ccr_service.specs.Expansion.{request_port, expansion}
 use Rattle.ccr_service.proofs.NoAwaits.{no_site_fires}
@@ -69,16 +68,6 @@ takes_one_of port pred ms xs is = by_list (fitting pred ms) refl is
         front true e is = cc
         front false e is = absurd (cc)
 
-same_names : (ms : List Msg) (names : List MsgId) → same_lists same_message (names_of ms) names ≡ true → names ≡ names_of ms
-same_names [] [] is = refl
-same_names [] (n ∷ names) is = absurd (cc)
-same_names (m ∷ ms) [] is = absurd (cc)
-same_names (m ∷ ms) (n ∷ names) is =
-    let parts = both (same_message m.id n) (same_lists same_message (names_of ms) names) is in
-    let one : n ≡ m.id = sym (same_message-is m.id n parts.0) in
-    let others : names ≡ names_of ms = same_names ms names parts.1 in
-    cc
-
 -- what a choice of that pattern names
 record NamesOne (h : List Event) (port : ℕ) (pred : Pred) (names : List MsgId) : Type 0 where
   message : Msg
@@ -113,9 +102,6 @@ pub record Takes (s : ServiceParts) (h : List Event) (t : TaskId) (f : Firing) :
   pub holds_so : holds facts.pred message.value ≡ true
   pub its : messages_of h t ≡ message ∷ []
 
-messages-append : (h es : List Event) (t : TaskId) (f : Firing) → firing_named h t ≡ Some f → messages_of (h ++ es) t ≡ messages_of h t
-messages-append h es t f is = rw (firing_named-append h es t f is, is, before-append h es t f is) refl
-
 pub takes_on : (s : ServiceParts) (h es : List Event) (t : TaskId) (f : Firing) → firing_named h t ≡ Some f → Takes s h t f → Takes s (h ++ es) t f
 takes_on s h es t f is old =
     record {
@@ -129,7 +115,7 @@ takes_on s h es t f is old =
       among = subst (Among old.message) (sym (posts-append h es)) (Among-left old.message (posts h) (posts es) old.among);
       port = old.port;
       holds_so = old.holds_so;
-      its = messages-append h es t f is ∙ old.its;
+      its = messages_of-append h es t f is ∙ old.its;
     }
 
 takes_new : (s : ServiceParts) (h : List Event) → IsLegal (expansion s) h → (x : TaskId) (b : ℕ) (ms : List MsgId) (cs : List TaskId) → IsAllowed (expansion s) h (Fire x (Branch b) ms cs) → Takes s (h ++ Fire x (Branch b) ms cs ∷ []) x (record { task = x; spot = Branch b; messages = ms; cuts = cs })

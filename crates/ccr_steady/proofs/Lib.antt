@@ -27,5 +27,4 @@ pub mod DoneTotals
 pub mod HeldPorts
 pub mod Agree
 pub mod Loads
-pub mod WorkedParts
 pub mod Worked

@@ -1,9 +1,8 @@
 -- The counts of a quiet, complete history without a shed end are closed.
 use Rattle.std.proofs.Common.{◌≡◌, inl, inr, ℕ, zero, suc, ◌+◌, ◌*◌, ◌≤◌, Bool, true, false, not, List, [], ◌∷◌, ◌++◌, length, drop, Option, Some, None, refl, sym, ap, ◌∙◌, subst, append-nil, arith}
 use Rattle.std.specs.Prelude.{◌==◌, ◌&&◌, ◌||◌, if◌then◌else◌, nat_lt, is_some}
-use Rattle.std.specs.List.{slice_get, list_any, list_all}
+use Rattle.std.specs.List.{slice_get, list_any}
 use Rattle.std.specs.Option.{option_map_or, option_map}
-use Rattle.std.proofs.lemmas.Grind.{common_steps}
 use Rattle.std.proofs.lemmas.Bool.Decides.{nat_tests}
 use Rattle.ccr_base.specs.declared.names.TaskId.{TaskId}
 use Rattle.ccr_base.specs.declared.names.Spot.{Spot}
@@ -13,13 +12,12 @@ use Rattle.ccr_base.specs.declared.handlers.Action.{Action}
 use Rattle.ccr_base.specs.declared.patterns.Slot.{Slot}
 use Rattle.ccr_base.specs.declared.patterns.Pattern.{Pattern}
 use Rattle.ccr_base.specs.declared.patterns.Pattern.TheVariants.{Slots, Gather}
-use Rattle.ccr_base.specs.declared.patterns.Pred.{Pred}
 use Rattle.ccr_base.specs.declared.patterns.Pred.TheVariants as preds
 use Rattle.ccr_base.specs.declared.policies.Group.{Group}
 use Rattle.ccr_base.specs.declared.policies.Group.TheVariants as groups
 use Rattle.ccr_base.specs.declared.policies.Policy.{Policy}
 use Rattle.ccr_base.specs.declared.policies.Policy.TheVariants as policies
-use Rattle.ccr_base.specs.Choice.{is_choosable, fitting}
+use Rattle.ccr_base.specs.Choice.{is_choosable}
 use Rattle.ccr_base.specs.Names.{same_task, has_task}
 use Rattle.ccr_wiring.specs.declared.parts.Parts.{Parts}
 use Rattle.ccr_wiring.specs.declared.parts.QueuePart.{QueuePart}
@@ -48,9 +46,9 @@ use Rattle.ccr_model.proofs.Booleans.{both, no_both, not_true, neither}
 use Rattle.ccr_model.proofs.CanFire.{some_fire_at}
 use Rattle.ccr_model.proofs.FiredTasks.{IsFired}
 use Rattle.ccr_model.proofs.LegalParts.{along_legal}
-use Rattle.ccr_model.proofs.Members.{Among}
+use Rattle.ccr_model.proofs.Members.{Among, all_from}
 use Rattle.ccr_model.proofs.PostNames.{refused_not}
-use Rattle.ccr_model.proofs.Pushes.{posts-push, ended-push}
+use Rattle.ccr_model.proofs.Pushes.{posts-push, ended-push, has_shed-push}
 use Rattle.ccr_model.proofs.SameNames.{same_task-is}
 use Rattle.ccr_model.proofs.Stable.{play_of-append}
 use Rattle.ccr_model.proofs.TasksLeft.{has_task-append, of_without, out_left}
@@ -58,14 +56,18 @@ use Rattle.ccr_model.proofs.Ending.{AreEnded-legal, RunningFacts-running}
 use Rattle.ccr_model.proofs.FiringFacts.{fired_by_named}
 use Rattle.ccr_model.proofs.TaskPlaces.{ArePlaced-legal}
 use Rattle.ccr_steady.specs.Flow.{IsSteady, IsClosed, weigh, at_port, got, lacks, slots_of, is_any, is_open_pattern, is_lasting}
-use Rattle.ccr_steady.proofs.Paying.{planned, due, by_task, times_at}
+use Rattle.ccr_steady.proofs.Paying.{planned, due, times_at}
 use Rattle.ccr_steady.proofs.Tasks.{ports_length, calm_play, calm_at, calm_from}
 use Rattle.ccr_steady.proofs.Scripts.{none_left}
-use Rattle.ccr_steady.proofs.Balance.{balance, posted_at, slot_facts}
+use Rattle.ccr_steady.proofs.Balance.{balance, posted_at, slot_facts, one_more}
 use Rattle.ccr_steady.proofs.Holds.{holds_rest}
 use Rattle.ccr_steady.proofs.Torn.{none_torn}
 use Rattle.ccr_model.proofs.Quiet.{fire_none, branch_among}
+use Rattle.ccr_model.proofs.TaskLists.{no_members}
 use Rattle.ccr_steady.proofs.Rest.{quiet_none, all_ended}
+use Rattle.ccr_steady.proofs.Takes.{fitting_any}
+use Rattle.ccr_steady.proofs.Flowing.{none_any}
+use Rattle.ccr_gen.specs.Weights.{by_task}
 
 -- ---- without a shed end, who ended has posted all
 
@@ -92,12 +94,9 @@ AreDone w h = has_shed h ≡ false → (t : TaskId) → has_task (ended h) t ≡
 pub ended_fired : (w : Parts) (h : List Event) → IsLegal w h → (t : TaskId) → has_task (started h) t ≡ true → IsFired h t
 ended_fired w h legal t is = let placed = ArePlaced-legal w h legal in placed.all_fired t (placed.lists.put_started t is)
 
-pub shed_push : (h : List Event) (e : Event) → has_shed (h ++ e ∷ []) ≡ has_shed h || is_shed_end e
-shed_push h e = grind (arith, common_steps)
-
 same_done : (w : Parts) (h : List Event) (e : Event) → IsLegal w h → ended (h ++ e ∷ []) ≡ ended h → AreDone w h → AreDone w (h ++ e ∷ [])
 same_done w h e legal same old unshed t is =
-    let parts = neither (has_shed h) (is_shed_end e) (sym (shed_push h e) ∙ unshed) in
+    let parts = neither (has_shed h) (is_shed_end e) (sym (has_shed-push h e) ∙ unshed) in
     let before : has_task (ended h) t ≡ true = subst (λ (ts : List TaskId). has_task ts t ≡ true) same is in
     stays_done w h e t (ended_fired w h legal t ((AreEnded-legal w h legal).started_ended t before)) (old parts.0 t before)
 
@@ -111,7 +110,7 @@ end_done : (w : Parts) (h : List Event) (t : TaskId) (how : EndHow) → IsLegal 
 end_done w h t how legal allowed old unshed u is = by (has_task (ended h) u) refl (sym (has_task-append (ended h) (t ∷ []) u) ∙ subst (λ (ts : List TaskId). has_task ts u ≡ true) (ended-push h (events.End t how)) is)
   where
     parts : (has_shed h ≡ false) × (is_shed_end (events.End t how) ≡ false)
-    parts = neither (has_shed h) (is_shed_end (events.End t how)) (sym (shed_push h (events.End t how)) ∙ unshed)
+    parts = neither (has_shed h) (is_shed_end (events.End t how)) (sym (has_shed-push h (events.End t how)) ∙ unshed)
 
     by : (b : Bool) → has_task (ended h) u ≡ b → has_task (ended h) u || has_task (t ∷ []) u ≡ true → has_post_left w (h ++ events.End t how ∷ []) u ≡ false
     by true e any = stays_done w h (events.End t how) u (ended_fired w h legal u ((AreEnded-legal w h legal).started_ended u e)) (old parts.0 u e)
@@ -202,12 +201,8 @@ some_most w valid q n is = of_option (slice_get w.queues q) refl is
         let known : policy_is_outside (policies.Throttle n) ≡ false = subst (λ p. policy_is_outside p ≡ false) policy inside in
         grind (arith, nat_tests, known)
 
-none_has : (ts : List TaskId) → ((t : TaskId) → has_task ts t ≡ true → ⊥) → ts ≡ []
-none_has [] none = refl
-none_has (t ∷ ts) none = absurd (none t (rw (Rattle.ccr_model.proofs.SameNames.same_task-self t) refl))
-
 none_coming : (w : Parts) → IsSound w → IsSteady w → (h : List Event) → IsLegal w h → IsQuiet w h → (q : ℕ) → coming w h q ≡ []
-none_coming w sound steady h legal quiet q = none_has (coming w h q) (λ t is. (
+none_coming w sound steady h legal quiet q = no_members (coming w h q) (λ t is. (
     let parts = of_without (fired_by w (λ s. s.branch.queue == q) h) (started h ++ dropped h ++ cut h) t is in
     let found = fired_by_named w (λ s. s.branch.queue == q) h t (OneName-legal w h legal) parts.0 in
     let over = all_ended w sound steady h legal quiet t found.0 found.1 in
@@ -220,30 +215,11 @@ room_in w valid steady h legal quiet q (policies.Throttle n) is =
     let some = some_most w valid q n is in
     rw (none_coming w (sound w valid) steady h legal quiet q) (grind (arith, nat_tests, some))
 
-fitting_any : (pred : Pred) → is_any pred ≡ true → (ms : List Msg) → fitting pred ms ≡ ms
-fitting_any preds.Any any [] = refl
-fitting_any preds.Any any (m ∷ ms) = ap (λ (xs : List Msg). m ∷ xs) (fitting_any preds.Any any ms)
-fitting_any (preds.Eq n) any ms = absurd cc
-fitting_any (preds.Lt n) any ms = absurd cc
-fitting_any (preds.Ge n) any ms = absurd cc
-
 choosable : (slot : Slot) (ms : List Msg) → is_any slot.pred ≡ true → slot.least ≤ length ms → is_choosable slot ms ≡ true
 choosable slot ms any enough = rw (fitting_any slot.pred any ms) (grind (arith, nat_tests, enough))
 
-all_of : {X : Type 0} (p : X → Bool) (xs : List X) → ((x : X) → Among x xs → p x ≡ true) → list_all p xs ≡ true
-all_of p [] all = refl
-all_of p (x ∷ xs) all = rw (all x (inl refl), all_of p xs (λ y among. all y (inr among))) refl
-
-none_any : {X : Type 0} (p : X → Bool) (xs : List X) → list_any p xs ≡ false → (x : X) → Among x xs → p x ≡ false
-none_any p [] none x among = absurd among
-none_any p (y ∷ ys) none x (inl e) = ap p e ∙ (neither (p y) (list_any p ys) none).0
-none_any p (y ∷ ys) none x (inr more) = none_any p ys (neither (p y) (list_any p ys) none).1 x more
-
-one_more : (c n : ℕ) → c * (n + 1) ≡ c * n + c
-one_more c n = grind arith
-
 enough_of : (h : List Event) (pattern : Pattern) → is_open_pattern pattern ≡ true → ((slot : Slot) → Among slot (slots_of pattern) → is_choosable slot (held h slot.port) ≡ true) → has_enough (held h) pattern ≡ true
-enough_of h (Slots slots) opened all = all_of (λ (slot : Slot). is_choosable slot (held h slot.port)) slots all
+enough_of h (Slots slots) opened all = all_from (λ (slot : Slot). is_choosable slot (held h slot.port)) slots all
 enough_of h (Gather total first second) opened all = absurd cc
 
 could_fire : (w : Parts) → IsValid w → IsSteady w → (h : List Event) → IsLegal w h → IsQuiet w h → is_complete w h ≡ true → has_shed h ≡ false → (b : ℕ) (s : Placement) → placement w b ≡ Some s → list_any (lacks w (times_at (firings h)) b) (slots_of s.branch.pattern) ≡ false → can_fire w h (Branch b) ≡ true

@@ -17,9 +17,9 @@ use Rattle.ccr_model.specs.declared.history.Event.TheVariants as events
 use Rattle.ccr_model.specs.declared.history.EndHow.{EndHow}
 use Rattle.ccr_model.specs.declared.history.TaskState.{TaskState}
 use Rattle.ccr_model.specs.declared.history.TaskState.TheVariants as states
-use Rattle.ccr_model.specs.Firings.{Firing, firings, firing_named, fired, ever_admitted, put, started, ended, ended_by, cut, dropped, last_segments}
+use Rattle.ccr_model.specs.Firings.{Firing, firings, firing_named, fired, ended, ended_by, last_segments}
 use Rattle.ccr_model.specs.Sites.{root_of}
-use Rattle.ccr_model.specs.Tasks.{waiting, queued, running, admitted, is_over, is_concurrent}
+use Rattle.ccr_model.specs.Tasks.{waiting, queued, admitted, is_concurrent}
 use Rattle.ccr_model.specs.TaskData.{placement_of}
 use Rattle.ccr_model.specs.Rules.{may_put, may_admit, is_concurrent_task}
 use Rattle.ccr_model.specs.Live.{is_none_of}
@@ -28,7 +28,7 @@ use Rattle.ccr_model.specs.Order.{first, admit_first}
 use Rattle.ccr_model.specs.Legal.{IsAllowed, IsLegal, IsQuiet}
 use Rattle.ccr_model.proofs.Allowing.{first_allowed, OneName-legal}
 use Rattle.ccr_model.proofs.Alone.{ever_admitted_fired}
-use Rattle.ccr_model.proofs.Booleans.{refuted, no_both}
+use Rattle.ccr_model.proofs.Booleans.{no_both}
 use Rattle.ccr_model.proofs.Members.{Among}
 use Rattle.ccr_model.proofs.Options.{no_head, none_map}
 use Rattle.ccr_model.proofs.PlacementDomains.{placement-within}
@@ -42,6 +42,7 @@ use Rattle.ccr_model.proofs.TaskPlaces.{QueuedFacts-queued, placement_by}
 use Rattle.ccr_steady.specs.Flow.{IsSteady}
 use Rattle.ccr_steady.proofs.Calm.{none_cut, none_dropped, are_over, at_branches}
 use Rattle.ccr_model.proofs.Quiet.{NoneFirst, NoneFirst-first, start_none, admit_none, found_fired, find_among}
+use Rattle.ccr_model.proofs.TaskLists.{no_members}
 
 -- nothing comes first after a quiet history
 pub quiet_none : (w : Parts) → IsSound w → (h : List Event) → IsLegal w h → IsQuiet w h → NoneFirst w (length w.posters) h
@@ -120,10 +121,6 @@ none_admitted w sound steady h legal none i t is =
     let last : has_task (last_segments h) t ≡ true = subst (λ (ts : List TaskId). has_task ts t ≡ true) (sym (are_over w steady h legal)) done in
     no_both (over_by h t (last_segments h) root last) facts.lasts
 
-none_has : (ts : List TaskId) → ((t : TaskId) → has_task ts t ≡ true → ⊥) → ts ≡ []
-none_has [] none = refl
-none_has (t ∷ ts) none = absurd (none t (rw (same_task-self t) refl))
-
 none_waits : (w : Parts) → IsSound w → IsSteady w → (h : List Event) → IsLegal w h → NoneFirst w (length w.posters) h → (t : TaskId) → Waits w h t → ⊥
 none_waits w sound steady h legal none t waits = by (waiting w h waits.interleave) refl waits.among
   where
@@ -133,7 +130,7 @@ none_waits w sound steady h legal none t waits = by (waiting w h waits.interleav
         let seated = firing_with_placement w h legal facts.firing (found_among (firings h) u facts.firing facts.is_firing) in
         let place : placement_of w h u ≡ Some seated.0 = placement_by w h u facts.firing facts.is_firing ∙ seated.1 in
         let its = at_interleave facts.firing.spot seated.0 seated.1 facts.is_branch in
-        let empty = none_has (admitted w h seated.0.arbiter) (none_admitted w sound steady h legal none seated.0.arbiter) in
+        let empty = no_members (admitted w h seated.0.arbiter) (none_admitted w sound steady h legal none seated.0.arbiter) in
         let inside : seated.0.arbiter < length w.arbiters = placement-within w (branch_of facts.firing.spot) seated.0 seated.1 in
         let zero_more : 0 + seated.0.arbiter ≡ seated.0.arbiter = omega arith in
         let first_none = subst (λ (i : ℕ). admit_first w h (waiting w h i) ≡ None) zero_more (admit_none w h 0 seated.0.arbiter w.arbiters none.admit inside) in

@@ -1,29 +1,20 @@
 -- The spots of a valid wiring have places.
-use Rattle.std.proofs.Common.{◌≡◌, ℕ, ◌+◌, ◌*◌, ◌≤◌, ◌<◌, true, List, [], ◌∷◌, length, map, Option, Some, None, refl, ap, arith}
+use Rattle.std.proofs.Common.{◌≡◌, ℕ, ◌+◌, ◌*◌, ◌≤◌, ◌<◌, true, List, [], ◌∷◌, length, map, Some, refl, ap, arith}
 use Rattle.std.specs.Prelude.{nat_lt}
-use Rattle.std.specs.List.{cons_option}
 use Rattle.std.proofs.lemmas.Bool.Decides.{nat_tests}
 use Rattle.std.proofs.lemmas.List.{map-append}
 use Rattle.ccr_base.specs.declared.names.Spot.{Spot}
 use Rattle.ccr_base.specs.declared.names.Spot.TheVariants.{Branch, Site}
-use Rattle.ccr_base.specs.declared.handlers.Action.{Action}
 use Rattle.ccr_wiring.specs.declared.parts.Parts.{Parts}
-use Rattle.ccr_wiring.specs.Wirings.{Placement, actions_of, await_port, awaited, placements, sites_from, spots, spots_from}
+use Rattle.ccr_wiring.specs.Wirings.{Placement, actions_of, awaited, placements, sites_from, spots, spots_from}
 use Rattle.ccr_wiring.specs.Valid.{IsValid, HasFewActions}
 use Rattle.ccr_wiring.proofs.Soundness.{sound}
 use Rattle.ccr_telling.specs.Tallies.{all_places, place_of}
+use Rattle.ccr_engine.proofs.SpotPlaces.{few_awaited}
 
 -- two counts of spots are the same where a spot has a place
 abbrev pub AreSame : (Spot → ℕ) → (Spot → ℕ) → Type 0
 AreSame f g = (spot : Spot) (place : ℕ) → place_of spot ≡ Some place → place < all_places → f spot ≡ g spot
-
-few_awaited : (actions : List Action) → length (awaited actions) ≤ length actions
-few_awaited [] = omega arith
-few_awaited (action ∷ actions) = by (await_port action) (few_awaited actions)
-  where
-    by : (o : Option ℕ) → length (awaited actions) ≤ length actions → length (cons_option o (awaited actions)) ≤ length (action ∷ actions)
-    by None rest = omega (arith, rest)
-    by (Some port) rest = omega (arith, rest)
 
 branch_same : (f g : Spot → ℕ) → AreSame f g → (b : ℕ) → b < 256 → f (Branch b) ≡ g (Branch b)
 branch_same f g same b low = same (Branch b) (b * 17) refl (omega (arith, low))

@@ -10,7 +10,6 @@ use Rattle.std.proofs.lemmas.List.Folds.{list_any-append}
 use Rattle.std.proofs.lemmas.Slice.Eq.{bytes_eq-Decides}
 use Rattle.ccr_wiring.specs.declared.parts.ArbiterPart.{ArbiterPart}
 use Rattle.ccr_wiring.specs.declared.parts.BranchPart.{BranchPart}
-use Rattle.ccr_wiring.specs.declared.parts.Kind.{Kind}
 use Rattle.ccr_wiring.specs.declared.parts.Parts.{Parts}
 use Rattle.ccr_wiring.specs.Codes.{code_of}
 use Rattle.ccr_wiring.specs.Groups.{is_receive, is_one_named, is_misgrouped, has_misgrouped, has_branchless, has_strange_group}
@@ -25,6 +24,7 @@ use Rattle.ccr_wiring.specs.Versions.{has_strange_version, has_newer}
 use Rattle.ccr_wiring.specs.Wirings.{Placement, placements_of, placements_from, placements, in_domain}
 use Rattle.ccr_trace.specs.Words.{branch_names, branch_names_of, cause_names}
 use Rattle.std.proofs.lemmas.Bool.{and_parts as both, or_parts as neither}
+use Rattle.ccr_model.proofs.Booleans.{not_refuted}
 
 no_code : (test : Bool) (code : ℕ) (rest : Option ℕ) → cond test (Some code) rest ≡ None → (test ≡ false) × (rest ≡ None)
 no_code true code rest e = absurd cc
@@ -124,10 +124,6 @@ apart_behind (x ∷ xs) more fewer lacks apart e =
 abbrev Named : ArbiterPart → Type 0
 Named arbiter = (front : List (List ℕ)) × (arbiter_names arbiter ≡ front ++ branch_names_of arbiter)
 
-not_true : (b : Bool) → not b ≡ false → b ≡ true
-not_true true e = refl
-not_true false e = absurd cc
-
 one_named : (name : List ℕ) (branches : List BranchPart) → is_one_named name branches ≡ true → map (λ (part : BranchPart). part.name) branches ≡ name ∷ []
 one_named name [] e = absurd cc
 one_named name (branch ∷ []) e =
@@ -139,7 +135,7 @@ one_named name (branch ∷ next ∷ others) e =
 
 named_by : (name : List ℕ) (branches : List BranchPart) (receive : Bool) → (receive && not (is_one_named name branches)) ≡ false
     → (front : List (List ℕ)) × ((name ∷ cond receive [] (map (λ (part : BranchPart). part.name) branches)) ≡ front ++ map (λ (part : BranchPart). part.name) branches)
-named_by name branches true e = ([], sym (one_named name branches (not_true (is_one_named name branches) e)))
+named_by name branches true e = ([], sym (one_named name branches (not_refuted (is_one_named name branches) e)))
 named_by name branches false e = (name ∷ [], refl)
 
 named : (arbiter : ArbiterPart) → is_misgrouped arbiter ≡ false → Named arbiter

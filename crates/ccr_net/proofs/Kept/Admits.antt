@@ -24,6 +24,7 @@ use Rattle.ccr_model.proofs.Pushes.{posts-push, put-push, cut-push, ever_admitte
 use Rattle.ccr_model.proofs.SameNames.{same_task-self}
 use Rattle.ccr_model.proofs.Stable.{firing_named-append}
 use Rattle.ccr_model.proofs.TaskLists.{of_one, among_right}
+use Rattle.ccr_model.proofs.Queued.{queued-other}
 use Rattle.ccr_places.specs.declared.notes.Note.{Note}
 use Rattle.ccr_places.specs.declared.notes.Note.TheVariants as notes
 use Rattle.ccr_places.specs.Interleaves.{InterleaveState, Waiting}
@@ -44,7 +45,6 @@ use Rattle.ccr_net.proofs.Parts.PortSteps.{PortsMatch-event}
 use Rattle.ccr_net.proofs.Parts.ActorSteps.{ActorMatches-same, ActorMatches-history, ActorMatches-admit, puts_owed, stays_quiet}
 use Rattle.ccr_net.proofs.Parts.Site.{SitesMatch-other}
 use Rattle.ccr_net.proofs.Parts.Arbiter.{ArbitersMatch-push, FiresAlike-other}
-use Rattle.ccr_net.proofs.Parts.Queue.{queued-other}
 use Rattle.ccr_net.proofs.Parts.Room.{QueuesHold-event}
 use Rattle.ccr_net.proofs.Parts.Work.{WorkMatches-same, SaysSame, quiet_says}
 use Rattle.ccr_net.proofs.Parts.Meter.{MeterMatches-quiet}

@@ -65,7 +65,7 @@ use Rattle.ccr_net.proofs.Parts.ActorSteps.{ActorMatches-fire, ActorMatches-over
 use Rattle.ccr_net.proofs.Parts.Patterns.{touched, taken_there, found_member, had_at-is, held_had}
 use Rattle.ccr_net.proofs.Parts.Site.{SitesMatch, SitesMatch-other, SitesMatch-suspend}
 use Rattle.ccr_net.proofs.Parts.Arbiter.{ArbitersMatch-push, FiresAlike, FiresAlike-other}
-use Rattle.ccr_net.proofs.Parts.Queue.{QueuesMatch-event, QueuesMatch-put, QueuesMatch-take, QueueChanges, drop_at-note, queued-other, new_unput, Takes, task_queued}
+use Rattle.ccr_net.proofs.Parts.Queue.{QueuesMatch-event, QueuesMatch-put, QueuesMatch-take, QueueChanges, drop_at-note, Takes, task_queued}
 use Rattle.ccr_net.proofs.Parts.Room.{QueuesHold-event, BookingsMatch-event, BookingsMatch-fire, BookingsMatch-put, BookingsMatch-take, IsBooked, IsBookedAt-stays, Stays, Stays-note, Stays-put, is_for}
 use Rattle.ccr_net.proofs.Parts.Starts.{starts, running_by-push, AreStarted-legal}
 use Rattle.ccr_net.proofs.Parts.Work.{WorkMatches, WorkMatches-same, SaysSame, RunsTask, Idle, quiet_says, start_says, end_says, running_by-end}
@@ -87,6 +87,7 @@ use Rattle.ccr_base.specs.declared.tasks.How.{How}
 use Rattle.ccr_model.specs.Rules.{needs_no_admission}
 use Rattle.ccr_model.specs.Tasks.{is_over}
 use Rattle.ccr_model.proofs.FiredTasks.{root_stays}
+use Rattle.ccr_model.proofs.Queued.{queued-other, new_unput}
 
 module _ (w : Parts) (n : ℕ) (first : PlainFacts w) (few : n ≤ 33) (lacks : Lacks) (es : List Entry) (e : Entry) (low : e.actor < n) (holds : Holds w n lacks es) where
   abbrev before : State

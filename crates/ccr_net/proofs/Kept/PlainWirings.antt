@@ -36,12 +36,7 @@ use Rattle.ccr_runs.specs.Places.{arbiter_after, branches_before, first_branch, 
 use Rattle.ccr_net.proofs.Parts.Phases.{SpotFits}
 use Rattle.ccr_net.proofs.Parts.Work.{drop-next}
 use Rattle.ccr_net.proofs.Kept.PlainFacts.{PlainFacts, IsEven, Retires}
-
--- where a member stands
-place_of : {X : Type 0} (xs : List X) (x : X) → Among x xs → (k : ℕ) × (slice_get xs k ≡ Some x)
-place_of [] x is = absurd is
-place_of (y ∷ xs) x (inl e) = (0, ap Some (sym e))
-place_of (y ∷ xs) x (inr more) = let found = place_of xs x more in (suc found.0, found.1)
+use Rattle.ccr_net.proofs.Known.Places.{place_of}
 
 even_filled : (pattern : Pattern) → IsPatternFilled pattern → IsEven pattern
 even_filled (Gather total first second) filled = tt

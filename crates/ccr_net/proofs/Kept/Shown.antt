@@ -17,6 +17,7 @@ use Rattle.ccr_model.proofs.LegalParts.{legal_push}
 use Rattle.ccr_model.proofs.Members.{Among}
 use Rattle.ccr_model.proofs.PostNames.{AreNamed, named_kept, along, place_of, sent_by}
 use Rattle.ccr_model.proofs.Pushes.{put-push}
+use Rattle.ccr_model.proofs.Queued.{queued-other}
 use Rattle.ccr_places.specs.declared.claims.StandingClaim.{StandingClaim}
 use Rattle.ccr_places.specs.declared.notes.Note.TheVariants as notes
 use Rattle.ccr_places.specs.Ports.{PortState, first_fitting}
@@ -37,7 +38,6 @@ use Rattle.ccr_net.proofs.Parts.ActorSteps.{ActorMatches-same, ActorMatches-port
 use Rattle.ccr_net.proofs.Parts.HeldApart.{post_fresh}
 use Rattle.ccr_net.proofs.Parts.Site.{SitesMatch, SitesMatch-other}
 use Rattle.ccr_net.proofs.Parts.Arbiter.{ArbitersMatch-push, FiresAlike-other}
-use Rattle.ccr_net.proofs.Parts.Queue.{queued-other}
 use Rattle.ccr_net.proofs.Parts.Room.{QueuesHold, QueuesHold-event, IsBooked, Stays}
 use Rattle.ccr_net.proofs.Parts.Work.{WorkMatches, WorkMatches-same, SaysSame}
 use Rattle.ccr_net.proofs.Parts.Meter.{MeterMatches, OneWorks}

@@ -93,7 +93,7 @@ site_among w b k fits =
 
 -- ---- all places
 
-place_of : {X : Type 0} (xs : List X) (x : X) → Among x xs → (k : ℕ) × (slice_get xs k ≡ Some x)
+pub place_of : {X : Type 0} (xs : List X) (x : X) → Among x xs → (k : ℕ) × (slice_get xs k ≡ Some x)
 place_of [] x is = absurd is
 place_of (y ∷ xs) x (inl e) = (0, ap Some (sym e))
 place_of (y ∷ xs) x (inr more) = let found = place_of xs x more in (suc found.0, found.1)

@@ -31,6 +31,7 @@ use Rattle.ccr_model.proofs.SameNames.{same_task-is, same_task-self}
 use Rattle.ccr_model.proofs.TaskLists.{of_one}
 use Rattle.ccr_model.proofs.TaskPlaces.{placement_by}
 use Rattle.ccr_model.proofs.TasksLeft.{distinct-filter}
+use Rattle.ccr_model.proofs.TasksOnce.{fired_once, some_once}
 use Rattle.ccr_places.specs.declared.notes.Note.{Note}
 use Rattle.ccr_places.specs.declared.notes.Note.TheVariants as notes
 use Rattle.ccr_places.specs.Queues.{QueueState}
@@ -52,7 +53,7 @@ use Rattle.ccr_net.proofs.Parts.Invariant.{IsOwed, IsToPut}
 use Rattle.ccr_net.proofs.Parts.ActorSteps.{unfired}
 use Rattle.ccr_net.proofs.Kept.Assembly.{Holds, queue_changes, same_queues, is_queue_place}
 use Rattle.ccr_net.proofs.Parts.Booking.{in-more, in-less}
-use Rattle.ccr_net.proofs.Parts.Room.{is_for, fired_for, some_once, fired_once}
+use Rattle.ccr_net.proofs.Parts.Room.{is_for, fired_for}
 use Rattle.ccr_net.proofs.Parts.Meter.{bit}
 use Rattle.ccr_net.proofs.Owed.Moves.{handed}
 use Rattle.ccr_net.proofs.Parts.Noted.{Given, given_some}

@@ -26,6 +26,7 @@ use Rattle.ccr_model.proofs.Members.{Among}
 use Rattle.ccr_model.proofs.PostNames.{AreNamed}
 use Rattle.ccr_model.proofs.Pushes.{fired-fire}
 use Rattle.ccr_model.proofs.SameNames.{same_task-is, same_message-self}
+use Rattle.ccr_model.proofs.MessageNames.{any_fits}
 use Rattle.ccr_places.specs.Ports.{PortState}
 use Rattle.ccr_claim.specs.declared.plan.Had.{Had}
 use Rattle.ccr_claim.specs.Plans.{had_at, ports_in, in_slots, in_pattern, names_of, sort_slots}
@@ -60,12 +61,8 @@ split_takes zero m as' bs = split_first as' bs (names_of (take m bs)) (first_tak
 split_takes (suc k) m [] bs = split_first [] bs (names_of (take m bs)) (first_takes m bs)
 split_takes (suc k) m (x ∷ as') bs = or_right (are_first bs (x.id ∷ names_of (take k as' ++ take m bs))) _ (rw (same_message-self x.id, split_takes k m as' bs) refl)
 
-any_fit : (ms : List Msg) → fitting Any ms ≡ ms
-any_fit [] = refl
-any_fit (m ∷ ms) = ap (λ xs. m ∷ xs) (any_fit ms)
-
 pub all_fit : (pred : Pred) (ms : List Msg) → pred ≡ Any → fitting pred ms ≡ ms
-all_fit pred ms is = ap (λ p. fitting p ms) is ∙ any_fit ms
+all_fit pred ms is = ap (λ p. fitting p ms) is ∙ any_fits ms
 
 -- both claims of a gather were made
 pub record BothGot (first second total : ℕ) (had : List Had) : Type 0 where

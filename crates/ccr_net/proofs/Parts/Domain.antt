@@ -21,7 +21,7 @@ use Rattle.ccr_wiring.specs.declared.parts.Parts.{Parts}
 use Rattle.ccr_wiring.specs.Wirings.{Placement, placement, placements, branch_of}
 use Rattle.ccr_model.specs.declared.history.Event.{Event}
 use Rattle.ccr_model.specs.declared.history.Event.TheVariants as events
-use Rattle.ccr_model.specs.Firings.{Firing, firing_of, firings, fired, cut, ever_admitted, admitted_by, spot_of}
+use Rattle.ccr_model.specs.Firings.{Firing, firing_of, fired, cut, ever_admitted, admitted_by, spot_of}
 use Rattle.ccr_model.specs.Interleaves.{is_placement_in}
 use Rattle.ccr_model.specs.Legal.{IsAllowed, IsLegal}
 use Rattle.ccr_model.specs.Live.{is_none_of}
@@ -36,9 +36,9 @@ use Rattle.ccr_model.proofs.Members.{Among, Among-either}
 use Rattle.ccr_model.proofs.Pushes.{ever_admitted-push}
 use Rattle.ccr_model.proofs.Roots.{AdmittedFacts-admitted}
 use Rattle.ccr_model.proofs.SameNames.{same_task-is, same_task-self}
-use Rattle.ccr_model.proofs.TasksLeft.{distinct-filter}
-use Rattle.ccr_model.proofs.TaskLists.{without_other, without_first, of_more, of_one, has_oldest}
+use Rattle.ccr_model.proofs.TaskLists.{without_other, without_first, of_more, of_one, has_oldest, none_gone}
 use Rattle.ccr_model.proofs.TaskPlaces.{placement_by}
+use Rattle.ccr_model.proofs.TasksOnce.{waiting_once, waits_in_one}
 use Rattle.ccr_model.specs.Consequences.{are_distinct_tasks}
 use Rattle.ccr_places.specs.declared.notes.Note.{Note}
 use Rattle.ccr_places.specs.declared.notes.Note.TheVariants as notes
@@ -51,8 +51,8 @@ use Rattle.ccr_runs.specs.Places.{interleave_after, branches_from, groups_in}
 use Rattle.ccr_runs.specs.EntryRuns.{notes_at, same_place}
 use Rattle.ccr_net.proofs.Kept.Allowed.{refused_pass}
 use Rattle.ccr_net.proofs.Parts.Booking.{in-more, in-less}
-use Rattle.ccr_net.proofs.Parts.Room.{some_once, fired_once}
-use Rattle.ccr_net.proofs.Parts.DomainHistory.{spot_stays, fired_by-fire, fired_by-same, waiting-same, waiting-admit, waiting-fire, one_domain, waiting_apart, nobody_gone, all_gone, admitted_before, concurrent_stays}
+use Rattle.ccr_net.proofs.Parts.DomainHistory.{spot_stays, fired_by-fire, fired_by-same, waiting-same, waiting-admit, waiting-fire, waiting_apart, all_gone, admitted_before, concurrent_stays}
+use Rattle.ccr_net.proofs.Played.Domains.{domain_at-push}
 
 -- the domain of this number
 abbrev pub domain_at : Parts → List Entry → ℕ → InterleaveState
@@ -231,7 +231,7 @@ DomainMatches-fire w h t b ms i s place legal allowed sits within match = record
 
     left : (c : Bool) → map waiting_task (if c then [] else place.waiting) ≡ without (waiting w h i) (if c then map waiting_task place.waiting else [])
     left true = sym (ap (without (waiting w h i)) match.waiting_so ∙ all_gone (waiting w h i))
-    left false = match.waiting_so ∙ sym (nobody_gone (waiting w h i))
+    left false = match.waiting_so ∙ sym (none_gone (waiting w h i))
 
     fresh : has_task (fired h) t ≡ false
     fresh = (FiresSo-allowed w h t (Branch b) ms cs allowed).new_name
@@ -344,9 +344,6 @@ admit_allowed w h i place found match may =
 abbrev pub DomainsMatch : Parts → List Event → List Entry → Type 0
 DomainsMatch w h es = (i : ℕ) → is_interleave_number w i ≡ true → DomainMatches w h i (domain_at w es i)
 
-domain_at-push : (w : Parts) (es : List Entry) (e : Entry) (i : ℕ) → domain_at w (es ++ e ∷ []) i ≡ (if same_place e.place (places.Arbiter i) then interleaves.after (domain_at w es i) e.note else domain_at w es i)
-domain_at-push w es e i = grind (arith, common_steps)
-
 abbrev pub is_arbiter_place : Place → Bool
 is_arbiter_place (places.Arbiter i) = true
 is_arbiter_place _ = false
@@ -383,7 +380,7 @@ DomainsMatch-still w h es e j note there noted still match = DomainsMatch-at w h
 
 -- a firing at a site
 pub DomainsMatch-resume : (w : Parts) (h : List Event) (es : List Entry) (e : Entry) (t : TaskId) (b k : ℕ) (ms : List MsgId) → IsLegal w h → IsAllowed w h (events.Fire t (Site b k) ms []) → e.place ≡ places.Site b k → DomainsMatch w h es → DomainsMatch w (h ++ events.Fire t (Site b k) ms [] ∷ []) (es ++ e ∷ [])
-DomainsMatch-resume w h es e t b k ms legal allowed there match = DomainsMatch-elsewhere w (h ++ events.Fire t (Site b k) ms [] ∷ []) es e (places.Site b k) there refl (λ i is. DomainMatches-fire-else w h t (Site b k) ms [] i (domain_at w es i) legal allowed refl refl (nobody_gone (waiting w h i)) (match i is))
+DomainsMatch-resume w h es e t b k ms legal allowed there match = DomainsMatch-elsewhere w (h ++ events.Fire t (Site b k) ms [] ∷ []) es e (places.Site b k) there refl (λ i is. DomainMatches-fire-else w h t (Site b k) ms [] i (domain_at w es i) legal allowed refl refl (none_gone (waiting w h i)) (match i is))
 
 -- where the branch is of another number
 other_branch : (w : Parts) (b i j : ℕ) (s : Placement) → placement w b ≡ Some s → s.arbiter ≡ j → (j == i) ≡ false → (is_branch_where w (is_placement_in i) (Branch b) ≡ false) × (is_branch_where w (tears i) (Branch b) ≡ false)
@@ -395,7 +392,7 @@ other_branch w b i j s sits at_j other = (rw (sits, at_j, other) (no_and (is_int
 
 -- a firing at a receiver or a choice
 pub DomainsMatch-branch : (w : Parts) (h : List Event) (es : List Entry) (e : Entry) (t : TaskId) (b j : ℕ) (s : Placement) (ms : List MsgId) → IsLegal w h → IsAllowed w h (events.Fire t (Branch b) ms []) → placement w b ≡ Some s → s.arbiter ≡ j → is_interleave_number w j ≡ false → e.place ≡ places.Arbiter j → e.note ≡ notes.Fired t (Branch b) ms [] → DomainsMatch w h es → DomainsMatch w (h ++ events.Fire t (Branch b) ms [] ∷ []) (es ++ e ∷ [])
-DomainsMatch-branch w h es e t b j s ms legal allowed sits at_j plain there noted match = DomainsMatch-at w (h ++ events.Fire t (Branch b) ms [] ∷ []) es e j (notes.Fired t (Branch b) ms []) there noted (λ is. absurd (no_both is plain)) (λ i other is. (let out = other_branch w b i j s sits at_j other in DomainMatches-fire-else w h t (Branch b) ms [] i (domain_at w es i) legal allowed out.0 out.1 (nobody_gone (waiting w h i)) (match i is)))
+DomainsMatch-branch w h es e t b j s ms legal allowed sits at_j plain there noted match = DomainsMatch-at w (h ++ events.Fire t (Branch b) ms [] ∷ []) es e j (notes.Fired t (Branch b) ms []) there noted (λ is. absurd (no_both is plain)) (λ i other is. (let out = other_branch w b i j s sits at_j other in DomainMatches-fire-else w h t (Branch b) ms [] i (domain_at w es i) legal allowed out.0 out.1 (none_gone (waiting w h i)) (match i is)))
 
 -- a firing at a branch of an Interleave
 pub DomainsMatch-fire : (w : Parts) (h : List Event) (es : List Entry) (e : Entry) (t : TaskId) (b j : ℕ) (s : Placement) (ms : List MsgId) → IsLegal w h → IsAllowed w h (events.Fire t (Branch b) ms (interleaves.cut_note (domain_at w es j) (Branch b))) → placement w b ≡ Some s → is_placement_in j s ≡ true → is_interleave_number w j ≡ true → e.place ≡ places.Arbiter j → e.note ≡ notes.Fired t (Branch b) ms (interleaves.cut_note (domain_at w es j) (Branch b)) → DomainsMatch w h es → DomainsMatch w (h ++ events.Fire t (Branch b) ms (interleaves.cut_note (domain_at w es j) (Branch b)) ∷ []) (es ++ e ∷ [])
@@ -414,16 +411,13 @@ DomainsMatch-fire w h es e t b j s ms legal allowed sits within number there not
       where
         by : (c : Bool) → without (waiting w h i) (if c then map waiting_task (domain_at w es j).waiting else []) ≡ waiting w h i
         by true = ap (without (waiting w h i)) (match j number).waiting_so ∙ waiting_apart w h j i legal other
-        by false = nobody_gone (waiting w h i)
+        by false = none_gone (waiting w h i)
 
 -- before all entries
 pub DomainMatches-begins : (w : Parts) (i : ℕ) → DomainMatches w [] i (domain_at w [] i)
 DomainMatches-begins w i = record { branches_so = refl; groups_so = refl; waiting_so = refl; spots_so = λ x is. absurd is; roots_so = λ t is. absurd (cc); torn_so = λ none. refl }
 
 -- ---- an admission
-
-waiting_once : (w : Parts) (h : List Event) (i : ℕ) → IsLegal w h → are_distinct_tasks (waiting w h i) ≡ true
-waiting_once w h i legal = distinct-filter (λ t. not (has_task (ever_admitted h ++ cut h) t)) (fired_by w (is_placement_in i) h) (some_once (λ (f : Firing). is_branch_where w (is_placement_in i) f.spot) (firings h) (fired_once w h legal))
 
 -- the roots that are left after it were left before, or are its own
 roots_admitted : (w : Parts) (h : List Event) (t : TaskId) (i : ℕ) (place place' : InterleaveState) → IsLegal w h → IsFired h t → ((u : TaskId) (c : Bool) → IsKeptRoot c place u → IsKeptRoot c place' u) → (is_in_arbiter w h i t ≡ true → IsKeptRoot (is_concurrent_task w h t) place' t) → DomainMatches w h i place → (u : TaskId) → has_task (admitted w (h ++ events.Admit t ∷ []) i) u ≡ true → IsKeptRoot (is_concurrent_task w (h ++ events.Admit t ∷ []) u) place' u
@@ -447,7 +441,7 @@ admit_else : (w : Parts) (h : List Event) (t : TaskId) (i j : ℕ) (place : Inte
 admit_else w h t i j place s legal waits placed at_j fires other match = record {
   branches_so = match.branches_so;
   groups_so = match.groups_so;
-  waiting_so = match.waiting_so ∙ sym (waiting-admit w h t i ∙ without_other (waiting w h i) t (refuted (has_task (waiting w h i) t) (λ is. differ (one_domain w h j i t legal waits is))));
+  waiting_so = match.waiting_so ∙ sym (waiting-admit w h t i ∙ without_other (waiting w h i) t (refuted (has_task (waiting w h i) t) (λ is. differ (waits_in_one w h j i t legal waits is))));
   spots_so = λ x is. spot_stays h (events.Admit t ∷ []) x.task x.spot (match.spots_so x is);
   roots_so = roots_admitted w h t i place place legal fires (λ u c kept. kept) (λ is. absurd (let there : (j == i) ≡ true = rw (placed, at_j) at is in cc)) match;
   torn_so = λ none. fired_by-same w (tears i) h (events.Admit t) refl ∙ match.torn_so none;

@@ -6,7 +6,6 @@ use Rattle.std.specs.Option.{option_map_or}
 use Rattle.std.proofs.lemmas.Grind.{common_steps}
 use Rattle.ccr_base.specs.declared.names.MsgId.{MsgId}
 use Rattle.ccr_base.specs.declared.names.Spot.{Spot}
-use Rattle.ccr_base.specs.declared.names.Spot.TheVariants.{Branch}
 use Rattle.ccr_base.specs.declared.names.TaskId.{TaskId}
 use Rattle.ccr_base.specs.Names.{same_task, has_task, without}
 use Rattle.ccr_wiring.specs.declared.parts.Parts.{Parts}
@@ -18,13 +17,13 @@ use Rattle.ccr_model.specs.Sites.{root_of}
 use Rattle.ccr_model.specs.Interleaves.{is_placement_in}
 use Rattle.ccr_model.specs.Legal.{IsAllowed, IsLegal}
 use Rattle.ccr_model.specs.Rules.{is_concurrent_task}
-use Rattle.ccr_model.specs.Tasks.{is_interleave, is_branch_where, fired_by, waiting, admitted, is_over, is_in_arbiter}
+use Rattle.ccr_model.specs.Tasks.{is_branch_where, fired_by, waiting, admitted, is_over, is_in_arbiter}
 use Rattle.ccr_model.proofs.Allowing.{OneName-legal}
 use Rattle.ccr_model.proofs.Alone.{over_stays, lasts_fired, ever_admitted_fired}
-use Rattle.ccr_model.proofs.Booleans.{both, refuted, no_both, same_number, or_left, or_right}
+use Rattle.ccr_model.proofs.Booleans.{refuted, no_both, or_left, or_right}
 use Rattle.ccr_model.proofs.Cutting.{fired_by-append, cut_by}
 use Rattle.ccr_model.proofs.FiredTasks.{IsFired, IsFired-append, fired_has, placement_stays}
-use Rattle.ccr_model.proofs.FiringFacts.{FiresSo-allowed, BranchFacts-where, WaitingFacts-waiting}
+use Rattle.ccr_model.proofs.FiringFacts.{FiresSo-allowed}
 use Rattle.ccr_model.proofs.LegalParts.{along_legal}
 use Rattle.ccr_model.proofs.Pushes.{firings-push, ever_admitted-push, cut-push, last-push}
 use Rattle.ccr_model.proofs.Roots.{AdmittedFacts-admitted, admitted_whole}
@@ -32,6 +31,7 @@ use Rattle.ccr_model.proofs.SameNames.{same_task-is, same_task-self}
 use Rattle.ccr_model.proofs.Stable.{firing_named-append}
 use Rattle.ccr_model.proofs.TasksLeft.{without_both}
 use Rattle.ccr_model.proofs.TaskLists.{without-append, without_none, of_more, not_more, not_within}
+use Rattle.ccr_model.proofs.TasksOnce.{waits_in_one}
 
 -- ---- where tasks fired
 
@@ -122,32 +122,15 @@ waiting-fire w h t spot ms cs i legal allowed =
     by true = rw out refl
     by false = refl
 
--- a task waits in one domain
-pub one_domain : (w : Parts) (h : List Event) (i j : ℕ) (t : TaskId) → IsLegal w h → has_task (waiting w h i) t ≡ true → has_task (waiting w h j) t ≡ true → i ≡ j
-one_domain w h i j t legal at_i at_j =
-    let one = WaitingFacts-waiting w h i t (OneName-legal w h legal) at_i in
-    let two = WaitingFacts-waiting w h j t (OneName-legal w h legal) at_j in
-    let same : one.firing ≡ two.firing = inside one.firing two.firing (sym one.is_firing ∙ two.is_firing) in
-    let branch = BranchFacts-where w (is_placement_in i) one.firing.spot one.is_branch in
-    let also : is_branch_where w (is_placement_in j) (Branch branch.number) ≡ true = subst (λ s. is_branch_where w (is_placement_in j) s ≡ true) (ap (λ (f : Firing). f.spot) (sym same) ∙ branch.is_branch) two.is_branch in
-    let there : is_placement_in j branch.place ≡ true = rw branch.is_place at also in
-    sym (same_number branch.place.arbiter i (both (is_interleave branch.place.kind) (branch.place.arbiter == i) branch.passes).1) ∙ same_number branch.place.arbiter j (both (is_interleave branch.place.kind) (branch.place.arbiter == j) there).1
-  where
-    inside : (f g : Firing) → Some f ≡ Some g → f ≡ g
-    inside f g is = cc
-
 -- those who wait in another domain stay
 pub waiting_apart : (w : Parts) (h : List Event) (i j : ℕ) → IsLegal w h → (i == j) ≡ false → without (waiting w h j) (waiting w h i) ≡ waiting w h j
-waiting_apart w h i j legal other = without_none (waiting w h j) (waiting w h i) (λ u is. refuted (has_task (waiting w h i) u) (λ also. differ (one_domain w h i j u legal also is)))
+waiting_apart w h i j legal other = without_none (waiting w h j) (waiting w h i) (λ u is. refuted (has_task (waiting w h i) u) (λ also. differ (waits_in_one w h i j u legal also is)))
   where
     differ : i ≡ j → ⊥
     differ same = let self : (i == j) ≡ true = subst (λ k. (i == k) ≡ true) same (eq-here i) in absurd (cc)
       where
         eq-here : (k : ℕ) → (k == k) ≡ true
         eq-here k = grind (arith, common_steps)
-
-pub nobody_gone : (ts : List TaskId) → without ts [] ≡ ts
-nobody_gone ts = without_none ts [] (λ u is. refl)
 
 pub all_gone : (ts : List TaskId) → without ts ts ≡ []
 all_gone ts = none ts (λ u is. is)

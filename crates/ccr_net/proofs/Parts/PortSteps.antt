@@ -19,11 +19,12 @@ use Rattle.ccr_model.proofs.HeldSteps.{held-post, held-fire}
 use Rattle.ccr_model.proofs.Pushes.{fired-fire}
 use Rattle.ccr_model.proofs.PostNames.{times, AreNamed}
 use Rattle.ccr_model.proofs.SameNames.{same_task-self, same_message-self}
+use Rattle.ccr_model.proofs.MessageNames.{has_message-append}
 use Rattle.ccr_places.specs.declared.claims.StandingClaim.{StandingClaim}
 use Rattle.ccr_places.specs.declared.notes.ClaimNote.TheVariants.{Got}
 use Rattle.ccr_places.specs.declared.notes.Note.{Note}
 use Rattle.ccr_places.specs.declared.notes.Note.TheVariants as notes
-use Rattle.ccr_places.specs.Ports.{PortState, first_fitting, without_first, marked}
+use Rattle.ccr_places.specs.Ports.{PortState, first_fitting, without_first}
 use Rattle.ccr_places.specs.Ports as ports
 use Rattle.ccr_claim.specs.Plans.{names_of}
 use Rattle.ccr_net.proofs.Parts.Invariant.{unmarked_by, PortsMatch}
@@ -135,9 +136,6 @@ taken-fire h t s ms cs = grind (arith, common_steps)
 posts-fire : (h : List Event) (t : TaskId) (s : Spot) (ms : List MsgId) (cs : List TaskId) → posts (h ++ events.Fire t s ms cs ∷ []) ≡ posts h
 posts-fire h t s ms cs = grind (arith, common_steps)
 
-has_message-append : (xs ys : List MsgId) (name : MsgId) → has_message (xs ++ ys) name ≡ has_message xs name || has_message ys name
-has_message-append xs ys name = grind (arith, common_steps)
-
 -- each port is one that the firing task claimed, with all names of the firing that stand there, or has none of them
 abbrev pub IsTouched : List Event → (ℕ → PortState) → TaskId → List MsgId → ℕ → Type 0
 IsTouched h port t names q = ((c : StandingClaim) × ((port q).claim ≡ Some c) × (c.task ≡ t) × ((name : MsgId) → has_name (held h q) name ≡ true → has_message names name ≡ has_name (first_fitting c.count c.pred (port q).items) name))
@@ -167,7 +165,7 @@ unmarked-other gone port t other = of_claim port.claim refl
     of_claim None e = refl
     of_claim (Some c) e = let apart = other c e in let same : has_task (gone ++ t ∷ []) c.task ≡ has_task gone c.task = grind (arith, common_steps, apart) in rw same refl
 
-has_task-last : (ts : List TaskId) (t : TaskId) → has_task (ts ++ t ∷ []) t ≡ true
+pub has_task-last : (ts : List TaskId) (t : TaskId) → has_task (ts ++ t ∷ []) t ≡ true
 has_task-last ts t = grind (arith, common_steps, same_task-self t)
 
 times-filter : (test : Msg → Bool) (ms : List Msg) (name : MsgId) → times name (filter test ms) ≤ times name ms

@@ -1,5 +1,5 @@
 -- What a queue keeps queued is what the history leaves queued: one lemma a kind of event.
-use Rattle.std.proofs.Common.{Option, length, drop, option_to_list, ◌≡◌, ℕ, Bool, true, false, not, List, [], ◌∷◌, ◌++◌, map, Some, None, refl, sym, arith, ap, ◌∙◌, subst, append-nil}
+use Rattle.std.proofs.Common.{Option, length, drop, option_to_list, ◌≡◌, ℕ, Bool, true, false, List, [], ◌∷◌, ◌++◌, map, Some, None, refl, sym, arith, ap, ◌∙◌, subst, append-nil}
 use Rattle.std.specs.Prelude.{◌==◌, if◌then◌else◌, slice_get, nat_le}
 use Rattle.std.proofs.lemmas.List.{length-map}
 use Rattle.std.specs.Option.{option_map}
@@ -13,20 +13,18 @@ use Rattle.ccr_wiring.specs.Wirings.{Placement, policy_of}
 use Rattle.ccr_model.specs.declared.history.Event.{Event}
 use Rattle.ccr_model.specs.declared.history.Event.TheVariants as events
 use Rattle.ccr_model.specs.Consequences.{are_distinct_tasks}
-use Rattle.ccr_model.specs.Firings.{firing_of, firings, fired, put, put_by, started, started_by, dropped, dropped_by}
+use Rattle.ccr_model.specs.Firings.{put, started, dropped}
 use Rattle.ccr_model.specs.Rules.{drop_at, drop_by}
 use Rattle.ccr_model.specs.TaskData.{placement_of}
 use Rattle.ccr_model.specs.Tasks.{queued, is_for_queue}
 use Rattle.ccr_model.specs.Legal.{IsLegal}
 use Rattle.ccr_model.proofs.Booleans.{same_number, eq-self, refuted}
-use Rattle.ccr_model.proofs.FiredTasks.{fired_has}
 use Rattle.ccr_model.proofs.Options.{some_of}
-use Rattle.ccr_model.proofs.Pushes.{put-push, started-push, dropped-push, firings-push}
 use Rattle.ccr_model.proofs.SameNames.{same_task-is}
 use Rattle.ccr_model.proofs.TaskSteps.{queued-put, queued-start}
-use Rattle.ccr_model.proofs.TasksLeft.{filter_on, distinct-filter}
-use Rattle.ccr_model.proofs.TaskLists.{without_other, without_first, not_more, not_within, has_oldest}
+use Rattle.ccr_model.proofs.TaskLists.{without_other, without_first, not_more, not_within, has_oldest, none_gone}
 use Rattle.ccr_model.proofs.TaskPlaces.{ArePlaced-legal, QueuedFacts-queued}
+use Rattle.ccr_model.proofs.Queued.{queued_once}
 use Rattle.ccr_places.specs.declared.notes.Note.{Note}
 use Rattle.ccr_places.specs.declared.notes.Note.TheVariants as notes
 use Rattle.ccr_places.specs.Queues.{QueueState, Queued}
@@ -45,18 +43,6 @@ QueueChanges queue queue' q note = (k : ℕ) → queue' k ≡ (if q == k then qu
 
 -- ---- the history
 
-pub queued-other : (w : Parts) (h : List Event) (q : ℕ) (e : Event) → firing_of e ≡ [] → put_by e ≡ [] → started_by e ≡ [] → dropped_by e ≡ [] → queued w (h ++ e ∷ []) q ≡ queued w h q
-queued-other w h q e fires puts starts drops =
-    let fs : firings (h ++ e ∷ []) ≡ firings h = firings-push h e ∙ ap (λ xs. firings h ++ xs) fires ∙ append-nil (firings h) in
-    let ps : put (h ++ e ∷ []) ≡ put h = put-push h e ∙ ap (λ xs. put h ++ xs) puts ∙ append-nil (put h) in
-    let ss : started (h ++ e ∷ []) ≡ started h = started-push h e ∙ ap (λ xs. started h ++ xs) starts ∙ append-nil (started h) in
-    let ds : dropped (h ++ e ∷ []) ≡ dropped h = dropped-push h e ∙ ap (λ xs. dropped h ++ xs) drops ∙ append-nil (dropped h) in
-    filter_on (is_for_queue w (h ++ e ∷ []) q) (is_for_queue w h q) (without (put (h ++ e ∷ [])) (started (h ++ e ∷ []) ++ dropped (h ++ e ∷ []))) (λ u among. rw fs refl) ∙ rw (ps, ss, ds) refl
-
--- a new task wasn't put
-pub new_unput : (w : Parts) (h : List Event) (t : TaskId) → IsLegal w h → has_task (fired h) t ≡ false → has_task (put h) t ≡ false
-new_unput w h t legal new = not_within (put h) (fired h) t (λ is. fired_has h t ((ArePlaced-legal w h legal).all_fired t is)) new
-
 -- a task that may be put neither started nor was dropped, and isn't the one that is dropped
 pub put_fresh : (w : Parts) (h : List Event) (t : TaskId) (d : Option TaskId) → IsLegal w h → has_task (put h) t ≡ false → ((x : TaskId) → d ≡ Some x → has_task (put h) x ≡ true) → has_task (started h ++ (dropped h ++ option_to_list d)) t ≡ false
 put_fresh w h t d legal new known =
@@ -72,9 +58,6 @@ put_fresh w h t d legal new known =
         of_test : (b : Bool) → same_task t x ≡ b → has_task (x ∷ []) t ≡ false
         of_test false e = rw e refl
         of_test true e = absurd (let there = is x refl in let same : t ≡ x = same_task-is t x e in let out : has_task (put h) x ≡ false = subst (λ u. has_task (put h) u ≡ false) same new in cc)
-
-pub queued_once : (w : Parts) (h : List Event) (q : ℕ) → IsLegal w h → are_distinct_tasks (queued w h q) ≡ true
-queued_once w h q legal = distinct-filter (is_for_queue w h q) (without (put h) (started h ++ dropped h)) (distinct-filter (λ t. not (has_task (started h ++ dropped h) t)) (put h) (ArePlaced-legal w h legal).lists.once)
 
 -- a task is queued at one queue
 pub one_queue : (w : Parts) (h : List Event) (q k : ℕ) (t : TaskId) → has_task (queued w h q) t ≡ true → has_task (queued w h k) t ≡ true → q ≡ k
@@ -109,10 +92,6 @@ QueuesMatch-event w h e queue same match = record { queued_so = λ q. match.queu
 
 map-last : (qs : List Queued) (q : Queued) → map task_queued (qs ++ q ∷ []) ≡ map task_queued qs ++ q.task ∷ []
 map-last qs q = grind (arith, common_steps)
-
-nothing_gone : (ts : List TaskId) → without ts [] ≡ ts
-nothing_gone [] = refl
-nothing_gone (t ∷ ts) = rw (nothing_gone ts) refl
 
 -- what a put drops: nothing, or the oldest
 pub data Drops (queue : QueueState) : Type 0 where
@@ -182,8 +161,8 @@ QueuesMatch-put w h queue queue' q t legal new own changes match = record {
     left k = of_drops (drops (queue q)) (q == k) refl
       where
         of_drops : Drops (queue q) → (b : Bool) → (q == k) ≡ b → without (queued w h k) (option_to_list (queues.put_note (queue q))) ≡ (if b then map task_queued (drop (queues.drop_count (queue q)) (queue q).queued) else queued w h k)
-        of_drops (drops_none none rest) true e = rw (none, rest) (nothing_gone (queued w h k) ∙ ap (queued w h) (sym (same_number q k e)) ∙ sym (match.queued_so q))
-        of_drops (drops_none none rest) false e = rw none (nothing_gone (queued w h k))
+        of_drops (drops_none none rest) true e = rw (none, rest) (none_gone (queued w h k) ∙ ap (queued w h) (sym (same_number q k e)) ∙ sym (match.queued_so q))
+        of_drops (drops_none none rest) false e = rw none (none_gone (queued w h k))
         of_drops (drops_first first others qs some rest) true e = rw (some, rest) (ap (λ ts. without ts (first.task ∷ [])) (ap (queued w h) (sym (same_number q k e)) ∙ list_of first others qs) ∙ without_first (map task_queued others) first.task (ap are_distinct_tasks (sym (list_of first others qs)) ∙ queued_once w h q legal))
         of_drops (drops_first first others qs some rest) false e = rw some (without_other (queued w h k) first.task (refuted (has_task (queued w h k) first.task) (λ is. apart (one_queue w h q k first.task (oldest_there first others qs) is) e)))
           where

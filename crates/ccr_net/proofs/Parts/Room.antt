@@ -19,20 +19,19 @@ use Rattle.ccr_model.specs.declared.history.Event.{Event}
 use Rattle.ccr_model.specs.declared.history.Event.TheVariants as events
 use Rattle.ccr_model.specs.Consequences.{are_distinct_tasks}
 use Rattle.ccr_model.specs.Firings.{Firing, firing_of, firings, firing_named, fired, put, put_by, started, dropped, cut}
-use Rattle.ccr_model.specs.Legal.{IsAllowed, IsLegal}
-use Rattle.ccr_model.specs.Rules.{is_new}
+use Rattle.ccr_model.specs.Legal.{IsLegal}
 use Rattle.ccr_model.specs.Live.{has_room_in}
 use Rattle.ccr_model.specs.Tasks.{fired_by, is_branch_where, is_for_queue, coming, queued}
-use Rattle.ccr_model.proofs.Booleans.{same_number, eq-self, both, not_true, refuted, no_both}
+use Rattle.ccr_model.proofs.Booleans.{same_number, eq-self, refuted, no_both, or_right}
 use Rattle.ccr_model.proofs.Allowing.{OneName-legal}
 use Rattle.ccr_model.proofs.FiringFacts.{fired_by_named}
 use Rattle.ccr_model.proofs.Members.{Among, Among-either}
-use Rattle.ccr_model.proofs.PostNames.{along, refused_not}
-use Rattle.ccr_model.proofs.Pushes.{firings-push, fired-fire, put-push, cut-push}
+use Rattle.ccr_model.proofs.Pushes.{firings-push, put-push, cut-push}
 use Rattle.ccr_model.proofs.SameNames.{same_task-is, same_task-self}
-use Rattle.ccr_model.proofs.TasksLeft.{of_without, out_left, distinct-filter, distinct-push}
+use Rattle.ccr_model.proofs.TasksLeft.{of_without, out_left, distinct-filter}
 use Rattle.ccr_model.proofs.TaskLists.{to_filter, to_without, not_within, of_more, of_one, out_right}
 use Rattle.ccr_model.proofs.TaskPlaces.{QueuedFacts-queued}
+use Rattle.ccr_model.proofs.TasksOnce.{fired_once, some_once, some_of_all}
 use Rattle.ccr_places.specs.declared.notes.Note.{Note}
 use Rattle.ccr_places.specs.declared.notes.Note.TheVariants as notes
 use Rattle.ccr_places.specs.Queues.{QueueState, Queued}
@@ -74,10 +73,6 @@ fired_for-fire w h t spot ms cs q = fired_for-append w q h (events.Fire t spot m
     by true = refl
     by false = refl
 
-later : (a b : Bool) → b ≡ true → a || b ≡ true
-later true b is = refl
-later false b is = is
-
 among_drop : {X : Type 0} (n : ℕ) (xs : List X) (x : X) → Among x (drop n xs) → Among x xs
 among_drop zero xs x is = is
 among_drop (suc n) [] x is = is
@@ -86,7 +81,7 @@ among_drop (suc n) (y ∷ xs) x is = inr (among_drop n xs x is)
 listed_task : (xs : List Queued) (x : Queued) → Among x xs → has_task (map task_queued xs) x.task ≡ true
 listed_task [] x is = absurd is
 listed_task (y ∷ xs) x (inl e) = ap (λ b. b || has_task (map task_queued xs) x.task) (ap (λ (z : Queued). same_task x.task z.task) (sym e) ∙ same_task-self x.task)
-listed_task (y ∷ xs) x (inr more) = later (same_task x.task y.task) _ (listed_task xs x more)
+listed_task (y ∷ xs) x (inr more) = or_right (same_task x.task y.task) _ (listed_task xs x more)
 
 -- who is queued was put
 queued_put : (w : Parts) (h : List Event) (queue : ℕ → QueueState) (q : ℕ) (x : Queued) → QueuesMatch w h queue → Among x (queue q).queued → has_task (put h) x.task ≡ true
@@ -119,7 +114,7 @@ BookingsMatch-booked w h queue queue' q t resumes may room changes match = Booki
   where
     more : (r : Bool) (u : TaskId) → set.contains (queue q).fresh u ≡ true → set.contains (queues.after_book (queue q) t r None).fresh u ≡ true
     more true u is = is
-    more false u is = in-more (queue q).fresh t u ∙ later (same_task u t) _ is
+    more false u is = in-more (queue q).fresh t u ∙ or_right (same_task u t) _ is
 
     same : (r : Bool) (x : Queued) → Among x (queues.after_book (queue q) t r None).queued → Among x (queue q).queued
     same true x is = is
@@ -139,16 +134,6 @@ apart ts t u out is = of_test (same_task u t) refl
     of_test : (b : Bool) → same_task u t ≡ b → same_task u t ≡ false
     of_test false e = e
     of_test true e = absurd (let there : has_task ts t ≡ true = subst (λ v. has_task ts v ≡ true) (same_task-is u t e) is in cc)
-
--- the tasks of some firings are among those of all
-some_of_all : (p : Firing → Bool) (fs : List Firing) (t : TaskId) → has_task (map (λ (f : Firing). f.task) (filter p fs)) t ≡ true → has_task (map (λ (f : Firing). f.task) fs) t ≡ true
-some_of_all p [] t now = now
-some_of_all p (f ∷ fs) t now = by (p f) (same_task t f.task) refl now (some_of_all p fs t)
-  where
-    by : (b c : Bool) → same_task t f.task ≡ c → has_task (map (λ (g : Firing). g.task) (if b then f ∷ filter p fs else filter p fs)) t ≡ true → (has_task (map (λ (g : Firing). g.task) (filter p fs)) t ≡ true → has_task (map (λ (g : Firing). g.task) fs) t ≡ true) → c || has_task (map (λ (g : Firing). g.task) fs) t ≡ true
-    by b true e now' rest = refl
-    by true false e now' rest = rest (rw e at now')
-    by false false e now' rest = rest now'
 
 -- who was fired for the queue was fired
 pub fired_of : (w : Parts) (h : List Event) (q : ℕ) (t : TaskId) → has_task (fired_for w h q) t ≡ true → has_task (fired h) t ≡ true
@@ -231,31 +216,6 @@ BookingsMatch-put w h queue queue' q t d may unput uncut changes match = record 
 
 fired-same : (h : List Event) (e : Event) → firing_of e ≡ [] → fired (h ++ e ∷ []) ≡ fired h
 fired-same h e none = ap (λ fs. map (λ (f : Firing). f.task) fs) (firings-push h e ∙ ap (λ fs. firings h ++ fs) none ∙ append-nil (firings h))
-
-fired_once-kept : (w : Parts) (h : List Event) (e : Event) → are_distinct_tasks (fired h) ≡ true → IsAllowed w h e → are_distinct_tasks (fired (h ++ e ∷ [])) ≡ true
-fired_once-kept w h (events.Post m) once allowed = rw (fired-same h (events.Post m) refl) once
-fired_once-kept w h (events.Admit t) once allowed = rw (fired-same h (events.Admit t) refl) once
-fired_once-kept w h (events.Put t d) once allowed = rw (fired-same h (events.Put t d) refl) once
-fired_once-kept w h (events.Start t a) once allowed = rw (fired-same h (events.Start t a) refl) once
-fired_once-kept w h (events.End t how) once allowed = rw (fired-same h (events.End t how) refl) once
-fired_once-kept w h (events.Fire t s ms cs) once allowed =
-    let new = (refused_not (is_new h t) _ _ allowed).0 in
-    rw (fired-fire h t s ms cs) (distinct-push (fired h) t once (not_true (has_task (fired h) t) (both (not (has_task (fired h) t)) _ new).0))
-
-pub fired_once : (w : Parts) (h : List Event) → IsLegal w h → are_distinct_tasks (fired h) ≡ true
-fired_once w h legal = along w (λ g. are_distinct_tasks (fired g) ≡ true) (fired_once-kept w) refl h legal
-
--- so nobody among those of some firings
-pub some_once : (p : Firing → Bool) (fs : List Firing) → are_distinct_tasks (map (λ (f : Firing). f.task) fs) ≡ true → are_distinct_tasks (map (λ (f : Firing). f.task) (filter p fs)) ≡ true
-some_once p [] is = refl
-some_once p (f ∷ fs) is = by (p f) (some_once p fs (both (not (has_task (map (λ (g : Firing). g.task) fs) f.task)) _ is).1)
-  where
-    out : has_task (map (λ (g : Firing). g.task) (filter p fs)) f.task ≡ false
-    out = not_within (map (λ (g : Firing). g.task) (filter p fs)) (map (λ (g : Firing). g.task) fs) f.task (some_of_all p fs f.task) (not_true _ (both (not (has_task (map (λ (g : Firing). g.task) fs) f.task)) _ is).0)
-
-    by : (b : Bool) → are_distinct_tasks (map (λ (g : Firing). g.task) (filter p fs)) ≡ true → are_distinct_tasks (map (λ (g : Firing). g.task) (if b then f ∷ filter p fs else filter p fs)) ≡ true
-    by true rest = rw (out, rest) refl
-    by false rest = rest
 
 -- ---- room
 
@@ -377,7 +337,7 @@ Stays-book queue queue' q t name resumes full changes = Stays-note queue queue' 
     by k true None is = is
     by k true (Some n) is = is
     by k false (Some n) is = is
-    by k false None is = in-more (queue k).fresh t name ∙ later (same_task name t) _ is
+    by k false None is = in-more (queue k).fresh t name ∙ or_right (same_task name t) _ is
 
 -- an attempt that is booked now
 pub IsBookedAt-booked : (w : Parts) (queue queue' : ℕ → QueueState) (name : TaskId) (slots : List Slot) (had : List Had) (spot : Spot) (more : List Spot) → QueueChanges queue queue' (queue_number w spot) (notes.Book name (resumes spot) None) → IsBookedAt w queue' name (claiming slots had) (spot ∷ more)

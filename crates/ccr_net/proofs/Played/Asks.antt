@@ -1,5 +1,5 @@
 -- Each next ask meets its condition, and names what the wiring has.
-use Rattle.std.proofs.Common.{◌≡◌, ◌≤◌, ℕ, true, List, Option, Some, None, refl}
+use Rattle.std.proofs.Common.{◌≡◌, ◌≤◌, ℕ, true, List}
 use Rattle.std.specs.Prelude.{is_some}
 use Rattle.ccr_wiring.specs.declared.parts.Parts.{Parts}
 use Rattle.ccr_wiring.specs.Valid.{IsValid}
@@ -12,10 +12,7 @@ use Rattle.ccr_net.proofs.Known.Asks.{IsNamed}
 use Rattle.ccr_net.proofs.Known.Places.{place_stands}
 use Rattle.ccr_net.proofs.Known.Runs.{next_named}
 use Rattle.ccr_net.proofs.Played.Steps.{AskFacts, IsNextAsk}
-
-some_in : {X : Type 0} (o : Option X) → is_some o ≡ true → (x : X) × (o ≡ Some x)
-some_in None is = absurd (cc)
-some_in (Some x) is = (x, refl)
+use Rattle.ccr_net.proofs.Played.Runs.{some_of}
 
 module _ (w : Parts) (workers : ℕ) (lacks : Lacks) (valid : IsValid w) (few : workers ≤ 16) where
   next_met : (es : List Entry) (a : ℕ) (one : Asked) → IsNextAsk w workers lacks es a one → is_some (note_of w one.place (notes_at es one.place) one.ask) ≡ true
@@ -23,7 +20,7 @@ module _ (w : Parts) (workers : ℕ) (lacks : Lacks) (valid : IsValid w) (few : 
 
   named : (es : List Entry) (a : ℕ) (one : Asked) → IsNextAsk w workers lacks es a one → IsNamed w one
   named es a one following =
-      let noting = some_in (note_of w one.place (notes_at es one.place) one.ask) (next_met es a one following) in
+      let noting = some_of (note_of w one.place (notes_at es one.place) one.ask) (next_met es a one following) in
       next_named w workers lacks valid few es a one noting.0 following.run following.asks noting.1
 
   pub ask_facts : AskFacts w workers lacks

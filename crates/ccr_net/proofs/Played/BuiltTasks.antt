@@ -34,6 +34,7 @@ use Rattle.ccr_model.proofs.SameNames.{same_message-self}
 use Rattle.ccr_model.proofs.Stable.{load_at-append, root_at-append}
 use Rattle.ccr_model.proofs.TaskLists.{has_oldest, has_task-drop}
 use Rattle.ccr_model.proofs.TasksLeft.{of_filter}
+use Rattle.ccr_model.proofs.MessageNames.{times_some}
 use Rattle.ccr_places.specs.declared.notes.Note.TheVariants as notes
 use Rattle.ccr_places.specs.Ports.{PortState, first_fitting}
 use Rattle.ccr_await.specs.Resuming.{resumed}
@@ -61,15 +62,6 @@ use Rattle.ccr_net.proofs.Kept.Shown.{named_legal}
 
 -- ---- messages by their names
 
-some_times : (ms : List Msg) (m : Msg) → Among m ms → 1 ≤ times m.id ms
-some_times [] m is = absurd is
-some_times (x ∷ ms) m is = by (same_message x.id m.id) refl is (some_times ms m)
-  where
-    by : (b : Bool) → same_message x.id m.id ≡ b → Among m (x ∷ ms) → (Among m ms → 1 ≤ times m.id ms) → 1 ≤ length (if b then x ∷ filter (λ (y : Msg). same_message y.id m.id) ms else filter (λ (y : Msg). same_message y.id m.id) ms)
-    by true e there rest = omega arith
-    by false e (inl same) rest = absurd (let self : same_message x.id m.id ≡ true = ap (λ (y : Msg). same_message y.id m.id) (sym same) ∙ same_message-self m.id in cc)
-    by false e (inr there) rest = rest there
-
 -- a message whose name stands once is found by it
 found_named : (ms : List Msg) (m : Msg) → times m.id ms ≤ 1 → Among m ms → find (λ (x : Msg). same_message x.id m.id) ms ≡ Some m
 found_named [] m once is = absurd is
@@ -77,7 +69,7 @@ found_named (x ∷ ms) m once is = by (same_message x.id m.id) refl once is (fou
   where
     by : (b : Bool) → same_message x.id m.id ≡ b → length (if b then x ∷ filter (λ (y : Msg). same_message y.id m.id) ms else filter (λ (y : Msg). same_message y.id m.id) ms) ≤ 1 → Among m (x ∷ ms) → (times m.id ms ≤ 1 → Among m ms → find (λ (y : Msg). same_message y.id m.id) ms ≡ Some m) → (if b then Some x else find (λ (y : Msg). same_message y.id m.id) ms) ≡ Some m
     by true e few (inl same) rest = ap Some (sym same)
-    by true e few (inr there) rest = absurd (let some = some_times ms m there in omega (arith, some, few))
+    by true e few (inr there) rest = absurd (let some = times_some ms m there in omega (arith, some, few))
     by false e few (inl same) rest = absurd (let self : same_message x.id m.id ≡ true = ap (λ (y : Msg). same_message y.id m.id) (sym same) ∙ same_message-self m.id in cc)
     by false e few (inr there) rest = rest few there
 
@@ -239,7 +231,7 @@ pub record IsBuilt (w : Parts) (es : List Entry) (e : Entry) (i : ℕ) (task : T
 abbrev pub IsResuming : Parts → List Entry → Entry → ℕ → ℕ → Task → List MsgId → Type 0
 IsResuming w es e b k task ms = (u : TaskId) (others : List TaskId) (cs : List TaskId) → suspended (visible es) (Site b k) ≡ u ∷ others → e.note ≡ notes.Fired task.id task.spot ms cs → resumed (suspended_view w (visible es) u) task ≡ view w (visible (es ++ e ∷ [])) task.id
 
-inside : {X : Type 0} {a b : X} → Some a ≡ Some b → a ≡ b
+pub inside : {X : Type 0} {a b : X} → Some a ≡ Some b → a ≡ b
 inside is = cc
 
 -- a commit by its place, its task and its messages

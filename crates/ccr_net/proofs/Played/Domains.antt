@@ -55,7 +55,7 @@ CommitTells w es e i _ = Unit {0}
 abbrev whole_waiting : Parts → List Event → List Waiting → List Task
 whole_waiting w h xs = map (λ (x : Waiting). view w h x.task) xs
 
-domain_at-push : (w : Parts) (es : List Entry) (e : Entry) (i : ℕ) → domain_at w (es ++ e ∷ []) i ≡ (if same_place e.place (places.Arbiter i) then interleaves.after (domain_at w es i) e.note else domain_at w es i)
+pub domain_at-push : (w : Parts) (es : List Entry) (e : Entry) (i : ℕ) → domain_at w (es ++ e ∷ []) i ≡ (if same_place e.place (places.Arbiter i) then interleaves.after (domain_at w es i) e.note else domain_at w es i)
 domain_at-push w es e i = grind (arith, common_steps)
 
 -- an admission takes out the oldest

@@ -38,6 +38,7 @@ use Rattle.ccr_runs.specs.Visible.{visible, event_of}
 use Rattle.ccr_net.proofs.Kept.Assembly.{Holds, IsBegun, begins, hand_settles}
 use Rattle.ccr_net.proofs.Parts.Invariant.{IsOwed}
 use Rattle.ccr_net.proofs.Played.Objects.{suspended_view}
+use Rattle.ccr_net.proofs.Played.BuiltTasks.{inside}
 use Rattle.ccr_net.proofs.Parts.Pushes.{IsNextState, Step, state_of-other, state_of-own, visible-push}
 use Rattle.ccr_net.proofs.Parts.Work.{WorkMatches, RunsTask, play-view, view-stays}
 
@@ -394,9 +395,6 @@ fired_too w h a bound place ask owed known = by ask owed known
 
 abbrev ask_so : Option Asked → Option Ask
 ask_so o = option_map (λ (x : Asked). x.ask) o
-
-inside : {X : Type 0} {a b : X} → Some a ≡ Some b → a ≡ b
-inside is = cc
 
 -- neither an attempt nor the work between drives puts
 attempt_puts : (w : Parts) (h : List Event) (plan : ClaimPlan) (name : TaskId) (ph : Phase) → PutTells w h (attempt_ask plan name ph).ask

@@ -80,7 +80,7 @@ Matches-begins w workers lacks = record {
 
 -- ---- one act
 
-some_of : {X : Type 0} (o : Option X) → is_some o ≡ true → (x : X) × (o ≡ Some x)
+pub some_of : {X : Type 0} (o : Option X) → is_some o ≡ true → (x : X) × (o ≡ Some x)
 some_of None is = absurd (cc)
 some_of (Some x) is = (x, refl)
 

@@ -50,7 +50,7 @@ SiteTells w es e b k (asks.Commit task messages) = IsResuming w es e b k task me
 SiteTells w es e b k (asks.Suspend task) = IsFired (visible es) task.id × (task ≡ suspended_view w (visible es) task.id)
 SiteTells w es e b k _ = Unit {0}
 
-site_at-push : (es : List Entry) (e : Entry) (b k : ℕ) → site_at (es ++ e ∷ []) b k ≡ (if same_place e.place (places.Site b k) then sites.after (site_at es b k) e.note else site_at es b k)
+pub site_at-push : (es : List Entry) (e : Entry) (b k : ℕ) → site_at (es ++ e ∷ []) b k ≡ (if same_place e.place (places.Site b k) then sites.after (site_at es b k) e.note else site_at es b k)
 site_at-push es e b k = grind (arith, common_steps)
 
 names_so : (w : Parts) (h : List Event) (ts : List TaskId) → map (λ (t : Task). t.id) (map (suspended_view w h) ts) ≡ ts

@@ -1,0 +1,47 @@
+-- Over lists of messages and of their names: who stands there is counted, and no port holds two messages of one name.
+use Rattle.std.proofs.Common.{◌≡◌, ℕ, ◌+◌, ◌<◌, ◌≤◌, Bool, true, false, not, ◌||◌, List, [], ◌∷◌, ◌++◌, inl, inr, length, filter, refl, sym, ap, ◌∙◌, arith}
+use Rattle.std.specs.Prelude.{◌==◌, if◌then◌else◌}
+use Rattle.std.proofs.lemmas.Grind.{common_steps}
+use Rattle.ccr_base.specs.declared.names.MsgId.{MsgId}
+use Rattle.ccr_base.specs.declared.messages.Msg.{Msg}
+use Rattle.ccr_base.specs.declared.patterns.Pred.TheVariants.{Any}
+use Rattle.ccr_base.specs.Choice.{fitting}
+use Rattle.ccr_base.specs.Names.{same_message, has_message}
+use Rattle.ccr_wiring.specs.declared.parts.Parts.{Parts}
+use Rattle.ccr_model.specs.declared.history.Event.{Event}
+use Rattle.ccr_model.specs.Legal.{IsLegal}
+use Rattle.ccr_model.specs.Posts.{posts, posted, taken, held}
+use Rattle.ccr_model.proofs.Members.{Among}
+use Rattle.ccr_model.proofs.PostNames.{times, posted_once}
+use Rattle.ccr_model.proofs.SameNames.{same_message-self}
+use Rattle.ccr_model.proofs.TakenOnce.{times_named, times-filter}
+
+-- every message satisfies `any`
+pub any_fits : (ms : List Msg) → fitting Any ms ≡ ms
+any_fits [] = refl
+any_fits (m ∷ ms) = ap (λ (xs : List Msg). m ∷ xs) (any_fits ms)
+
+-- a name that stands there is counted
+pub named_some : (name : MsgId) (names : List MsgId) → has_message names name ≡ true → 0 < times_named name names
+named_some name [] is = absurd (cc)
+named_some name (n ∷ names) is = grind (arith, named_some name names)
+
+pub times_some : (ms : List Msg) (m : Msg) → Among m ms → 1 ≤ times m.id ms
+times_some [] m is = absurd is
+times_some (x ∷ ms) m (inl e) = let here : same_message x.id m.id ≡ true = ap (λ (y : Msg). same_message y.id m.id) (sym e) ∙ same_message-self m.id in rw here (grind arith)
+times_some (x ∷ ms) m (inr more) = by_test (same_message x.id m.id) (times_some ms m more)
+  where
+    by_test : (b : Bool) → 1 ≤ times m.id ms → 1 ≤ length (if b then x ∷ filter (λ (y : Msg). same_message y.id m.id) ms else filter (λ (y : Msg). same_message y.id m.id) ms)
+    by_test true rest = grind arith
+    by_test false rest = rest
+
+pub has_message-append : (xs ys : List MsgId) (name : MsgId) → has_message (xs ++ ys) name ≡ has_message xs name || has_message ys name
+has_message-append xs ys name = grind (arith, common_steps)
+
+pub held_once : (w : Parts) (h : List Event) → IsLegal w h → (port : ℕ) (name : MsgId) → times name (held h port) ≤ 1
+held_once w h legal port name = omega (
+  arith,
+  posted_once w h legal name,
+  times-filter name (λ (m : Msg). not (has_message (taken h) m.id)) (posted h port),
+  times-filter name (λ (m : Msg). m.port == port) (posts h),
+)
