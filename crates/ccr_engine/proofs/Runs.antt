@@ -13,7 +13,7 @@ use Rattle.ccr_model.proofs.LegalParts.{legal_push}
 use Rattle.ccr_laws.specs.Potential.{TakesSome, potential}
 use Rattle.ccr_engine.specs.Engine.{Engine, next_event, next_engine, IsSound}
 use Rattle.ccr_laws.proofs.Ending.{few_events}
-use Rattle.ccr_laws.proofs.Valid.{TakesSome-valid, HasQueues-valid, most_events-valid}
+use Rattle.ccr_laws.proofs.Valid.{TakesSome-valid, HasQueues-valid, event_bound-valid}
 use Rattle.ccr_engine.proofs.Complete.{is_complete-first}
 use Rattle.ccr_engine.proofs.Attempts.{next_attempt-first}
 
@@ -39,7 +39,7 @@ potential-push w some h e legal = omega (arith, few_events w some (h ++ e ∷ []
 
 -- a sound engine's history is short, and its closer's next attempt fits
 pub IsSound-short : (s : Engine) → IsSound s → length s.history ≤ 120000
-IsSound-short s sound = omega (arith, few_events s.wiring (TakesSome-valid s.wiring sound.valid) s.history sound.legal, most_events-valid s.wiring sound.valid)
+IsSound-short s sound = omega (arith, few_events s.wiring (TakesSome-valid s.wiring sound.valid) s.history sound.legal, event_bound-valid s.wiring sound.valid)
 
 pub IsSound-attempts : (s : Engine) → IsSound s → next_attempt s.closer (fired s.history) < 2 ^ 32
 IsSound-attempts s sound = omega (arith, sound.attempts, IsSound-short s sound)

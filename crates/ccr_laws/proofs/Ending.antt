@@ -27,7 +27,7 @@ use Rattle.ccr_model.proofs.Options.{some_of, some_map, head_rest}
 use Rattle.ccr_model.proofs.TasksLeft.{of_without, out_left}
 use Rattle.ccr_model.proofs.Booleans.{both}
 use Rattle.ccr_model.proofs.FiredTasks.{fired_has, placement_fired}
-use Rattle.ccr_laws.specs.Potential.{TakesSome, most_events}
+use Rattle.ccr_laws.specs.Potential.{TakesSome, event_bound}
 use Rattle.ccr_laws.proofs.Counting.{Fits, Fits-came, Fits-gone, head_member}
 use Rattle.ccr_laws.proofs.Taking.{untaken_post, untaken_fire}
 use Rattle.ccr_laws.proofs.Lines.{few_posts}
@@ -172,8 +172,8 @@ fired-length [] = refl
 fired-length (f ∷ fs) = grind (arith, fired-length fs)
 
 -- a legal history has at most six events for each message that may be posted
-pub few_events : (w : Parts) → TakesSome w → (h : List Event) → IsLegal w h → length h ≤ most_events w
-unfolding most_events
+pub few_events : (w : Parts) → TakesSome w → (h : List Event) → IsLegal w h → length h ≤ event_bound w
+unfolding event_bound
 few_events w some h legal =
     let few = AreFew-legal w some h legal in
     omega (arith, all_kinds h, few.fires, few.admits.few, few.puts.few, few.starts.few, few.ends.few, fired-length (firings h), few_posts w h legal)

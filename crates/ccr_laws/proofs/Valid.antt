@@ -10,7 +10,7 @@ use Rattle.ccr_wiring.specs.Valid.{IsValid, HasQueues, IsPatternFilled}
 use Rattle.ccr_wiring.proofs.Soundness.{sound}
 use Rattle.ccr_model.specs.declared.history.Event.{Event}
 use Rattle.ccr_model.specs.Legal.{IsLegal}
-use Rattle.ccr_laws.specs.Potential.{takes_some, TakesSome, most_events}
+use Rattle.ccr_laws.specs.Potential.{takes_some, TakesSome, event_bound}
 use Rattle.ccr_laws.proofs.Ending.{few_events}
 
 pattern_takes_some : (p : Pattern) → IsPatternFilled p → takes_some p ≡ true
@@ -53,9 +53,9 @@ HasFewParts-valid w valid =
       budget = small.budget;
     }
 
-pub most_events-valid : (w : Parts) → IsValid w → most_events w ≤ 120000
-unfolding most_events
-most_events-valid w valid = let few = HasFewParts-valid w valid in omega (arith, few.lines, few.budget)
+pub event_bound-valid : (w : Parts) → IsValid w → event_bound w ≤ 120000
+unfolding event_bound
+event_bound-valid w valid = let few = HasFewParts-valid w valid in omega (arith, few.lines, few.budget)
 
 pub few_events-valid : (w : Parts) → IsValid w → (h : List Event) → IsLegal w h → length h ≤ 120000
-few_events-valid w valid h legal = omega (arith, few_events w (TakesSome-valid w valid) h legal, most_events-valid w valid)
+few_events-valid w valid h legal = omega (arith, few_events w (TakesSome-valid w valid) h legal, event_bound-valid w valid)

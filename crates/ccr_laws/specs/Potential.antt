@@ -19,9 +19,9 @@ abbrev pub TakesSome : Parts → Type 0
 TakesSome wiring = (branch : ℕ) (s : Placement) → placement wiring branch ≡ Some s → takes_some s.branch.pattern ≡ true
 
 -- each message that may be posted makes at most six events: its post, and the firing that takes it with the admission, the put, the start and the end of that task
-unfoldable pub most_events : Parts → ℕ
-most_events wiring = 6 * (posts_in_all wiring.posters + wiring.budget)
+unfoldable pub event_bound : Parts → ℕ
+event_bound wiring = 6 * (posts_in_all wiring.posters + wiring.budget)
 
 -- no more events than these come
 abbrev pub potential : Parts → List Event → ℕ
-potential wiring history = most_events wiring - length history
+potential wiring history = event_bound wiring - length history
