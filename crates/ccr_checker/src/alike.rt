@@ -1,12 +1,10 @@
-//! When two posts, lists of tasks, drops and ends are the same.
+//! When two posts, lists of tasks and drops are the same.
 
 ghost use Rattle.std.specs.Prelude.{◌≡◌};
 ghost use Rattle.ccr_base.specs.Names.{same_lists, same_options, same_task};
-ghost use Rattle.ccr_model.specs.Rules.{ends_so, is_post};
+ghost use Rattle.ccr_model.specs.Rules.{is_post};
 
 use ccr_base::{CauseNo, Msg, PortNo, TaskId, Value};
-use ccr_handler::PlayEnd;
-use ccr_model::EndHow;
 
 /// Whether the message is the post, but for its name.
 #[tactic(auto, using(crate::proofs::SameLists::same_items))]
@@ -29,16 +27,4 @@ pub(crate) fn is_same_drop(dropped: Option<TaskId>, due: Option<TaskId>) -> bool
     ensures { result ≡ same_options same_task dropped due }
 {
     dropped == due
-}
-
-/// Whether the end is the one that the play asks for.
-pub(crate) fn ends_so(how: &EndHow, end: &PlayEnd) -> bool
-    ensures { result ≡ ends_so how.now end.now }
-{
-    match (how, end) {
-        (EndHow::Done, PlayEnd::Done) => true,
-        (EndHow::Failed(value), PlayEnd::Failed(failed)) => value == failed,
-        (EndHow::Yield, PlayEnd::Yield(_)) => true,
-        _ => false,
-    }
 }

@@ -3,10 +3,11 @@
 ghost use Rattle.std.specs.Prelude.{◌≡◌, IfOk};
 ghost use Rattle.ccr_checker.specs.Judging.{is_ending, is_idle, is_next_line, is_next_post, is_unused, refusal_in, refusal_of_post_in, sheds};
 
-use crate::alike::{are_same_tasks, ends_so, is_post, is_same_drop};
+use crate::alike::{are_same_tasks, is_post, is_same_drop};
 use ccr_base::{ActorNo, Msg, MsgId, OutOfMemory, Spot, TaskId};
 use ccr_handler::PlayEnd;
 use ccr_ledger::Ledger;
+use ccr_model::rules::ends_so;
 use ccr_model::{EndHow, Event, Rule};
 use ccr_wiring::{MAX_ACTOR, Wiring};
 

@@ -9,12 +9,12 @@ ghost use Rattle.ccr_ledger.specs.Firing.{after_choice, after_cut, after_cuts, a
 
 use crate::counts::{add_one, raise, take_one};
 use crate::ledger::arrive;
-use crate::loads::{load_left, no_load, with_messages};
+use crate::loads::{load_left, with_messages};
 use crate::ports::{take_pattern, take_site};
 use crate::tasks::{first_suspended, move_to, resume};
 use crate::{Card, HeldMessages, KeptPlay, KeptValues, Ledger, Rows, Stage};
 use ccr_base::{BranchNo, MsgId, OutOfMemory, Spot, TaskId};
-use ccr_model::data::{TaskLoad, play_at_spot};
+use ccr_model::data::{TaskLoad, no_load, play_at_spot};
 use ccr_model::placements::{PlacementOf, is_concurrent, is_interleave, is_teardown};
 use ccr_wiring::Wiring;
 use std::alloc::Global;

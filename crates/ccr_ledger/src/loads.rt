@@ -2,7 +2,7 @@
 
 ghost use Rattle.std.specs.Prelude.{◌≡◌, IfOk};
 ghost use Rattle.ccr_model.specs.Views.{load_seen};
-ghost use Rattle.ccr_model.specs.TaskData.{no_load, with_messages};
+ghost use Rattle.ccr_model.specs.TaskData.{with_messages};
 ghost use Rattle.ccr_ledger.specs.Firing.{load_left};
 
 use crate::Card;
@@ -30,15 +30,6 @@ pub(crate) fn with_messages(
         values: List::from_vec(values),
         causes,
     })
-}
-
-pub(crate) fn no_load(alloc: Global) -> TaskLoad
-    ensures { load_seen result ≡ no_load }
-{
-    TaskLoad {
-        values: List::new(alloc),
-        causes: List::new(alloc),
-    }
 }
 
 /// What the task of the card leaves to the next.

@@ -1,7 +1,6 @@
 //! Whether names are those of a choice from what the ports hold.
 
 ghost use Rattle.std.specs.Prelude.{◌≡◌, ◌==◌, ◌&&◌, IfOk, length};
-ghost use Rattle.ccr_base.specs.Names.{same_lists, same_message};
 ghost use Rattle.ccr_base.specs.declared.patterns.Pattern.TheVariants.{Slots};
 ghost use Rattle.ccr_ledger.specs.Rows.{row};
 ghost use Rattle.ccr_model.specs.Choice.{are_oldest, are_split, is_choice_of};
@@ -10,18 +9,8 @@ ghost use Rattle.ccr_ledger.specs.Fronts.{are_front, are_fronts};
 use crate::HeldMessages;
 use crate::choices::{names_of_slots, oldest_names};
 use ccr_base::{MsgId, OutOfMemory, Pattern, PortNo, Slot};
+use ccr_model::choices::are_same;
 use std::alloc::Global;
-
-/// Whether two lists of names are the same.
-fn are_same(names: &[MsgId], others: &[MsgId]) -> bool
-    ensures { result ≡ same_lists same_message names.now others.now }
-{
-    match (names, others) {
-        ([], []) => true,
-        ([name, names @ ..], [other, others @ ..]) => name == other && are_same(names, others),
-        _ => false,
-    }
-}
 
 /// Whether the names are the first of these.
 fn are_front(oldest: &[MsgId], names: &[MsgId]) -> bool

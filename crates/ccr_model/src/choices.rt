@@ -63,7 +63,7 @@ fn names_of_slots(
 }
 
 /// Whether two lists of names are the same.
-fn are_same(names: &[MsgId], others: &[MsgId]) -> bool
+pub fn are_same(names: &[MsgId], others: &[MsgId]) -> bool
     ensures { result ≡ same_lists same_message names.now others.now }
 {
     match (names, others) {

@@ -56,7 +56,8 @@ fn with_messages(alloc: Global, load: TaskLoad, messages: &[&Msg]) -> Result<Tas
     })
 }
 
-fn no_load(alloc: Global) -> TaskLoad
+/// No value and no cause.
+pub fn no_load(alloc: Global) -> TaskLoad
     ensures { load_seen result ≡ no_load }
 {
     TaskLoad {

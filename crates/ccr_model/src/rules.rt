@@ -298,7 +298,8 @@ pub(crate) fn may_start(
     Ok(posters <= actor as usize && actor <= MAX_ACTOR && running.is_empty())
 }
 
-fn ends_so(how: &EndHow, end: &PlayEnd) -> bool
+/// Whether the end is the one that the play asks for.
+pub fn ends_so(how: &EndHow, end: &PlayEnd) -> bool
     ensures { result ≡ ends_so how.now end.now }
 {
     match (how, end) {
