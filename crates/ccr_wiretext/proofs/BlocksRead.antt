@@ -2,6 +2,7 @@
 use Rattle.std.proofs.Common.{◌≡◌, length, Option, Some, None, Ok, inl, inr, refl, sym}
 use Rattle.ccr_base.specs.declared.handlers.Action.TheVariants as actions
 use Rattle.ccr_base.specs.declared.policies.Group.{Group}
+use Rattle.ccr_text.specs.Places.{Words, no_more}
 use Rattle.ccr_wiring.specs.declared.parts.BranchPart.{BranchPart}
 use Rattle.ccr_wiring.specs.declared.parts.ArbiterPart.{ArbiterPart}
 use Rattle.ccr_wiring.specs.declared.parts.HandlerPart.{HandlerPart}
@@ -13,7 +14,6 @@ use Rattle.ccr_wiretext.specs.declared.keyword.Keyword.TheVariants as keywords
 use Rattle.ccr_wiretext.specs.declared.draft.Block.{Block}
 use Rattle.ccr_wiretext.specs.declared.draft.Block.TheVariants as blocks
 use Rattle.ccr_wiretext.specs.Drafts.{Declared, with_budget, with_queue, with_port, with_set, with_cause, with_receive, with_handler, with_arbiter, with_poster, with_domain, with_action, with_branch, with_post, end_handler, end_arbiter, end_poster}
-use Rattle.ccr_wiretext.specs.Places.{Words, no_more}
 use Rattle.ccr_wiretext.specs.Forms.{budget_form, queue_form, name_form, set_form, cause_form, combine_form, receive_form, branch_form, post_form, fail_form, caused_form, await_form, script_form, end_form, arbiter_end_form}
 use Rattle.ccr_wiretext.specs.Blocks.{group_of, branch_line, apart, outside_line, handler_line, arbiter_line, poster_line, line_in}
 use Rattle.ccr_wiretext.specs.Lines.{IsBranch, SaysOutside, SaysInHandler, SaysInArbiter, SaysInPoster, Says}

@@ -6,6 +6,7 @@ use Rattle.ccr_base.specs.declared.handlers.Action.TheVariants as actions
 use Rattle.ccr_base.specs.declared.handlers.Expr.{Expr}
 use Rattle.ccr_base.specs.declared.messages.Sent.{Sent}
 use Rattle.ccr_base.specs.declared.policies.Group.{Group}
+use Rattle.ccr_text.specs.Places.{Words, unless, limited, no_more, number_within, policy}
 use Rattle.ccr_wiring.specs.declared.parts.QueuePart.{QueuePart}
 use Rattle.ccr_wiring.specs.declared.parts.SetPart.{SetPart}
 use Rattle.ccr_wiring.specs.declared.parts.CausePart.{CausePart}
@@ -17,7 +18,7 @@ use Rattle.ccr_wiring.specs.declared.parts.DomainPart.{DomainPart}
 use Rattle.ccr_wiretext.specs.declared.keyword.Keyword.TheVariants as keywords
 use Rattle.ccr_wiretext.specs.Names.{as_queue, as_cause, as_handler}
 use Rattle.ccr_wiretext.specs.Drafts.{Declared, branch_count, script_count}
-use Rattle.ccr_wiretext.specs.Places.{Words, unless, limited, no_more, new_name, reference, port, number_within, policy, group, value, expr}
+use Rattle.ccr_wiretext.specs.Places.{new_name, reference, port, group, value, expr}
 use Rattle.ccr_wiretext.specs.Patterns.{pattern, all_members, combined, causes}
 use Rattle.ccr_wiretext.specs.Forms.{crowds, budget_form, queue_form, name_form, set_form, cause_form, combine_form, branch_tail, receive_room, receive_form, branch_form, post_form, fail_form, caused_form, await_form, script_form, arbiter_end_form}
 use Rattle.ccr_wiretext.specs.Grammar.{IsNew, IsGroup, IsExpr, AreCauses}
@@ -52,7 +53,7 @@ unfolding queue_form
 queue_said draft words part e =
     let room = bind_ok (limited 16 (length draft.parts.queues)) _ part e in
     let name = bind_ok (new_name draft.names words) _ part room.2 in
-    let rule = bind_ok (policy name.0.1) _ part name.2 in
+    let rule = bind_ok (policy 1000 name.0.1) _ part name.2 in
     let none = bind_ok (no_more rule.0.1) _ part rule.2 in
     let named_so = new_name_said draft.names words name.0 name.1 in
     let ruled_so = policy_said name.0.1 rule.0 rule.1 in
@@ -68,7 +69,7 @@ queue_said draft words part e =
 pub queue_read : (draft : Declared) (words : Words) (part : QueuePart) → IsQueue draft words part → queue_form draft words ≡ Ok part
 unfolding queue_form
 queue_read draft words part said =
-    let rule : policy said.rule ≡ Ok (part.policy, []) = ap policy (sym (append-nil said.rule)) ∙ policy_read said.rule part.policy [] said.policy in
+    let rule : policy 1000 said.rule ≡ Ok (part.policy, []) = ap (policy 1000) (sym (append-nil said.rule)) ∙ policy_read said.rule part.policy [] said.policy in
     rw (said.spelled, limit_read 16 (length draft.parts.queues) said.room, new_name_read draft.names part.name said.rule said.name, rule) refl
 
 -- NAME alone

@@ -1,4 +1,3 @@
-pub mod NamesLemmas
 pub mod Slots
 pub mod Rooms
 pub mod Written

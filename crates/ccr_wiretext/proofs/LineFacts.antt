@@ -14,6 +14,8 @@ use Rattle.ccr_base.specs.declared.policies.Policy.TheVariants as policies
 use Rattle.ccr_base.specs.declared.patterns.Slot.{Slot}
 use Rattle.ccr_base.specs.declared.patterns.Pattern.{Pattern}
 use Rattle.ccr_base.specs.declared.patterns.Pattern.TheVariants as patterns
+use Rattle.ccr_text.specs.Names.{meaning_of}
+use Rattle.ccr_text.specs.Places.{Words}
 use Rattle.ccr_wiring.specs.declared.parts.Parts.{Parts}
 use Rattle.ccr_wiring.specs.declared.parts.BranchPart.{BranchPart}
 use Rattle.ccr_wiring.specs.declared.parts.DomainPart.{DomainPart}
@@ -26,9 +28,8 @@ use Rattle.ccr_wiretext.specs.declared.keyword.Keyword.{Keyword}
 use Rattle.ccr_wiretext.specs.declared.keyword.Keyword.TheVariants as keywords
 use Rattle.ccr_wiretext.specs.declared.named.Named.{Named}
 use Rattle.ccr_wiretext.specs.declared.named.Named.TheVariants as kinds
-use Rattle.ccr_wiretext.specs.Names.{Naming, meaning_of, as_port, as_queue, as_cause, as_handler}
+use Rattle.ccr_wiretext.specs.Names.{Naming, as_port, as_queue, as_cause, as_handler}
 use Rattle.ccr_wiretext.specs.Drafts.{Declared}
-use Rattle.ccr_wiretext.specs.Places.{Words}
 use Rattle.ccr_wiretext.specs.Grammar.{Refers, IsPort, IsPolicy, IsValueWord, IsExpr, IsSlots, IsPattern, ArePorts, AreInterleaves, AreCauses, IsGroup}
 use Rattle.ccr_wiretext.specs.Patterns.{is_combined}
 use Rattle.ccr_wiretext.specs.Blocks.{group_of}

@@ -3,9 +3,10 @@ use Rattle.std.proofs.Common.{◌≡◌, ℕ, Bool, true, false, cond, List, [],
 use Rattle.std.specs.Str.{bytes_eq}
 use Rattle.std.proofs.lemmas.Slice.Eq.{bytes_eq-Decides}
 use Rattle.ccr_text.specs.Words.{is_name_of}
+use Rattle.ccr_text.specs.Names.{meaning_of}
 use Rattle.ccr_wiring.specs.Names.{has_name, has_repeated}
 use Rattle.ccr_wiretext.specs.declared.named.Named.{Named}
-use Rattle.ccr_wiretext.specs.Names.{Naming, meaning_of}
+use Rattle.ccr_wiretext.specs.Names.{Naming}
 use Rattle.ccr_wiretext.specs.Grammar.{IsNew}
 use Rattle.ccr_wiretext.proofs.Each.{Each, each_insert, neither, none_inserted}
 

@@ -11,11 +11,13 @@ use Rattle.ccr_base.specs.declared.policies.Group.TheVariants as groups
 use Rattle.ccr_base.specs.declared.handlers.Expr.{Expr}
 use Rattle.ccr_base.specs.declared.handlers.Expr.TheVariants as exprs
 use Rattle.ccr_text.specs.Words.{number_of, is_name_of}
+use Rattle.ccr_text.specs.Names.{meaning_of}
+use Rattle.ccr_text.specs.Places.{Words, ◌>>=◌, unless, or_code, word, number, number_within, policy}
 use Rattle.ccr_wiring.specs.References.{no_interleave}
 use Rattle.ccr_wiretext.specs.declared.named.Named.{Named}
-use Rattle.ccr_wiretext.specs.Names.{Naming, meaning_of, as_arbiter}
+use Rattle.ccr_wiretext.specs.Names.{Naming, as_arbiter}
 use Rattle.ccr_wiretext.specs.Drafts.{Declared}
-use Rattle.ccr_wiretext.specs.Places.{Words, ◌>>=◌, unless, or_code, word, new_name, reference, number, number_within, numbers_after, several, single, value_in, value, part, policy, group, expr, interleave}
+use Rattle.ccr_wiretext.specs.Places.{new_name, reference, numbers_after, several, single, value_in, value, part, group, expr, interleave}
 use Rattle.ccr_wiretext.specs.Grammar.{IsNew, Refers, IsNumber, IsWithin, IsPolicy, IsGroup, IsValueWord, IsExpr, IsInterleave}
 use Rattle.ccr_wiretext.proofs.Steps.{bind_ok, ok_is, unless_ok, or_code_ok, word_ok, none_is, not_true, chosen, same_word}
 use Rattle.ccr_wiretext.proofs.Each.{both}
@@ -104,7 +106,7 @@ pub keyed : (w : List ℕ) (text : List ℕ) (digits : List ℕ) → bytes_eq w 
 keyed w text digits e = ap (λ (v : List ℕ). v ∷ digits ∷ []) (same_word w text e)
 
 -- POLICY
-pub policy_said : (words : Words) (x : Policy × Words) → policy words ≡ Ok x → (front : Words) × (words ≡ front ++ x.1) × IsPolicy front x.0
+pub policy_said : (words : Words) (x : Policy × Words) → policy 1000 words ≡ Ok x → (front : Words) × (words ≡ front ++ x.1) × IsPolicy front x.0
 unfolding policy
 policy_said [] x e = absurd cc
 policy_said (w ∷ words) x e = elim (chosen (bytes_eq w (codes "unbounded")) (Ok (policies.Unbounded, words)) _ (Ok x) e) [
@@ -124,7 +126,7 @@ policy_said (w ∷ words) x e = elim (chosen (bytes_eq w (codes "unbounded")) (O
   ]
 ]
 
-pub policy_read : (front : Words) (p : Policy) (rest : Words) → IsPolicy front p → policy (front ++ rest) ≡ Ok (p, rest)
+pub policy_read : (front : Words) (p : Policy) (rest : Words) → IsPolicy front p → policy 1000 (front ++ rest) ≡ Ok (p, rest)
 unfolding policy
 policy_read front policies.Unbounded rest said = rw said refl
 policy_read front (policies.Discard n) rest said = rw (said.1, within_read 1 1000 said.0 n rest said.2) refl

@@ -4,10 +4,12 @@ use Rattle.std.specs.Prelude.{nat_lt, ◌==◌, ◌||◌}
 use Rattle.std.specs.Option.{option_and_then}
 use Rattle.std.specs.List.{list_any, position_or_len}
 use Rattle.std.proofs.lemmas.Bool.Decides.{nat_tests}
+use Rattle.ccr_text.specs.Names.{meaning_of}
+use Rattle.ccr_text.specs.Places.{Words, or_code, word}
 use Rattle.ccr_wiring.specs.Repeats.{has_port}
-use Rattle.ccr_wiretext.specs.Names.{meaning_of, as_port, as_set}
+use Rattle.ccr_wiretext.specs.Names.{as_port, as_set}
 use Rattle.ccr_wiretext.specs.Drafts.{Declared, members_of}
-use Rattle.ccr_wiretext.specs.Places.{Words, or_code, word, slash_place, member, set_port, port_at, port_of, port}
+use Rattle.ccr_wiretext.specs.Places.{slash_place, member, set_port, port_at, port_of, port}
 use Rattle.ccr_wiretext.specs.Grammar.{IsPlain, IsPort}
 use Rattle.ccr_wiretext.proofs.Steps.{bind_ok, ok_is, or_code_ok, chosen, then_some}
 

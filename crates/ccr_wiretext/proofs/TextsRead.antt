@@ -4,14 +4,15 @@ use Rattle.std.specs.Prelude.{max, codes}
 use Rattle.std.specs.Str.{bytes_eq}
 use Rattle.ccr_text.specs.declared.lines.Line.{Line}
 use Rattle.ccr_text.specs.Lines.{lines_of}
+use Rattle.ccr_text.specs.Places.{Words, or_code}
+use Rattle.ccr_text.specs.Words.{is_comment}
 use Rattle.ccr_wiring.specs.declared.parts.Parts.{Parts}
 use Rattle.ccr_wiretext.specs.declared.draft.Block.{Block}
 use Rattle.ccr_wiretext.specs.declared.draft.Block.TheVariants as blocks
 use Rattle.ccr_wiretext.specs.Keywords.{keyword}
 use Rattle.ccr_wiretext.specs.Drafts.{Declared, nothing}
-use Rattle.ccr_wiretext.specs.Places.{Words, or_code}
 use Rattle.ccr_wiretext.specs.Blocks.{line_in}
-use Rattle.ccr_wiretext.specs.Reading.{So, is_comment, version_word, version_of, after_words, after_all, after_line, closed, at_end, at_line, reading_after, reading_text}
+use Rattle.ccr_wiretext.specs.Reading.{So, version_word, version_of, after_words, after_all, after_line, closed, at_end, at_line, reading_after, reading_text}
 use Rattle.ccr_wiretext.specs.Lines.{Says, IsBlank, AreLines, AreHeadedLines, IsText}
 use Rattle.ccr_wiretext.proofs.Steps.{bind_ok, ok_is, or_code_ok, chosen, same_word}
 use Rattle.ccr_wiretext.proofs.BlocksRead.{line_said, line_read}

@@ -6,6 +6,7 @@ use Rattle.ccr_base.specs.declared.handlers.Action.TheVariants as actions
 use Rattle.ccr_base.specs.declared.handlers.Expr.{Expr}
 use Rattle.ccr_base.specs.declared.messages.Sent.{Sent}
 use Rattle.ccr_base.specs.declared.policies.Group.{Group}
+use Rattle.ccr_text.specs.Places.{Words, ◌>>=◌, unless, limited, no_more, number_within, policy}
 use Rattle.ccr_wiring.specs.declared.parts.QueuePart.{QueuePart}
 use Rattle.ccr_wiring.specs.declared.parts.SetPart.{SetPart}
 use Rattle.ccr_wiring.specs.declared.parts.CausePart.{CausePart}
@@ -17,7 +18,7 @@ use Rattle.ccr_wiring.specs.declared.parts.DomainPart.{DomainPart}
 use Rattle.ccr_wiring.specs.Spots.{branch_named, times}
 use Rattle.ccr_wiretext.specs.Names.{as_queue, as_cause, as_handler}
 use Rattle.ccr_wiretext.specs.Drafts.{Declared, branch_count, script_count}
-use Rattle.ccr_wiretext.specs.Places.{Words, ◌>>=◌, unless, limited, no_more, new_name, reference, port, number_within, policy, group, value, expr}
+use Rattle.ccr_wiretext.specs.Places.{new_name, reference, port, group, value, expr}
 use Rattle.ccr_wiretext.specs.Patterns.{pattern, all_members, combined, causes}
 
 -- budget N. A second one is code 13
@@ -33,7 +34,7 @@ unfoldable pub queue_form : Declared → Words → Result QueuePart ℕ
 queue_form draft words = do
   room ← limited 16 (length draft.parts.queues)
   name ← new_name draft.names words
-  rule ← policy name.1
+  rule ← policy 1000 name.1
   done ← no_more rule.1
   Ok (record { name = name.0; policy = rule.0 })
 

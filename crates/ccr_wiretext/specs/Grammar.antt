@@ -14,13 +14,14 @@ use Rattle.ccr_base.specs.declared.patterns.Slot.{Slot}
 use Rattle.ccr_base.specs.declared.patterns.Pattern.{Pattern}
 use Rattle.ccr_base.specs.declared.patterns.Pattern.TheVariants as patterns
 use Rattle.ccr_text.specs.Words.{number_of, is_name_of}
+use Rattle.ccr_text.specs.Names.{meaning_of}
+use Rattle.ccr_text.specs.Places.{Words}
 use Rattle.ccr_wiring.specs.References.{no_interleave}
 use Rattle.ccr_wiring.specs.Repeats.{has_port}
 use Rattle.ccr_wiretext.specs.declared.named.Named.{Named}
-use Rattle.ccr_wiretext.specs.Names.{Naming, meaning_of, as_port, as_set, as_cause, as_arbiter}
+use Rattle.ccr_wiretext.specs.Names.{Naming, as_port, as_set, as_cause, as_arbiter}
 use Rattle.ccr_wiretext.specs.Drafts.{Declared, members_of}
 use Rattle.ccr_wiretext.specs.Patterns.{is_combined}
-use Rattle.ccr_wiretext.specs.Places.{Words}
 
 -- a name that may be declared here
 pub record IsNew (names : Naming) (name : List ℕ) : Type 0 where

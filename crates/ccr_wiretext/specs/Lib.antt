@@ -1,14 +1,12 @@
 pub mod Keywords
 pub mod Names
 pub mod Counts
-pub mod Slices
 pub mod Drafts
 pub mod Places
 pub mod Patterns
 pub mod Forms
 pub mod Blocks
 pub mod Reading
-pub mod Codes
 pub mod Scanning
 pub mod Answers
 pub mod Spelling

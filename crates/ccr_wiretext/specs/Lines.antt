@@ -16,6 +16,8 @@ use Rattle.ccr_wiring.specs.declared.parts.DomainPart.{DomainPart}
 use Rattle.ccr_wiring.specs.declared.parts.Kind.TheVariants as arbiters
 use Rattle.ccr_text.specs.declared.lines.Line.{Line}
 use Rattle.ccr_text.specs.Lines.{lines_of}
+use Rattle.ccr_text.specs.Places.{Words}
+use Rattle.ccr_text.specs.Words.{is_comment}
 use Rattle.ccr_wiretext.specs.declared.keyword.Keyword.{Keyword}
 use Rattle.ccr_wiretext.specs.declared.keyword.Keyword.TheVariants as keywords
 use Rattle.ccr_wiretext.specs.declared.draft.Block.{Block}
@@ -23,10 +25,9 @@ use Rattle.ccr_wiretext.specs.declared.draft.Block.TheVariants as blocks
 use Rattle.ccr_wiretext.specs.Keywords.{keyword}
 use Rattle.ccr_wiretext.specs.Names.{as_queue, as_cause, as_handler}
 use Rattle.ccr_wiretext.specs.Drafts.{Declared, branch_count, script_count, nothing, with_budget, with_queue, with_port, with_set, with_cause, with_receive, with_handler, with_arbiter, with_poster, with_domain, with_action, with_branch, with_post, end_handler, end_arbiter, end_poster}
-use Rattle.ccr_wiretext.specs.Places.{Words}
 use Rattle.ccr_wiretext.specs.Forms.{crowds}
 use Rattle.ccr_wiretext.specs.Blocks.{group_of, apart}
-use Rattle.ccr_wiretext.specs.Reading.{is_comment, version_of}
+use Rattle.ccr_wiretext.specs.Reading.{version_of}
 use Rattle.ccr_wiretext.specs.Grammar.{IsNew, Refers, IsPort, IsWithin, IsPolicy, IsGroup, IsValueWord, IsExpr, IsPattern, ArePorts, AreInterleaves, AreCauses}
 
 -- budget N

@@ -1,20 +1,16 @@
 -- Reading line by line: the first line that offends, and its code.
-use Rattle.std.specs.Prelude.{ℕ, Bool, false, List, [], ◌∷◌, Option, Some, None, Result, Ok, Err, ◌==◌, if◌then◌else◌, codes, max}
+use Rattle.std.specs.Prelude.{ℕ, Bool, List, [], ◌∷◌, Option, Some, None, Result, Ok, Err, if◌then◌else◌, codes, max}
 use Rattle.std.specs.Str.{bytes_eq}
 use Rattle.ccr_text.specs.declared.lines.Line.{Line}
 use Rattle.ccr_text.specs.Lines.{lines_of}
+use Rattle.ccr_text.specs.Places.{Words, ◌>>=◌, or_code}
+use Rattle.ccr_text.specs.Words.{is_comment}
 use Rattle.ccr_wiring.specs.declared.parts.Parts.{Parts}
 use Rattle.ccr_wiretext.specs.declared.draft.Block.{Block}
 use Rattle.ccr_wiretext.specs.declared.draft.Block.TheVariants as blocks
 use Rattle.ccr_wiretext.specs.Keywords.{keyword}
 use Rattle.ccr_wiretext.specs.Drafts.{Declared, nothing}
-use Rattle.ccr_wiretext.specs.Places.{Words, ◌>>=◌, or_code}
 use Rattle.ccr_wiretext.specs.Blocks.{line_in}
-
--- a comment begins with #
-abbrev pub is_comment : List ℕ → Bool
-is_comment [] = false
-is_comment (b ∷ bytes) = b == 35
 
 -- the version that a word gives
 abbrev pub version_word : List ℕ → Option ℕ

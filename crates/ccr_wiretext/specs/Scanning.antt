@@ -2,12 +2,12 @@
 use Rattle.std.specs.Prelude.{◌≡◌, ◌<◌, ◌+◌, ℕ, true, nat_lt, List, [], ◌∷◌, length, Some, Ok, Err, codes}
 use Rattle.ccr_text.specs.Words.{is_clean, number_of, words_of}
 use Rattle.ccr_text.specs.Lines.{cut, first_line}
+use Rattle.ccr_text.specs.declared.stop.Stop.{Stop}
+use Rattle.ccr_text.specs.declared.stop.Stop.TheVariants as stops
+use Rattle.ccr_text.specs.Codes.{code_number}
 use Rattle.ccr_wiring.specs.declared.parts.PosterPart.{PosterPart}
 use Rattle.ccr_wiretext.specs.declared.draft.Block.TheVariants as blocks
 use Rattle.ccr_wiretext.specs.declared.scanning.PlainPost.{PlainPost}
-use Rattle.ccr_wiretext.specs.declared.stop.Stop.{Stop}
-use Rattle.ccr_wiretext.specs.declared.stop.Stop.TheVariants as stops
-use Rattle.ccr_wiretext.specs.Codes.{code_number}
 use Rattle.ccr_wiretext.specs.Drafts.{Declared, script_count}
 use Rattle.ccr_wiretext.specs.Places.{port_of}
 use Rattle.ccr_wiretext.specs.Reading.{So, after_clean}

@@ -27,7 +27,7 @@ use Rattle.ccr_wiring.specs.declared.parts.PosterPart.{PosterPart}
 use Rattle.ccr_wiring.specs.declared.parts.DomainPart.{DomainPart}
 use Rattle.ccr_wiring.specs.declared.parts.Kind.TheVariants as arbiters
 use Rattle.ccr_text.specs.Spelling.{text_of}
-use Rattle.ccr_wiretext.specs.Places.{Words}
+use Rattle.ccr_text.specs.Places.{Words}
 
 -- the name of a port. The others are likewise
 abbrev pub port_name : Parts → ℕ → List ℕ

@@ -2,17 +2,16 @@
 
 ghost use Rattle.std.specs.Prelude.{◌≡◌, ◌∷◌, [], true, false, List as Listed, ℕ, Some, Ok, IfOk, IfSome};
 ghost use Rattle.ccr_text.specs.Words.{number_of};
-ghost use Rattle.ccr_wiretext.specs.Answers.{GivesState};
+ghost use Rattle.ccr_text.specs.Answers.{GivesState};
 ghost use Rattle.ccr_wiretext.specs.declared.keyword.Keyword.TheVariants.{Post};
 ghost use Rattle.ccr_wiretext.specs.Scanning.{MayPost};
 ghost use Rattle.ccr_wiretext.specs.Blocks.{outside_line, handler_line, group_of, arbiter_line, poster_line, line_in};
 
-use crate::cursor::Cursor;
 use crate::draft::{Block, Draft};
 use crate::forms::arbiter_end_form;
 use crate::keyword::Keyword;
-use crate::stop::{Code, Stop};
 use ccr_base::{Action, Group, List, OutOfMemory, PortNo, Sent, Value};
+use ccr_text::{Code, Cursor, Stop};
 use ccr_wiring::{
     ArbiterPart, HandlerPart, Kind, MAX_ARBITERS, MAX_HANDLERS, MAX_PORTS, MAX_POSTERS, PosterPart,
 };

@@ -2,13 +2,14 @@
 
 ghost use Rattle.std.specs.Prelude.{◌≡◌, ◌<◌, None, OnOk, IfOk, length, [], ◌∷◌, ◌++◌};
 ghost use Rattle.ccr_base.specs.Bounds.{most_arbiters, most_causes, most_handlers, most_ports, most_queues, most_sets};
+ghost use Rattle.ccr_text.specs.Names.{meaning_of};
 ghost use Rattle.ccr_wiring.specs.Spots.{branch_named};
-ghost use Rattle.ccr_wiretext.specs.Names.{meaning_of};
 ghost use Rattle.ccr_wiretext.specs.Drafts.{nothing, with_budget, with_queue, with_port, with_set, with_cause, with_receive, with_handler, with_arbiter, with_poster, with_domain, with_action, with_branch, with_post, end_handler, end_arbiter, end_poster};
 
-use crate::named::{Named, Names};
+use crate::named::Named;
 use crate::spotted::Spotted;
 use ccr_base::{Action, Handler, List, Name, OutOfMemory, Sent};
+use ccr_text::Names;
 use ccr_wiring::{
     ArbiterPart, BranchPart, CausePart, DomainPart, HandlerPart, Kind, MAX_BUDGET, Parts,
     PosterPart, QueuePart, ScriptPost, SetPart,
@@ -32,7 +33,7 @@ pub struct Draft {
     pub alloc: Global,
     pub parts: Parts,
     pub budgeted: bool,
-    pub names: Names,
+    pub names: Names<Named>,
     pub spotted: Spotted,
     pub block: Block,
 }

@@ -3,21 +3,21 @@
 ghost use Rattle.std.specs.Prelude.{◌≡◌, ◌<◌, ◌+◌, ◌++◌, None, IfOk, OnOk, length, nat_lt, sum, map};
 ghost use Rattle.std.specs.List.{list_any};
 ghost use Rattle.ccr_base.specs.Bounds.{most_branches, most_causes, most_queues, most_script_posts, most_sets, most_spots};
+ghost use Rattle.ccr_text.specs.Names.{meaning_of};
+ghost use Rattle.ccr_text.specs.Answers.{Gives, GivesBy};
 ghost use Rattle.ccr_wiring.specs.Spots.{times};
 ghost use Rattle.ccr_wiretext.specs.Drafts.{script_count};
-ghost use Rattle.ccr_wiretext.specs.Names.{meaning_of};
-ghost use Rattle.ccr_wiretext.specs.Answers.{Gives, GivesBy};
 ghost use Rattle.ccr_wiretext.specs.Forms.{budget_form, queue_form, name_form, set_form, cause_form, combine_form, crowds, branch_tail, receive_room, receive_form, branch_form, post_form, fail_form, caused_form, await_form, script_form, arbiter_end_form};
 
-use crate::cursor::Cursor;
 use crate::draft::{Draft, copy_of};
 use crate::spotted::Spotted;
-use crate::stop::{Code, Stop};
+use crate::{patterns, places};
 use ccr_base::{Action, CauseNo, Expr, Group, OutOfMemory, PortNo, Sent};
+use ccr_text::{Code, Cursor, Stop};
 use ccr_wiring::{
     ArbiterPart, BranchPart, CausePart, DomainPart, HandlerPart, MAX_ACTIONS, MAX_ARBITERS,
-    MAX_BRANCHES, MAX_BUDGET, MAX_CAUSES, MAX_DOMAINS, MAX_QUEUES, MAX_SCRIPT_POSTS, MAX_SETS,
-    MAX_SPOTS, PosterPart, QueuePart, SetPart,
+    MAX_BRANCHES, MAX_BUDGET, MAX_CAUSES, MAX_DOMAINS, MAX_POLICY, MAX_QUEUES, MAX_SCRIPT_POSTS,
+    MAX_SETS, MAX_SPOTS, PosterPart, QueuePart, SetPart,
 };
 
 /// Whether there is room for a branch behind those of the arbiters and those of an open block.
@@ -86,7 +86,7 @@ impl Draft {
         ensures { Gives result (budget_form self.now words.entry) }
     {
         if self.budgeted {
-            return Err(Stop::Refused(Code::SecondBudget));
+            return Err(Stop::Refused(Code::Second));
         }
         let budget = words.number_within(0, MAX_BUDGET)?;
         words.no_more()?;
@@ -103,8 +103,8 @@ impl Draft {
         if self.parts.queues.as_slice().len() >= MAX_QUEUES {
             return Err(Stop::Refused(Code::Limit));
         }
-        let name = words.new_name(&self.names)?;
-        let policy = words.policy()?;
+        let name = places::new_name(&mut words, &self.names)?;
+        let policy = words.policy(MAX_POLICY)?;
         words.no_more()?;
         let name = copy_of(self.alloc, name)?;
         Ok(QueuePart { name, policy })
@@ -125,7 +125,7 @@ impl Draft {
         if count >= limit {
             return Err(Stop::Refused(Code::Limit));
         }
-        let name = words.new_name(&self.names)?;
+        let name = places::new_name(&mut words, &self.names)?;
         words.no_more()?;
         Ok(name)
     }
@@ -140,8 +140,8 @@ impl Draft {
         if self.parts.sets.as_slice().len() >= MAX_SETS {
             return Err(Stop::Refused(Code::Limit));
         }
-        let name = words.new_name(&self.names)?;
-        let ports = words.members(self.alloc, self)?;
+        let name = places::new_name(&mut words, &self.names)?;
+        let ports = patterns::members(&mut words, self.alloc, self)?;
         let name = copy_of(self.alloc, name)?;
         Ok(SetPart { name, ports })
     }
@@ -156,8 +156,8 @@ impl Draft {
         if self.parts.causes.as_slice().len() >= MAX_CAUSES {
             return Err(Stop::Refused(Code::Limit));
         }
-        let name = words.new_name(&self.names)?;
-        let port = words.port(self)?;
+        let name = places::new_name(&mut words, &self.names)?;
+        let port = places::port(&mut words, self)?;
         words.no_more()?;
         let name = copy_of(self.alloc, name)?;
         Ok(CausePart { name, port })
@@ -183,9 +183,9 @@ impl Draft {
         ensures form { Gives result (branch_tail self.now name.now group words.entry) }
         ensures name { IfOk result (λ branch. branch.name ≡ name.now) }
     {
-        let queue = words.queue(&self.names)?;
-        let handler = words.handler(&self.names)?;
-        let pattern = words.pattern(self.alloc, self)?;
+        let queue = places::queue(&mut words, &self.names)?;
+        let handler = places::handler(&mut words, &self.names)?;
+        let pattern = patterns::pattern(&mut words, self.alloc, self)?;
         let branch = BranchPart {
             name: copy_of(self.alloc, name)?,
             group,
@@ -207,7 +207,7 @@ impl Draft {
         if self.parts.domains.as_slice().len() >= MAX_DOMAINS {
             return Err(Stop::Refused(Code::Limit));
         }
-        let members = words.combined(self.alloc, self)?;
+        let members = patterns::combined(&mut words, self.alloc, self)?;
         Ok(DomainPart { members })
     }
 
@@ -232,8 +232,8 @@ impl Draft {
         ensures new { IfOk result (λ branch. meaning_of self.now.names branch.name ≡ None) }
     {
         self.receive_room()?;
-        let name = words.new_name(&self.names)?;
-        let group = words.group()?;
+        let name = places::new_name(&mut words, &self.names)?;
+        let group = places::group(&mut words)?;
         self.branch_tail(name, group, words)
     }
 
@@ -252,7 +252,7 @@ impl Draft {
         if !has_branch_room(self.parts.arbiters.as_slice(), begun) {
             return Err(Stop::Refused(Code::Limit));
         }
-        let name = words.new_name(&self.names)?;
+        let name = places::new_name(&mut words, &self.names)?;
         self.branch_tail(name, group, words)
     }
 
@@ -264,8 +264,8 @@ impl Draft {
         if part.handler.actions.as_slice().len() >= MAX_ACTIONS {
             return Err(Stop::Refused(Code::Limit));
         }
-        let port = words.port(self)?;
-        let value = words.expr(self.alloc, self.parts.version)?;
+        let port = places::port(&mut words, self)?;
+        let value = places::expr(&mut words, self.alloc, self.parts.version)?;
         words.no_more()?;
         Ok(Action::Post(port, value))
     }
@@ -278,7 +278,7 @@ impl Draft {
         if part.handler.actions.as_slice().len() >= MAX_ACTIONS {
             return Err(Stop::Refused(Code::Limit));
         }
-        let value = words.expr(self.alloc, self.parts.version)?;
+        let value = places::expr(&mut words, self.alloc, self.parts.version)?;
         words.no_more()?;
         Ok(value)
     }
@@ -291,7 +291,7 @@ impl Draft {
         if part.handler.actions.as_slice().len() >= MAX_ACTIONS {
             return Err(Stop::Refused(Code::Limit));
         }
-        let cause = words.cause(&self.names)?;
+        let cause = places::cause(&mut words, &self.names)?;
         words.no_more()?;
         Ok(cause)
     }
@@ -304,7 +304,7 @@ impl Draft {
         if part.handler.actions.as_slice().len() >= MAX_ACTIONS {
             return Err(Stop::Refused(Code::Limit));
         }
-        let port = words.port(self)?;
+        let port = places::port(&mut words, self)?;
         words.no_more()?;
         Ok(Action::Await(port))
     }
@@ -325,9 +325,9 @@ impl Draft {
         if !self.has_post_room(part) {
             return Err(Stop::Refused(Code::Limit));
         }
-        let port = words.port(self)?;
-        let value = words.value(self.alloc, self.parts.version)?;
-        let causes = words.causes(self.alloc, &self.names)?;
+        let port = places::port(&mut words, self)?;
+        let value = places::value(&mut words, self.alloc, self.parts.version)?;
+        let causes = patterns::causes(&mut words, self.alloc, &self.names)?;
         Ok(Sent {
             port,
             value,
@@ -342,7 +342,7 @@ pub fn arbiter_end_form(part: &ArbiterPart, words: Cursor<'_>) -> Result<(), Sto
     ensures { Gives result (arbiter_end_form part.now words.entry) }
 {
     if part.branches.as_slice().is_empty() {
-        return Err(Stop::Refused(Code::Branchless));
+        return Err(Stop::Refused(Code::Empty));
     }
     words.no_more()
 }

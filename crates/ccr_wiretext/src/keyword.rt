@@ -1,15 +1,9 @@
 //! The words that may begin a line.
 
 ghost use Rattle.std.specs.Prelude.{◌≡◌};
-ghost use Rattle.std.specs.Str.{bytes_eq};
 ghost use Rattle.ccr_wiretext.specs.Keywords.{keyword, keyword_in_block};
 
-/// Whether the word is that text.
-pub fn is_text(word: &[u8], text: &str) -> bool
-    ensures { result ≡ bytes_eq word.now text.now }
-{
-    word == text.as_bytes()
-}
+use ccr_text::is_text;
 
 /// A word that may begin a line, somewhere in a wiring text.
 #[derive(Clone, Copy, PartialEq, Eq)]

@@ -2,21 +2,20 @@
 
 ghost use Rattle.std.specs.Prelude.{◌≡◌, ◌≢◌, ◌≤◌, [], length, None, IfErr, IfNone, IfOk, IfSome};
 ghost use Rattle.ccr_base.specs.Bounds.{most_wiring_bytes};
+ghost use Rattle.ccr_text.specs.Answers.{Gives, GivesState};
+ghost use Rattle.ccr_text.specs.Places.{seen};
 ghost use Rattle.ccr_wiring.specs.Valid.{IsValid};
-ghost use Rattle.ccr_wiretext.specs.Answers.{Gives, GivesState, IsReading, IsNoText, refused};
+ghost use Rattle.ccr_wiretext.specs.Answers.{IsReading, IsNoText};
 ghost use Rattle.ccr_wiretext.specs.Lines.{IsText};
-ghost use Rattle.ccr_wiretext.specs.Reading.{is_comment, version_word, version_of, after_all, after_clean, at_end, reading_text};
+ghost use Rattle.ccr_wiretext.specs.Reading.{version_word, version_of, after_all, after_clean, at_end, reading_text};
 ghost use Rattle.ccr_wiretext.specs.Scanning.{IsLineRefused, IsLineTaken};
-ghost use Rattle.ccr_wiretext.specs.Slices.{seen};
 
-use crate::cursor::Cursor;
 use crate::draft::{Block, Draft};
-use crate::keyword::{is_text, keyword_of};
+use crate::keyword::keyword_of;
 use crate::refused::ReadRefused;
 use crate::scanning::plain_post;
-use crate::stop::{Code, Stop};
 use ccr_base::OutOfMemory;
-use ccr_text::take_line;
+use ccr_text::{Code, Cursor, Stop, is_comment, is_text, take_line};
 use ccr_wiring::{Parts, Unfit, Wiring};
 use std::alloc::Global;
 use std::marker::Model;
@@ -34,15 +33,6 @@ impl Model for Reader {
     ghost Value = { So };
 
     ghost view = { λ reader. reader.draft };
-}
-
-fn is_comment_word(word: &[u8]) -> bool
-    ensures { result ≡ is_comment word.now }
-{
-    match word.first() {
-        Some(byte) => *byte == b'#',
-        None => false,
-    }
 }
 
 fn version_word(word: &[u8]) -> Option<u32>
@@ -81,7 +71,7 @@ impl Reader {
         let Some((first, others)) = words.split_first() else {
             return Ok(());
         };
-        if is_comment_word(first) {
+        if is_comment(first) {
             return Ok(());
         }
         match &mut self.draft {
@@ -161,18 +151,6 @@ impl Reader {
     }
 }
 
-fn refused(line: u32, stop: Stop) -> ReadRefused
-    ensures { result ≡ refused line stop }
-{
-    match stop {
-        Stop::Memory => ReadRefused::Memory,
-        Stop::Refused(code) => ReadRefused::At {
-            line,
-            code: code.number(),
-        },
-    }
-}
-
 #[tactic(auto, unfolding(crate::specs::Reading::reading_after, crate::specs::Reading::after_line))]
 fn read_text(alloc: Global, text: &[u8]) -> Result<Parts, ReadRefused>
     requires { length text.now ≤ most_wiring_bytes }
@@ -186,12 +164,12 @@ fn read_text(alloc: Global, text: &[u8]) -> Result<Parts, ReadRefused>
         last += 1;
         match reader.next(rest, &mut words) {
             Ok(behind) => rest = behind,
-            Err(stop) => return Err(refused(last, stop)),
+            Err(stop) => return Err(ReadRefused::of(last, stop)),
         }
     }
     match reader.end() {
         Ok(parts) => Ok(parts),
-        Err(stop) => Err(refused(last.max(1), stop)),
+        Err(stop) => Err(ReadRefused::of(last.max(1), stop)),
     }
 }
 

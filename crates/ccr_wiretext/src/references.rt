@@ -1,6 +1,7 @@
 //! The ports that words mean, and the ports that a branch's spots name.
 
 ghost use Rattle.std.specs.Prelude.{◌≡◌, ◌<◌, ◌==◌, ◌++◌, not, IfOk, IfSome, OnOk, length};
+ghost use Rattle.ccr_text.specs.Names.{meaning_of};
 ghost use Rattle.ccr_wiring.specs.Wirings.{actions_of, awaited};
 ghost use Rattle.ccr_wiring.specs.Spots.{pattern_ports, branch_named};
 ghost use Rattle.ccr_wiring.specs.Repeats.{has_port};
@@ -9,7 +10,7 @@ ghost use Rattle.ccr_wiretext.specs.Patterns.{is_combined};
 ghost use Rattle.ccr_wiretext.specs.Drafts.{members_of};
 ghost use Rattle.ccr_wiretext.specs.Places.{slash_place, set_port, port_of};
 ghost use Rattle.std.specs.Option.{option_and_then};
-ghost use Rattle.ccr_wiretext.specs.Names.{meaning_of, as_port, as_set};
+ghost use Rattle.ccr_wiretext.specs.Names.{as_port, as_set};
 
 use crate::draft::Draft;
 use crate::named::Named;

@@ -1,12 +1,11 @@
 //! The word of a value.
 
 ghost use Rattle.std.specs.Prelude.{◌≡◌, ◌∷◌, ◌<◌, [], IfSome, IfNone, length};
-ghost use Rattle.ccr_wiretext.specs.Answers.{Gives, GivesBy};
+ghost use Rattle.ccr_text.specs.Answers.{Gives, GivesBy};
 ghost use Rattle.ccr_wiretext.specs.Places.{pieces, numbers_after, several, single, value_in};
 
-use crate::stop::{Code, Stop};
 use ccr_base::Value;
-use ccr_text::read_number;
+use ccr_text::{Code, Stop, read_number};
 use std::alloc::Global;
 
 /// What stands before the first comma, and what stands behind it.

@@ -7,6 +7,8 @@ use Rattle.std.proofs.lemmas.List.Concat.{flat_map-append}
 use Rattle.ccr_base.specs.declared.policies.Group.{Group}
 use Rattle.ccr_base.specs.declared.policies.Group.TheVariants as groups
 use Rattle.ccr_text.specs.Spelling.{AreWords}
+use Rattle.ccr_text.specs.Places.{Words}
+use Rattle.ccr_text.specs.Words.{is_comment}
 use Rattle.ccr_wiring.specs.declared.parts.Parts.{Parts}
 use Rattle.ccr_wiring.specs.declared.parts.BranchPart.{BranchPart}
 use Rattle.ccr_wiring.specs.declared.parts.ArbiterPart.{ArbiterPart}
@@ -21,9 +23,7 @@ use Rattle.ccr_wiretext.specs.declared.draft.Block.TheVariants as blocks
 use Rattle.ccr_wiretext.specs.Keywords.{keyword}
 use Rattle.ccr_wiretext.specs.Names.{Naming}
 use Rattle.ccr_wiretext.specs.Drafts.{Declared, branch_count, with_receive, with_arbiter, with_branch, end_arbiter}
-use Rattle.ccr_wiretext.specs.Places.{Words}
 use Rattle.ccr_wiretext.specs.Blocks.{group_of}
-use Rattle.ccr_wiretext.specs.Reading.{is_comment}
 use Rattle.ccr_wiretext.specs.Grammar.{IsNew, IsGroup}
 use Rattle.ccr_wiretext.specs.Spelling.{group_words, branch_words, end_words, block_lines}
 use Rattle.ccr_wiretext.specs.Values.{IsPatternValued, IsArbiterValued}

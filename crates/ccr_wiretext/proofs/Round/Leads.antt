@@ -5,6 +5,8 @@ use Rattle.std.specs.List.{All}
 use Rattle.std.proofs.lemmas.List.{map-append, get_or_at}
 use Rattle.std.proofs.lemmas.List.Sums.{sum_by-append}
 use Rattle.ccr_text.specs.Spelling.{AreWords, AreLines as AreClean, spelled_lines}
+use Rattle.ccr_text.specs.Places.{Words}
+use Rattle.ccr_text.specs.Words.{is_comment}
 use Rattle.ccr_wiring.specs.declared.parts.Parts.{Parts}
 use Rattle.ccr_wiretext.specs.declared.keyword.Keyword.{Keyword}
 use Rattle.ccr_wiretext.specs.declared.draft.Block.{Block}
@@ -12,8 +14,6 @@ use Rattle.ccr_wiretext.specs.declared.draft.Block.TheVariants as blocks
 use Rattle.ccr_wiretext.specs.Keywords.{keyword}
 use Rattle.ccr_wiretext.specs.Names.{Naming}
 use Rattle.ccr_wiretext.specs.Drafts.{Declared}
-use Rattle.ccr_wiretext.specs.Places.{Words}
-use Rattle.ccr_wiretext.specs.Reading.{is_comment}
 use Rattle.ccr_wiretext.specs.Lines.{Says, AreLines}
 use Rattle.ccr_wiretext.proofs.Each.{Each}
 

@@ -6,9 +6,10 @@ use Rattle.std.specs.Option.{option_and_then}
 use Rattle.std.specs.Str.{bytes_eq}
 use Rattle.std.proofs.lemmas.List.{map-append}
 use Rattle.ccr_text.specs.Words.{is_name_of}
+use Rattle.ccr_text.specs.Names.{meaning_of}
 use Rattle.ccr_wiring.specs.Names.{has_name, has_repeated, has_malformed}
 use Rattle.ccr_wiretext.specs.declared.named.Named.{Named}
-use Rattle.ccr_wiretext.specs.Names.{Naming, meaning_of}
+use Rattle.ccr_wiretext.specs.Names.{Naming}
 use Rattle.ccr_wiretext.specs.Grammar.{IsNew, Refers}
 use Rattle.ccr_wiretext.proofs.Steps.{not_false, same_name}
 use Rattle.ccr_wiretext.proofs.Each.{neither}

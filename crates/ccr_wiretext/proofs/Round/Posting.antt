@@ -3,6 +3,7 @@ use Rattle.std.proofs.Common.{ℕ, ◌+◌, ◌<◌, ◌≤◌, List, [], ◌∷
 use Rattle.std.specs.Prelude.{codes, flat_map}
 use Rattle.std.specs.List.{All}
 use Rattle.ccr_base.specs.declared.messages.Sent.{Sent}
+use Rattle.ccr_text.specs.Places.{Words}
 use Rattle.ccr_wiring.specs.declared.parts.Parts.{Parts}
 use Rattle.ccr_wiring.specs.declared.parts.PosterPart.{PosterPart}
 use Rattle.ccr_wiring.specs.Limits.{posts_in_all}
@@ -12,7 +13,6 @@ use Rattle.ccr_wiretext.specs.declared.draft.Block.TheVariants as blocks
 use Rattle.ccr_wiretext.specs.Keywords.{keyword}
 use Rattle.ccr_wiretext.specs.Names.{Naming}
 use Rattle.ccr_wiretext.specs.Drafts.{Declared, script_count, with_poster, with_post, end_poster}
-use Rattle.ccr_wiretext.specs.Places.{Words}
 use Rattle.ccr_wiretext.specs.Grammar.{IsNew}
 use Rattle.ccr_wiretext.specs.Spelling.{port_name, cause_name, value_word, post_words, end_words, poster_lines}
 use Rattle.ccr_wiretext.specs.Values.{IsValue, IsPosterValued}

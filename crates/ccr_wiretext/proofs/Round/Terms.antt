@@ -12,9 +12,9 @@ use Rattle.ccr_base.specs.declared.patterns.Pred.{Pred}
 use Rattle.ccr_base.specs.declared.patterns.Pred.TheVariants as preds
 use Rattle.ccr_text.specs.Words.{is_mark, value_after, is_digits, number_of, may_be_in_name, is_name_of}
 use Rattle.ccr_text.specs.Spelling.{AreWords}
+use Rattle.ccr_text.specs.Places.{Words}
 use Rattle.ccr_wiring.specs.Versions.{is_long}
 use Rattle.ccr_wiretext.specs.Values.{IsNumeral, IsValue, IsExprValued, IsPredValued}
-use Rattle.ccr_wiretext.specs.Places.{Words}
 use Rattle.ccr_wiretext.specs.Grammar.{IsPlain, IsNumber, IsWithin, IsPolicy, AreNumbers, IsOne, IsValueWord, IsExpr, IsPred}
 use Rattle.ccr_wiretext.specs.Spelling.{policy_words, value_word, expr_words, pred_words}
 use Rattle.ccr_wiretext.proofs.Steps.{not_true}

@@ -5,6 +5,7 @@ use Rattle.std.proofs.lemmas.Bool.Decides.{nat_tests}
 use Rattle.std.proofs.lemmas.List.{map-id}
 use Rattle.ccr_text.specs.Lines.{lines_of}
 use Rattle.ccr_text.specs.Spelling.{AreWords, AreLines as AreClean, text_of, spelled_lines}
+use Rattle.ccr_text.specs.Places.{Words}
 use Rattle.ccr_wiring.specs.declared.parts.Parts.{Parts}
 use Rattle.ccr_wiring.specs.declared.parts.QueuePart.{QueuePart}
 use Rattle.ccr_wiring.specs.declared.parts.SetPart.{SetPart}
@@ -23,7 +24,6 @@ use Rattle.ccr_wiretext.specs.declared.named.Named.TheVariants as kinds
 use Rattle.ccr_wiretext.specs.Keywords.{keyword}
 use Rattle.ccr_wiretext.specs.Names.{Naming}
 use Rattle.ccr_wiretext.specs.Drafts.{Declared, nothing, with_budget}
-use Rattle.ccr_wiretext.specs.Places.{Words}
 use Rattle.ccr_wiretext.specs.Reading.{version_of, reading_text}
 use Rattle.ccr_wiretext.specs.Lines.{AreHeadedLines, IsText}
 use Rattle.ccr_wiretext.specs.Spelling.{version_words, combine_words, budget_words, queue_words, port_words, set_words, cause_words, handler_lines, arbiter_lines, poster_lines, queue_lines, port_lines, acting_lines, canonical_lines, spelling}

@@ -1,11 +1,11 @@
 use Rattle.std.proofs.Common.{◌≡◌, ◌-◌, ◌≤◌, length}
 use Rattle.ccr_wiretext.specs.Patterns.{members, all_members}
-use Rattle.ccr_wiretext.proofs.cursor.Cursor.members.Given as goal
+use Rattle.ccr_wiretext.proofs.patterns.members.Given as goal
 
 -- the members so far and those of the words that are left
 abbrev pub invariant-members : goal.invariant-members
 invariant-members l = record {
-  read : members l.draft (8 - length l.found.items) l.found.items l.self ≡ all_members l.fn.draft l.fn.self;
+  read : members l.draft (8 - length l.found.items) l.found.items l.words ≡ all_members l.fn.draft l.fn.words;
   few : length l.found.items ≤ 8;
 }
 

@@ -1,11 +1,11 @@
 use Rattle.std.proofs.Common.{◌≡◌, ◌-◌, ◌≤◌, length}
 use Rattle.ccr_wiretext.specs.Patterns.{further, combined}
-use Rattle.ccr_wiretext.proofs.cursor.Cursor.combined.Given as goal
+use Rattle.ccr_wiretext.proofs.patterns.combined.Given as goal
 
 -- the members so far and those of the words that are left
 abbrev pub invariant-further : goal.invariant-further
 invariant-further l = record {
-  read : further l.draft (8 - length l.found.items) l.found.items l.self ≡ combined l.fn.draft l.fn.self;
+  read : further l.draft (8 - length l.found.items) l.found.items l.words ≡ combined l.fn.draft l.fn.words;
   few : length l.found.items ≤ 8;
 }
 
