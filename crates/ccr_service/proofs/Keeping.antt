@@ -14,12 +14,13 @@ use Rattle.ccr_base.specs.declared.policies.Group.TheVariants as groups
 use Rattle.ccr_base.specs.declared.handlers.Expr.{Expr}
 use Rattle.ccr_base.specs.declared.handlers.Expr.TheVariants as exprs
 use Rattle.ccr_text.specs.declared.lines.Line.{Line}
-use Rattle.ccr_text.specs.Words.{number_of}
+use Rattle.ccr_text.specs.Names.{meaning_of}
+use Rattle.ccr_text.specs.Places.{Words, ◌>>=◌, unless, or_code, limited, word, no_more, number, number_within, policy}
+use Rattle.ccr_text.specs.Words.{number_of, is_comment}
 use Rattle.ccr_wiring.specs.declared.parts.Kind.TheVariants as kinds
 use Rattle.ccr_wiring.specs.Groups.{may_have}
 use Rattle.ccr_wiring.specs.Limits.{policy_is_outside, is_outside}
-use Rattle.ccr_wiretext.specs.Places.{number_within as number_between, policy as policy_place}
-use Rattle.ccr_wiretext.specs.Reading.{is_comment, at_line}
+use Rattle.ccr_wiretext.specs.Reading.{at_line}
 use Rattle.ccr_model.proofs.Booleans.{both, no_both}
 use Rattle.ccr_model.proofs.Members.{Among, Among-either, all_from}
 use Rattle.ccr_service.specs.declared.names.Named.{Named}
@@ -28,8 +29,8 @@ use Rattle.ccr_service.specs.declared.parts.AskPart.{AskPart}
 use Rattle.ccr_service.specs.declared.parts.ClientPart.{ClientPart}
 use Rattle.ccr_service.specs.declared.parts.OpPart.{OpPart}
 use Rattle.ccr_service.specs.declared.parts.ServiceParts.{ServiceParts}
-use Rattle.ccr_service.specs.Naming.{Naming, meaning_of, as_op}
-use Rattle.ccr_service.specs.Places.{Words, ◌>>=◌, unless, or_code, limited, word, no_more, number, number_within, policy, new_name, op_name, group, expr, bound}
+use Rattle.ccr_service.specs.Naming.{Naming, as_op}
+use Rattle.ccr_service.specs.Places.{new_name, op_name, group, expr, bound}
 use Rattle.ccr_service.specs.Drafts.{Drafted, nothing, with_policy, with_op, with_client, with_ask, end_client, policy_form, op_form, client_form, ask_form, outside_line, client_line, apart, line_in}
 use Rattle.ccr_service.specs.Reading.{So, is_version, after_words, after_all, after_line, closed, at_end, reading_after, reading_text}
 use Rattle.ccr_service.specs.Served.{asks_in_all}
@@ -93,7 +94,7 @@ op_name_ok names words p e =
     of_op (Some (named.Op n)) k is = let same : n ≡ k = cc in ap (λ i. Some (named.Op i)) same
 
 within_ok : (low high : ℕ) (words : Words) (p : ℕ × Words) → number_within low high words ≡ Ok p → (low ≤ p.0) × (p.0 ≤ high)
-unfolding number_between
+unfolding number_within
 within_ok low high words p e =
     let a = then_ok (number words) _ p e in
     let b = then_ok (unless (nat_le low a.0.0 && nat_le a.0.0 high) 10) _ p a.2 in
@@ -106,8 +107,8 @@ within_ok low high words p e =
 inside : (low high n : ℕ) → low ≤ n → n ≤ high → is_outside low high n ≡ false
 inside low high n a b = grind (arith, nat_tests, a, b)
 
-policy_ok : (words : Words) (p : Policy × Words) → policy words ≡ Ok p → policy_is_outside p.0 ≡ false
-unfolding policy_place
+policy_ok : (words : Words) (p : Policy × Words) → policy 1000 words ≡ Ok p → policy_is_outside p.0 ≡ false
+unfolding policy
 policy_ok words p e =
     let a = then_ok (word words) _ p e in
     by_first (bytes_eq a.0.0 (codes "unbounded")) (bytes_eq a.0.0 (codes "discard")) (bytes_eq a.0.0 (codes "throttle")) a.0.1 a.2
@@ -406,7 +407,7 @@ policy_form_ok : (d : Drafted) (words : Words) (rule : Policy) → policy_form d
 unfolding policy_form
 policy_form_ok d words rule e =
     let a = then_ok (unless (not d.policied) 13) _ rule e in
-    let b = then_ok (policy words) _ rule a.2 in
+    let b = then_ok (policy 1000 words) _ rule a.2 in
     let c = then_ok (no_more b.0.1) _ rule b.2 in
     let same : b.0.0 ≡ rule = same_ok c.2 in
     subst (λ r. policy_is_outside r ≡ false) same (policy_ok words b.0 b.1)

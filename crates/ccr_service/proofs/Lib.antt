@@ -15,6 +15,6 @@ pub mod Naming
 pub mod Fitting
 pub mod Tellings
 pub mod TellingAll
-pub mod NamesLemmas
 pub mod Keeping
+pub mod PlacesSaid
 pub mod Said

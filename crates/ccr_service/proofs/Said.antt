@@ -12,12 +12,13 @@ use Rattle.ccr_base.specs.declared.handlers.Expr.{Expr}
 use Rattle.ccr_base.specs.declared.handlers.Expr.TheVariants as exprs
 use Rattle.ccr_text.specs.declared.lines.Line.{Line}
 use Rattle.ccr_text.specs.Lines.{cut, numbered}
-use Rattle.ccr_text.specs.Words.{number_of, is_clean, words_of}
+use Rattle.ccr_text.specs.Names.{meaning_of}
+use Rattle.ccr_text.specs.Places.{Words, ◌>>=◌, unless, or_code, limited, word, no_more, number, number_within, policy}
+use Rattle.ccr_text.specs.Words.{number_of, is_clean, is_comment, words_of}
 use Rattle.ccr_wiretext.specs.declared.refused.ReadRefused.{ReadRefused}
 use Rattle.ccr_wiretext.specs.declared.refused.ReadRefused.TheVariants as refusals
 use Rattle.ccr_wiretext.specs.Grammar.{IsNumber}
-use Rattle.ccr_wiretext.specs.Reading.{is_comment, at_line}
-use Rattle.ccr_wiretext.proofs.PlacesRead.{number_said, number_read, within_said, within_read, policy_said, policy_read}
+use Rattle.ccr_wiretext.specs.Reading.{at_line}
 use Rattle.ccr_model.proofs.Booleans.{both, not_true, refuted}
 use Rattle.ccr_service.specs.declared.names.Named.{Named}
 use Rattle.ccr_service.specs.declared.names.Named.TheVariants as named
@@ -25,13 +26,14 @@ use Rattle.ccr_service.specs.declared.parts.AskPart.{AskPart}
 use Rattle.ccr_service.specs.declared.parts.ClientPart.{ClientPart}
 use Rattle.ccr_service.specs.declared.parts.OpPart.{OpPart}
 use Rattle.ccr_service.specs.declared.parts.ServiceParts.{ServiceParts}
-use Rattle.ccr_service.specs.Naming.{Naming, meaning_of, as_op}
-use Rattle.ccr_service.specs.Places.{Words, ◌>>=◌, unless, or_code, limited, word, no_more, number, number_within, policy, new_name, op_name, group, expr, bound}
+use Rattle.ccr_service.specs.Naming.{Naming, as_op}
+use Rattle.ccr_service.specs.Places.{new_name, op_name, group, expr, bound}
 use Rattle.ccr_service.specs.Drafts.{Drafted, with_policy, with_op, with_client, with_ask, end_client, policy_form, op_form, client_form, ask_form, outside_line, client_line, apart, line_in}
 use Rattle.ccr_service.specs.Reading.{So, is_version, after_words, after_all, after_line, closed, at_end, reading_after, reading_text}
 use Rattle.ccr_service.specs.Readings.{IsReading}
 use Rattle.ccr_service.specs.Services.{is_service_name}
 use Rattle.ccr_service.specs.Grammar.{IsNew, IsGroup, IsExpr, IsBound, IsOp, IsAsk, IsPolicyLine, IsClient, IsLine, IsSkipped, Declares, IsWhole, Says, IsText, IsNoText}
+use Rattle.ccr_service.proofs.PlacesSaid.{number_said, number_read, within_said, within_read, policy_said, policy_read}
 use Rattle.ccr_service.proofs.Keeping.{then_ok, unless_ok, or_ok, limited_ok, same_ok, reading_on}
 
 -- ---- what is read is said: places
@@ -193,7 +195,7 @@ rule_said : (d : Drafted) (words : Words) (rule : Policy) → policy_form d word
 unfolding policy_form
 rule_said d words rule e =
     let a = then_ok (unless (not d.policied) 13) _ rule e in
-    let b = then_ok (policy words) _ rule a.2 in
+    let b = then_ok (policy 1000 words) _ rule a.2 in
     let c = then_ok (no_more b.0.1) _ rule b.2 in
     let said = policy_said words b.0 b.1 in
     let whole : codes "policy" ∷ words ≡ codes "policy" ∷ said.0 = ap (λ (ws : Words). codes "policy" ∷ ws) (said.1 ∙ ap (λ (ws : Words). said.0 ++ ws) (no_more_said b.0.1 c.0 c.1) ∙ append-nil said.0) in
@@ -358,7 +360,7 @@ ask_read d words ask is = rw (room_read 10000 d.asks is.room, op_read d.names is
 rule_read : (d : Drafted) (words : Words) (rule : Policy) → (is : IsPolicyLine d words rule) → policy_form d is.rest ≡ Ok rule
 unfolding policy_form
 rule_read d words rule is =
-    let read : policy is.rest ≡ Ok (rule, []) = ap policy (sym (append-nil is.rest)) ∙ policy_read is.rest rule [] is.says in
+    let read : policy 1000 is.rest ≡ Ok (rule, []) = ap (policy 1000) (sym (append-nil is.rest)) ∙ policy_read is.rest rule [] is.says in
     rw (is.once, read) refl
 
 -- a line that declares has a first word that is no comment

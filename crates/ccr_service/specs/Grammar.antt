@@ -6,6 +6,8 @@ use Rattle.ccr_base.specs.declared.policies.Group.TheVariants as groups
 use Rattle.ccr_base.specs.declared.handlers.Expr.{Expr}
 use Rattle.ccr_base.specs.declared.handlers.Expr.TheVariants as exprs
 use Rattle.ccr_text.specs.Lines.{cut}
+use Rattle.ccr_text.specs.Names.{meaning_of}
+use Rattle.ccr_text.specs.Places.{Words}
 use Rattle.ccr_text.specs.Words.{is_clean, words_of}
 use Rattle.ccr_wiretext.specs.Grammar.{IsNumber, IsWithin, IsPolicy}
 use Rattle.ccr_wiretext.specs.declared.refused.ReadRefused.{ReadRefused}
@@ -15,8 +17,7 @@ use Rattle.ccr_service.specs.declared.parts.AskPart.{AskPart}
 use Rattle.ccr_service.specs.declared.parts.ClientPart.{ClientPart}
 use Rattle.ccr_service.specs.declared.parts.OpPart.{OpPart}
 use Rattle.ccr_service.specs.declared.parts.ServiceParts.{ServiceParts}
-use Rattle.ccr_service.specs.Naming.{Naming, meaning_of}
-use Rattle.ccr_service.specs.Places.{Words}
+use Rattle.ccr_service.specs.Naming.{Naming}
 use Rattle.ccr_service.specs.Drafts.{Drafted, nothing, with_policy, with_op, with_client, with_ask, end_client, apart}
 use Rattle.ccr_service.specs.Reading.{So}
 use Rattle.ccr_service.specs.Services.{is_service_name}

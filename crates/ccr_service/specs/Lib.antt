@@ -9,5 +9,6 @@ pub mod Naming
 pub mod Places
 pub mod Drafts
 pub mod Reading
+pub mod Taking
 pub mod Readings
 pub mod Grammar

@@ -6,9 +6,10 @@ use Rattle.ccr_base.specs.declared.policies.Group.{Group}
 use Rattle.ccr_base.specs.declared.policies.Group.TheVariants as groups
 use Rattle.ccr_base.specs.declared.handlers.Expr.{Expr}
 use Rattle.ccr_base.specs.declared.handlers.Expr.TheVariants as exprs
+use Rattle.ccr_text.specs.Names.{meaning_of}
+use Rattle.ccr_text.specs.Places.{Words, ◌>>=◌, unless, or_code, word, number, number_within}
 use Rattle.ccr_text.specs.Words.{number_of}
-pub use Rattle.ccr_wiretext.specs.Places.{Words, ◌>>=◌, unless, or_code, limited, word, no_more, number, number_within, policy}
-use Rattle.ccr_service.specs.Naming.{Naming, meaning_of, as_op}
+use Rattle.ccr_service.specs.Naming.{Naming, as_op}
 use Rattle.ccr_service.specs.Services.{is_service_name}
 
 -- a name that is declared

@@ -3,10 +3,11 @@ use Rattle.std.specs.Prelude.{ℕ, Bool, false, not, List, [], ◌∷◌, length
 use Rattle.std.specs.Str.{bytes_eq}
 use Rattle.ccr_text.specs.declared.lines.Line.{Line}
 use Rattle.ccr_text.specs.Lines.{lines_of}
-use Rattle.ccr_wiretext.specs.Reading.{is_comment, at_line}
+use Rattle.ccr_text.specs.Places.{Words, ◌>>=◌, unless}
+use Rattle.ccr_text.specs.Words.{is_comment}
+use Rattle.ccr_wiretext.specs.Reading.{at_line}
 use Rattle.ccr_service.specs.declared.parts.ClientPart.{ClientPart}
 use Rattle.ccr_service.specs.declared.parts.ServiceParts.{ServiceParts}
-use Rattle.ccr_service.specs.Places.{Words, ◌>>=◌, unless}
 use Rattle.ccr_service.specs.Drafts.{Drafted, nothing, line_in}
 
 -- whether the line is `service 1`
@@ -28,9 +29,13 @@ unfoldable pub after_all : So → Words → Result So ℕ
 after_all so [] = Ok so
 after_all so (first ∷ words) = if is_comment first then Ok so else after_words so first words
 
--- a line that isn't clean is code 1
+-- after the words of a line: one that isn't clean is code 1
+abbrev pub after_clean : So → Bool → Words → Result So ℕ
+after_clean so clean words = if clean then after_all so words else Err 1
+
+-- after a line
 unfoldable pub after_line : So → Line → Result So ℕ
-after_line so line = if line.clean then after_all so line.words else Err 1
+after_line so line = after_clean so line.clean line.words
 
 -- the text may not end inside a block, and has an operation
 abbrev pub closed : Option ClientPart → ServiceParts → Result ServiceParts ℕ

@@ -1,65 +1,18 @@
--- What a function returned is what reading gives, unless memory ran out.
+-- What a reader answered is what reading gives, unless memory ran out.
 use Rattle.std.specs.Prelude.{◌≡◌, ℕ, Result, Ok, Err}
+use Rattle.ccr_text.specs.Codes.{code_number}
+use Rattle.ccr_text.specs.declared.stop.Stop.{Stop}
+use Rattle.ccr_text.specs.declared.stop.Stop.TheVariants as stops
 use Rattle.ccr_wiretext.specs.declared.refused.ReadRefused.{ReadRefused}
 use Rattle.ccr_wiretext.specs.declared.refused.ReadRefused.TheVariants as refusals
-use Rattle.ccr_service.specs.declared.stop.Code.{Code}
-use Rattle.ccr_service.specs.declared.stop.Code.TheVariants as codes
-use Rattle.ccr_service.specs.declared.stop.Stop.{Stop}
-use Rattle.ccr_service.specs.declared.stop.Stop.TheVariants as stops
-use Rattle.ccr_service.specs.declared.parts.ServiceParts.{ServiceParts}
-use Rattle.ccr_service.specs.Places.{Words}
-
--- the number by which a code is told
-abbrev pub code_number : Code → ℕ
-code_number codes.Unclean = 1
-code_number codes.Version = 2
-code_number codes.Keyword = 3
-code_number codes.WordCount = 4
-code_number codes.Number = 5
-code_number codes.Declared = 6
-code_number codes.Reference = 7
-code_number codes.OpenBlock = 9
-code_number codes.Limit = 10
-code_number codes.NoOp = 11
-code_number codes.SecondPolicy = 13
-code_number codes.NameForm = 14
-
--- running out of memory promises nothing; a refusal is the reader's, with this code's number
-abbrev pub Fails : {Y : Type 0} → Stop → Result Y ℕ → Type 0
-Fails stops.Memory read = Unit {0}
-Fails (stops.Refused code) read = read ≡ Err (code_number code)
-
--- the reader's answer is this value, or the refusal
-abbrev pub Gives : {X : Type 0} → Result X Stop → Result X ℕ → Type 0
-Gives (Ok x) read = read ≡ Ok x
-Gives (Err stop) read = Fails stop read
-
--- the same where the value is seen by view
-abbrev pub GivesBy : {X Y : Type 0} → (X → Y) → Result X Stop → Result Y ℕ → Type 0
-GivesBy view (Ok x) read = read ≡ Ok (view x)
-GivesBy view (Err stop) read = Fails stop read
-
--- the same of a method that leaves the value in its object. After an Err nothing is said of the object
-abbrev pub GivesState : {X : Type 0} → X → Result (Unit {0}) Stop → Result X ℕ → Type 0
-GivesState new (Ok done) read = read ≡ Ok new
-GivesState new (Err stop) read = Fails stop read
-
--- the same of a place, which leaves the words behind it
-abbrev pub LeavesBy : {X Y : Type 0} → (X → Y) → Words → Result X Stop → Result (Y × Words) ℕ → Type 0
-LeavesBy view rest (Ok x) read = read ≡ Ok (view x, rest)
-LeavesBy view rest (Err stop) read = Fails stop read
-
--- the reader's answer is this value with the words that are left, or the refusal
-abbrev pub Leaves : {X : Type 0} → Words → Result X Stop → Result (X × Words) ℕ → Type 0
-Leaves rest result read = LeavesBy (λ x. x) rest result read
 
 -- what is answered where a line stops the reading
 abbrev pub refused : ℕ → Stop → ReadRefused
 refused line stops.Memory = refusals.Memory
 refused line (stops.Refused code) = refusals.At line (code_number code)
 
--- the service, or the first offending line and its code
-abbrev pub IsReading : Result ServiceParts ReadRefused → Result ServiceParts (ℕ × ℕ) → Type 0
-IsReading (Ok parts) read = read ≡ Ok parts
+-- what was read, or the first offending line and its code
+abbrev pub IsReading : {X : Type 0} → Result X ReadRefused → Result X (ℕ × ℕ) → Type 0
+IsReading (Ok x) read = read ≡ Ok x
 IsReading (Err refusals.Memory) read = Unit {0}
 IsReading (Err (refusals.At line code)) read = read ≡ Err (line, code)

@@ -2,15 +2,16 @@
 
 ghost use Rattle.std.specs.Prelude.{◌≡◌, ◌<◌, None, OnOk, IfOk, length, [], ◌∷◌, ◌++◌};
 ghost use Rattle.ccr_base.specs.Bounds.{most_asks, most_ops};
-ghost use Rattle.ccr_service.specs.Naming.{meaning_of};
+ghost use Rattle.ccr_text.specs.Answers.{Gives, GivesBy, GivesState};
+ghost use Rattle.ccr_text.specs.Names.{meaning_of};
 ghost use Rattle.ccr_service.specs.Drafts.{nothing, with_policy, with_op, with_client, with_ask, end_client, policy_form, op_form, client_form, ask_form, outside_line, client_line, line_in};
-ghost use Rattle.ccr_service.specs.Readings.{Gives, GivesBy, GivesState};
 
-use crate::cursor::{Cursor, is_text};
-use crate::names::{Named, Names};
-use crate::stop::{Code, Stop};
+use crate::names::Named;
+use crate::places::{bound, expr, group, new_name, op_name};
 use crate::{AskPart, ClientPart, OpPart, ServiceParts};
 use ccr_base::{List, Name, OutOfMemory, Policy};
+use ccr_text::{Code, Cursor, Names, Stop, is_text};
+use ccr_wiring::MAX_POLICY;
 use std::alloc::Global;
 use std::marker::Model;
 use std::mem;
@@ -29,7 +30,7 @@ pub struct Draft {
     pub alloc: Global,
     pub parts: ServiceParts,
     pub policied: bool,
-    pub names: Names,
+    pub names: Names<Named>,
     pub asks: u32,
     pub block: Option<ClientPart>,
 }
@@ -117,9 +118,9 @@ impl Draft {
         ensures { Gives result (policy_form self.now words.entry) }
     {
         if self.policied {
-            return Err(Stop::Refused(Code::SecondPolicy));
+            return Err(Stop::Refused(Code::Second));
         }
-        let policy = words.policy()?;
+        let policy = words.policy(MAX_POLICY)?;
         words.no_more()?;
         Ok(policy)
     }
@@ -134,10 +135,10 @@ impl Draft {
         if self.parts.ops.len() >= MAX_OPS {
             return Err(Stop::Refused(Code::Limit));
         }
-        let name = words.new_name(&self.names)?;
-        let group = words.group()?;
-        let expr = words.expr()?;
-        let below = words.bound()?;
+        let name = new_name(&mut words, &self.names)?;
+        let group = group(&mut words)?;
+        let expr = expr(&mut words)?;
+        let below = bound(&mut words)?;
         words.no_more()?;
         Ok(OpPart {
             name: copy_of(self.alloc, name)?,
@@ -156,7 +157,7 @@ impl Draft {
         if self.parts.clients.len() >= MAX_CLIENTS {
             return Err(Stop::Refused(Code::Limit));
         }
-        let name = words.new_name(&self.names)?;
+        let name = new_name(&mut words, &self.names)?;
         words.no_more()?;
         Ok(name)
     }
@@ -170,7 +171,7 @@ impl Draft {
         if self.asks >= MAX_ASKS {
             return Err(Stop::Refused(Code::Limit));
         }
-        let op = words.op_name(&self.names)?;
+        let op = op_name(&mut words, &self.names)?;
         let value = words.number()?;
         words.no_more()?;
         Ok(AskPart { op, value })

@@ -1,17 +1,16 @@
 //! A service language: its parts, the wiring that they expand to, and what holds of each history of an expansion.
 #![tactic(auto)]
 
-mod cursor;
 mod draft;
 mod expanding;
 mod laws;
 mod names;
 mod parts;
+mod places;
 mod reading;
 mod replies;
 mod service;
 mod stillness;
-mod stop;
 mod tables;
 mod telling;
 

@@ -1,19 +1,18 @@
 //! A service text, line by line.
 
-ghost use Rattle.std.specs.Prelude.{◌≡◌, ◌≤◌, length, None, IfOk, IfErr};
+ghost use Rattle.std.specs.Prelude.{◌≡◌, ◌≢◌, ◌≤◌, [], length, None, IfOk, IfErr};
 ghost use Rattle.ccr_base.specs.Bounds.{most_wiring_bytes};
-ghost use Rattle.ccr_wiretext.specs.Reading.{is_comment};
+ghost use Rattle.ccr_text.specs.Answers.{Gives, GivesState};
+ghost use Rattle.ccr_text.specs.Places.{seen};
 ghost use Rattle.ccr_service.specs.Grammar.{IsText, IsNoText};
-ghost use Rattle.ccr_service.specs.Reading.{is_version, after_all, after_line, at_end, reading, reading_text};
-ghost use Rattle.ccr_service.specs.Readings.{Gives, GivesState, IsReading, refused};
+ghost use Rattle.ccr_service.specs.Reading.{is_version, after_all, after_clean, at_end, reading_text};
+ghost use Rattle.ccr_service.specs.Readings.{IsReading, refused};
 ghost use Rattle.ccr_service.specs.Services.{IsService};
+ghost use Rattle.ccr_service.specs.Taking.{IsLineRefused, IsLineTaken};
 
-use crate::cursor::{Cursor, is_text};
 use crate::draft::Draft;
-use crate::stop::{Code, Stop};
 use crate::{Service, ServiceParts};
-use ccr_base::Name;
-use ccr_text::{Line, split_lines};
+use ccr_text::{Code, Cursor, Stop, is_comment, is_text, take_line};
 use ccr_wiretext::ReadRefused;
 use std::alloc::Global;
 use std::marker::Model;
@@ -33,21 +32,12 @@ impl Model for Reader {
     ghost view = { λ reader. reader.draft };
 }
 
-fn is_comment_word(word: &[u8]) -> bool
-    ensures { result ≡ is_comment word.now }
-{
-    match word.first() {
-        Some(byte) => *byte == b'#',
-        None => false,
-    }
-}
-
 /// Whether the line is `service 1`.
-fn is_version(words: &[Name]) -> bool
-    ensures { result ≡ is_version words.now }
+fn is_version(words: &[&[u8]]) -> bool
+    ensures { result ≡ is_version (seen words.now) }
 {
     match words {
-        [first, second] => is_text(first.as_slice(), "service") && is_text(second.as_slice(), "1"),
+        [first, second] => is_text(first, "service") && is_text(second, "1"),
         _ => false,
     }
 }
@@ -60,17 +50,17 @@ impl Reader {
     }
 
     #[tactic(auto, unfolding(crate::specs::Reading::after_all, crate::specs::Reading::after_words))]
-    fn words(&mut self, words: &[Name]) -> Result<(), Stop>
-        ensures { GivesState self.new result (after_all self.old words.now) }
+    fn words(&mut self, words: &[&[u8]]) -> Result<(), Stop>
+        ensures { GivesState self.new result (after_all self.old (seen words.now)) }
     {
         let Some((first, others)) = words.split_first() else {
             return Ok(());
         };
-        if is_comment_word(first.as_slice()) {
+        if is_comment(first) {
             return Ok(());
         }
         match &mut self.draft {
-            Some(draft) => draft.line(first.as_slice(), Cursor::new(others)),
+            Some(draft) => draft.line(first, Cursor::new(others)),
             None => {
                 if !is_version(words) {
                     return Err(Stop::Refused(Code::Version));
@@ -81,15 +71,25 @@ impl Reader {
         }
     }
 
-    /// Takes in the next line.
-    #[tactic(auto, unfolding(crate::specs::Reading::after_line))]
-    fn line(&mut self, line: &Line) -> Result<(), Stop>
-        ensures { GivesState self.new result (after_line self.old line.now) }
+    /// Takes in the words of the next line, which is clean or isn't.
+    fn line(&mut self, clean: bool, words: &[&[u8]]) -> Result<(), Stop>
+        ensures { GivesState self.new result (after_clean self.old clean (seen words.now)) }
     {
-        if !line.clean {
+        if !clean {
             return Err(Stop::Refused(Code::Unclean));
         }
-        self.words(line.words.as_slice())
+        self.words(words)
+    }
+
+    /// Takes in the text's first line, and answers what stands behind it. No word is copied, and all lines use one list of words.
+    fn next<'t>(&mut self, text: &'t [u8], words: &mut Vec<&'t [u8]>) -> Result<&'t [u8], Stop>
+        requires { text.now ≢ [] }
+        ensures taken { IfOk result (λ behind. IsLineTaken self.old text.now self.new behind.now) }
+        ensures refused { IfErr result (IsLineRefused self.old text.now) }
+    {
+        let (clean, behind) = take_line(text, words)?;
+        self.line(clean, words)?;
+        Ok(behind)
     }
 
     /// The parts, at the end of the text.
@@ -113,7 +113,7 @@ impl Reader {
             return Err(Stop::Refused(Code::OpenBlock));
         }
         if parts.ops.is_empty() {
-            return Err(Stop::Refused(Code::NoOp));
+            return Err(Stop::Refused(Code::Empty));
         }
         Ok(parts)
     }
@@ -131,32 +131,26 @@ fn refused(line: u32, stop: Stop) -> ReadRefused
     }
 }
 
-#[tactic(auto, unfolding(crate::specs::Reading::reading_after))]
-fn read_lines(alloc: Global, lines: &[Line]) -> Result<ServiceParts, ReadRefused>
-    ensures { IsReading result (reading lines.now) }
+#[tactic(auto, unfolding(crate::specs::Reading::reading_after, crate::specs::Reading::after_line))]
+fn read_text(alloc: Global, text: &[u8]) -> Result<ServiceParts, ReadRefused>
+    requires { length text.now ≤ most_wiring_bytes }
+    ensures { IsReading result (reading_text text.now) }
 {
     let mut reader = Reader::new(alloc);
+    let mut words = Vec::new(alloc);
+    let mut rest = text;
     let mut last: u32 = 0;
-    for line in lines {
-        if let Err(stop) = reader.line(line) {
-            return Err(refused(line.number, stop));
+    'lines: while !rest.is_empty() {
+        last += 1;
+        match reader.next(rest, &mut words) {
+            Ok(behind) => rest = behind,
+            Err(stop) => return Err(refused(last, stop)),
         }
-        last = line.number;
     }
     match reader.end() {
         Ok(parts) => Ok(parts),
         Err(stop) => Err(refused(last.max(1), stop)),
     }
-}
-
-fn read_text(alloc: Global, text: &[u8]) -> Result<ServiceParts, ReadRefused>
-    requires { length text.now ≤ most_wiring_bytes }
-    ensures { IsReading result (reading_text text.now) }
-{
-    let Ok(lines) = split_lines(alloc, text) else {
-        return Err(ReadRefused::Memory);
-    };
-    read_lines(alloc, lines.as_slice())
 }
 
 /// The service that a text says, or its first offending line and the code (docs/FORMATS.md). Near linear in the text's length.
