@@ -5,10 +5,10 @@ use Rattle.std.specs.Str.{bytes_eq}
 use Rattle.std.proofs.lemmas.Bool.Decides.{nat_tests}
 use Rattle.std.proofs.lemmas.Slice.Eq.{bytes_eq-Decides}
 use Rattle.ccr_text.specs.Lines.{begin_from, begins_with, cut, is_first_word, numbered, numbered_line, place_or_end}
+use Rattle.ccr_text.specs.Places.{Words, ◌>>=◌, no_more, or_code, unless, word}
 use Rattle.ccr_text.specs.Words.{is_clean, number_of, words_of}
 use Rattle.ccr_wiring.specs.declared.parts.Parts.{Parts}
 use Rattle.ccr_wiretext.specs.Lines.{IsText}
-use Rattle.ccr_wiretext.specs.Places.{Words, ◌>>=◌, no_more, or_code, unless, word}
 use Rattle.ccr_wiretext.specs.Reading.{at_end, reading_after, reading_text}
 use Rattle.ccr_wiretext.proofs.TextsRead.{text_read, text_said}
 use Rattle.ccr_replay.specs.TurnGrammar.{AreTurns, IsSkipped}

@@ -4,6 +4,7 @@ use Rattle.std.specs.Prelude.{◌&&◌, not, if◌then◌else◌}
 use Rattle.std.specs.Str.{bytes_eq}
 use Rattle.std.proofs.lemmas.Slice.Eq.{bytes_eq-Decides}
 use Rattle.ccr_text.specs.Lines.{begins_with, cut, is_first_word, numbered, numbered_line}
+use Rattle.ccr_text.specs.Places.{Words, ◌>>=◌, or_code}
 use Rattle.ccr_text.specs.Words.{is_clean, words_of}
 use Rattle.ccr_wiring.specs.declared.parts.Kind.{Kind}
 use Rattle.ccr_wiring.specs.declared.parts.Kind.TheVariants as arbiters
@@ -15,7 +16,6 @@ use Rattle.ccr_wiretext.specs.declared.keyword.Keyword.TheVariants.{Other}
 use Rattle.ccr_wiretext.specs.Blocks.{apart, arbiter_line, branch_line, group_of, handler_line, line_in, outside_line, poster_line}
 use Rattle.ccr_wiretext.specs.Drafts.{Declared, nothing}
 use Rattle.ccr_wiretext.specs.Keywords.{keyword}
-use Rattle.ccr_wiretext.specs.Places.{Words, ◌>>=◌, or_code}
 use Rattle.ccr_wiretext.specs.Reading.{So, after_all, after_line, after_words, reading_after, reading_text, version_of}
 use Rattle.ccr_replay.proofs.Splits.{none_begins}
 

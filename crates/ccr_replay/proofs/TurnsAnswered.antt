@@ -6,7 +6,7 @@ use Rattle.ccr_wiretext.specs.declared.refused.ReadRefused.{ReadRefused}
 use Rattle.ccr_wiretext.specs.declared.refused.ReadRefused.TheVariants as answers
 use Rattle.ccr_replay.specs.Turns.{reading_turns}
 use Rattle.ccr_replay.specs.TurnGrammar.{Says}
-use Rattle.ccr_replay.specs.TurnAnswers.{IsReading, SaysNothing}
+use Rattle.ccr_replay.specs.Answers.{IsReading, TurnsSayNothing}
 use Rattle.ccr_replay.proofs.TurnsSaid.{all_below, read, said}
 
 pub says : (actors before : ℕ) (text : List ℕ) (result : Result (List ℕ) ReadRefused) → IsReading result (reading_turns text before actors) → IfOk result (λ turns. Says text actors turns)
@@ -17,7 +17,7 @@ pub below : (actors before : ℕ) (text : List ℕ) (result : Result (List ℕ) 
 below actors before text (Ok turns) is = all_below actors (cut text) turns (said actors (before + 1) (cut text) turns is)
 below actors before text (Err refused) is = tt
 
-pub says_nothing : (actors before : ℕ) (text : List ℕ) (result : Result (List ℕ) ReadRefused) → IsReading result (reading_turns text before actors) → IfErr result (λ refused. SaysNothing text actors refused)
+pub says_nothing : (actors before : ℕ) (text : List ℕ) (result : Result (List ℕ) ReadRefused) → IsReading result (reading_turns text before actors) → IfErr result (λ refused. TurnsSayNothing text actors refused)
 says_nothing actors before text (Ok turns) is = tt
 says_nothing actors before text (Err answers.Memory) is = tt
 says_nothing actors before text (Err (answers.At line code)) is =

@@ -7,6 +7,7 @@ use Rattle.ccr_replay.specs.declared.records.Record.{Record}
 use Rattle.ccr_replay.specs.declared.refusals.Code.{Code}
 use Rattle.ccr_replay.specs.declared.refusals.Code.TheVariants as refusals
 use Rattle.ccr_replay.specs.Grammar.{Says}
+use Rattle.ccr_replay.specs.TurnGrammar.{Says as SaysTurns}
 
 -- the number by which a code is told
 abbrev pub code_number : Code → ℕ
@@ -42,3 +43,8 @@ IsReading (Err (answers.At line code)) read = read ≡ Err (line, code)
 abbrev pub SaysNothing : List ℕ → ReadRefused → Type 0
 SaysNothing text answers.Memory = Unit {0}
 SaysNothing text (answers.At line code) = (said : Record) → Says text said → ⊥
+
+-- where a turn line is refused, the text says no turns to so many actors
+abbrev pub TurnsSayNothing : List ℕ → ℕ → ReadRefused → Type 0
+TurnsSayNothing text actors answers.Memory = Unit {0}
+TurnsSayNothing text actors (answers.At line code) = (turns : List ℕ) → SaysTurns text actors turns → ⊥

@@ -1,6 +1,5 @@
 pub mod Turns
 pub mod TurnGrammar
-pub mod TurnAnswers
 pub mod Schedules
 pub mod Steps
 pub mod Records

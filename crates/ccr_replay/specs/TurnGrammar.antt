@@ -1,8 +1,8 @@
 -- What turn lines say, apart from reading: no codes, and no order of looking.
 use Rattle.std.specs.Prelude.{◌≡◌, ◌<◌, ◌⊎◌, ℕ, true, List, [], ◌∷◌, Some, codes}
 use Rattle.ccr_text.specs.Lines.{cut}
+use Rattle.ccr_text.specs.Places.{Words}
 use Rattle.ccr_text.specs.Words.{is_clean, number_of, words_of}
-use Rattle.ccr_wiretext.specs.Places.{Words}
 
 -- the line has no words, or its first word begins with #
 abbrev pub IsSkipped : Words → Type 0

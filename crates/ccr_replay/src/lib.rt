@@ -10,7 +10,6 @@ mod same;
 mod schedules;
 mod steps;
 mod turn_lines;
-mod turn_refusals;
 mod turns;
 mod words;
 

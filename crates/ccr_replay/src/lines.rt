@@ -3,13 +3,12 @@
 ghost use Rattle.std.specs.Prelude.{◌≡◌, ◌≤◌, codes, IfOk};
 ghost use Rattle.std.specs.Str.{bytes_eq};
 ghost use Rattle.ccr_base.specs.Bounds.{most_workers};
-ghost use Rattle.ccr_wiretext.specs.Reading.{is_comment};
 ghost use Rattle.ccr_replay.specs.Answers.{Gives, GivesSeen};
 ghost use Rattle.ccr_replay.specs.Reading.{behind_first, done_in, done_on, skipped_in, skipped_on, workers_in, workers_of, workers_on};
 
 use crate::refusals::Code;
 use ccr_base::Name;
-use ccr_text::{Line, read_number};
+use ccr_text::{Line, is_comment, read_number};
 
 /// The most workers that a run may have.
 const MAX_WORKERS: u64 = 16;
@@ -92,15 +91,6 @@ pub fn done_on(line: &Line) -> Result<(), Code>
     done_in(behind_first(line)?)
 }
 
-fn is_comment_word(word: &[u8]) -> bool
-    ensures { result ≡ is_comment word.now }
-{
-    match word.first() {
-        Some(byte) => *byte == b'#',
-        None => false,
-    }
-}
-
 /// A line without words or with a comment is skipped.
 fn skipped_in(words: &[Name]) -> Result<(), Code>
     ensures { Gives result (skipped_in words.now) }
@@ -108,7 +98,7 @@ fn skipped_in(words: &[Name]) -> Result<(), Code>
     let Some((first, _)) = words.split_first() else {
         return Ok(());
     };
-    if !is_comment_word(first.as_slice()) {
+    if !is_comment(first.as_slice()) {
         return Err(Code::Ending);
     }
     Ok(())

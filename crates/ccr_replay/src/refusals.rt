@@ -5,18 +5,18 @@ ghost use Rattle.ccr_replay.specs.Answers.{code_number, refused};
 
 use ccr_wiretext::ReadRefused;
 
-/// What is wrong with a line.
+/// What is wrong with a line, of a record or of turns alone.
 #[derive(Clone, Copy)]
 pub enum Code {
     /// The line isn't clean.
     Unclean,
-    /// Another word stands where `1` or `0` has to.
+    /// Another word stands where `1` or `0` has to, or the first word isn't `turn`.
     Keyword,
     /// A word is missing or too many.
     WordCount,
-    /// Another word stands where the number of workers has to.
+    /// Another word stands where the number of workers or of an actor has to.
     Number,
-    /// There are too many workers, or the wiring's text is too long.
+    /// There are too many workers, or no such actor, or the wiring's text is too long.
     Limit,
     /// No line is that of the record.
     NoRecord,

@@ -3,11 +3,11 @@
 ghost use Rattle.std.specs.Prelude.{◌≡◌, ◌<◌, ◌≤◌, ◌++◌, length, IfOk, IfErr, OnOk};
 ghost use Rattle.std.specs.List.{All};
 ghost use Rattle.ccr_base.specs.Bounds.{most_bytes};
-ghost use Rattle.ccr_replay.specs.TurnAnswers.{IsReading, SaysNothing};
+ghost use Rattle.ccr_replay.specs.Answers.{IsReading, TurnsSayNothing};
 ghost use Rattle.ccr_replay.specs.Turns.{reading_turns, option_list};
 ghost use Rattle.ccr_replay.specs.TurnGrammar.{Says};
 
-use crate::turn_refusals::refused;
+use crate::refusals::refused;
 use crate::turns::turn_on;
 use ccr_base::{ActorNo, List, OutOfMemory};
 use ccr_text::{cut_line, numbered_line};
@@ -69,7 +69,7 @@ pub fn read_turns(
     ensures reading { IsReading result (reading_turns text.now lines_before actors) }
     ensures below { IfOk result (λ turns. All (λ actor. actor < actors) turns) }
     ensures grammar { IfOk result (λ turns. Says text.now actors turns) }
-    ensures refused { IfErr result (λ refused. SaysNothing text.now actors refused) }
+    ensures refused { IfErr result (λ refused. TurnsSayNothing text.now actors refused) }
 {
     read_lines(alloc, text, lines_before, actors)
 }

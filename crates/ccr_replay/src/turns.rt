@@ -2,22 +2,12 @@
 
 ghost use Rattle.std.specs.Prelude.{◌≡◌, codes};
 ghost use Rattle.std.specs.Str.{bytes_eq};
-ghost use Rattle.ccr_wiretext.specs.Reading.{is_comment};
-ghost use Rattle.ccr_replay.specs.TurnAnswers.{Gives};
+ghost use Rattle.ccr_replay.specs.Answers.{Gives};
 ghost use Rattle.ccr_replay.specs.Turns.{actor_in, turn_of, turn_in, turn_on};
 
-use crate::turn_refusals::Code;
+use crate::refusals::Code;
 use ccr_base::{ActorNo, Name};
-use ccr_text::{Line, read_number};
-
-fn is_comment_word(word: &[u8]) -> bool
-    ensures { result ≡ is_comment word.now }
-{
-    match word.first() {
-        Some(byte) => *byte == b'#',
-        None => false,
-    }
-}
+use ccr_text::{Line, is_comment, read_number};
 
 /// The actor that the words behind `turn` name.
 fn actor_in(words: &[Name], actors: u32) -> Result<ActorNo, Code>
@@ -55,7 +45,7 @@ fn turn_in(words: &[Name], actors: u32) -> Result<Option<ActorNo>, Code>
     let Some((first, others)) = words.split_first() else {
         return Ok(None);
     };
-    if is_comment_word(first.as_slice()) {
+    if is_comment(first.as_slice()) {
         return Ok(None);
     }
     Ok(Some(turn_of(first.as_slice(), others, actors)?))
