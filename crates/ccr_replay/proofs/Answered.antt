@@ -3,7 +3,8 @@ use Rattle.std.proofs.Common.{ℕ, ◌∙◌, List, Result, Ok, Err, IfOk, IfErr
 use Rattle.ccr_wiretext.specs.declared.refused.ReadRefused.{ReadRefused}
 use Rattle.ccr_wiretext.specs.declared.refused.ReadRefused.TheVariants as answers
 use Rattle.ccr_replay.specs.declared.records.Record.{Record}
-use Rattle.ccr_replay.specs.Answers.{IsReading, SaysNothing}
+use Rattle.ccr_wiretext.specs.Answers.{IsReading}
+use Rattle.ccr_replay.specs.Answers.{SaysNothing}
 use Rattle.ccr_replay.specs.Grammar.{Says}
 use Rattle.ccr_replay.specs.Reading.{reading_record}
 use Rattle.ccr_replay.proofs.Exact.{never, read, said}

@@ -6,7 +6,8 @@ use Rattle.ccr_wiretext.specs.declared.refused.ReadRefused.{ReadRefused}
 use Rattle.ccr_wiretext.specs.declared.refused.ReadRefused.TheVariants as answers
 use Rattle.ccr_replay.specs.Turns.{reading_turns}
 use Rattle.ccr_replay.specs.TurnGrammar.{Says}
-use Rattle.ccr_replay.specs.Answers.{IsReading, TurnsSayNothing}
+use Rattle.ccr_wiretext.specs.Answers.{IsReading}
+use Rattle.ccr_replay.specs.Answers.{TurnsSayNothing}
 use Rattle.ccr_replay.proofs.TurnsSaid.{all_below, read, said}
 
 pub says : (actors before : ℕ) (text : List ℕ) (result : Result (List ℕ) ReadRefused) → IsReading result (reading_turns text before actors) → IfOk result (λ turns. Says text actors turns)

@@ -33,12 +33,6 @@ GivesSeen (Err code) read = read ≡ Err (code_number code)
 abbrev pub refused : ℕ → Code → ReadRefused
 refused line code = answers.At line (code_number code)
 
--- what was read, or the first offending line and its code
-abbrev pub IsReading : {X : Type 0} → Result X ReadRefused → Result X (ℕ × ℕ) → Type 0
-IsReading (Ok x) read = read ≡ Ok x
-IsReading (Err answers.Memory) read = Unit {0}
-IsReading (Err (answers.At line code)) read = read ≡ Err (line, code)
-
 -- where a line is refused, the text says no record
 abbrev pub SaysNothing : List ℕ → ReadRefused → Type 0
 SaysNothing text answers.Memory = Unit {0}

@@ -3,7 +3,8 @@
 ghost use Rattle.std.specs.Prelude.{◌≡◌, ◌≢◌, ◌≤◌, ◌<◌, ◌+◌, [], ◌∷◌, All, length, IfErr, IfOk};
 ghost use Rattle.ccr_base.specs.Bounds.{most_bytes, most_wiring_bytes, most_workers};
 ghost use Rattle.ccr_text.specs.Lines.{cut, numbered};
-ghost use Rattle.ccr_replay.specs.Answers.{IsReading, SaysNothing};
+ghost use Rattle.ccr_wiretext.specs.Answers.{IsReading};
+ghost use Rattle.ccr_replay.specs.Answers.{SaysNothing};
 ghost use Rattle.ccr_replay.specs.Grammar.{Says};
 ghost use Rattle.ccr_replay.specs.Reading.{after_feed, ending, line_at, part_before, reading_behind, reading_part, reading_record, record_behind, skipped_lines, turns_behind};
 

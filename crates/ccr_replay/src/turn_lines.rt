@@ -3,7 +3,8 @@
 ghost use Rattle.std.specs.Prelude.{◌≡◌, ◌<◌, ◌≤◌, ◌++◌, length, IfOk, IfErr, OnOk};
 ghost use Rattle.std.specs.List.{All};
 ghost use Rattle.ccr_base.specs.Bounds.{most_bytes};
-ghost use Rattle.ccr_replay.specs.Answers.{IsReading, TurnsSayNothing};
+ghost use Rattle.ccr_wiretext.specs.Answers.{IsReading};
+ghost use Rattle.ccr_replay.specs.Answers.{TurnsSayNothing};
 ghost use Rattle.ccr_replay.specs.Turns.{reading_turns, option_list};
 ghost use Rattle.ccr_replay.specs.TurnGrammar.{Says};
 

@@ -30,7 +30,7 @@ use Rattle.ccr_service.specs.Naming.{Naming, as_op}
 use Rattle.ccr_service.specs.Places.{new_name, op_name, group, expr, bound}
 use Rattle.ccr_service.specs.Drafts.{Drafted, with_policy, with_op, with_client, with_ask, end_client, policy_form, op_form, client_form, ask_form, outside_line, client_line, apart, line_in}
 use Rattle.ccr_service.specs.Reading.{So, is_version, after_words, after_all, after_line, closed, at_end, reading_after, reading_text}
-use Rattle.ccr_service.specs.Readings.{IsReading}
+use Rattle.ccr_wiretext.specs.Answers.{IsReading}
 use Rattle.ccr_service.specs.Services.{is_service_name}
 use Rattle.ccr_service.specs.Grammar.{IsNew, IsGroup, IsExpr, IsBound, IsOp, IsAsk, IsPolicyLine, IsClient, IsLine, IsSkipped, Declares, IsWhole, Says, IsText, IsNoText}
 use Rattle.ccr_service.proofs.PlacesSaid.{number_said, number_read, within_said, within_read, policy_said, policy_read}

@@ -10,5 +10,4 @@ pub mod Places
 pub mod Drafts
 pub mod Reading
 pub mod Taking
-pub mod Readings
 pub mod Grammar

@@ -4,9 +4,9 @@ ghost use Rattle.std.specs.Prelude.{◌≡◌, ◌≢◌, ◌≤◌, [], length,
 ghost use Rattle.ccr_base.specs.Bounds.{most_wiring_bytes};
 ghost use Rattle.ccr_text.specs.Answers.{Gives, GivesState};
 ghost use Rattle.ccr_text.specs.Places.{seen};
+ghost use Rattle.ccr_wiretext.specs.Answers.{IsReading};
 ghost use Rattle.ccr_service.specs.Grammar.{IsText, IsNoText};
 ghost use Rattle.ccr_service.specs.Reading.{is_version, after_all, after_clean, at_end, reading_text};
-ghost use Rattle.ccr_service.specs.Readings.{IsReading, refused};
 ghost use Rattle.ccr_service.specs.Services.{IsService};
 ghost use Rattle.ccr_service.specs.Taking.{IsLineRefused, IsLineTaken};
 
@@ -119,18 +119,6 @@ impl Reader {
     }
 }
 
-fn refused(line: u32, stop: Stop) -> ReadRefused
-    ensures { result ≡ refused line stop }
-{
-    match stop {
-        Stop::Memory => ReadRefused::Memory,
-        Stop::Refused(code) => ReadRefused::At {
-            line,
-            code: code.number(),
-        },
-    }
-}
-
 #[tactic(auto, unfolding(crate::specs::Reading::reading_after, crate::specs::Reading::after_line))]
 fn read_text(alloc: Global, text: &[u8]) -> Result<ServiceParts, ReadRefused>
     requires { length text.now ≤ most_wiring_bytes }
@@ -144,12 +132,12 @@ fn read_text(alloc: Global, text: &[u8]) -> Result<ServiceParts, ReadRefused>
         last += 1;
         match reader.next(rest, &mut words) {
             Ok(behind) => rest = behind,
-            Err(stop) => return Err(refused(last, stop)),
+            Err(stop) => return Err(ReadRefused::of(last, stop)),
         }
     }
     match reader.end() {
         Ok(parts) => Ok(parts),
-        Err(stop) => Err(refused(last.max(1), stop)),
+        Err(stop) => Err(ReadRefused::of(last.max(1), stop)),
     }
 }
 
