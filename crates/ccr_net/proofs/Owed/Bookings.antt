@@ -25,7 +25,7 @@ use Rattle.ccr_model.specs.Tasks.{waiting, is_teardown, is_branch_where}
 use Rattle.ccr_model.proofs.Allowing.{OneName-legal}
 use Rattle.ccr_model.proofs.Booleans.{same_number, eq-self, no_both, both, or_left, or_right, not_true}
 use Rattle.ccr_model.proofs.Cutting.{AdmitFacts, AdmitFacts-allowed, CutFacts-legal, waits_unput, cut_by}
-use Rattle.ccr_model.proofs.FiredTasks.{IsFired, fired_has, placement_stays}
+use Rattle.ccr_model.proofs.FiredTasks.{fired_has}
 use Rattle.ccr_model.proofs.FiringFacts.{FiresSo-allowed, BranchFacts, BranchFacts-where, WaitingFacts, WaitingFacts-waiting, waits_outside, fired_by_has, firing_named-new}
 use Rattle.ccr_model.proofs.SameNames.{same_task-is, same_task-self}
 use Rattle.ccr_model.proofs.TaskLists.{of_one}
@@ -50,7 +50,7 @@ use Rattle.ccr_runs.specs.Views.{view, cut_view, queue_of}
 use Rattle.ccr_runs.specs.Visible.{visible, shown}
 use Rattle.ccr_net.proofs.Parts.Pushes.{Step, queue_at, queue_at-push, visible-push}
 use Rattle.ccr_net.proofs.Parts.Invariant.{IsOwed, IsToPut}
-use Rattle.ccr_net.proofs.Parts.ActorSteps.{unfired}
+use Rattle.ccr_net.proofs.Parts.ActorSteps.{unfired, queue_stays}
 use Rattle.ccr_net.proofs.Kept.Assembly.{Holds, queue_changes, same_queues, is_queue_place}
 use Rattle.ccr_net.proofs.Parts.Booking.{in-more, in-less}
 use Rattle.ccr_net.proofs.Parts.Room.{is_for, fired_for}
@@ -166,9 +166,6 @@ cuts_distinct w h (Branch b) legal = of_option (placement w b)
         of_test : (c : Bool) → are_distinct_tasks (if c then waiting w h z.arbiter else []) ≡ true
         of_test true = apart z.arbiter
         of_test false = refl
-
-pub queue_stays : (w : Parts) (h es : List Event) (t : TaskId) → IsFired h t → queue_of w (h ++ es) t ≡ queue_of w h t
-queue_stays w h es t fires = ap (λ o. option_map_or (λ (s : Placement). s.branch.queue) o 0) (placement_stays w h es t fires)
 
 module _ (w : Parts) (n : ℕ) (lacks : Lacks) (es : List Entry) (holds : Holds w n lacks es) where
   abbrev h : List Event

@@ -27,7 +27,7 @@ use Rattle.ccr_model.proofs.FiringFacts.{firing_named-new, waits_outside}
 use Rattle.ccr_model.proofs.Stable.{firing_named-append}
 use Rattle.ccr_model.proofs.TaskLists.{among_left, among_right, not_more, not_within, of_more, of_one}
 use Rattle.ccr_model.proofs.Booleans.{same_number, eq-self, refuted, no_both}
-use Rattle.ccr_model.proofs.FiredTasks.{fired_has}
+use Rattle.ccr_model.proofs.FiredTasks.{IsFired, fired_has, placement_stays}
 use Rattle.ccr_model.proofs.Members.{Among, Among-left, Among-right, Among-either}
 use Rattle.ccr_model.proofs.Pushes.{firings-push, fired-fire, put-push, cut-push, ever_admitted-push}
 use Rattle.ccr_model.proofs.SameNames.{same_task-is, same_task-self}
@@ -47,7 +47,6 @@ use Rattle.ccr_runs.specs.Views.{queue_of}
 use Rattle.ccr_net.proofs.Parts.Invariant.{IsOwed, IsOwedOver, IsToPut, ActorMatches, put_in, puts_in, claim_for}
 use Rattle.ccr_net.proofs.Parts.DomainHistory.{cut_fired, cuts_fired}
 use Rattle.ccr_net.proofs.Parts.PortSteps.{Changes, has_task-last}
-use Rattle.ccr_net.proofs.Owed.Bookings.{queue_stays}
 
 pub Among-last : {X : Type 0} (xs : List X) (x : X) → Among x (xs ++ x ∷ [])
 Among-last xs x = Among-right x xs (x ∷ []) (inl refl)
@@ -244,6 +243,9 @@ ActorMatches-ports w h port port' a st came stays match = record {
     had : (p : ℕ) (c : StandingClaim) → c.task ≡ name_at a st → ((port p).claim ≡ Some c) ⊎ (c.task.actor ≢ a) → (d : Had) × Among d (had_in st.phase) × (d.slot.port ≡ p)
     had p c own (inl is) = match.claims_had p c is own
     had p c own (inr other) = absurd (other (ap (λ (t : TaskId). t.actor) own))
+
+pub queue_stays : (w : Parts) (h es : List Event) (t : TaskId) → IsFired h t → queue_of w (h ++ es) t ≡ queue_of w h t
+queue_stays w h es t fires = rw (placement_stays w h es t fires) refl
 
 put-fire : (h : List Event) (t : TaskId) (s : Spot) (ms : List MsgId) (cs : List TaskId) → put (h ++ events.Fire t s ms cs ∷ []) ≡ put h
 put-fire h t s ms cs = rw (put-push, append-nil) refl

@@ -52,7 +52,6 @@ use Rattle.ccr_runs.specs.EntryRuns.{notes_at, same_place}
 use Rattle.ccr_net.proofs.Kept.Allowed.{refused_pass}
 use Rattle.ccr_net.proofs.Parts.Booking.{in-more, in-less}
 use Rattle.ccr_net.proofs.Parts.DomainHistory.{spot_stays, fired_by-fire, fired_by-same, waiting-same, waiting-admit, waiting-fire, waiting_apart, all_gone, admitted_before, concurrent_stays}
-use Rattle.ccr_net.proofs.Played.Domains.{domain_at-push}
 
 -- the domain of this number
 abbrev pub domain_at : Parts → List Entry → ℕ → InterleaveState
@@ -343,6 +342,9 @@ admit_allowed w h i place found match may =
 
 abbrev pub DomainsMatch : Parts → List Event → List Entry → Type 0
 DomainsMatch w h es = (i : ℕ) → is_interleave_number w i ≡ true → DomainMatches w h i (domain_at w es i)
+
+pub domain_at-push : (w : Parts) (es : List Entry) (e : Entry) (i : ℕ) → domain_at w (es ++ e ∷ []) i ≡ (if same_place e.place (places.Arbiter i) then interleaves.after (domain_at w es i) e.note else domain_at w es i)
+domain_at-push w es e i = grind (arith, common_steps)
 
 abbrev pub is_arbiter_place : Place → Bool
 is_arbiter_place (places.Arbiter i) = true

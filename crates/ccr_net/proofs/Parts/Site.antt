@@ -1,6 +1,7 @@
 -- Who is suspended at a site by its notes is suspended there in the history, and so a site that isn't dead is live.
 use Rattle.std.proofs.Common.{◌≡◌, ℕ, Bool, true, false, not, ◌&&◌, List, [], ◌∷◌, ◌++◌, drop, filter, None, refl, sym, arith, ap, ◌∙◌, subst, append-nil}
 use Rattle.std.specs.Prelude.{◌==◌, if◌then◌else◌}
+use Rattle.std.proofs.lemmas.Grind.{common_steps}
 use Rattle.std.proofs.lemmas.Bool.Decides.{nat_tests}
 use Rattle.ccr_base.specs.declared.names.MsgId.{MsgId}
 use Rattle.ccr_base.specs.declared.names.Place.TheVariants as places
@@ -27,7 +28,6 @@ use Rattle.ccr_runs.specs.declared.entries.Entry.{Entry}
 use Rattle.ccr_runs.specs.Places.{site_after}
 use Rattle.ccr_runs.specs.EntryRuns.{notes_at, same_place}
 use Rattle.ccr_runs.specs.Visible.{visible, event_of, shown}
-use Rattle.ccr_net.proofs.Played.Sites.{site_at-push}
 
 abbrev pub site_at : List Entry → ℕ → ℕ → SiteState
 site_at es b k = site_after b k (notes_at es (places.Site b k))
@@ -35,6 +35,9 @@ site_at es b k = site_after b k (notes_at es (places.Site b k))
 -- at each site
 abbrev pub SitesMatch : List Event → List Entry → Type 0
 SitesMatch h es = (b k : ℕ) → (site_at es b k).suspended ≡ suspended h (Site b k)
+
+pub site_at-push : (es : List Entry) (e : Entry) (b k : ℕ) → site_at (es ++ e ∷ []) b k ≡ (if same_place e.place (places.Site b k) then sites.after (site_at es b k) e.note else site_at es b k)
+site_at-push es e b k = grind (arith, common_steps)
 
 -- ---- entries that show neither a firing nor a suspension
 

@@ -9,13 +9,14 @@ use Rattle.ccr_model.specs.declared.history.Event.{Event}
 use Rattle.ccr_model.specs.declared.history.Event.TheVariants as events
 use Rattle.ccr_model.specs.Firings.{started, started_by, ended, ended_by}
 use Rattle.ccr_model.specs.Tasks.{running, running_by, started_as}
-use Rattle.ccr_model.specs.Legal.{IsLegal}
+use Rattle.ccr_model.specs.Legal.{IsAllowed, IsLegal}
+use Rattle.ccr_model.proofs.Booleans.{same_number, no_both}
 use Rattle.ccr_model.proofs.Pushes.{started-push, ended-push}
-use Rattle.ccr_model.proofs.PostNames.{along}
+use Rattle.ccr_model.proofs.PostNames.{along, refused_not}
 use Rattle.ccr_model.proofs.SameNames.{same_task-self}
 use Rattle.ccr_model.proofs.TasksLeft.{of_without}
-use Rattle.ccr_model.proofs.TaskLists.{to_without}
-use Rattle.ccr_model.proofs.Covered.{AreStarted_kept}
+use Rattle.ccr_model.proofs.TaskLists.{of_more, of_one, among_left, to_without}
+use Rattle.ccr_model.proofs.TaskPlaces.{StartFacts-allowed, StartFacts-queued}
 
 -- the tasks that the actor started
 abbrev pub starts : List Event → ℕ → List TaskId
@@ -50,8 +51,40 @@ AreStarted-other h e none no_end no_start known = record {
   ended_so = λ t is. rw (started-push, no_start, append-nil (started h)) (known.ended_so t (rw (ended-push, no_end, append-nil (ended h)) at is));
 }
 
+AreStarted-kept : (w : Parts) (h : List Event) (e : Event) → AreStarted h → IsAllowed w h e → AreStarted (h ++ e ∷ [])
+AreStarted-kept w h (events.Post m) known allowed = AreStarted-other h (events.Post m) (λ a. refl) refl refl known
+AreStarted-kept w h (events.Fire u s ms cs) known allowed = AreStarted-other h (events.Fire u s ms cs) (λ a. refl) refl refl known
+AreStarted-kept w h (events.Admit u) known allowed = AreStarted-other h (events.Admit u) (λ a. refl) refl refl known
+AreStarted-kept w h (events.Put u d) known allowed = AreStarted-other h (events.Put u d) (λ a. refl) refl refl known
+AreStarted-kept w h (events.End u how) known allowed = record {
+  by_one = λ a b t at_a at_b. known.by_one a b t (rw (starts-push, append-nil (starts h a)) at at_a) (rw (starts-push, append-nil (starts h b)) at at_b);
+  ended_so = λ t is. rw (started-push, append-nil (started h)) (of_more (ended h) (u ∷ []) t (has_task (started h) t ≡ true) (rw ended-push at is) (known.ended_so t) (λ one. subst (λ x. has_task (started h) x ≡ true) (sym (of_one u t one)) (of_without (started h) (ended h) u (refused_not (has_task (running h) u) _ _ allowed).0).0));
+}
+AreStarted-kept w h (events.Start u c) known allowed = record {
+  by_one = λ a b t at_a at_b. one a b t (rw starts-push at at_a) (rw starts-push at at_b);
+  ended_so = λ t is. rw started-push (among_left (started h) (u ∷ []) t (known.ended_so t (rw (ended-push, append-nil (ended h)) at is)));
+}
+  where
+    new : has_task (started h) u ≡ false
+    new = (StartFacts-queued w h u (StartFacts-allowed w h u c allowed)).not_started
+
+    fresh : (a : ℕ) → has_task (starts h a) u ≡ true → ⊥
+    fresh a is = no_both (starts_started h a u is) new
+
+    here : (a : ℕ) (t : TaskId) → has_task (started_as a (events.Start u c)) t ≡ true → (c ≡ a) × (t ≡ u)
+    here a t is = by (c == a) refl is
+      where
+        by : (b : Bool) → (c == a) ≡ b → has_task (if b then u ∷ [] else []) t ≡ true → (c ≡ a) × (t ≡ u)
+        by true e now = (same_number c a e, of_one u t now)
+        by false e now = absurd (cc)
+
+    one : (a b : ℕ) (t : TaskId) → has_task (starts h a ++ started_as a (events.Start u c)) t ≡ true → has_task (starts h b ++ started_as b (events.Start u c)) t ≡ true → a ≡ b
+    one a b t at_a at_b = of_more (starts h a) (started_as a (events.Start u c)) t (a ≡ b) at_a
+        (λ old_a. of_more (starts h b) (started_as b (events.Start u c)) t (a ≡ b) at_b (λ old_b. known.by_one a b t old_a old_b) (λ new_b. absurd (fresh a (subst (λ x. has_task (starts h a) x ≡ true) (here b t new_b).1 old_a))))
+        (λ new_a. of_more (starts h b) (started_as b (events.Start u c)) t (a ≡ b) at_b (λ old_b. absurd (fresh b (subst (λ x. has_task (starts h b) x ≡ true) (here a t new_a).1 old_b))) (λ new_b. sym (here a t new_a).0 ∙ (here b t new_b).0))
+
 pub AreStarted-legal : (w : Parts) (h : List Event) → IsLegal w h → AreStarted h
-AreStarted-legal w h legal = along w AreStarted (AreStarted_kept w) (record { by_one = λ a b t is also. absurd (cc); ended_so = λ t is. absurd (cc) }) h legal
+AreStarted-legal w h legal = along w AreStarted (AreStarted-kept w) (record { by_one = λ a b t is also. absurd (cc); ended_so = λ t is. absurd (cc) }) h legal
 
 -- two actors run different tasks
 pub run_apart : (h : List Event) (a b : ℕ) (t u : TaskId) → AreStarted h → running_by h a ≡ t ∷ [] → running_by h b ≡ u ∷ [] → t ≡ u → a ≡ b

@@ -2,7 +2,6 @@
 use Rattle.std.proofs.Common.{◌≡◌, ℕ, Bool, true, false, List, [], ◌∷◌, ◌++◌, map, Option, Some, None, refl, sym, arith, ap, ◌∙◌}
 use Rattle.std.specs.Prelude.{if◌then◌else◌, slice_get, drop, is_some}
 use Rattle.std.specs.Option.{option_map, option_map_or}
-use Rattle.std.proofs.lemmas.Grind.{common_steps}
 use Rattle.ccr_base.specs.declared.names.MsgId.{MsgId}
 use Rattle.ccr_base.specs.declared.names.Place.TheVariants as places
 use Rattle.ccr_base.specs.declared.names.TaskId.{TaskId}
@@ -37,7 +36,7 @@ use Rattle.ccr_runs.specs.Views.{view, cut_view}
 use Rattle.ccr_runs.specs.Visible.{visible, event_of}
 use Rattle.ccr_net.proofs.Kept.Assembly.{Holds}
 use Rattle.ccr_net.proofs.Played.BuiltTasks.{IsBuilt}
-use Rattle.ccr_net.proofs.Parts.Domain.{domain_at}
+use Rattle.ccr_net.proofs.Parts.Domain.{domain_at, domain_at-push}
 use Rattle.ccr_net.proofs.Parts.Noted.{Given, given_some}
 use Rattle.ccr_net.proofs.Kept.PlainFacts.{PlainFacts}
 use Rattle.ccr_net.proofs.Played.Elsewhere.{waiting_fired}
@@ -54,9 +53,6 @@ CommitTells w es e i _ = Unit {0}
 -- the whole tasks of those that wait
 abbrev whole_waiting : Parts → List Event → List Waiting → List Task
 whole_waiting w h xs = map (λ (x : Waiting). view w h x.task) xs
-
-pub domain_at-push : (w : Parts) (es : List Entry) (e : Entry) (i : ℕ) → domain_at w (es ++ e ∷ []) i ≡ (if same_place e.place (places.Arbiter i) then interleaves.after (domain_at w es i) e.note else domain_at w es i)
-domain_at-push w es e i = grind (arith, common_steps)
 
 -- an admission takes out the oldest
 admission_list : (st : InterleaveState) → (interleaves.after_admission st).waiting ≡ drop 1 st.waiting

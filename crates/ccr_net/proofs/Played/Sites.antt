@@ -2,7 +2,6 @@
 use Rattle.std.proofs.Common.{◌≡◌, ℕ, true, false, List, [], ◌∷◌, ◌++◌, length, map, Option, Some, None, refl, sym, arith, ap, ◌∙◌}
 use Rattle.std.specs.Prelude.{if◌then◌else◌, drop, nat_lt, not}
 use Rattle.std.proofs.lemmas.Bool.Decides.{nat_tests}
-use Rattle.std.proofs.lemmas.Grind.{common_steps}
 use Rattle.ccr_base.specs.declared.names.MsgId.{MsgId}
 use Rattle.ccr_base.specs.declared.names.Place.TheVariants as places
 use Rattle.ccr_base.specs.declared.names.Spot.{Spot}
@@ -41,7 +40,7 @@ use Rattle.ccr_net.proofs.Parts.Noted.{Given, given_some}
 use Rattle.ccr_net.proofs.Played.Elsewhere.{site_fired}
 use Rattle.ccr_net.proofs.Played.Objects.{AnswersAs, suspended_view, told_site}
 use Rattle.ccr_net.proofs.Parts.Pushes.{visible-push}
-use Rattle.ccr_net.proofs.Parts.Site.{site_at}
+use Rattle.ccr_net.proofs.Parts.Site.{site_at, site_at-push}
 use Rattle.ccr_net.proofs.Played.ToldTasks.{map_behind, map_drop, suspended_view-stays, suspended_views-stay}
 
 -- the task that the ask commits or suspends
@@ -49,9 +48,6 @@ abbrev pub SiteTells : Parts → List Entry → Entry → ℕ → ℕ → Ask �
 SiteTells w es e b k (asks.Commit task messages) = IsResuming w es e b k task messages
 SiteTells w es e b k (asks.Suspend task) = IsFired (visible es) task.id × (task ≡ suspended_view w (visible es) task.id)
 SiteTells w es e b k _ = Unit {0}
-
-pub site_at-push : (es : List Entry) (e : Entry) (b k : ℕ) → site_at (es ++ e ∷ []) b k ≡ (if same_place e.place (places.Site b k) then sites.after (site_at es b k) e.note else site_at es b k)
-site_at-push es e b k = grind (arith, common_steps)
 
 names_so : (w : Parts) (h : List Event) (ts : List TaskId) → map (λ (t : Task). t.id) (map (suspended_view w h) ts) ≡ ts
 names_so w h [] = refl
