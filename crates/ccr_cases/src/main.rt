@@ -7,6 +7,8 @@ use crate::running::{Case, Expected, holds, put_generated, put_text, put_times};
 use ccr_base::OutOfMemory;
 use std::alloc::Global;
 use std::io;
+use std::sync::Wait;
+use std::thread::Threads;
 
 /// Takes in a line that says something of what the program is given.
 fn take_in<'a>(
@@ -17,9 +19,9 @@ fn take_in<'a>(
 ) -> Result<(), OutOfMemory> {
     match key {
         "words" => case.words = value,
-        "input" => put_text(&mut case.input, value)?,
-        "times" => put_times(&mut case.input, value)?,
-        "generated" => put_generated(alloc, case, value)?,
+        "input" => return put_text(&mut case.input, value),
+        "times" => return put_times(&mut case.input, value),
+        "generated" => return put_generated(alloc, case, value),
         "sure" => {
             case.is_sure = true;
             case.room = value.parse::<usize>().unwrap_or(0);
@@ -43,26 +45,36 @@ fn due_of<'a>(key: &str, value: &'a str) -> Option<Expected<'a>> {
     }
 }
 
+/// Takes in the line; where it says what is due, whether the case holds.
+fn judged<'a, R: AllocGlobal + Threads + Wait + Sync>(
+    rt: &R,
+    case: &mut Case<'a>,
+    key: &str,
+    value: &'a str,
+) -> Option<bool> {
+    if key == "case" {
+        *case = Case::new(rt.alloc(), value);
+    } else if let Some(due) = due_of(key, value) {
+        return Some(holds(rt, case, due).unwrap_or(false));
+    } else if take_in(rt.alloc(), case, key, value).is_err() {
+        case.status = u8::MAX;
+    }
+    None
+}
+
 fn main(rt: HostRuntime) -> io::Result<()> {
-    let alloc = rt.alloc();
-    let text = io::read_to_string(alloc, rt.stdin())?;
+    let text = io::read_to_string(rt.alloc(), rt.stdin())?;
     let (mut passed, mut failed) = (0u64, 0u64);
-    let mut case = Case::new(alloc, "");
+    let mut case = Case::new(rt.alloc(), "");
     for line in text.as_str().split('\n') {
-        let Some((key, value)) = line.split_once(' ') else {
-            continue;
-        };
-        if key == "case" {
-            case = Case::new(alloc, value);
-        } else if let Some(due) = due_of(key, value) {
-            if holds(&rt, &case, due).unwrap_or(false) {
-                passed = passed.saturating_add(1);
-            } else {
+        let (key, value) = line.split_once(' ').unwrap_or(("", ""));
+        match judged(&rt, &mut case, key, value) {
+            Some(true) => passed = passed.saturating_add(1),
+            Some(false) => {
                 failed = failed.saturating_add(1);
                 println!(rt; "{}", case.name)?;
             }
-        } else if take_in(alloc, &mut case, key, value).is_err() {
-            case.status = u8::MAX;
+            None => {}
         }
     }
     println!(rt; "{passed} passed, {failed} failed")?;

@@ -144,6 +144,45 @@ fn words_of(alloc: Global, words: &str) -> Result<List<Name>, OutOfMemory> {
     Ok(names)
 }
 
+/// A source of this input whose call of this number fails.
+fn source_of(alloc: Global, input: &[u8], failing: u64) -> Result<MemorySource, OutOfMemory> {
+    let bytes = listed(alloc, input)?;
+    Ok(MemorySource::new(bytes, listed(alloc, &[failing])?))
+}
+
+/// A sink with so much room whose call of this number fails.
+fn sink_of(alloc: Global, room: usize, failing: u64) -> Result<MemorySink, OutOfMemory> {
+    MemorySink::new(alloc, room, listed(alloc, &[failing])?)
+}
+
+/// The outcome of this status and of what was written.
+fn ended_with(alloc: Global, status: u8, written: &[u8]) -> Result<Outcome, OutOfMemory> {
+    Ok(Outcome {
+        status,
+        written: listed(alloc, written)?,
+    })
+}
+
+/// Runs the program on these streams, and tells its status.
+fn status_of<R: AllocGlobal + Threads + Wait + Sync>(
+    rt: &R,
+    words: &[Name],
+    source: &mut MemorySource,
+    sink: &mut MemorySink,
+) -> u8 {
+    run_ccr(rt, words, source, sink, &OpenGate)
+}
+
+/// The same on streams that never fail.
+fn sure_status_of<R: AllocGlobal + Threads + Wait + Sync>(
+    rt: &R,
+    words: &[Name],
+    source: &mut SureSource,
+    sink: &mut SureSink,
+) -> u8 {
+    run_surely(rt, words, source, sink, &OpenGate)
+}
+
 /// Runs the program, and tells what it answered.
 fn run_program<R: AllocGlobal + Threads + Wait + Sync>(
     rt: &R,
@@ -153,11 +192,10 @@ fn run_program<R: AllocGlobal + Threads + Wait + Sync>(
 ) -> Result<Outcome, OutOfMemory> {
     let alloc = rt.alloc();
     let words = words_of(alloc, words)?;
-    let mut source = MemorySource::new(listed(alloc, input)?, listed(alloc, &[streams.read])?);
-    let mut sink = MemorySink::new(alloc, streams.room, listed(alloc, &[streams.write])?)?;
-    let status = run_ccr(rt, words.as_slice(), &mut source, &mut sink, &OpenGate);
-    let written = listed(alloc, sink.written())?;
-    Ok(Outcome { status, written })
+    let mut source = source_of(alloc, input, streams.read)?;
+    let mut sink = sink_of(alloc, streams.room, streams.write)?;
+    let status = status_of(rt, words.as_slice(), &mut source, &mut sink);
+    ended_with(alloc, status, sink.written())
 }
 
 /// Runs the program on streams that never fail, and tells what it answered.
@@ -169,16 +207,32 @@ fn run_sure<R: AllocGlobal + Threads + Wait + Sync>(
     let words = words_of(alloc, case.words)?;
     let mut source = SureSource::new(listed(alloc, case.input.as_slice())?);
     let mut sink = SureSink::new(alloc, case.room)?;
-    let status = run_surely(rt, words.as_slice(), &mut source, &mut sink, &OpenGate);
-    let written = listed(alloc, sink.kept())?;
-    Ok(Outcome { status, written })
+    let status = sure_status_of(rt, words.as_slice(), &mut source, &mut sink);
+    ended_with(alloc, status, sink.kept())
 }
 
-/// Whether the part stands somewhere in the text.
-fn has_part(text: &[u8], part: &[u8]) -> bool {
-    let mut rest = text;
-    for _ in 0..text.len() {
-        if rest.starts_with(part) {
+/// Whether the bytes begin with what the text stands for.
+fn begins(bytes: &[u8], text: &[u8]) -> bool {
+    text.len() <= bytes.len()
+        && bytes
+            .iter()
+            .zip(text)
+            .all(|(byte, due)| *byte == meant(*due))
+}
+
+/// Whether the bytes end with what the text stands for.
+fn ends(bytes: &[u8], text: &[u8]) -> bool {
+    match bytes.len().checked_sub(text.len()) {
+        Some(start) => begins(bytes.get(start..).unwrap_or(&[]), text),
+        None => false,
+    }
+}
+
+/// Whether what the part stands for is somewhere in the bytes.
+fn has_part(bytes: &[u8], part: &[u8]) -> bool {
+    let mut rest = bytes;
+    for _ in 0..bytes.len() {
+        if begins(rest, part) {
             return true;
         }
         rest = rest.get(1..).unwrap_or(&[]);
@@ -187,21 +241,11 @@ fn has_part(text: &[u8], part: &[u8]) -> bool {
 }
 
 /// Whether what was written is what is due.
-fn is_due(alloc: Global, written: &[u8], due: Expected<'_>) -> Result<bool, OutOfMemory> {
-    let mut text = Vec::new(alloc);
+fn is_due(written: &[u8], due: Expected<'_>) -> bool {
     match due {
-        Expected::Whole(whole) => {
-            put_text(&mut text, whole)?;
-            Ok(written == text.as_slice())
-        }
-        Expected::Ending(ending) => {
-            put_text(&mut text, ending)?;
-            Ok(written.ends_with(text.as_slice()))
-        }
-        Expected::Part(part) => {
-            put_text(&mut text, part)?;
-            Ok(has_part(written, text.as_slice()))
-        }
+        Expected::Whole(whole) => written.len() == whole.len() && begins(written, whole.as_bytes()),
+        Expected::Ending(ending) => ends(written, ending.as_bytes()),
+        Expected::Part(part) => has_part(written, part.as_bytes()),
     }
 }
 
@@ -217,22 +261,27 @@ fn before_turns(input: &[u8]) -> &[u8] {
     input
 }
 
+/// The wiring of the case, and behind it what was written.
+fn output_of(alloc: Global, case: &Case<'_>, written: &[u8]) -> Result<Vec<u8>, OutOfMemory> {
+    let mut output = Vec::from_slice(alloc, before_turns(case.input.as_slice()))?;
+    output.extend_from_slice(written)?;
+    Ok(output)
+}
+
 /// Whether what the case wrote is judged legal, complete and quiet.
 fn is_legal<R: AllocGlobal + Threads + Wait + Sync>(
     rt: &R,
     case: &Case<'_>,
     written: &[u8],
 ) -> Result<bool, OutOfMemory> {
-    let alloc = rt.alloc();
-    let mut input = Vec::from_slice(alloc, before_turns(case.input.as_slice()))?;
-    input.extend_from_slice(written)?;
+    let output = output_of(rt.alloc(), case, written)?;
     let streams = Streams {
         room: 10_000,
         read: NEVER,
         write: NEVER,
     };
-    let judged = run_program(rt, "verify", input.as_slice(), streams)?;
-    Ok(judged.status == 0 && is_due(alloc, judged.written.as_slice(), Expected::Whole(LEGAL))?)
+    let judged = run_program(rt, "verify", output.as_slice(), streams)?;
+    Ok(judged.status == 0 && is_due(judged.written.as_slice(), Expected::Whole(LEGAL)))
 }
 
 /// Runs the case with a call of the source and one of the sink that fail.
@@ -246,6 +295,16 @@ fn run_failing<R: AllocGlobal + Threads + Wait + Sync>(
     run_program(rt, case.words, case.input.as_slice(), streams)
 }
 
+/// Whether this read, made to fail, ends the case with nothing written.
+fn read_ends_it<R: AllocGlobal + Threads + Wait + Sync>(
+    rt: &R,
+    case: &Case<'_>,
+    read: u64,
+) -> Result<bool, OutOfMemory> {
+    let given = run_failing(rt, case, read, NEVER)?;
+    Ok(given.status == READ_FAULT && given.written.as_slice().is_empty())
+}
+
 /// Whether each of so many reads, made to fail, ends the case with nothing written, and one behind them isn't made.
 fn each_read_ends_it<R: AllocGlobal + Threads + Wait + Sync>(
     rt: &R,
@@ -254,8 +313,7 @@ fn each_read_ends_it<R: AllocGlobal + Threads + Wait + Sync>(
     whole: &[u8],
 ) -> Result<bool, OutOfMemory> {
     for read in 0..reads {
-        let given = run_failing(rt, case, read, NEVER)?;
-        if given.status != READ_FAULT || !given.written.as_slice().is_empty() {
+        if !read_ends_it(rt, case, read)? {
             return Ok(false);
         }
     }
@@ -263,13 +321,20 @@ fn each_read_ends_it<R: AllocGlobal + Threads + Wait + Sync>(
     Ok(given.status == case.status && given.written.as_slice() == whole)
 }
 
-/// Whether this is what stands where a write failed: nothing at the first one, else a beginning of the whole.
-fn is_cut_short(written: &[u8], write: u64, whole: &[u8]) -> bool {
-    if write == 0 {
-        written.is_empty()
-    } else {
-        whole.starts_with(written)
-    }
+/// Whether this write, made to fail, ends the case where nothing is written if it is the first, and else a beginning of the whole.
+fn write_ends_it<R: AllocGlobal + Threads + Wait + Sync>(
+    rt: &R,
+    case: &Case<'_>,
+    write: u64,
+    whole: &[u8],
+) -> Result<bool, OutOfMemory> {
+    let given = run_failing(rt, case, NEVER, write)?;
+    let written = given.written.as_slice();
+    Ok(
+        given.status == WRITE_FAULT
+            && whole.starts_with(written)
+            && (write != 0 || written.is_empty()),
+    )
 }
 
 /// Whether each of so many writes, made to fail, ends the case there, and one behind them isn't made.
@@ -280,8 +345,7 @@ fn each_write_ends_it<R: AllocGlobal + Threads + Wait + Sync>(
     whole: &[u8],
 ) -> Result<bool, OutOfMemory> {
     for write in 0..writes {
-        let given = run_failing(rt, case, NEVER, write)?;
-        if given.status != WRITE_FAULT || !is_cut_short(given.written.as_slice(), write, whole) {
+        if !write_ends_it(rt, case, write, whole)? {
             return Ok(false);
         }
     }
@@ -295,18 +359,37 @@ fn faults_end_it<R: AllocGlobal + Threads + Wait + Sync>(
     case: &Case<'_>,
     whole: &[u8],
 ) -> Result<bool, OutOfMemory> {
-    let reads = match case.reads {
-        Some(reads) => each_read_ends_it(rt, case, reads, whole)?,
-        None => true,
-    };
-    let writes = match case.writes {
-        Some(writes) => each_write_ends_it(rt, case, writes, whole)?,
-        None => true,
-    };
-    Ok(reads && writes)
+    if let Some(reads) = case.reads
+        && !each_read_ends_it(rt, case, reads, whole)?
+    {
+        return Ok(false);
+    }
+    match case.writes {
+        Some(writes) => each_write_ends_it(rt, case, writes, whole),
+        None => Ok(true),
+    }
 }
 
-/// Whether the case holds. What a run writes is also judged.
+/// Whether the case's outcome is the one that is due, with its faults where it tells of them. What a run writes is also judged.
+fn is_answered<R: AllocGlobal + Threads + Wait + Sync>(
+    rt: &R,
+    case: &Case<'_>,
+    given: &Outcome,
+    due: Expected<'_>,
+) -> Result<bool, OutOfMemory> {
+    let written = given.written.as_slice();
+    if given.status != case.status || !is_due(written, due) || !faults_end_it(rt, case, written)? {
+        return Ok(false);
+    }
+    let is_answer = given.status == 0 || given.status == 6;
+    if case.is_run() && is_answer && !case.is_sure {
+        is_legal(rt, case, written)
+    } else {
+        Ok(true)
+    }
+}
+
+/// Whether the case holds.
 pub fn holds<R: AllocGlobal + Threads + Wait + Sync>(
     rt: &R,
     case: &Case<'_>,
@@ -317,17 +400,5 @@ pub fn holds<R: AllocGlobal + Threads + Wait + Sync>(
     } else {
         run_failing(rt, case, NEVER, NEVER)?
     };
-    let written = given.written.as_slice();
-    if given.status != case.status || !is_due(rt.alloc(), written, due)? {
-        return Ok(false);
-    }
-    if !faults_end_it(rt, case, written)? {
-        return Ok(false);
-    }
-    let is_answer = given.status == 0 || given.status == 6;
-    if case.is_run() && is_answer && !case.is_sure {
-        is_legal(rt, case, written)
-    } else {
-        Ok(true)
-    }
+    is_answered(rt, case, &given, due)
 }

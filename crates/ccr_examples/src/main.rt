@@ -17,6 +17,7 @@ use crate::making::{code_of, one_receiver};
 use crate::running::run_text;
 use crate::tally::raise_by_two;
 use ccr_base::OutOfMemory;
+use ccr_model::History;
 use ccr_trace::write_history;
 use ccr_wiretext::read_wiring;
 use ccr_wiring::Wiring;
@@ -29,7 +30,10 @@ fn code_of_count(alloc: Global, count: u32) -> Result<Option<u8>, OutOfMemory> {
 }
 
 fn memory<T>(answer: Result<T, OutOfMemory>) -> io::Result<T> {
-    answer.map_err(|_| io::Error::from(io::ErrorKind::OutOfMemory))
+    match answer {
+        Ok(value) => Ok(value),
+        Err(OutOfMemory) => Err(io::Error::from(io::ErrorKind::OutOfMemory)),
+    }
 }
 
 /// Writes what the wiring does, or which line of it offends.
@@ -52,13 +56,16 @@ fn tell_judgement(rt: &HostRuntime, wiring: &Wiring, text: &[u8]) -> io::Result<
     }
 }
 
+/// Writes the history.
+fn tell_history(rt: &HostRuntime, wiring: &Wiring, history: &History) -> io::Result<()> {
+    let written = memory(write_history(rt.alloc(), wiring, history))?;
+    rt.stdout().write_all(written.as_slice())
+}
+
 /// Writes what is visible of these turns of posters.
 fn tell_turns(rt: &HostRuntime, wiring: &Wiring, turns: &[u32]) -> io::Result<()> {
     match memory(follow(rt.alloc(), wiring, 0, turns))? {
-        Some(seen) => {
-            let written = memory(write_history(rt.alloc(), wiring, &seen))?;
-            rt.stdout().write_all(written.as_slice())
-        }
+        Some(seen) => tell_history(rt, wiring, &seen),
         None => println!(rt; "a turn of no actor"),
     }
 }
@@ -80,22 +87,44 @@ fn tell_more(rt: &HostRuntime, wiring: &Wiring) -> io::Result<()> {
     tell_turns(rt, wiring, &[1, 0, 0, 0, 0, 0, 0, 0, 0, 0, 0, 0, 0, 0])
 }
 
-fn main(rt: HostRuntime) -> io::Result<()> {
-    let alloc = rt.alloc();
-    let text = io::read_to_string(alloc, rt.stdin())?;
+/// Runs the wiring of the text, judges histories of it, and follows turns.
+fn tell_text(rt: &HostRuntime, text: &[u8]) -> io::Result<()>
+    requires { length text.now ≤ most_wiring_bytes }
+{
+    tell_run(rt, text)?;
+    match read_wiring(rt.alloc(), text) {
+        Ok(wiring) => tell_more(rt, &wiring),
+        Err(_) => Ok(()),
+    }
+}
+
+/// Writes the codes of two wirings that are made without a text.
+fn tell_codes(rt: &HostRuntime) -> io::Result<()> {
+    let fits = memory(code_of_count(rt.alloc(), 1))?;
+    let too_many = memory(code_of_count(rt.alloc(), 1001))?;
+    println!(rt; "a slot of 1: {fits:?}, of 1001: {too_many:?}")
+}
+
+/// Writes the sum that two threads made.
+fn tell_sum(rt: &HostRuntime, raised: Result<(u64, usize), OutOfMemory>) -> io::Result<()> {
+    let (sum, entries) = memory(raised)?;
+    println!(rt; "two threads raised it to {sum} by {entries} entries")
+}
+
+/// Tells of the text that stands on standard input, and whether it is short enough for a wiring.
+fn tell_input(rt: &HostRuntime) -> io::Result<bool> {
+    let text = io::read_to_string(rt.alloc(), rt.stdin())?;
     if text.len() > 1048576 {
-        return Ok(());
+        return Ok(false);
     }
-    tell_run(&rt, text.as_bytes())?;
-    if let Ok(wiring) = read_wiring(alloc, text.as_bytes()) {
-        tell_more(&rt, &wiring)?;
+    tell_text(rt, text.as_bytes())?;
+    Ok(true)
+}
+
+fn main(rt: HostRuntime) -> io::Result<()> {
+    if tell_input(&rt)? {
+        tell_codes(&rt)?;
+        tell_sum(&rt, raise_by_two(&rt, 100))?;
     }
-    let (fits, too_many) = (
-        memory(code_of_count(alloc, 1))?,
-        memory(code_of_count(alloc, 1001))?,
-    );
-    println!(rt; "a slot of 1: {fits:?}, of 1001: {too_many:?}")?;
-    let (sum, entries) = memory(raise_by_two(&rt, 100))?;
-    println!(rt; "two threads raised it to {sum} by {entries} entries")?;
     Ok(())
 }

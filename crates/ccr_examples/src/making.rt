@@ -11,60 +11,86 @@ fn name(alloc: Global, bytes: &[u8]) -> Result<Name, OutOfMemory> {
     Ok(List::from_vec(Vec::from_slice(alloc, bytes)?))
 }
 
-fn only<T: Drop>(alloc: Global, item: T) -> Result<List<T>, OutOfMemory> {
-    let mut list = List::new(alloc);
-    match list.push(item) {
-        Ok(()) => Ok(list),
-        Err((refused, _)) => Err(refused),
-    }
-}
-
-/// A receiver `r` that takes so many messages of port `a` at a time, for the handler `h` by the queue `q`.
-fn receiver(alloc: Global, count: u32) -> Result<ArbiterPart, OutOfMemory> {
-    let slot = Slot {
+/// A branch `r` that takes so many messages of port `a` at a time, for the handler `h` by the queue `q`.
+fn branch(alloc: Global, count: u32) -> Result<BranchPart, OutOfMemory> {
+    let mut slots = List::new(alloc);
+    slots.add(Slot {
         port: 0,
         least: count,
         most: count,
         pred: Pred::Any,
-    };
-    let branch = BranchPart {
+    })?;
+    Ok(BranchPart {
         name: name(alloc, b"r")?,
         group: Group::Always,
         queue: 0,
         handler: 0,
-        pattern: Pattern::Slots(only(alloc, slot)?),
-    };
-    Ok(ArbiterPart {
-        name: name(alloc, b"r")?,
-        kind: Kind::Receive,
-        branches: only(alloc, branch)?,
+        pattern: Pattern::Slots(slots),
     })
 }
 
-/// The parts of a wiring of one receiver.
-pub fn one_receiver(alloc: Global, count: u32) -> Result<Parts, OutOfMemory> {
-    let queue = QueuePart {
+/// Adds a receiver of that branch.
+fn add_receiver(
+    alloc: Global,
+    arbiters: &mut List<ArbiterPart>,
+    count: u32,
+) -> Result<(), OutOfMemory> {
+    let mut branches = List::new(alloc);
+    branches.add(branch(alloc, count)?)?;
+    arbiters.add(ArbiterPart {
+        name: name(alloc, b"r")?,
+        kind: Kind::Receive,
+        branches,
+    })
+}
+
+fn add_queue(alloc: Global, queues: &mut List<QueuePart>) -> Result<(), OutOfMemory> {
+    queues.add(QueuePart {
         name: name(alloc, b"q")?,
         policy: Policy::Unbounded,
-    };
-    let handler = HandlerPart {
+    })
+}
+
+fn add_handler(alloc: Global, handlers: &mut List<HandlerPart>) -> Result<(), OutOfMemory> {
+    handlers.add(HandlerPart {
         name: name(alloc, b"h")?,
         handler: Handler {
             actions: List::new(alloc),
         },
-    };
-    Ok(Parts {
+    })
+}
+
+/// Version 1 and a budget of 100, and nothing else.
+fn no_parts(alloc: Global) -> Parts {
+    Parts {
         version: 1,
         budget: 100,
-        queues: only(alloc, queue)?,
-        ports: only(alloc, name(alloc, b"a")?)?,
+        queues: List::new(alloc),
+        ports: List::new(alloc),
         sets: List::new(alloc),
         causes: List::new(alloc),
-        handlers: only(alloc, handler)?,
-        arbiters: only(alloc, receiver(alloc, count)?)?,
+        handlers: List::new(alloc),
+        arbiters: List::new(alloc),
         domains: List::new(alloc),
         posters: List::new(alloc),
-    })
+    }
+}
+
+/// Adds a port, a queue, a handler, and a receiver of them.
+fn add_parts(alloc: Global, parts: &mut Parts, count: u32) -> Result<(), OutOfMemory> {
+    parts.ports.add(name(alloc, b"a")?)?;
+    add_queue(alloc, &mut parts.queues)?;
+    add_handler(alloc, &mut parts.handlers)?;
+    add_receiver(alloc, &mut parts.arbiters, count)
+}
+
+/// The parts of a wiring of one receiver.
+pub fn one_receiver(alloc: Global, count: u32) -> Result<Parts, OutOfMemory> {
+    let mut parts = no_parts(alloc);
+    match add_parts(alloc, &mut parts, count) {
+        Ok(()) => Ok(parts),
+        Err(refused) => Err(refused),
+    }
 }
 
 /// The code by which these parts are no wiring; none where they are one.

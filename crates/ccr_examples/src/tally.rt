@@ -1,10 +1,11 @@
 //! An object of one's own under locks that keep its history: a sum that threads add to.
 
-ghost use Rattle.std.specs.Prelude.{◌≡◌, ◌+◌, ◌<◌, true};
+ghost use Rattle.std.specs.Prelude.{◌≡◌, ◌+◌, ◌<◌, true, length, IfOk};
 ghost use Rattle.ccr_turns.specs.Locks.{place_count, IsSeatOf};
 
 use ccr_base::{List, OutOfMemory};
-use ccr_turns::{Keep, Kept, Seat, Turns};
+use ccr_turns::{Held, Keep, Kept, Seat, Turns};
+use std::alloc::Global;
 use std::sync::Wait;
 use std::thread::{self, Threads};
 
@@ -12,7 +13,7 @@ use std::thread::{self, Threads};
 pub struct Tally(u64);
 
 /// What a tally is asked: to add this number. It answers the new sum, and notes it.
-#[derive(Clone, Copy, PartialEq, Eq)]
+#[derive(Clone, Copy)]
 pub struct Add(pub u64);
 
 impl Kept for Tally {
@@ -57,15 +58,30 @@ fn raise<R: Wait>(rt: &R, turns: &Turns<Tally>, mut seat: Seat<Tally>, times: u3
     seat
 }
 
+/// One tally, of 0.
+fn tallies(alloc: Global) -> Result<List<Tally>, OutOfMemory>
+    ensures { IfOk result (λ tallies. length tallies ≡ 1) }
+{
+    let mut tallies = Vec::new(alloc);
+    tallies.push(Tally(0))?;
+    Ok(List::from_vec(tallies))
+}
+
+/// The sum of the first tally, and how many entries its history has.
+fn sum_of(kept: &[(Tally, List<Held<u64>>)]) -> (u64, usize) {
+    match kept.first() {
+        Some((tally, history)) => (tally.0, history.as_slice().len()),
+        None => (0, 0),
+    }
+}
+
 /// Two threads add 2 so many times each: the sum, and how many entries the lock's history has.
 pub fn raise_by_two<R: AllocGlobal + Threads + Wait + Sync>(
     rt: &R,
     times: u32,
 ) -> Result<(u64, usize), OutOfMemory> {
     let alloc = rt.alloc();
-    let mut tallies = Vec::new(alloc);
-    tallies.push(Tally(0))?;
-    let (turns, seats) = Turns::make(alloc, List::from_vec(tallies), 2, Keep::Every)?;
+    let (turns, seats) = Turns::make(alloc, tallies(alloc)?, 2, Keep::Every)?;
     let seats = thread::map_vec(
         rt,
         seats.into_vec(),
@@ -74,11 +90,8 @@ pub fn raise_by_two<R: AllocGlobal + Threads + Wait + Sync>(
             ensures { IsSeatOf turns result }
         { raise(rt, &turns, seat, times) },
     )?;
-    let Ok(kept) = turns.close(alloc, List::from_vec(seats)) else {
-        return Err(OutOfMemory);
-    };
-    match kept.as_slice().first() {
-        Some((tally, history)) => Ok((tally.0, history.as_slice().len())),
-        None => Ok((0, 0)),
+    match turns.close(alloc, List::from_vec(seats)) {
+        Ok(kept) => Ok(sum_of(kept.as_slice())),
+        Err(_) => Err(OutOfMemory),
     }
 }

@@ -11,11 +11,16 @@ const EXCEPTION_PORTS: [PortNo; 3] = [10, 11, 12];
 
 /// The value whose numbers commas part.
 fn value_of(alloc: Global, text: &str) -> Option<Value> {
-    let mut numbers = Vec::new(alloc);
+    let mut numbers = List::new(alloc);
     for word in text.split(',') {
-        numbers.push(word.parse::<u64>().ok()?).ok()?;
+        match word.parse::<u64>() {
+            Ok(number) => {
+                let _ = numbers.add(number);
+            }
+            Err(_) => return None,
+        }
     }
-    Value::of(&numbers)
+    Value::of(numbers.as_slice())
 }
 
 fn values_of(alloc: Global, text: &str) -> List<Value> {

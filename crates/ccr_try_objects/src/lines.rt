@@ -95,7 +95,11 @@ fn find(alloc: Global, input: &str, out: &mut List<u8>) {
 /// What the call answers of the text.
 pub fn tell(alloc: Global, row: &Row<'_>, out: &mut List<u8>) {
     let text = text_of(alloc, row.input, "");
-    let text = text.as_slice();
+    tell_of(alloc, row, text.as_slice(), out);
+}
+
+/// The same of the text that the row's input stands for.
+fn tell_of(alloc: Global, row: &Row<'_>, text: &[u8], out: &mut List<u8>) {
     match row.call {
         "count" => count(alloc, text, out),
         "lines" => lines(alloc, text, out),

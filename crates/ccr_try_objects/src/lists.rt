@@ -49,17 +49,22 @@ pub fn joined(alloc: Global, input: &str, out: &mut List<u8>) {
     }
 }
 
+/// Adds the cause, or removes it.
+fn cause_step(alloc: Global, causes: &mut List<u32>, text: &str) {
+    let (word, numbers) = word_and_numbers(alloc, text);
+    let cause = at(numbers.as_slice(), 0);
+    if word == "add" {
+        let _ = add(causes, cause);
+    } else {
+        remove(causes, cause);
+    }
+}
+
 /// For `add CAUSE, remove CAUSE, ..` the causes then.
 pub fn causes(alloc: Global, steps: &str, out: &mut List<u8>) {
     let mut causes = List::new(alloc);
     for text in steps.split(", ") {
-        let (word, numbers) = word_and_numbers(alloc, text);
-        let cause = at(numbers.as_slice(), 0);
-        if word == "add" {
-            let _ = add(&mut causes, cause);
-        } else {
-            remove(&mut causes, cause);
-        }
+        cause_step(alloc, &mut causes, text);
     }
     put_numbers(out, causes.as_slice());
 }

@@ -22,29 +22,27 @@ use std::io;
 /// The most bytes that are read.
 const LONGEST: usize = 1_048_576;
 
-/// What the call answers: of objects over the wiring, of tables, of streams and handlers, or of a small call.
-fn answer(alloc: Global, with: &str, row: &Row<'_>) -> List<u8> {
-    let mut out = List::new(alloc);
+/// Adds what the call answers: of objects over the wiring, of tables, of streams and handlers, or of a small call.
+fn answer(alloc: Global, with: &str, row: &Row<'_>, out: &mut List<u8>) {
     match row.call {
-        "object" | "met" | "places" => objects::tell(alloc, with, row, &mut out),
-        "play" => handlers::play(alloc, row.input, &mut out),
-        "held" => tables::held(alloc, row.input, &mut out),
-        "rows" => tables::rows(alloc, row.input, &mut out),
-        "source" => streams::source(alloc, row.input, &mut out),
-        "fault" => streams::fault(alloc, row.input, &mut out),
-        "sink" => streams::sink(alloc, row.input, &mut out),
-        "sure" => streams::sure(alloc, row.input, &mut out),
-        "standard" => streams::standard(alloc, &mut out),
-        "choose" => choices::choose_in(alloc, row.input, &mut out),
-        "copy" => choices::copies(alloc, &mut out),
-        "value" => choices::value(row.input, &mut out),
-        "holds" => choices::holds(row.input, &mut out),
-        "list" => lists::list(alloc, row.input, &mut out),
-        "union" => lists::joined(alloc, row.input, &mut out),
-        "causes" => lists::causes(alloc, row.input, &mut out),
-        _ => lines::tell(alloc, row, &mut out),
+        "object" | "met" | "places" => objects::tell(alloc, with, row, out),
+        "play" => handlers::play(alloc, row.input, out),
+        "held" => tables::held(alloc, row.input, out),
+        "rows" => tables::rows(alloc, row.input, out),
+        "source" => streams::source(alloc, row.input, out),
+        "fault" => streams::fault(alloc, row.input, out),
+        "sink" => streams::sink(alloc, row.input, out),
+        "sure" => streams::sure(alloc, row.input, out),
+        "standard" => streams::standard(alloc, out),
+        "choose" => choices::choose_in(alloc, row.input, out),
+        "copy" => choices::copies(alloc, out),
+        "value" => choices::value(row.input, out),
+        "holds" => choices::holds(row.input, out),
+        "list" => lists::list(alloc, row.input, out),
+        "union" => lists::joined(alloc, row.input, out),
+        "causes" => lists::causes(alloc, row.input, out),
+        _ => lines::tell(alloc, row, out),
     }
-    out
 }
 
 /// All of standard input.
@@ -56,11 +54,26 @@ fn read_input(rt: &HostRuntime) -> List<u8> {
     }
 }
 
-fn main(rt: HostRuntime) -> io::Result<()> {
-    let alloc = rt.alloc();
-    let text = read_input(&rt);
-    let text = str::from_utf8(text.as_slice()).unwrap_or("");
-    let _ = write_all(&mut StdSink::new(rt.stdout()), b"written\n");
+/// Tells whether the row is answered as is due, and names it where it isn't.
+fn is_right(
+    rt: &HostRuntime,
+    case: &str,
+    with: &str,
+    row: &Row<'_>,
+    line: &str,
+) -> io::Result<bool> {
+    let mut found = List::new(rt.alloc());
+    answer(rt.alloc(), with, row, &mut found);
+    if is_due(found.as_slice(), row.due) {
+        return Ok(true);
+    }
+    let shown = str::from_utf8(found.as_slice()).unwrap_or("no text");
+    println!(rt; "{case}: {line} is answered {shown}")?;
+    Ok(false)
+}
+
+/// Tries the rows of the text.
+fn tell_rows(rt: &HostRuntime, text: &str) -> io::Result<()> {
     let (mut rows, mut wrong) = (0u64, 0u64);
     let (mut case, mut with) = ("", "");
     for line in text.split('\n') {
@@ -69,16 +82,18 @@ fn main(rt: HostRuntime) -> io::Result<()> {
             Line::With(start) => with = start,
             Line::Row(row) => {
                 rows = rows.saturating_add(1);
-                let found = answer(alloc, with, &row);
-                if !is_due(found.as_slice(), row.due) {
+                if !is_right(rt, case, with, &row, line)? {
                     wrong = wrong.saturating_add(1);
-                    let shown = str::from_utf8(found.as_slice()).unwrap_or("no text");
-                    println!(rt; "{case}: {line} is answered {shown}")?;
                 }
             }
             Line::Past(_) | Line::Nothing => {}
         }
     }
-    println!(rt; "{rows} rows, {wrong} wrong")?;
-    Ok(())
+    println!(rt; "{rows} rows, {wrong} wrong")
+}
+
+fn main(rt: HostRuntime) -> io::Result<()> {
+    let text = read_input(&rt);
+    let _ = write_all(&mut StdSink::new(rt.stdout()), b"written\n");
+    tell_rows(&rt, str::from_utf8(text.as_slice()).unwrap_or(""))
 }

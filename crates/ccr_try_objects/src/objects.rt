@@ -7,7 +7,7 @@ use ccr_arbiter::ArbiterObject;
 use ccr_await::SiteObject;
 use ccr_base::{Group, List, Policy};
 use ccr_interleave::InterleaveObject;
-use ccr_object::{Answer, Numbers, Object, PlaceObject, place_objects};
+use ccr_object::{Answer, Deed, Numbers, Object, PlaceObject, place_objects};
 use ccr_port::PortObject;
 use ccr_queue::{Meter, QueueObject};
 use ccr_try::{Row, put, put_number, put_task, put_word, text_of};
@@ -19,27 +19,28 @@ use std::sync::Arc;
 /// The most bytes that a wiring text has.
 const LONGEST: usize = 1_048_576;
 
-/// An Interleave of branch 0, which is concurrent.
-fn interleave(alloc: Global) -> Option<Object> {
-    let branches = Vec::from_slice(alloc, &[0]).ok()?;
-    let groups = Vec::from_slice(alloc, &[Group::Concurrent]).ok()?;
-    if branches.len() != groups.len() {
-        return None;
+/// The branches of a domain, where 6 and 7 aren't.
+const DOMAIN_BRANCHES: [u32; 3] = [4, 5, 8];
+
+const DOMAIN_GROUPS: [Group; 3] = [Group::Exclusive, Group::Concurrent, Group::Teardown];
+
+/// The list of these items; an empty one where memory is refused.
+fn listed<T: Copy + Drop>(alloc: Global, items: &[T]) -> List<T> {
+    match Vec::from_slice(alloc, items) {
+        Ok(items) => List::from_vec(items),
+        Err(_) => List::new(alloc),
     }
-    let (branches, groups) = (List::from_vec(branches), List::from_vec(groups));
-    Some(Object::Interleave(InterleaveObject::new(alloc, branches, groups)))
 }
 
-/// The branches 4, 5 and 8 of a domain, where 6 and 7 aren't: exclusive, concurrent and teardown.
-fn domain(alloc: Global) -> Option<Object> {
-    let groups = [Group::Exclusive, Group::Concurrent, Group::Teardown];
-    let branches = Vec::from_slice(alloc, &[4, 5, 8]).ok()?;
-    let groups = Vec::from_slice(alloc, &groups).ok()?;
-    if branches.len() != groups.len() {
-        return None;
+/// An Interleave of these branches, each in the group of its place.
+fn interleave(alloc: Global, branches: &[u32], groups: &[Group]) -> Option<Object> {
+    let branches = listed(alloc, branches);
+    let groups = listed(alloc, groups);
+    if branches.len() == groups.len() {
+        Some(Object::Interleave(InterleaveObject::new(alloc, branches, groups)))
+    } else {
+        None
     }
-    let (branches, groups) = (List::from_vec(branches), List::from_vec(groups));
-    Some(Object::Interleave(InterleaveObject::new(alloc, branches, groups)))
 }
 
 /// A new object of this kind.
@@ -49,8 +50,8 @@ fn object(alloc: Global, kind: &str, first: u32, second: u32) -> Option<Object> 
         "receiver" => Object::Arbiter(ArbiterObject::receiver(alloc, first, false)),
         "once" => Object::Arbiter(ArbiterObject::receiver(alloc, first, true)),
         "choice" => Object::Arbiter(ArbiterObject::choice(alloc, first, second)),
-        "interleave" => return interleave(alloc),
-        "domain" => return domain(alloc),
+        "interleave" => return interleave(alloc, &[0], &[Group::Concurrent]),
+        "domain" => return interleave(alloc, &DOMAIN_BRANCHES, &DOMAIN_GROUPS),
         "site" => Object::Site(SiteObject::new(alloc, first, second)),
         "unbounded" => Object::Queue(QueueObject::new(alloc, 0, Policy::Unbounded)),
         "throttle" => Object::Queue(QueueObject::new(alloc, 0, Policy::Throttle(first))),
@@ -60,29 +61,57 @@ fn object(alloc: Global, kind: &str, first: u32, second: u32) -> Option<Object> 
     })
 }
 
-/// The place of a new object, which knows the numbers of the wiring.
-fn place(alloc: Global, wiring: &Wiring, kind: &str) -> Option<PlaceObject> {
-    let (kind, numbers) = word_and_numbers(alloc, kind);
-    let numbers = numbers.as_slice();
+fn boxed(alloc: Global, kind: &str, numbers: &[u32]) -> Option<Box<Object>> {
     let object = object(alloc, kind, at(numbers, 0), at(numbers, 1))?;
-    let object = Box::new(alloc, object).ok()?;
-    let numbers = Arc::new(alloc, Numbers::of(alloc, wiring).ok()?).ok()?;
-    Some(PlaceObject {
-        alloc,
-        numbers,
-        object,
-    })
+    Box::new(alloc, object).ok()
 }
 
-/// What the place answers, if there is such an ask. Its note and its answer tell alike whether it was met.
-fn reply(alloc: Global, place: &mut PlaceObject, word: &str, numbers: &[u32]) -> Option<Answer> {
-    let ask = ask_of(alloc, word, numbers)?;
-    let (answer, deed) = place.answer(ask).ok()?;
-    if deed.note.is_some() == matches!(answer, Answer::Replied(_)) {
-        Some(answer)
-    } else {
-        None
+fn numbers_of(alloc: Global, wiring: &Wiring) -> Option<Arc<Numbers>> {
+    let numbers = Numbers::of(alloc, wiring).ok()?;
+    Arc::new(alloc, numbers).ok()
+}
+
+/// The place of a new object, which knows the numbers of the wiring.
+fn place(alloc: Global, wiring: &Wiring, kind: &str) -> Option<PlaceObject> {
+    let numbers = numbers_of(alloc, wiring)?;
+    let (kind, first) = word_and_numbers(alloc, kind);
+    match boxed(alloc, kind, first.as_slice()) {
+        Some(object) => Some(PlaceObject {
+            alloc,
+            numbers,
+            object,
+        }),
+        None => None,
     }
+}
+
+/// Adds the answer, and tells whether it is a reply. Its entry and its answer tell alike whether the ask was met.
+fn put_given(out: &mut List<u8>, given: &(Answer, Deed)) -> bool {
+    let is_reply = matches!(given.0, Answer::Replied(_));
+    if given.1.note.is_some() == is_reply {
+        put_answer(out, &given.0);
+        is_reply
+    } else {
+        put_word(out, b"no such ask");
+        false
+    }
+}
+
+/// Adds what the place answers, and tells whether it is a reply.
+fn ask(
+    alloc: Global,
+    place: &mut PlaceObject,
+    word: &str,
+    numbers: &[u32],
+    out: &mut List<u8>,
+) -> bool {
+    if let Some(ask) = ask_of(alloc, word, numbers)
+        && let Ok(given) = place.answer(ask)
+    {
+        return put_given(out, &given);
+    }
+    put_word(out, b"no such ask");
+    false
 }
 
 /// Adds the values of the messages that stand in the port.
@@ -111,9 +140,10 @@ fn put_claim(out: &mut List<u8>, port: &PortObject) {
 
 /// Posts the numbers below the count.
 fn post_all(alloc: Global, place: &mut PlaceObject, port: u32, count: u32, out: &mut List<u8>) {
+    let mut answers = List::new(alloc);
     let mut posted = 0u64;
     for number in 0..count {
-        if let Some(Answer::Replied(_)) = reply(alloc, place, "post", &[port, number, number]) {
+        if ask(alloc, place, "post", &[port, number, number], &mut answers) {
             posted = posted.saturating_add(1);
         }
     }
@@ -122,33 +152,43 @@ fn post_all(alloc: Global, place: &mut PlaceObject, port: u32, count: u32, out: 
 }
 
 /// One ask, or a question that only a port has.
-fn ask_one(alloc: Global, place: &mut PlaceObject, ask: &str, out: &mut List<u8>) {
-    let (word, numbers) = word_and_numbers(alloc, ask);
-    let numbers = numbers.as_slice();
+fn ask_one(alloc: Global, place: &mut PlaceObject, text: &str, out: &mut List<u8>) {
+    let (word, numbers) = word_and_numbers(alloc, text);
+    ask_with(alloc, place, word, numbers.as_slice(), out);
+}
+
+/// The same of this word with these numbers.
+fn ask_with(
+    alloc: Global,
+    place: &mut PlaceObject,
+    word: &str,
+    numbers: &[u32],
+    out: &mut List<u8>,
+) {
     match (word, &*place.object) {
         ("holds", Object::Port(port)) => put_held(out, port),
         ("claimed", Object::Port(port)) => put_claim(out, port),
         ("posts", _) => post_all(alloc, place, at(numbers, 0), at(numbers, 1), out),
-        _ => match reply(alloc, place, word, numbers) {
-            Some(answer) => put_answer(out, &answer),
-            None => put_word(out, b"no such ask"),
-        },
+        _ => {
+            ask(alloc, place, word, numbers, out);
+        }
     }
 }
 
 /// The answers to the asks, one after the other.
 fn ask_all(alloc: Global, place: &mut PlaceObject, asks: &str, out: &mut List<u8>) {
-    for ask in asks.split(", ") {
-        ask_one(alloc, place, ask, out);
+    for text in asks.split(", ") {
+        ask_one(alloc, place, text, out);
     }
 }
 
 /// How many of the asks are met, one after the other.
 fn ask_met(alloc: Global, place: &mut PlaceObject, asks: &str, out: &mut List<u8>) {
+    let mut answers = List::new(alloc);
     let mut count = 0u64;
-    for ask in asks.split(", ") {
-        let (word, numbers) = word_and_numbers(alloc, ask);
-        if let Some(Answer::Replied(_)) = reply(alloc, place, word, numbers.as_slice()) {
+    for text in asks.split(", ") {
+        let (word, numbers) = word_and_numbers(alloc, text);
+        if ask(alloc, place, word, numbers.as_slice(), &mut answers) {
             count = count.saturating_add(1);
         }
     }

@@ -78,19 +78,29 @@ pub fn sink(alloc: Global, input: &str, out: &mut List<u8>) {
     }
 }
 
-/// For `ROOM` what streams that never fail read and write.
-pub fn sure(alloc: Global, input: &str, out: &mut List<u8>) {
+/// Adds what is read of a source that never fails.
+fn put_sure_read(alloc: Global, out: &mut List<u8>) {
     let mut text = List::new(alloc);
     put(&mut text, TEXT);
     let mut source = SureSource::new(text);
     put_read(out, &read_all(alloc, &mut source, 9));
     put_number(out, source.rest().len() as u64);
-    let room = at(numbers_of(alloc, input).as_slice(), 0) as usize;
+}
+
+/// Adds what is written to a sink that never fails and has so much room.
+fn put_sure_written(alloc: Global, room: usize, out: &mut List<u8>) {
     if let Ok(mut sink) = SureSink::new(alloc, room) {
         put_done(out, write_all(&mut sink, TEXT).is_ok());
         put_truth(out, sink.is_whole());
         put_word(out, sink.kept());
     }
+}
+
+/// For `ROOM` what streams that never fail read and write.
+pub fn sure(alloc: Global, input: &str, out: &mut List<u8>) {
+    put_sure_read(alloc, out);
+    let room = at(numbers_of(alloc, input).as_slice(), 0) as usize;
+    put_sure_written(alloc, room, out);
 }
 
 /// Fails at every other call, and else gives or takes nothing.

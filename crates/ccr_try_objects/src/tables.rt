@@ -74,29 +74,40 @@ fn put_left(alloc: Global, out: &mut List<u8>, port: &mut HeldMessages, input: &
     }
 }
 
+/// Adds how many of the messages at these places the port holds.
+fn put_shared(alloc: Global, out: &mut List<u8>, port: &mut HeldMessages, input: &str) {
+    let names = names_of(alloc, numbers_of(alloc, input).as_slice());
+    if let Ok(count) = port.shared(names.as_slice()) {
+        put_number(out, count as u64);
+    }
+}
+
+/// Takes the first that satisfies the predicate, and adds its place.
+fn put_taken(out: &mut List<u8>, port: &mut HeldMessages, input: &str) {
+    let (pred, _) = pred_in(input);
+    if let Ok(taken) = port.take(pred) {
+        put_first(out, &taken);
+    }
+}
+
+/// What the port answers to the question.
+fn put_answer(alloc: Global, out: &mut List<u8>, port: &mut HeldMessages, question: &str) {
+    let (word, rest) = question.split_once(' ').unwrap_or((question, ""));
+    match word {
+        "names" => put_named(out, port, rest),
+        "has" => put_has(out, port, rest),
+        "shared" => put_shared(alloc, out, port, rest),
+        "first" => put_taken(out, port, rest),
+        _ => put_left(alloc, out, port, rest),
+    }
+}
+
 /// For `VALUE .. : QUESTION` what a port answers that holds messages of these values.
 pub fn held(alloc: Global, input: &str, out: &mut List<u8>) {
     let (values, question) = first_part(input);
     let values = numbers_of(alloc, values);
     let mut port = filled(alloc, values.as_slice());
-    let (word, rest) = question.split_once(' ').unwrap_or((question, ""));
-    match word {
-        "names" => put_named(out, &mut port, rest),
-        "has" => put_has(out, &mut port, rest),
-        "shared" => {
-            let names = names_of(alloc, numbers_of(alloc, rest).as_slice());
-            if let Ok(count) = port.shared(names.as_slice()) {
-                put_number(out, count as u64);
-            }
-        }
-        "first" => {
-            let (pred, _) = pred_in(rest);
-            if let Ok(taken) = port.take(pred) {
-                put_first(out, &taken);
-            }
-        }
-        _ => put_left(alloc, out, &mut port, rest),
-    }
+    put_answer(alloc, out, &mut port, question);
 }
 
 fn put_item(out: &mut List<u8>, item: Option<u32>) {
