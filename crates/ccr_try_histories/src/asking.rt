@@ -2,7 +2,7 @@
 
 use crate::events::{put_end, put_messages, put_tasks, put_values};
 use crate::judging::{push, put_rule};
-use crate::reading::event_of;
+use crate::reading::one_event;
 use ccr_base::{List, MsgId, OutOfMemory, PortNo, Spot, TaskId};
 use ccr_laws::fate;
 use ccr_model::choices::is_choice;
@@ -27,13 +27,20 @@ fn first(alloc: Global, history: &History, count: u32) -> History {
     begun
 }
 
+/// Adds the rule by which the event is refused behind this history.
+fn put_refusal(alloc: Global, wiring: &Wiring, begun: &History, event: &Event, out: &mut List<u8>) {
+    if let Ok(rule) = refused_by(alloc, wiring, begun, event) {
+        put_rule(out, rule);
+    }
+}
+
 /// For `COUNT EVENT` the rule by which the event is refused after so many events.
 pub fn refused(alloc: Global, wiring: &Wiring, history: &History, input: &str, out: &mut List<u8>) {
     let (count, line) = first_number(input);
     let begun = first(alloc, history, count);
-    if let Some(event) = event_of(alloc, wiring, line) {
-        if let Ok(rule) = refused_by(alloc, wiring, &begun, &event) {
-            put_rule(out, rule);
+    if let Some(one) = one_event(alloc, wiring, line) {
+        if let Some(event) = one.events().first() {
+            put_refusal(alloc, wiring, &begun, event, out);
         }
     }
 }
@@ -46,32 +53,48 @@ struct Subject {
     message: MsgId,
 }
 
-/// The subject that a line `fire TASK SPOT MESSAGE` names.
-fn subject_of(alloc: Global, wiring: &Wiring, line: &str) -> Option<Subject> {
-    match event_of(alloc, wiring, line)? {
+/// The subject that the first event names, a firing.
+fn first_subject(events: &[Event]) -> Option<Subject> {
+    match events.first()? {
         Event::Fire {
             task,
             spot,
             messages,
             ..
         } => Some(Subject {
-            task,
-            spot,
+            task: *task,
+            spot: *spot,
             message: *messages.as_slice().first()?,
         }),
         _ => None,
     }
 }
 
-/// The tasks of the one Interleave and the one queue.
-fn tasks(
+/// The subject that a line `fire TASK SPOT MESSAGE` names.
+fn subject_of(alloc: Global, wiring: &Wiring, line: &str) -> Option<Subject> {
+    match one_event(alloc, wiring, line) {
+        Some(history) => first_subject(history.events()),
+        None => None,
+    }
+}
+
+/// Adds the tasks that were found.
+fn put_found(out: &mut List<u8>, found: &Result<Vec<TaskId>, OutOfMemory>) {
+    if let Ok(tasks) = found {
+        put_tasks(out, tasks);
+    }
+}
+
+/// Adds the tasks of the one Interleave and the one queue, and answers whether the word asks for tasks.
+fn put_tasks_of(
     alloc: Global,
     wiring: &Wiring,
     events: &[Event],
     word: &str,
     spot: Spot,
-) -> Option<Result<Vec<TaskId>, OutOfMemory>> {
-    Some(match word {
+    out: &mut List<u8>,
+) -> bool {
+    let found = match word {
         "fired" => fired(alloc, events),
         "cut" => cut(alloc, events),
         "put" => put_of(alloc, events),
@@ -80,8 +103,10 @@ fn tasks(
         "queued" => queued(alloc, wiring, events, 0),
         "running" => running(alloc, events),
         "cuts_at" => cuts_at(alloc, wiring, events, spot),
-        _ => return None,
-    })
+        _ => return false,
+    };
+    put_found(out, &found);
+    true
 }
 
 /// What holds of a spot or a task.
@@ -180,23 +205,32 @@ fn put_other(
     }
 }
 
+/// What the query of this word answers behind this history.
+fn put_answer(
+    alloc: Global,
+    wiring: &Wiring,
+    begun: &History,
+    word: &str,
+    of: Subject,
+    out: &mut List<u8>,
+) {
+    let events = begun.events();
+    if put_tasks_of(alloc, wiring, events, word, of.spot, out) {
+        return;
+    }
+    match holds(alloc, wiring, events, word, of) {
+        Some(Ok(truth)) => put_truth(out, truth),
+        Some(Err(_)) => {}
+        None => put_other(alloc, wiring, begun, word, of, out),
+    }
+}
+
 /// For `COUNT WORD fire TASK SPOT MESSAGE` what the query of this word answers after so many events.
 pub fn ask(alloc: Global, wiring: &Wiring, history: &History, input: &str, out: &mut List<u8>) {
     let (count, rest) = first_number(input);
     let (word, line) = rest.split_once(' ').unwrap_or((rest, ""));
-    let begun = first(alloc, history, count);
-    let Some(of) = subject_of(alloc, wiring, line) else {
-        return;
-    };
-    if let Some(found) = tasks(alloc, wiring, begun.events(), word, of.spot) {
-        if let Ok(tasks) = found {
-            put_tasks(out, &tasks);
-        }
-    } else if let Some(found) = holds(alloc, wiring, begun.events(), word, of) {
-        if let Ok(truth) = found {
-            put_truth(out, truth);
-        }
-    } else {
-        put_other(alloc, wiring, &begun, word, of, out);
+    if let Some(of) = subject_of(alloc, wiring, line) {
+        let begun = first(alloc, history, count);
+        put_answer(alloc, wiring, &begun, word, of, out);
     }
 }

@@ -2,7 +2,7 @@
 
 use crate::events::put_event;
 use ccr_base::List;
-use ccr_model::{Event, History};
+use ccr_model::History;
 use ccr_trace::{HistoryRefused, read_history, write_history};
 use ccr_try::{put, put_number, put_refused, text_of};
 use ccr_wiring::Wiring;
@@ -24,16 +24,21 @@ pub fn refusal(alloc: Global, wiring: &Wiring, past: &str, lines: &str, out: &mu
     }
 }
 
-/// The history that the text says.
-pub fn history_of(alloc: Global, wiring: &Wiring, text: &str) -> Option<History> {
-    let text = text_of(alloc, text, "");
+/// The history that these bytes say.
+fn read(alloc: Global, wiring: &Wiring, text: &[u8]) -> Option<History> {
     if text.len() > LONGEST {
         return None;
     }
-    match read_history(alloc, wiring, text.as_slice()) {
+    match read_history(alloc, wiring, text) {
         Ok(read) => Some(read.history),
         Err(_) => None,
     }
+}
+
+/// The history that the text says.
+pub fn history_of(alloc: Global, wiring: &Wiring, text: &str) -> Option<History> {
+    let text = text_of(alloc, text, "");
+    read(alloc, wiring, text.as_slice())
 }
 
 fn put_history(alloc: Global, wiring: &Wiring, history: &History, out: &mut List<u8>) {
@@ -57,7 +62,7 @@ pub fn again(alloc: Global, wiring: &Wiring, text: &str, out: &mut List<u8>) {
 }
 
 /// The history of the one event of this line.
-fn one_event(alloc: Global, wiring: &Wiring, line: &str) -> Option<History> {
+pub fn one_event(alloc: Global, wiring: &Wiring, line: &str) -> Option<History> {
     let head = if wiring.parts().version == 2 {
         "history 2;"
     } else {
@@ -65,19 +70,7 @@ fn one_event(alloc: Global, wiring: &Wiring, line: &str) -> Option<History> {
     };
     let mut text = text_of(alloc, head, line);
     put(&mut text, b"\nreport 1\n");
-    if text.len() > LONGEST {
-        return None;
-    }
-    match read_history(alloc, wiring, text.as_slice()) {
-        Ok(read) => Some(read.history),
-        Err(_) => None,
-    }
-}
-
-/// The event of this line.
-pub fn event_of(alloc: Global, wiring: &Wiring, line: &str) -> Option<Event> {
-    let history = one_event(alloc, wiring, line)?;
-    history.events().first()?.copy(alloc).ok()
+    read(alloc, wiring, text.as_slice())
 }
 
 /// The numbers of the line's event, and the text of its history.
