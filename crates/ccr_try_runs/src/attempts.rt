@@ -1,10 +1,10 @@
 //! Attempts over scripted replies.
 
-ghost use Rattle.std.specs.Prelude.{◌≡◌};
+ghost use Rattle.std.specs.Prelude.{◌≡◌, IfOk, IsTrue};
 ghost use Rattle.ccr_claim.specs.declared.asks.Due.TheVariants as dues;
 
 use crate::replies::{put_asked, put_point, reply_of};
-use ccr_base::{By, List, Pattern, Pred, Slot, Spot, TaskId};
+use ccr_base::{By, List, OutOfMemory, Pattern, Pred, Slot, Spot, TaskId};
 use ccr_claim::{Ask, Attempt, ClaimPlan, Next, Outcome, Progress, Why, may_come};
 use ccr_try::{put_number, put_task, put_truth, put_word};
 use std::alloc::Global;
@@ -52,6 +52,15 @@ fn put_progress(out: &mut List<u8>, progress: Progress) {
     }
 }
 
+/// Adds how the attempt has ended.
+fn put_outcome(out: &mut List<u8>, next: &Next) {
+    match next {
+        Next::Ended(Outcome::GaveUp(why)) => put_why(out, *why),
+        Next::Ended(Outcome::Fired { waits, .. }) => put_fired(out, *waits),
+        Next::Ask(..) => put_word(out, b"goes on"),
+    }
+}
+
 /// Adds whether the attempt has settled all, where it stands, and how it has ended.
 fn put_ended(out: &mut List<u8>, attempt: &mut Attempt)
     requires { attempt.old.due ≡ dues.Nothing }
@@ -60,34 +69,54 @@ fn put_ended(out: &mut List<u8>, attempt: &mut Attempt)
     put_truth(out, attempt.is_settled());
     put_progress(out, attempt.progress());
     put_word(out, b"=");
-    match attempt.next() {
-        Next::Ended(Outcome::GaveUp(why)) => put_why(out, why),
-        Next::Ended(Outcome::Fired { waits, .. }) => put_fired(out, waits),
-        Next::Ask(..) => put_word(out, b"goes on"),
+    put_outcome(out, &attempt.next());
+}
+
+/// Adds the ask, and the attempt that gives its booking back where it does. Answers whether something is asked.
+fn put_next(out: &mut List<u8>, next: &Next) -> bool {
+    let Next::Ask(place, ask) = next else {
+        return false;
+    };
+    put_asked(out, *place, ask);
+    if let Ask::Unbook(task) = ask {
+        put_point(out, task.attempt);
     }
+    true
+}
+
+/// Adds what the attempt asks next, and answers whether it asks.
+fn asks(attempt: &mut Attempt, out: &mut List<u8>) -> bool
+    requires { attempt.old.due ≡ dues.Nothing }
+{
+    put_next(out, &attempt.next())
+}
+
+/// Gives the attempt the reply of this word if it is one that may come, and answers whether it is.
+fn gets(alloc: Global, attempt: &mut Attempt, word: &str) -> bool
+    ensures { IsTrue result → attempt.new.due ≡ dues.Nothing }
+{
+    let reply = reply_of(alloc, word);
+    let comes = may_come(attempt.due(), &reply);
+    if comes {
+        attempt.got(reply);
+    }
+    comes
 }
 
 /// What the attempt asks, reply by reply, and how it has ended behind the last.
-fn follow(alloc: Global, plan: ClaimPlan, replies: &str, out: &mut List<u8>) {
-    let Ok(mut attempt) = Attempt::begin(alloc, plan, NAME) else {
-        return;
-    };
+fn follow(alloc: Global, attempt: &mut Attempt, replies: &str, out: &mut List<u8>)
+    requires { attempt.old.due ≡ dues.Nothing }
+{
     for word in replies.split(' ') {
-        let Next::Ask(place, ask) = attempt.next() else {
+        if !asks(attempt, out) {
             return;
-        };
-        put_asked(out, place, &ask);
-        if let Ask::Unbook(task) = &ask {
-            put_point(out, task.attempt);
         }
-        let reply = reply_of(alloc, word);
-        if !may_come(attempt.due(), &reply) {
+        if !gets(alloc, attempt, word) {
             put_word(out, b"no such reply");
             return;
         }
-        attempt.got(reply);
     }
-    put_ended(out, &mut attempt);
+    put_ended(out, attempt);
 }
 
 /// Adds a slot of so many messages of the port.
@@ -123,6 +152,14 @@ fn one_slot(alloc: Global) -> Pattern {
     Pattern::Slots(slots)
 }
 
+/// The attempt of this plan, in a box: who drops it drops one value and not each of its lists.
+fn boxed_attempt(alloc: Global, plan: ClaimPlan) -> Result<Box<Attempt>, OutOfMemory>
+    ensures { IfOk result (λ attempt. attempt.value.due ≡ dues.Nothing) }
+{
+    let attempt = Attempt::begin(alloc, plan, NAME)?;
+    Ok(Box::new(alloc, attempt)?)
+}
+
 /// An attempt at branch 5 with a gather or two slots, or at its second site with one slot.
 pub fn attempt(alloc: Global, pattern: &str, replies: &str, out: &mut List<u8>) {
     let (spot, pattern) = match pattern {
@@ -136,5 +173,7 @@ pub fn attempt(alloc: Global, pattern: &str, replies: &str, out: &mut List<u8>) 
         queue: 6,
         arbiter: 7,
     };
-    follow(alloc, plan, replies, out);
+    if let Ok(mut attempt) = boxed_attempt(alloc, plan) {
+        follow(alloc, &mut attempt, replies, out);
+    }
 }

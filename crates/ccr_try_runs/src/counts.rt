@@ -11,19 +11,26 @@ use std::alloc::Global;
 /// The largest generated wiring.
 const LARGEST: u32 = 10_000;
 
+/// Adds what is agreed on.
+fn put_agreed(alloc: Global, out: &mut List<u8>, agreed: &Agreed) {
+    match agreed {
+        Agreed::Unsteady(rule) => {
+            put_word(out, b"unsteady");
+            put_number(out, u64::from(*rule));
+        }
+        Agreed::Spent => put_word(out, b"spent"),
+        Agreed::Counts { fired, totals } => {
+            put_numbers(out, fired.as_slice());
+            put_word(out, b"");
+            let _ = put_total(alloc, out, totals);
+        }
+    }
+}
+
 /// What all runs of the wiring agree on: the rule by which it is unsteady, or how often each branch fires, and the totals.
 pub fn steady(alloc: Global, wiring: &Wiring, out: &mut List<u8>) {
     match agreed(alloc, wiring) {
-        Ok(Agreed::Unsteady(rule)) => {
-            put_word(out, b"unsteady");
-            put_number(out, u64::from(rule));
-        }
-        Ok(Agreed::Spent) => put_word(out, b"spent"),
-        Ok(Agreed::Counts { fired, totals }) => {
-            put_numbers(out, fired.as_slice());
-            put_word(out, b"");
-            let _ = put_total(alloc, out, &totals);
-        }
+        Ok(found) => put_agreed(alloc, out, &found),
         Err(_) => put_word(out, b"memory"),
     }
 }

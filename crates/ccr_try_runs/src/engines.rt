@@ -1,13 +1,14 @@
 //! The order of one thread.
 
-ghost use Rattle.std.specs.Prelude.{◌≡◌, ◌+◌, ◌≤◌, ◌^◌, IfOk, length};
+ghost use Rattle.std.specs.Prelude.{◌≡◌, ◌+◌, ◌≤◌, ◌^◌, IfOk, length, true};
 ghost use Rattle.ccr_model.specs.Firings.{fired};
-ghost use Rattle.ccr_model.specs.Legal.{IsLegal};
+ghost use Rattle.ccr_model.specs.Legal.{IsLegal, IsQuiet, is_complete};
 ghost use Rattle.ccr_model.specs.Order.{next_attempt};
 ghost use Rattle.ccr_runs.specs.EntryRuns.{IsRun};
+ghost use Rattle.ccr_service.specs.Expansion.{expansion};
 
 use crate::schedules::shortened;
-use ccr_base::{List, OutOfMemory};
+use ccr_base::{ActorNo, List, OutOfMemory};
 use ccr_model::History;
 use ccr_net::{closers_are_new_to_runs, visible};
 use ccr_runs::Full;
@@ -56,33 +57,68 @@ fn put_history(alloc: Global, wiring: &Wiring, history: &History, out: &mut List
     }
 }
 
+/// What is visible of the run without workers where the ask of this number finds no memory.
+fn shown_short(
+    alloc: Global,
+    wiring: &Wiring,
+    turns: &[ActorNo],
+    refused: u64,
+) -> Result<History, OutOfMemory>
+    ensures legal { IfOk result (λ history. IsLegal wiring.now history) }
+    ensures attempts { IfOk result (λ history. next_attempt (length wiring.now.posters + 0) (fired history) ≤ 2 ^ 31) }
+{
+    match shortened(alloc, wiring, turns, refused) {
+        Ok(full) => shown(alloc, wiring, &full),
+        Err(_) => Err(OutOfMemory),
+    }
+}
+
+/// The same history, gone on with.
+fn finished_short(
+    alloc: Global,
+    wiring: &Wiring,
+    turns: &[ActorNo],
+    refused: u64,
+) -> Result<History, OutOfMemory> {
+    match shown_short(alloc, wiring, turns, refused) {
+        Ok(first) => finished(alloc, wiring, first),
+        Err(_) => Err(OutOfMemory),
+    }
+}
+
 /// For `ASK TURN ..` the history of the run where the ask of this number finds no memory, once one thread has finished it.
 pub fn finish_short(alloc: Global, wiring: &Wiring, input: &str, out: &mut List<u8>) {
     let (refused, turns) = first_number(input);
     let turns = numbers_of(alloc, turns);
-    let Ok(full) = shortened(alloc, wiring, turns.as_slice(), u64::from(refused)) else {
-        return;
-    };
-    let Ok(first) = shown(alloc, wiring, &full) else {
-        return;
-    };
-    if let Ok(history) = finished(alloc, wiring, first) {
+    if let Ok(history) = finished_short(alloc, wiring, turns.as_slice(), u64::from(refused)) {
         put_history(alloc, wiring, &history, out);
     }
+}
+
+/// Adds whether nothing more may happen, and answers whether the step made an event.
+fn put_stepped(out: &mut List<u8>, stepped: &Result<Stepped, OutOfMemory>) -> bool {
+    match stepped {
+        Ok(Stepped::Did(_)) => true,
+        Ok(Stepped::Quiet) => {
+            put_word(out, b"quiet");
+            false
+        }
+        Err(_) => false,
+    }
+}
+
+/// Makes a step, adds how many events there are then, and answers whether it made one.
+fn put_step(engine: &mut Serial<'_>, out: &mut List<u8>) -> bool {
+    let stepped = engine.step();
+    put_number(out, engine.history().events().len() as u64);
+    put_stepped(out, &stepped)
 }
 
 /// Adds how many events there are after each step, up to one that makes none.
 fn put_counts(engine: &mut Serial<'_>, out: &mut List<u8>) {
     for _ in 0..100 {
-        let stepped = engine.step();
-        put_number(out, engine.history().events().len() as u64);
-        match stepped {
-            Ok(Stepped::Did(_)) => {}
-            Ok(Stepped::Quiet) => {
-                put_word(out, b"quiet");
-                return;
-            }
-            Err(_) => return,
+        if !put_step(engine, out) {
+            return;
         }
     }
 }
@@ -128,36 +164,61 @@ fn put_answer(out: &mut List<u8>, answer: &Answer) {
     }
 }
 
-/// Adds what became of each request, in the order of one thread.
-fn put_answers(alloc: Global, service: &Service, out: &mut List<u8>) {
-    let Ok(wiring) = expand(alloc, service) else {
-        return;
-    };
+/// The history of one thread, up to where nothing more may happen.
+fn whole(alloc: Global, wiring: &Wiring) -> Result<History, OutOfMemory>
+    ensures legal { IfOk result (IsLegal wiring.now) }
+    ensures complete { IfOk result (λ history. is_complete wiring.now history ≡ true) }
+    ensures quiet { IfOk result (IsQuiet wiring.now) }
+{
     let posters = wiring.parts().posters.as_slice().len();
     if posters > MOST_POSTERS {
-        return;
+        return Err(OutOfMemory);
     }
-    let Ok(engine) = Serial::start(alloc, &wiring, posters as u32) else {
-        return;
-    };
-    let Ok(history) = engine.finish() else {
-        return;
-    };
-    if let Ok(answers) = answers(alloc, service, &history) {
+    Serial::start(alloc, wiring, posters as u32)?.finish()
+}
+
+/// Adds what became of each request in this history.
+fn put_answers(alloc: Global, service: &Service, history: &History, out: &mut List<u8>)
+    requires legal { IsLegal (expansion service.now) history.now }
+    requires complete { is_complete (expansion service.now) history.now ≡ true }
+    requires quiet { IsQuiet (expansion service.now) history.now }
+{
+    if let Ok(answers) = answers(alloc, service, history) {
         for answer in answers.as_slice() {
             put_answer(out, answer);
         }
     }
 }
 
-/// What became of each request of the service.
-pub fn answers_of(alloc: Global, text: &str, out: &mut List<u8>) {
-    let text = text_of(alloc, text, "");
+/// Adds what became of each request in the order of one thread over this wiring, the service's.
+fn put_whole(alloc: Global, service: &Service, wiring: &Wiring, out: &mut List<u8>)
+    requires { wiring.now ≡ expansion service.now }
+{
+    if let Ok(history) = whole(alloc, wiring) {
+        put_answers(alloc, service, &history, out);
+    }
+}
+
+/// Adds what became of each request of the service.
+fn put_expanded(alloc: Global, service: &Service, out: &mut List<u8>) {
+    if let Ok(wiring) = expand(alloc, service) {
+        put_whole(alloc, service, &wiring, out);
+    }
+}
+
+/// Adds what became of each request of the service that these bytes say.
+fn put_served(alloc: Global, text: &[u8], out: &mut List<u8>) {
     if text.len() > LONGEST {
         return;
     }
-    match read_service(alloc, text.as_slice()) {
-        Ok(service) => put_answers(alloc, &service, out),
+    match read_service(alloc, text) {
+        Ok(service) => put_expanded(alloc, &service, out),
         Err(_) => put(out, b"no service"),
     }
+}
+
+/// What became of each request of the service.
+pub fn answers_of(alloc: Global, text: &str, out: &mut List<u8>) {
+    let text = text_of(alloc, text, "");
+    put_served(alloc, text.as_slice(), out);
 }

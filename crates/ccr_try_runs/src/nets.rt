@@ -3,8 +3,8 @@
 ghost use Rattle.std.specs.Prelude.{◌≡◌, ◌≢◌, [], ℕ};
 ghost use Rattle.ccr_runs.specs.Played.{steps_in};
 
-use ccr_actor::Actor;
-use ccr_base::{ActorNo, List, OpenGate};
+use crate::courses::boxed_actor;
+use ccr_base::{ActorNo, List, OpenGate, OutOfMemory};
 use ccr_dispatch::drive;
 use ccr_net::PlainNet;
 use ccr_places::Note;
@@ -20,7 +20,7 @@ fn rest_one(alloc: Global, wiring: &Wiring, net: &mut PlainNet<'_>, number: Acto
     ensures wiring { net.new.wiring ≡ net.old.wiring }
     ensures others { (other : ℕ) → other ≢ number → steps_in net.new.wiring net.new.acts other ≡ steps_in net.old.wiring net.old.acts other }
 {
-    match Actor::start(alloc, wiring, number) {
+    match boxed_actor(alloc, wiring, number) {
         Ok(mut actor) => drive(net, &mut actor, &OpenGate),
         Err(_) => 0,
     }
@@ -45,11 +45,17 @@ fn put_full(out: &mut List<u8>, full: &Full, steps: u64) {
     }
 }
 
+/// The run of the first actor to its rest, and then of the second, and how many steps they made.
+fn rested(alloc: Global, wiring: &Wiring) -> Result<(Full, u64), OutOfMemory> {
+    let mut net = PlainNet::start(alloc, wiring)?;
+    let posted = rest_one(alloc, wiring, &mut net, 0);
+    let worked = rest_one(alloc, wiring, &mut net, 1);
+    Ok((net.full(), posted.saturating_add(worked)))
+}
+
 /// Brings the first actor to rest, and then the second.
 pub fn rest(alloc: Global, wiring: &Wiring, out: &mut List<u8>) {
-    if let Ok(mut net) = PlainNet::start(alloc, wiring) {
-        let posted = rest_one(alloc, wiring, &mut net, 0);
-        let worked = rest_one(alloc, wiring, &mut net, 1);
-        put_full(out, &net.full(), posted.saturating_add(worked));
+    if let Ok(run) = rested(alloc, wiring) {
+        put_full(out, &run.0, run.1);
     }
 }

@@ -61,18 +61,29 @@ fn one_entry(alloc: Global, actor: ActorNo, note: Note) -> Full {
     Full { entries }
 }
 
-/// For `ACTOR NOTE` the events that the actor's note shows.
-pub fn shows(alloc: Global, wiring: &Wiring, input: &str, out: &mut List<u8>) {
-    let (actor, word) = first_number(input);
-    let Some(note) = note_of(word) else {
-        return;
-    };
-    let full = one_entry(alloc, actor, note);
-    if let Ok(history) = visible(alloc, wiring, &full) {
+/// The run of one entry of the first queue with the note of this word, if it is one.
+fn entry_of(alloc: Global, actor: ActorNo, word: &str) -> Option<Full> {
+    match note_of(word) {
+        Some(note) => Some(one_entry(alloc, actor, note)),
+        None => None,
+    }
+}
+
+/// Adds how many events the run shows, and each.
+fn put_shown(alloc: Global, wiring: &Wiring, full: &Full, out: &mut List<u8>) {
+    if let Ok(history) = visible(alloc, wiring, full) {
         put_number(out, history.events().len() as u64);
         for event in history.events() {
             put_event(out, event);
         }
+    }
+}
+
+/// For `ACTOR NOTE` the events that the actor's note shows.
+pub fn shows(alloc: Global, wiring: &Wiring, input: &str, out: &mut List<u8>) {
+    let (actor, word) = first_number(input);
+    if let Some(full) = entry_of(alloc, actor, word) {
+        put_shown(alloc, wiring, &full, out);
     }
 }
 
@@ -91,6 +102,13 @@ fn put_place(out: &mut List<u8>, place: Place) {
     }
 }
 
+/// Adds the number of the place, and the place of that number.
+fn put_numbered(out: &mut List<u8>, directory: &Directory, place: Place) {
+    let number = directory.number(place);
+    put_number(out, u64::from(number));
+    put_place(out, directory.place(number));
+}
+
 /// For `port`, `queue` or `meter` the number of the first such place, and the place of that number.
 pub fn number(alloc: Global, wiring: &Wiring, word: &str, out: &mut List<u8>) {
     let place = match word {
@@ -99,9 +117,7 @@ pub fn number(alloc: Global, wiring: &Wiring, word: &str, out: &mut List<u8>) {
         _ => Place::Meter,
     };
     if let Ok(directory) = Directory::of(alloc, wiring) {
-        let number = directory.number(place);
-        put_number(out, u64::from(number));
-        put_place(out, directory.place(number));
+        put_numbered(out, &directory, place);
     }
 }
 
