@@ -85,16 +85,17 @@ post a 7
 end
 ";
 
-/// The actor of this number, before its first step.
-fn first<'w>(rt: &impl Abort, alloc: Global, wiring: &'w Wiring, number: u32) -> Actor<'w>
-    ensures { result ≡ started wiring.now number }
+/// The actor of this number, before its first step, in a box: who drops it drops one value and not each of its lists.
+fn first<'w>(rt: &impl Abort, alloc: Global, wiring: &'w Wiring, number: u32) -> Box<Actor<'w>>
+    ensures { result.value ≡ started wiring.now number }
 {
     let posters = wiring.parts().posters.as_slice().len();
-    if (number as usize) < posters {
+    let actor = if (number as usize) < posters {
         Actor::poster(alloc, wiring, number).expect(rt, "memory")
     } else {
         Actor::worker(alloc, wiring, number).expect(rt, "memory")
-    }
+    };
+    Box::new(alloc, actor).ok().expect(rt, "memory")
 }
 
 /// The drive of the actor of this number over these replies.

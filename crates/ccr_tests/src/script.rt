@@ -112,6 +112,7 @@ impl<'w, R: Abort> Script<'w, R> {
         }
         let (reply, kept) = twice(self.rt, self.alloc, self.says[0]);
         if !fits(due_of(ask), &reply) || !is_of(self.rt, self.alloc, self.wiring, &reply) {
+            drop((reply, kept));
             return Err(OutOfMemory);
         }
         self.says = &self.says[1..];
@@ -126,10 +127,17 @@ impl<'w, R: Abort> Net for Script<'w, R> {
 
     fn act(&mut self, actor: ActorNo, place: Place, ask: Ask) -> Result<Reply, OutOfMemory> {
         self.asks.set(self.asks.get().saturating_add(1));
-        let (reply, kept) = self.reply(&ask)?;
-        let row = (actor, Asked { place, ask }, kept);
-        self.made.add(row).expect(self.rt, "memory");
-        Ok(reply)
+        match self.reply(&ask) {
+            Ok((reply, kept)) => {
+                let row = (actor, Asked { place, ask }, kept);
+                self.made.add(row).expect(self.rt, "memory");
+                Ok(reply)
+            }
+            Err(refused) => {
+                drop(ask);
+                Err(refused)
+            }
+        }
     }
 }
 

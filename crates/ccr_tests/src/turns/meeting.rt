@@ -7,6 +7,7 @@ use crate::compare::same;
 use ccr_base::{List, OutOfMemory};
 use ccr_turns::{Keep, Kept, Seat, Turns};
 use std::alloc::Global;
+use std::process::Abort;
 use std::sync::atomic::{AtomicU64, Ordering};
 use std::sync::{Arc, Wait};
 use std::test::*;
@@ -71,20 +72,28 @@ fn meet<R: Wait>(rt: &R, turns: &Turns<Meeting>, mut seat: Seat<Meeting>) -> boo
     matches!(turns.act(rt, &mut seat, place, ()), Ok(true))
 }
 
+/// The two places.
+fn places(rt: &impl Abort, alloc: Global) -> List<Meeting> {
+    let flag = Arc::new(alloc, AtomicU64::new(0)).ok().expect(rt, "memory");
+    let other = Arc::try_clone(&flag).expect(rt, "memory");
+    let mut places = List::new(alloc);
+    places.add(Meeting::Waits(other)).expect(rt, "memory");
+    places.add(Meeting::Begins(flag)).expect(rt, "memory");
+    places
+}
+
 #[test]
-fn two_places_at_once(rt: HostRuntime) -> Result<(), Fail> {
-    let flag = Arc::new(rt.alloc(), AtomicU64::new(0))?;
-    let mut places = Vec::new(rt.alloc());
-    places.push(Meeting::Waits(Arc::try_clone(&flag)?))?;
-    places.push(Meeting::Begins(flag))?;
-    let (turns, seats) = Turns::make(rt.alloc(), List::from_vec(places), 2, Keep::Every)?;
+fn two_places_at_once(rt: HostRuntime) {
+    let places = places(&rt, rt.alloc());
+    assert!(rt; places.len() == 2);
+    let (turns, seats) = Turns::make(rt.alloc(), places, 2, Keep::Every).expect(&rt, "memory");
     let met = thread::map_vec(
         &rt,
         seats.into_vec(),
         &|seat: Seat<Meeting>| -> bool
             requires { IsSeatOf turns seat × (place_count turns ≡ 2) }
         { meet(&rt, &turns, seat) },
-    )?;
+    )
+    .expect(&rt, "threads");
     same(&rt, met.as_slice(), [true, true].as_slice());
-    Ok(())
 }

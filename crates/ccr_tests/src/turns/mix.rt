@@ -8,9 +8,12 @@ use super::entries_of;
 use crate::compare::same;
 use ccr_base::List;
 use ccr_turns::{Held, Keep, Seat, Turns};
+use std::alloc::Global;
+use std::process::Abort;
 use std::sync::Wait;
 use std::test::*;
 use std::thread;
+use std::thread::Threads;
 
 const SEATS: u32 = 16;
 
@@ -65,30 +68,42 @@ fn is_in_order(history: &[Held<u64>]) -> bool {
     true
 }
 
-#[test]
-fn sixteen_seats_over_many_places(rt: HostRuntime) -> Result<(), Fail> {
-    let counters = counters(rt.alloc(), PLACES as usize)?;
-    let (turns, seats) = Turns::make(rt.alloc(), counters, SEATS, Keep::Every)?;
+/// What each place has left, once all seats have made their steps side by side.
+fn mixed<R: Threads + Wait + Sync + Abort>(
+    rt: &R,
+    alloc: Global,
+) -> List<(Counter, List<Held<u64>>)> {
+    let counters = counters(alloc, PLACES as usize).expect(rt, "memory");
+    let (turns, seats) = Turns::make(alloc, counters, SEATS, Keep::Every).expect(rt, "memory");
     let seats = thread::map_vec(
-        &rt,
+        rt,
         seats.into_vec(),
         &|seat: Seat<Counter>| -> Seat<Counter>
             requires { IsSeatOf turns seat × (place_count turns ≡ 64) }
             ensures { IsSeatOf turns result }
-        { run(&rt, &turns, seat) },
-    )?;
-    let kept = turns
-        .close(rt.alloc(), List::from_vec(seats))
+        { run(rt, &turns, seat) },
+    )
+    .expect(rt, "threads");
+    turns
+        .close(alloc, List::from_vec(seats))
         .ok()
-        .ok_or("memory")?;
+        .expect(rt, "memory")
+}
+
+/// Stops the test unless the place has each entry that is due at it, in order.
+fn has_what_is_due(rt: &impl Abort, counter: &Counter, history: &[Held<u64>], place: u32) {
+    same(rt, counter.raised(), history.len() as u64);
+    assert!(rt; is_in_order(history));
+    for number in 0..SEATS {
+        same(rt, entries_of(history, number), due(number, place));
+    }
+}
+
+#[test]
+fn sixteen_seats_over_many_places(rt: HostRuntime) {
+    let kept = mixed(&rt, rt.alloc());
     same(&rt, kept.as_slice().len(), 64);
     for ((counter, history), place) in kept.as_slice().iter().zip(0..PLACES) {
-        let history = history.as_slice();
-        same(&rt, counter.raised(), history.len() as u64);
-        assert!(rt; is_in_order(history));
-        for number in 0..SEATS {
-            same(&rt, entries_of(history, number), due(number, place));
-        }
+        has_what_is_due(&rt, counter, history.as_slice(), place);
     }
-    Ok(())
 }
