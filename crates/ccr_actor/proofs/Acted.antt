@@ -10,7 +10,7 @@ use Rattle.ccr_claim.specs.declared.asks.Asked.{Asked}
 use Rattle.ccr_claim.specs.declared.asks.Due.{Due}
 use Rattle.ccr_claim.specs.declared.asks.Due.TheVariants as dues
 use Rattle.ccr_claim.specs.declared.asks.Reply.{Reply}
-use Rattle.ccr_claim.specs.Asks.{Answer, due_of, may_come, is_refusable}
+use Rattle.ccr_claim.specs.Asks.{MaybeReply, due_of, may_come, is_refusable}
 use Rattle.ccr_actor.specs.declared.course.Course.{Course}
 use Rattle.ccr_actor.specs.declared.course.Part.{Part}
 use Rattle.ccr_actor.specs.declared.course.Part.TheVariants as parts
@@ -59,7 +59,7 @@ never-refused dues.Left settles may = absurd settles
 
 -- ---- the state after an answer
 
-pub target_short : (part : Part) (wiring : Parts) (actor : ℕ) (state : State) (answer : Answer) → (target part wiring actor state answer).is_short ≡ state.is_short
+pub target_short : (part : Part) (wiring : Parts) (actor : ℕ) (state : State) (answer : MaybeReply) → (target part wiring actor state answer).is_short ≡ state.is_short
 target_short parts.Over wiring actor state (Ok reply) = settled_short wiring state state.hand reply
 target_short parts.Hand wiring actor state (Ok reply) = settled_short wiring state state.hand reply
 target_short parts.Put wiring actor state (Ok reply) = settled_short wiring state state.hand reply
@@ -81,7 +81,7 @@ target_refused parts.Admit wiring actor state refused = refl
 target_refused parts.Drive wiring actor state refused = refl
 target_refused parts.Work wiring actor state refused = refl
 
-target-bounded : (part : Part) (wiring : Parts) (actor : ℕ) (state : State) (answer : Answer) → IsBounded state → IsBounded (target part wiring actor state answer)
+target-bounded : (part : Part) (wiring : Parts) (actor : ℕ) (state : State) (answer : MaybeReply) → IsBounded state → IsBounded (target part wiring actor state answer)
 target-bounded parts.Over wiring actor state (Ok reply) is = bounded_settled wiring state state.hand reply is
 target-bounded parts.Hand wiring actor state (Ok reply) is = bounded_settled wiring state state.hand reply is
 target-bounded parts.Put wiring actor state (Ok reply) is = bounded_settled wiring state state.hand reply is
@@ -123,7 +123,7 @@ whole-bounded new wanted long same is =
 not-both : {A : Type 0} (b : Bool) → b ≡ true → b ≡ false → A
 not-both b one two = absurd (cc (sym one ∙ two))
 
-pub bounded_still : (part : Part) (wiring : Parts) (actor : ℕ) (old new : State) (answer : Answer) → new.is_short ≡ false → (old.is_short ≡ false → IsBounded old)
+pub bounded_still : (part : Part) (wiring : Parts) (actor : ℕ) (old new : State) (answer : MaybeReply) → new.is_short ≡ false → (old.is_short ≡ false → IsBounded old)
     → (kept new ≡ kept (target part wiring actor old answer)) ⊎ (((target part wiring actor old answer).is_short ≡ false) × (kept new ≡ kept (shorten wiring actor (target part wiring actor old answer)))) → IsBounded new
 bounded_still part wiring actor old new answer long bounded (inl same) =
     let before : old.is_short ≡ false = sym (target_short part wiring actor old answer) ∙ (sym (kept_short (target part wiring actor old answer)) ∙ (sym (ap (λ (s : State). s.is_short) same) ∙ (kept_short new ∙ long))) in
@@ -232,7 +232,7 @@ still_none course new unanswered a view is held = subst (IsHeld new) (sym (nothi
 -- ---- once it is answered
 
 -- the answer is one that the ask may have
-pub may_so : (old : Course) (unanswered : Option (Part × Due)) (a : Acting) (part : Part) (due : Due) (answer : Answer) → seen old unanswered ≡ a → unanswered ≡ Some (part, due) → may_come (due_in a.asking) answer ≡ true → may_come due answer ≡ true
+pub may_so : (old : Course) (unanswered : Option (Part × Due)) (a : Acting) (part : Part) (due : Due) (answer : MaybeReply) → seen old unanswered ≡ a → unanswered ≡ Some (part, due) → may_come (due_in a.asking) answer ≡ true → may_come due answer ≡ true
 may_so old unanswered a part due answer view is may =
     let same : due_in a.asking ≡ due = sym (ap (λ (x : Acting). due_in x.asking) view) ∙ (ap (λ u. due_in (asking_at u)) is ∙ due_same part due) in
     subst (λ d. may_come d answer ≡ true) same may
@@ -244,7 +244,7 @@ pub record IsFinished {E : Type 0} (made : Result E OutOfMemory) (old new : Cour
   pub same : (new.wiring ≡ old.wiring) × (new.number ≡ old.number)
 
 -- the same, seen from before the answer
-pub reached_so : {E : Type 0} (made : Result E OutOfMemory) (old mid new : Course) (part : Part) (answer : Answer) → IsBeside old mid → IsStep made old.wiring.now old.number (target part old.wiring.now old.number (state_of old) answer) (state_of mid) → IsFinished made mid new
+pub reached_so : {E : Type 0} (made : Result E OutOfMemory) (old mid new : Course) (part : Part) (answer : MaybeReply) → IsBeside old mid → IsStep made old.wiring.now old.number (target part old.wiring.now old.number (state_of old) answer) (state_of mid) → IsFinished made mid new
     → (kept (state_of new) ≡ kept (target part old.wiring.now old.number (state_of old) answer)) ⊎ (((target part old.wiring.now old.number (state_of old) answer).is_short ≡ false) × (kept (state_of new) ≡ kept (shorten old.wiring.now old.number (target part old.wiring.now old.number (state_of old) answer))))
 reached_so made old mid new part answer beside step finished =
     let wanted = target part old.wiring.now old.number (state_of old) answer in
@@ -265,7 +265,7 @@ refused-so {E = Made} (Err e) old mid new part refused err long beside step fini
     subst (λ n. P old.wiring.now n) beside.number (subst (λ w. P w mid.number) (ap (λ (w : Bor Parts). w.now) beside.wiring) got)
     ∙ ap (λ (s : State). kept (shorten old.wiring.now old.number s)) (target_refused part old.wiring.now old.number (state_of old) refused)
 
-pub got_after : {E : Type 0} (made : Result E OutOfMemory) (old mid new : Course) (part : Part) (due : Due) (answer : Answer) → IsAsked old part due → may_come due answer ≡ true → IsBeside old mid → IsStep made old.wiring.now old.number (target part old.wiring.now old.number (state_of old) answer) (state_of mid)
+pub got_after : {E : Type 0} (made : Result E OutOfMemory) (old mid new : Course) (part : Part) (due : Due) (answer : MaybeReply) → IsAsked old part due → may_come due answer ≡ true → IsBeside old mid → IsStep made old.wiring.now old.number (target part old.wiring.now old.number (state_of old) answer) (state_of mid)
     → OnErr answer (IsErr made) → IsFinished made mid new → IsAfter (seen old (Some (part, due))) answer (seen new None)
 got_after made old mid new part due (Ok reply) asked may beside step refused finished =
     acted old new part due reply asked (finished.same.0 ∙ beside.wiring) (finished.same.1 ∙ beside.number) (reached_so made old mid new part (Ok reply) beside step finished)
@@ -273,7 +273,7 @@ got_after made old mid new part due (Err e) asked may beside step refused finish
     let long = long_refused old part due asked may in
     acted_short old new part due e long (finished.same.0 ∙ beside.wiring) (finished.same.1 ∙ beside.number) (refused-so made old mid new part e refused long beside step finished)
 
-pub got_held : {E : Type 0} (made : Result E OutOfMemory) (old mid new : Course) (unanswered : Option (Part × Due)) (part : Part) (answer : Answer) → IsHeld old unanswered → IsBeside old mid → IsStep made old.wiring.now old.number (target part old.wiring.now old.number (state_of old) answer) (state_of mid)
+pub got_held : {E : Type 0} (made : Result E OutOfMemory) (old mid new : Course) (unanswered : Option (Part × Due)) (part : Part) (answer : MaybeReply) → IsHeld old unanswered → IsBeside old mid → IsStep made old.wiring.now old.number (target part old.wiring.now old.number (state_of old) answer) (state_of mid)
     → IsFinished made mid new → IsReady new → due_at new.attempt ≡ dues.Nothing → (new.short ≡ false → IsCounted new.work new.taken new.empty) → IsHeld new None
 got_held made old mid new unanswered part answer held beside step finished ready idle counted = record {
   valid = rw (finished.same.0, beside.wiring) held.valid;

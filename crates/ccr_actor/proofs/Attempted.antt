@@ -17,7 +17,7 @@ use Rattle.ccr_claim.specs.declared.outcomes.Why.{Why}
 use Rattle.ccr_claim.specs.declared.outcomes.Why.TheVariants as whys
 use Rattle.ccr_claim.specs.declared.plan.ClaimPlan.{ClaimPlan}
 use Rattle.ccr_claim.specs.declared.plan.Had.{Had}
-use Rattle.ccr_claim.specs.Asks.{Answer, due_of, fits, may_come}
+use Rattle.ccr_claim.specs.Asks.{MaybeReply, due_of, fits, may_come}
 use Rattle.ccr_claim.specs.Plans.{slots_in}
 use Rattle.ccr_claim.specs.Attempts.{AttemptState, Phase, booking, claiming, had_in, attempt_ask, release, claimed, progress_of, IsAfter}
 use Rattle.ccr_actor.specs.Actors.{State, name_at, after_attempt}
@@ -99,7 +99,7 @@ own plan task (claiming (slot ∷ slots) had) r is = claim_own r task plan slot 
 abbrev under : Parts → ℕ → State → Spot → Due → AttemptState
 under wiring actor state spot due = record { plan = plan_of wiring spot; task = name_at actor state; hand = []; phase = state.phase; ended = None; due = due }
 
-abbrev Heard : Parts → ℕ → State → Spot → List Spot → Answer → AttemptState → Type 0
+abbrev Heard : Parts → ℕ → State → Spot → List Spot → MaybeReply → AttemptState → Type 0
 Heard wiring actor state spot more answer new = IsHeard wiring actor (name_at actor state) state spot more (heard wiring actor state spot more answer) (progress_of new.ended) new
 
 -- it hands back what it had
@@ -163,12 +163,12 @@ module _ (wiring : Parts) (actor : ℕ) (state : State) (spot : Spot) (more : Li
   replied replies.Spent is new after = cc is
   replied (replies.Left n) is new after = cc is
 
-  answered : (answer : Answer) → may_come due answer ≡ true → due ≡ due_of (attempt_ask (plan_of wiring spot) (name_at actor state) state.phase).ask → (new : AttemptState) → IsAfter (under wiring actor state spot due) answer new → Heard wiring actor state spot more answer new
+  answered : (answer : MaybeReply) → may_come due answer ≡ true → due ≡ due_of (attempt_ask (plan_of wiring spot) (name_at actor state) state.phase).ask → (new : AttemptState) → IsAfter (under wiring actor state spot due) answer new → Heard wiring actor state spot more answer new
   answered (Ok r) may is new after = replied r (own (plan_of wiring spot) (name_at actor state) state.phase r (subst (λ d. fits d r ≡ true) is may)) new after
   answered (Err e) may is new after = refused e new after
 
 -- the attempt that runs at the first spot, after an answer
-pub heard_at : (wiring : Parts) (actor : ℕ) (state : State) (spot : Spot) (more : List Spot) (attempt : AttemptState) (answer : Answer) (new : AttemptState) → state.hand ≡ [] → state.spots ≡ spot ∷ more → state.phase ≡ attempt.phase → RunsAt wiring (name_at actor state) spot attempt
+pub heard_at : (wiring : Parts) (actor : ℕ) (state : State) (spot : Spot) (more : List Spot) (attempt : AttemptState) (answer : MaybeReply) (new : AttemptState) → state.hand ≡ [] → state.spots ≡ spot ∷ more → state.phase ≡ attempt.phase → RunsAt wiring (name_at actor state) spot attempt
     → may_come attempt.due answer ≡ true → attempt.due ≡ due_of (attempt_ask attempt.plan attempt.task attempt.phase).ask → IsAfter attempt answer new → Heard wiring actor state spot more answer new
 heard_at wiring actor state spot more attempt answer new none at phase runs may is after =
     let same : attempt ≡ under wiring actor state spot attempt.due = rw (← runs.plan, ← runs.task, ← runs.ended, ← runs.hand, phase) refl in

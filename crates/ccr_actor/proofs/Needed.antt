@@ -16,7 +16,7 @@ use Rattle.ccr_claim.specs.declared.asks.Reply.{Reply}
 use Rattle.ccr_claim.specs.declared.asks.Reply.TheVariants as replies
 use Rattle.ccr_claim.specs.declared.outcomes.Progress.{Progress}
 use Rattle.ccr_claim.specs.declared.outcomes.Progress.TheVariants as progresses
-use Rattle.ccr_claim.specs.Asks.{Answer, due_of, fits, may_come}
+use Rattle.ccr_claim.specs.Asks.{MaybeReply, due_of, fits, may_come}
 use Rattle.ccr_claim.specs.Attempts.{AttemptState, attempt_ask, progress_of, IsAfter}
 use Rattle.ccr_actor.specs.declared.course.Course.{Course}
 use Rattle.ccr_actor.specs.declared.course.Part.{Part}
@@ -64,12 +64,12 @@ own-needs (replies.Drawn n) state new is after w = no is
 own-needs replies.Spent state new is after w = no is
 own-needs (replies.Left n) state new is after w = no is
 
-answer-needs : (answer : Answer) (state new : AttemptState) → may_come state.due answer ≡ true → state.due ≡ due_of (attempt_ask state.plan state.task state.phase).ask → IsAfter state answer new → wants (progress_of new.ended) ≡ true → heard_needs answer ≡ true
+answer-needs : (answer : MaybeReply) (state new : AttemptState) → may_come state.due answer ≡ true → state.due ≡ due_of (attempt_ask state.plan state.task state.phase).ask → IsAfter state answer new → wants (progress_of new.ended) ≡ true → heard_needs answer ≡ true
 answer-needs (Ok r) state new may is after w = own-needs r state new (own state.plan state.task state.phase r (subst (λ d. fits d r ≡ true) is may)) after w
 answer-needs (Err e) state new may is after w = refl
 
 -- the attempt of a course
-pub heard_wants : (o : Option AttemptState) (state new : AttemptState) (answer : Answer) → o ≡ Some state → may_come (due_at o) answer ≡ true → due_at o ≡ due_next o → IsAfter state answer new → wants (progress_of new.ended) ≡ true → heard_needs answer ≡ true
+pub heard_wants : (o : Option AttemptState) (state new : AttemptState) (answer : MaybeReply) → o ≡ Some state → may_come (due_at o) answer ≡ true → due_at o ≡ due_next o → IsAfter state answer new → wants (progress_of new.ended) ≡ true → heard_needs answer ≡ true
 heard_wants o state new answer at may is after w = answer-needs answer state new (subst (λ o. may_come (due_at o) answer ≡ true) at may) (subst (λ o. due_at o ≡ due_next o) at is) after w
 
 pub on_err : {E : Type 0} (result : Result E OutOfMemory) (P Q : Type 0) → (P → Q) → OnErr result P → OnErr result Q
@@ -77,7 +77,7 @@ on_err (Ok done) P Q so is = tt
 on_err (Err refused) P Q so is = so is
 
 -- what it needs, as an answer to the drive
-pub driven_needs : (wiring : Parts) (state : State) (answer : Answer) → heard_needs answer ≡ true → answer_needs parts.Drive wiring state answer ≡ true
+pub driven_needs : (wiring : Parts) (state : State) (answer : MaybeReply) → heard_needs answer ≡ true → answer_needs parts.Drive wiring state answer ≡ true
 driven_needs wiring state (Ok r) is = is
 driven_needs wiring state (Err e) is = refl
 
@@ -175,7 +175,7 @@ needs-reply (Err e) old mid new part due reply asked beside step kept_so next_so
     or-left (kept_needs a (asking_in part due) reply) (next_needs (state_after_reply a (asking_in part due) reply)) (needs-so old part due reply asked long ∙ kept_so)
 
 -- short then, it needed memory
-pub got_needs : {E : Type 0} (made : Result E OutOfMemory) (old mid new : Course) (part : Part) (due : Due) (answer : Answer) → IsAsked old part due → IsBeside old mid → IsStep made old.wiring.now old.number (target part old.wiring.now old.number (state_of old) answer) (state_of mid)
+pub got_needs : {E : Type 0} (made : Result E OutOfMemory) (old mid new : Course) (part : Part) (due : Due) (answer : MaybeReply) → IsAsked old part due → IsBeside old mid → IsStep made old.wiring.now old.number (target part old.wiring.now old.number (state_of old) answer) (state_of mid)
     → OnErr made (answer_needs part old.wiring.now (state_of old) answer ≡ true) → OnOk made (mid.short ≡ false → new.short ≡ true → next_needs (state_of mid) ≡ true)
     → IfOk answer (λ r. (seen old (Some (part, due))).state.is_short ≡ false → (seen new None).state.is_short ≡ true → needs_memory (seen old (Some (part, due))) r ≡ true)
 got_needs made old mid new part due (Ok reply) asked beside step kept_so next_so = λ long short.
@@ -187,7 +187,7 @@ unnumbered-reply (Ok done) old new part due reply asked numbered short is = no (
 unnumbered-reply (Err e) old new part due reply asked numbered short is = kept_short (state_of new) ∙ short
 
 -- it is short where the task has no numbers
-pub got_unnumbered : {E : Type 0} (made : Result E OutOfMemory) (old new : Course) (part : Part) (due : Due) (answer : Answer) → IsAsked old part due → OnOk made (answer_unnumbered part old.wiring.now (state_of old) answer ≡ false) → OnErr made (new.short ≡ true)
+pub got_unnumbered : {E : Type 0} (made : Result E OutOfMemory) (old new : Course) (part : Part) (due : Due) (answer : MaybeReply) → IsAsked old part due → OnOk made (answer_unnumbered part old.wiring.now (state_of old) answer ≡ false) → OnErr made (new.short ≡ true)
     → IfOk answer (λ r. takes_unnumbered (seen old (Some (part, due))) r ≡ true → (seen new None).state.is_short ≡ true)
 got_unnumbered made old new part due (Ok reply) asked numbered short = unnumbered-reply made old new part due reply asked numbered short
 got_unnumbered made old new part due (Err e) asked numbered short = tt

@@ -11,7 +11,7 @@ use Rattle.ccr_claim.specs.declared.asks.Asked.{Asked}
 use Rattle.ccr_base.specs.declared.tasks.Task.{Task}
 use Rattle.ccr_claim.specs.declared.asks.Reply.{Reply}
 use Rattle.ccr_claim.specs.declared.asks.Reply.TheVariants as replies
-use Rattle.ccr_claim.specs.Asks.{Answer, may_come}
+use Rattle.ccr_claim.specs.Asks.{MaybeReply, may_come}
 use Rattle.ccr_claim.specs.Attempts.{AttemptState, booking, over_dropped, progress_of, IsAfter}
 use Rattle.ccr_actor.specs.declared.course.Course.{Course}
 use Rattle.ccr_actor.specs.declared.course.Part.TheVariants as parts
@@ -47,7 +47,7 @@ pub hand_alone : (course : Course) → course.dropped ≡ None → course.put �
 hand_alone course dropped put = rw (dropped, put) (append-nil (hand_of course.attempt))
 
 -- the attempt of this course, after an answer
-pub heard_in : (course : Course) (attempt new : AttemptState) (answer : Answer) (spot : Spot) (more : List Spot) → course.attempt ≡ Some attempt → course.dropped ≡ None → course.put ≡ None → course.spots ≡ spot ∷ more
+pub heard_in : (course : Course) (attempt new : AttemptState) (answer : MaybeReply) (spot : Spot) (more : List Spot) → course.attempt ≡ Some attempt → course.dropped ≡ None → course.put ≡ None → course.spots ≡ spot ∷ more
     → Runs course.wiring.now (record { actor = course.number; attempt = course.count }) course.spots course.attempt → due_at course.attempt ≡ due_next course.attempt → may_come (due_at course.attempt) answer ≡ true → IsAfter attempt answer new
     → IsHeard course.wiring.now course.number (record { actor = course.number; attempt = course.count }) (state_of course) spot more (heard course.wiring.now course.number (state_of course) spot more answer) (progress_of new.ended) new
 heard_in course attempt new answer spot more is dropped put at runs due may after =
@@ -117,7 +117,7 @@ hand_runs wiring name (spot ∷ more) None runs = absurd runs
 hand_runs wiring name (spot ∷ more) (Some attempt) runs = runs.hand
 
 -- the state after an answer to the attempt that is driven
-pub driven_target : (course : Course) (spot : Spot) (more : List Spot) (answer : Answer) → IsUnderWay course → course.short ≡ false → course.spots ≡ spot ∷ more → target parts.Drive course.wiring.now course.number (state_of course) answer ≡ heard course.wiring.now course.number (state_of course) spot more answer
+pub driven_target : (course : Course) (spot : Spot) (more : List Spot) (answer : MaybeReply) → IsUnderWay course → course.short ≡ false → course.spots ≡ spot ∷ more → target parts.Drive course.wiring.now course.number (state_of course) answer ≡ heard course.wiring.now course.number (state_of course) spot more answer
 driven_target course spot more (Err refused) way short at = refl
 driven_target course spot more (Ok reply) way short at =
     let name : TaskId = record { actor = course.number; attempt = course.count } in

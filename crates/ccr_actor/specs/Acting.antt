@@ -12,7 +12,7 @@ use Rattle.ccr_claim.specs.declared.asks.Asked.{Asked}
 use Rattle.ccr_claim.specs.declared.asks.Due.{Due}
 use Rattle.ccr_claim.specs.declared.asks.Due.TheVariants as dues
 use Rattle.ccr_claim.specs.declared.asks.Reply.{Reply}
-use Rattle.ccr_claim.specs.Asks.{Answer, due_of}
+use Rattle.ccr_claim.specs.Asks.{MaybeReply, due_of}
 use Rattle.ccr_actor.specs.Actors.{State, Work, playing, posting, resting, Turn, settle, go_on, turn, asked, settled, after, shorten, fresh_state, start}
 
 -- what is unanswered: nothing, an ask of the hand, or another, with the replies that it may have
@@ -113,7 +113,7 @@ abbrev pub shortened : Acting → Acting
 shortened a = at_state a.wiring a.actor (shorten a.wiring a.actor a.state)
 
 -- after this answer, or short then of memory
-abbrev pub IsAfter : Acting → Answer → Acting → Type 0
+abbrev pub IsAfter : Acting → MaybeReply → Acting → Type 0
 IsAfter a (Ok reply) new = (new ≡ answered a reply) ⊎ ((a.state.is_short ≡ false) × (new ≡ shortened (answered a reply)))
 IsAfter a (Err refused) new = new ≡ shortened a
 

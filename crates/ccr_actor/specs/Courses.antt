@@ -17,7 +17,7 @@ use Rattle.ccr_claim.specs.declared.outcomes.Progress.{Progress}
 use Rattle.ccr_claim.specs.declared.outcomes.Progress.TheVariants as progresses
 use Rattle.ccr_claim.specs.declared.outcomes.Why.{Why}
 use Rattle.ccr_claim.specs.declared.outcomes.Why.TheVariants as whys
-use Rattle.ccr_claim.specs.Asks.{Answer, due_of, fits, may_come}
+use Rattle.ccr_claim.specs.Asks.{MaybeReply, due_of, fits, may_come}
 use Rattle.ccr_claim.specs.Attempts.{AttemptState, Phase, booking, attempt_ask, put_asks, over_dropped}
 use Rattle.ccr_claim.specs.Lines.{IsLineOf}
 use Rattle.ccr_actor.specs.declared.course.Course.{Course}
@@ -134,7 +134,7 @@ abbrev pub owed : Parts → ℕ → State → List Asked
 owed wiring actor state = state.hand ++ in_attempt wiring actor state state.spots
 
 -- the state after an answer to the attempt's ask; running out of memory changes nothing yet
-abbrev pub heard : Parts → ℕ → State → Spot → List Spot → Answer → State
+abbrev pub heard : Parts → ℕ → State → Spot → List Spot → MaybeReply → State
 heard wiring actor state spot more (Ok reply) = after_attempt wiring actor state spot more reply
 heard wiring actor state spot more (Err refused) = state
 
@@ -203,7 +203,7 @@ IsShortened made old new =
     OnErr made (old.short ≡ false → IsStep made old.wiring.now old.number target (state_of old) → kept (state_of new) ≡ kept (shorten old.wiring.now old.number target))
 
 -- the attempt at the first spot heard this answer
-abbrev pub HasHeard : {E : Type 0} → Result E OutOfMemory → Course → Answer → Course → Type 0
+abbrev pub HasHeard : {E : Type 0} → Result E OutOfMemory → Course → MaybeReply → Course → Type 0
 HasHeard made old answer new =
     (spot : Spot) (more : List Spot) →
     old.spots ≡ spot ∷ more →
@@ -270,19 +270,19 @@ IsAsked course parts.Work due = IsFree course × ((course.arbiters.items ≡ [])
 IsAsked course _ due = IsSettling course due
 
 -- a reply to an ask of the hand comes; running out of memory doesn't
-abbrev pub IsToldSo : Part → Due → Answer → Type 0
+abbrev pub IsToldSo : Part → Due → MaybeReply → Type 0
 IsToldSo part due (Ok reply) = IsTold part due reply
 IsToldSo part due (Err refused) = ⊥
 
 -- the answer is one to the ask of this part
-abbrev pub IsAnswered : Course → Part → Answer → Type 0
+abbrev pub IsAnswered : Course → Part → MaybeReply → Type 0
 IsAnswered course parts.Admit answer = IsFree course × ((0 < length course.arbiters.items) × (due_at course.attempt ≡ dues.Nothing))
 IsAnswered course parts.Drive answer = IsUnderWay course × ((course.short ≡ false) × ((due_at course.attempt ≡ due_next course.attempt) × (may_come (due_at course.attempt) answer ≡ true)))
 IsAnswered course parts.Work answer = IsFree course × ((course.arbiters.items ≡ []) × ((spots_left (state_of course) ≡ []) × (due_at course.attempt ≡ dues.Nothing)))
 IsAnswered course part answer = (course.dropped ≡ None) × (IsPast course.attempt × IsToldSo part (due_at course.attempt) answer)
 
 -- the state after the answer; running out of memory changes nothing yet
-abbrev pub target : Part → Parts → ℕ → State → Answer → State
+abbrev pub target : Part → Parts → ℕ → State → MaybeReply → State
 target part wiring actor state (Err refused) = state
 target parts.Admit wiring actor state (Ok reply) = after wiring actor state reply
 target parts.Drive wiring actor state (Ok reply) = after wiring actor state reply
@@ -290,7 +290,7 @@ target parts.Work wiring actor state (Ok reply) = after wiring actor state reply
 target _ wiring actor state (Ok reply) = settled wiring state state.hand reply
 
 -- whether the answer needs memory for what is kept of it; a refused ask found none
-abbrev pub answer_needs : Part → Parts → State → Answer → Bool
+abbrev pub answer_needs : Part → Parts → State → MaybeReply → Bool
 answer_needs part wiring state (Err refused) = true
 answer_needs parts.Admit wiring state (Ok reply) = false
 answer_needs parts.Drive wiring state (Ok reply) = attempt_needs reply
@@ -298,12 +298,12 @@ answer_needs parts.Work wiring state (Ok reply) = work_needs wiring state state.
 answer_needs _ wiring state (Ok reply) = settling_needs wiring state reply
 
 -- the same of an answer to the attempt
-abbrev pub heard_needs : Answer → Bool
+abbrev pub heard_needs : MaybeReply → Bool
 heard_needs (Ok reply) = attempt_needs reply
 heard_needs (Err refused) = true
 
 -- whether the answer is a task without numbers
-abbrev pub answer_unnumbered : Part → Parts → State → Answer → Bool
+abbrev pub answer_unnumbered : Part → Parts → State → MaybeReply → Bool
 answer_unnumbered parts.Work wiring state (Ok reply) = work_unnumbered wiring state.work reply
 answer_unnumbered _ wiring state answer = false
 

@@ -36,7 +36,7 @@ queue_at wiring spot = option_map_or (λ (s : Placement). s.branch.queue) (place
 
 -- the domain of the spot's branch
 abbrev pub arbiter_at : Parts → Spot → ℕ
-arbiter_at wiring spot = option_map_or (λ (s : Placement). s.arbiter) (placement wiring (branch_of spot)) 0
+arbiter_at wiring spot = option_map_or (λ (s : Placement). s.domain) (placement wiring (branch_of spot)) 0
 
 -- the plan of attempts on the spot
 abbrev pub plan_of : Parts → Spot → ClaimPlan

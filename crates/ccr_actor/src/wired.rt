@@ -77,7 +77,7 @@ pub fn arbiter_at(wiring: &Wiring, spot: Spot) -> ArbiterNo
 {
     let _valid = wiring.parts();
     match wiring.placement(branch_of(spot)) {
-        Some(placement) => placement.arbiter as ArbiterNo,
+        Some(placement) => placement.domain as ArbiterNo,
         None => 0,
     }
 }

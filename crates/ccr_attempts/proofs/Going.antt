@@ -15,7 +15,7 @@ use Rattle.ccr_claim.specs.declared.outcomes.Outcome.TheVariants as outcomes
 use Rattle.ccr_claim.specs.declared.outcomes.Why.{Why}
 use Rattle.ccr_claim.specs.declared.outcomes.Why.TheVariants as whys
 use Rattle.ccr_claim.specs.declared.plan.ClaimPlan.{ClaimPlan}
-use Rattle.ccr_claim.specs.Asks.{Answer, due_of, fits, may_come}
+use Rattle.ccr_claim.specs.Asks.{MaybeReply, due_of, fits, may_come}
 use Rattle.ccr_claim.specs.Plans.{slots_in}
 use Rattle.ccr_claim.specs.Attempts.{AttemptState, Phase, booking, claiming, had_in, attempt_ask, release, firing_hand, over_dropped, claimed, port_of, waits, sent, after as answered_after}
 use Rattle.ccr_claim.specs.Settling.{Step, Shot, step_of, AreAnswers}
@@ -70,13 +70,13 @@ pub record Idle (w : Parts) (a : ℕ) (past : List Step) (st : State) : Type 0 w
 abbrev pub running : Parts → ℕ → State → Spot → AttemptState
 running w a st spot = record { plan = plan_of w spot; task = name_at a st; hand = []; phase = st.phase; ended = None; due = dues.Nothing }
 
-abbrev pub trial : Parts → ℕ → State → Spot → List Answer → Trial
+abbrev pub trial : Parts → ℕ → State → Spot → List MaybeReply → Trial
 trial w a st spot answers = record { plan = plan_of w spot; task = name_at a st; lack = None; answers = answers }
 
 pub record Runs (w : Parts) (a : ℕ) (past : List Step) (st : State) : Type 0 where
   pub spot : Spot
   pub more : List Spot
-  pub answers : List Answer
+  pub answers : List MaybeReply
   pub trying : Trying w a past (trial w a st spot answers)
   pub state : state_of (trial w a st spot answers) ≡ running w a st spot
   pub hand : st.hand ≡ []
@@ -130,14 +130,14 @@ ends w a past st t (first ∷ rest) outcome trying is own order phase = inr (inr
 
 -- ---- one more answer to it
 
-abbrev answered : Trial → Answer → Trial
+abbrev answered : Trial → MaybeReply → Trial
 answered t answer = record t { answers = t.answers ++ answer ∷ [] }
 
-within-more : (lack : Option ℕ) (answers : List Answer) (answer : Answer) → IsWithin lack answers → IsWithin lack (answers ++ answer ∷ [])
+within-more : (lack : Option ℕ) (answers : List MaybeReply) (answer : MaybeReply) → IsWithin lack answers → IsWithin lack (answers ++ answer ∷ [])
 within-more None answers answer within = tt
 within-more (Some n) answers answer within = grind (arith, common_steps, within)
 
-go-on : (w : Parts) (a : ℕ) (past : List Step) (t : Trial) (state : AttemptState) (answer : Answer) → Trying w a past t → state_of t ≡ state → may_come (sent state).due answer ≡ true → Trying w a (past ++ step_of state answer) (answered t answer)
+go-on : (w : Parts) (a : ℕ) (past : List Step) (t : Trial) (state : AttemptState) (answer : MaybeReply) → Trying w a past t → state_of t ≡ state → may_come (sent state).due answer ≡ true → Trying w a (past ++ step_of state answer) (answered t answer)
 go-on w a past t state answer trying is may = record {
   before = trying.before;
   earlier = trying.earlier;
@@ -153,7 +153,7 @@ go-on w a past t state answer trying is may = record {
     longer : past ++ step_of state answer ≡ trying.before ++ steps_of (answered t answer)
     longer = ap (λ steps. steps ++ step_of state answer) trying.are ∙ (append_assoc trying.before (steps_of t) (step_of state answer) ∙ ap (λ steps. trying.before ++ steps) (sym more))
 
-now : (t : Trial) (state : AttemptState) (answer : Answer) → IsWithin t.lack t.answers → state_of t ≡ state → state_of (answered t answer) ≡ answered_after state answer
+now : (t : Trial) (state : AttemptState) (answer : MaybeReply) → IsWithin t.lack t.answers → state_of t ≡ state → state_of (answered t answer) ≡ answered_after state answer
 now t state answer within is = state_more t.plan t.task t.lack t.answers answer within ∙ ap (λ (s : AttemptState). answered_after s answer) is
 
 -- ---- a reply to an attempt that runs

@@ -9,7 +9,7 @@ use Rattle.ccr_claim.specs.declared.asks.Ask.TheVariants as asks
 use Rattle.ccr_claim.specs.declared.outcomes.Outcome.TheVariants as outcomes
 use Rattle.ccr_claim.specs.declared.outcomes.Why.{Why}
 use Rattle.ccr_claim.specs.declared.plan.ClaimPlan.{ClaimPlan}
-use Rattle.ccr_claim.specs.Asks.{Answer}
+use Rattle.ccr_claim.specs.Asks.{MaybeReply}
 use Rattle.ccr_claim.specs.Attempts.{AttemptState, attempt_after, waits}
 use Rattle.ccr_claim.specs.Settling.{Step, Shot, steps, asks_of, settling, shots, released, completed}
 use Rattle.ccr_actor.specs.Plans.{plan_of}
@@ -20,7 +20,7 @@ pub record Trial : Type 0 where
   pub plan : ClaimPlan
   pub task : TaskId
   pub lack : Option ℕ
-  pub answers : List Answer
+  pub answers : List MaybeReply
 
 -- how the attempt stands after these answers
 abbrev pub state_of : Trial → AttemptState

@@ -24,7 +24,7 @@ use Rattle.ccr_claim.specs.declared.outcomes.Why.{Why}
 use Rattle.ccr_claim.specs.declared.outcomes.Why.TheVariants as whys
 use Rattle.ccr_claim.specs.declared.plan.ClaimPlan.{ClaimPlan}
 use Rattle.ccr_claim.specs.declared.plan.Had.{Had}
-use Rattle.ccr_claim.specs.Asks.{Answer, is_settling, due_of, may_come}
+use Rattle.ccr_claim.specs.Asks.{MaybeReply, is_settling, due_of, may_come}
 use Rattle.ccr_claim.specs.Plans.{slots_in, narrowed}
 use Rattle.ccr_claim.specs.Attempts.{AttemptState, Phase, booking, claiming, attempt_ask, claim_ask, free_ask, consume_ask, unbook_ask, cut_ask, put_asks, release, firing_hand, waits, begun, sent, in_want, after, after_all, attempt_after}
 use Rattle.ccr_claim.specs.Settling.{Step, Shot, AreSplit, step_of, steps_from, MayFollow, wanting, steps, AreAnswers, asks_of, settling, got_at, booked_at, shot_by, claims, bookings, shots, cuts_of, free_at, consume_at, released, completed}
@@ -208,7 +208,7 @@ give_up_at plan task past s phase why st got at shot other =
 
 -- ---- the steps
 
-abbrev step_at : Asked → Answer → Step
+abbrev step_at : Asked → MaybeReply → Step
 step_at asked answer = record { asked = asked; answer = answer }
 
 gave_up_at : (plan : ClaimPlan) (task : TaskId) (past : List Step) (s : Step) (phase : Phase) (why : Why) → Stands plan task past [] phase None → got_in s ≡ [] → booked_in s ≡ [] → shot_in s ≡ [] → is_settling s.asked.ask ≡ false → StandsAt plan task (past ++ s ∷ []) (between plan task (release plan task phase) booking (Some (outcomes.GaveUp why)))
@@ -231,7 +231,7 @@ booked_on plan task past st =
       count = rw (none_more shot_in past s refl) (omega (arith, st.count, length-push past s));
     }
 
-book_step : (plan : ClaimPlan) (task : TaskId) (past : List Step) (answer : Answer) → Stands plan task past [] booking None → may_come dues.Booking answer ≡ true → StandsAt plan task (past ++ step_at (attempt_ask plan task booking) answer ∷ []) (after (between plan task [] booking None) answer)
+book_step : (plan : ClaimPlan) (task : TaskId) (past : List Step) (answer : MaybeReply) → Stands plan task past [] booking None → may_come dues.Booking answer ≡ true → StandsAt plan task (past ++ step_at (attempt_ask plan task booking) answer ∷ []) (after (between plan task [] booking None) answer)
 book_step plan task past (Err e) st may = gave_up_at plan task past (step_at (attempt_ask plan task booking) (Err e)) booking whys.Memory st refl refl refl refl
 book_step plan task past (Ok replies.Booked) st may = record { hand = []; phase = claiming (slots_in plan.pattern) []; ended = None; is = refl; stands = booked_on plan task past st }
 book_step plan task past (Ok (replies.Full n)) st may = gave_up_at plan task past (step_at (attempt_ask plan task booking) (Ok (replies.Full n))) booking (whys.Full n) st refl refl refl refl
@@ -271,7 +271,7 @@ claimed_on plan task past slot left had messages st =
       count = rw (none_more shot_in past s refl) (omega (arith, st.count, length-push past s, length-push had one, narrowed-length plan.pattern (length messages) left));
     }
 
-claim_step : (plan : ClaimPlan) (task : TaskId) (past : List Step) (slot : Slot) (left : List Slot) (had : List Had) (answer : Answer) → Stands plan task past [] (claiming (slot ∷ left) had) None → may_come (dues.Claim slot) answer ≡ true → StandsAt plan task (past ++ step_at (claim_ask plan task (slot ∷ left) had) answer ∷ []) (after (between plan task [] (claiming (slot ∷ left) had) None) answer)
+claim_step : (plan : ClaimPlan) (task : TaskId) (past : List Step) (slot : Slot) (left : List Slot) (had : List Had) (answer : MaybeReply) → Stands plan task past [] (claiming (slot ∷ left) had) None → may_come (dues.Claim slot) answer ≡ true → StandsAt plan task (past ++ step_at (claim_ask plan task (slot ∷ left) had) answer ∷ []) (after (between plan task [] (claiming (slot ∷ left) had) None) answer)
 claim_step plan task past slot left had (Err e) st may = gave_up_at plan task past (step_at (claim_ask plan task (slot ∷ left) had) (Err e)) (claiming (slot ∷ left) had) whys.Memory st refl refl refl refl
 claim_step plan task past slot left had (Ok (replies.Busy t)) st may = gave_up_at plan task past (step_at (claim_ask plan task (slot ∷ left) had) (Ok (replies.Busy t))) (claiming (slot ∷ left) had) (whys.Busy slot.port t) st refl refl refl refl
 claim_step plan task past slot left had (Ok (replies.Short n)) st may = gave_up_at plan task past (step_at (claim_ask plan task (slot ∷ left) had) (Ok (replies.Short n))) (claiming (slot ∷ left) had) (whys.Short slot.port n) st refl refl refl refl
@@ -306,7 +306,7 @@ fired_on plan task past had fired cuts st =
       count = rw (shots_are, append-nil cuts) (omega (arith, st.count, length-push past s, hand-length task had fired cuts, ap (λ ys. length (cuts_of ys)) going.unfired));
     }
 
-commit_step : (plan : ClaimPlan) (task : TaskId) (past : List Step) (had : List Had) (answer : Answer) → Stands plan task past [] (claiming [] had) None → may_come dues.Commit answer ≡ true → StandsAt plan task (past ++ step_at (claim_ask plan task [] had) answer ∷ []) (after (between plan task [] (claiming [] had) None) answer)
+commit_step : (plan : ClaimPlan) (task : TaskId) (past : List Step) (had : List Had) (answer : MaybeReply) → Stands plan task past [] (claiming [] had) None → may_come dues.Commit answer ≡ true → StandsAt plan task (past ++ step_at (claim_ask plan task [] had) answer ∷ []) (after (between plan task [] (claiming [] had) None) answer)
 commit_step plan task past had (Err e) st may = gave_up_at plan task past (step_at (claim_ask plan task [] had) (Err e)) (claiming [] had) whys.Memory st refl refl refl refl
 commit_step plan task past had (Ok (replies.Dead by)) st may = gave_up_at plan task past (step_at (claim_ask plan task [] had) (Ok (replies.Dead by))) (claiming [] had) (whys.Dead by) st refl refl refl refl
 commit_step plan task past had (Ok (replies.Fired t cuts)) st may = record { hand = firing_hand task had t cuts; phase = booking; ended = Some (outcomes.Fired (waits t) None); is = refl; stands = fired_on plan task past had t cuts st }
@@ -325,12 +325,12 @@ commit_step plan task past had (Ok (replies.Left n)) st may = cc may
 
 -- ---- what settles is answered alone by being done
 
-abbrev IsQuiet : Answer → Type 0
+abbrev IsQuiet : MaybeReply → Type 0
 IsQuiet (Ok replies.Done) = Unit {0}
 IsQuiet (Ok (replies.Dropped task)) = Unit {0}
 IsQuiet _ = ⊥
 
-quiet : (answer : Answer) → (may_come dues.Settled answer ≡ true) ⊎ (may_come dues.Put answer ≡ true) → IsQuiet answer
+quiet : (answer : MaybeReply) → (may_come dues.Settled answer ≡ true) ⊎ (may_come dues.Put answer ≡ true) → IsQuiet answer
 quiet (Ok replies.Done) may = tt
 quiet (Ok (replies.Dropped d)) may = tt
 quiet (Err e) (inl may) = cc may
@@ -360,7 +360,7 @@ quiet (Ok replies.Spent) (inr may) = cc may
 quiet (Ok (replies.Left n)) (inl may) = cc may
 quiet (Ok (replies.Left n)) (inr may) = cc may
 
-settle_quiet : (ask : Ask) (answer : Answer) → is_settling ask ≡ true → may_come (due_of ask) answer ≡ true → IsQuiet answer
+settle_quiet : (ask : Ask) (answer : MaybeReply) → is_settling ask ≡ true → may_come (due_of ask) answer ≡ true → IsQuiet answer
 settle_quiet (asks.Post m) answer is may = cc is
 settle_quiet (asks.Claim t slot) answer is may = cc is
 settle_quiet (asks.Consume t) answer is may = quiet answer (inl may)
@@ -398,7 +398,7 @@ settled_on plan task past s more phase outcome st got at shot = record {
 dropped_on : (plan : ClaimPlan) (task : TaskId) (past : List Step) (hand : List Asked) (phase : Phase) (waiting : Bool) (one other : Option Task) → Stands plan task past hand phase (Some (outcomes.Fired waiting one)) → Stands plan task past hand phase (Some (outcomes.Fired waiting other))
 dropped_on plan task past hand phase waiting one other st = record { rest = st.rest; count = st.count }
 
-settle_step : (plan : ClaimPlan) (task : TaskId) (past : List Step) (asked : Asked) (more : List Asked) (phase : Phase) (outcome : Outcome) (answer : Answer) → Stands plan task past (asked ∷ more) phase (Some outcome) → IsQuiet answer → StandsAt plan task (past ++ step_at asked answer ∷ []) (after (between plan task (asked ∷ more) phase (Some outcome)) answer)
+settle_step : (plan : ClaimPlan) (task : TaskId) (past : List Step) (asked : Asked) (more : List Asked) (phase : Phase) (outcome : Outcome) (answer : MaybeReply) → Stands plan task past (asked ∷ more) phase (Some outcome) → IsQuiet answer → StandsAt plan task (past ++ step_at asked answer ∷ []) (after (between plan task (asked ∷ more) phase (Some outcome)) answer)
 settle_step plan task past asked more phase outcome (Ok replies.Done) st q = record { hand = more; phase = phase; ended = Some outcome; is = refl; stands = settled_on plan task past (step_at asked (Ok replies.Done)) more phase outcome st refl refl refl }
 settle_step plan task past asked more phase (outcomes.GaveUp why) (Ok (replies.Dropped d)) st q = record { hand = more; phase = phase; ended = Some (outcomes.GaveUp why); is = refl; stands = settled_on plan task past (step_at asked (Ok (replies.Dropped d))) more phase (outcomes.GaveUp why) st refl refl refl }
 settle_step plan task past asked more phase (outcomes.Fired waiting one) (Ok (replies.Dropped d)) st q = record { hand = more; phase = phase; ended = Some (outcomes.Fired waiting d); is = refl; stands = dropped_on plan task (past ++ step_at asked (Ok (replies.Dropped d)) ∷ []) more phase waiting one d (settled_on plan task past (step_at asked (Ok (replies.Dropped d))) more phase (outcomes.Fired waiting one) st refl refl refl) }
@@ -416,12 +416,12 @@ settle_step plan task past asked more phase outcome (Ok (replies.Drawn n)) st q 
 settle_step plan task past asked more phase outcome (Ok replies.Spent) st q = absurd q
 settle_step plan task past asked more phase outcome (Ok (replies.Left n)) st q = absurd q
 
-ended_step : (answer : Answer) → may_come dues.Nothing answer ≡ true → ⊥
+ended_step : (answer : MaybeReply) → may_come dues.Nothing answer ≡ true → ⊥
 ended_step (Err e) may = cc may
 ended_step (Ok reply) may = cc may
 
 -- one step
-step : (plan : ClaimPlan) (task : TaskId) (past : List Step) (hand : List Asked) (phase : Phase) (ended : Option Outcome) (answer : Answer) → Stands plan task past hand phase ended → may_come (sent (between plan task hand phase ended)).due answer ≡ true → StandsAt plan task (past ++ step_of (between plan task hand phase ended) answer) (after (between plan task hand phase ended) answer)
+step : (plan : ClaimPlan) (task : TaskId) (past : List Step) (hand : List Asked) (phase : Phase) (ended : Option Outcome) (answer : MaybeReply) → Stands plan task past hand phase ended → may_come (sent (between plan task hand phase ended)).due answer ≡ true → StandsAt plan task (past ++ step_of (between plan task hand phase ended) answer) (after (between plan task hand phase ended) answer)
 step plan task past (asked ∷ more) phase None answer st may = cc (st.rest.0)
 step plan task past (asked ∷ more) phase (Some outcome) answer st may = settle_step plan task past asked more phase outcome answer st (settle_quiet asked.ask answer st.rest.0.0 may)
 step plan task past [] phase (Some outcome) answer st may = absurd (ended_step answer may)
@@ -429,13 +429,13 @@ step plan task past [] booking None answer st may = book_step plan task past ans
 step plan task past [] (claiming (slot ∷ left) had) None answer st may = claim_step plan task past slot left had answer st may
 step plan task past [] (claiming [] had) None answer st may = commit_step plan task past had answer st may
 
-step_at_any : (plan : ClaimPlan) (task : TaskId) (past : List Step) (state : AttemptState) (answer : Answer) → StandsAt plan task past state → may_come (sent state).due answer ≡ true → StandsAt plan task (past ++ step_of state answer) (after state answer)
+step_at_any : (plan : ClaimPlan) (task : TaskId) (past : List Step) (state : AttemptState) (answer : MaybeReply) → StandsAt plan task past state → may_come (sent state).due answer ≡ true → StandsAt plan task (past ++ step_of state answer) (after state answer)
 step_at_any plan task past state answer at =
     let P : AttemptState → Type 0 = λ x. may_come (sent x).due answer ≡ true → StandsAt plan task (past ++ step_of x answer) (after x answer) in
     subst P (sym at.is) (λ may. step plan task past at.hand at.phase at.ended answer at.stands may)
 
 -- all steps
-along : (plan : ClaimPlan) (task : TaskId) (past : List Step) (state : AttemptState) (answers : List Answer) → StandsAt plan task past state → MayFollow state answers → StandsAt plan task (past ++ steps_from state answers) (after_all state answers)
+along : (plan : ClaimPlan) (task : TaskId) (past : List Step) (state : AttemptState) (answers : List MaybeReply) → StandsAt plan task past state → MayFollow state answers → StandsAt plan task (past ++ steps_from state answers) (after_all state answers)
 along plan task past state [] at may = rw (append-nil past) at
 along plan task past state (answer ∷ answers) at may =
     rw (← append_assoc past (step_of state answer) (steps_from (after state answer) answers)) (along plan task (past ++ step_of state answer) (after state answer) answers (step_at_any plan task past state answer at may.0) may.1)
@@ -455,15 +455,15 @@ want_at plan task past state at =
 begins : (plan : ClaimPlan) (task : TaskId) → StandsAt plan task [] (begun plan task)
 begins plan task = record { hand = []; phase = booking; ended = None; is = refl; stands = record { rest = (refl, record { had = (refl, refl); unfired = refl; unsettled = refl }); count = omega arith } }
 
-abbrev split : Bool → ClaimPlan → TaskId → ℕ → List Answer → Type 0
+abbrev split : Bool → ClaimPlan → TaskId → ℕ → List MaybeReply → Type 0
 split b plan task n answers = AreSplit b plan task n answers → StandsAt plan task (cond b (steps_from (begun plan task) (take n answers) ++ steps_from (wanting plan task n answers) (drop n answers)) (steps_from (begun plan task) answers)) (cond b (after_all (wanting plan task n answers) (drop n answers)) (after_all (begun plan task) answers))
 
-split_at : (b : Bool) (plan : ClaimPlan) (task : TaskId) (n : ℕ) (answers : List Answer) → split b plan task n answers
+split_at : (b : Bool) (plan : ClaimPlan) (task : TaskId) (n : ℕ) (answers : List MaybeReply) → split b plan task n answers
 split_at false plan task n answers = λ may. along plan task [] (begun plan task) answers (begins plan task) may
 split_at true plan task n answers = λ may. along plan task (steps_from (begun plan task) (take n answers)) (wanting plan task n answers) (drop n answers) (want_at plan task (steps_from (begun plan task) (take n answers)) (after_all (begun plan task) (take n answers)) (along plan task [] (begun plan task) (take n answers) (begins plan task) may.0)) may.1
 
 -- the attempt, after all its answers
-pub stands : (plan : ClaimPlan) (task : TaskId) (lack : Option ℕ) (answers : List Answer) → AreAnswers plan task lack answers → StandsAt plan task (steps plan task lack answers) (attempt_after plan task lack answers)
+pub stands : (plan : ClaimPlan) (task : TaskId) (lack : Option ℕ) (answers : List MaybeReply) → AreAnswers plan task lack answers → StandsAt plan task (steps plan task lack answers) (attempt_after plan task lack answers)
 stands plan task None answers may = along plan task [] (begun plan task) answers (begins plan task) may
 stands plan task (Some n) answers may = split_at (nat_le n (length answers)) plan task n answers may
 

@@ -69,10 +69,10 @@ is_refusable dues.Put = false
 is_refusable _ = true
 
 -- an answer: a reply, or running out of memory
-abbrev pub Answer : Type 0
-Answer = Result Reply OutOfMemory
+abbrev pub MaybeReply : Type 0
+MaybeReply = Result Reply OutOfMemory
 
 -- whether the answer is one that may come
-abbrev pub may_come : Due → Answer → Bool
+abbrev pub may_come : Due → MaybeReply → Bool
 may_come due (Ok reply) = fits due reply
 may_come due (Err refused) = is_refusable due

@@ -25,7 +25,7 @@ use Rattle.ccr_claim.specs.declared.outcomes.Why.{Why}
 use Rattle.ccr_claim.specs.declared.outcomes.Why.TheVariants as whys
 use Rattle.ccr_claim.specs.declared.plan.ClaimPlan.{ClaimPlan}
 use Rattle.ccr_claim.specs.declared.plan.Had.{Had}
-use Rattle.ccr_claim.specs.Asks.{Answer, due_of}
+use Rattle.ccr_claim.specs.Asks.{MaybeReply, due_of}
 use Rattle.ccr_claim.specs.Plans.{slots_in, narrowed, in_pattern, names_of, firing_task, resumes, commit_place}
 
 -- an ask of this place
@@ -183,7 +183,7 @@ replied state (replies.Dropped task) = record state { ended = with_dropped task 
 replied state _ = record state { due = dues.Nothing }
 
 -- after this answer
-abbrev pub answered : AttemptState → Answer → AttemptState
+abbrev pub answered : AttemptState → MaybeReply → AttemptState
 answered state (Ok reply) = replied state reply
 answered state (Err refused) = given_up whys.Memory state
 
@@ -197,20 +197,20 @@ abbrev pub in_want : AttemptState → AttemptState
 in_want state = in_want_of state.ended state
 
 -- one step: the ask, and its answer
-abbrev pub after : AttemptState → Answer → AttemptState
+abbrev pub after : AttemptState → MaybeReply → AttemptState
 after state answer = answered (sent state) answer
 
 -- after these answers, where there was memory throughout
-abbrev pub after_all : AttemptState → List Answer → AttemptState
+abbrev pub after_all : AttemptState → List MaybeReply → AttemptState
 after_all state answers = fold after state answers
 
 -- the attempt after these answers, if it found no memory after so many of them
-abbrev pub attempt_after : ClaimPlan → TaskId → Option ℕ → List Answer → AttemptState
+abbrev pub attempt_after : ClaimPlan → TaskId → Option ℕ → List MaybeReply → AttemptState
 attempt_after plan task None answers = after_all (begun plan task) answers
 attempt_after plan task (Some n) answers = if nat_le n (length answers) then after_all (in_want (after_all (begun plan task) (take n answers))) (drop n answers) else after_all (begun plan task) answers
 
 -- after this answer, or given up then out of memory
-abbrev pub IsAfter : AttemptState → Answer → AttemptState → Type 0
+abbrev pub IsAfter : AttemptState → MaybeReply → AttemptState → Type 0
 IsAfter state answer new = (new ≡ answered state answer) ⊎ (new ≡ in_want (answered state answer))
 
 -- after this reply, or given up then out of memory

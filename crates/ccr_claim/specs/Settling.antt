@@ -11,13 +11,13 @@ use Rattle.ccr_claim.specs.declared.asks.Reply.TheVariants as replies
 use Rattle.ccr_claim.specs.declared.outcomes.Next.{Next}
 use Rattle.ccr_claim.specs.declared.outcomes.Next.TheVariants as nexts
 use Rattle.ccr_claim.specs.declared.plan.ClaimPlan.{ClaimPlan}
-use Rattle.ccr_claim.specs.Asks.{Answer, is_settling, may_come}
+use Rattle.ccr_claim.specs.Asks.{MaybeReply, is_settling, may_come}
 use Rattle.ccr_claim.specs.Attempts.{AttemptState, at_place, begun, next, sent, after, after_all, in_want, attempt_after, cut_ask, put_asks, waits}
 
 -- an ask with its answer
 pub record Step : Type 0 where
   pub asked : Asked
-  pub answer : Answer
+  pub answer : MaybeReply
 
 -- the ask, where it is one
 abbrev pub asked_in : Next → List Asked
@@ -25,35 +25,35 @@ asked_in (nexts.Ask place ask) = at_place place ask ∷ []
 asked_in (nexts.Ended outcome) = []
 
 -- the step that this answer completes
-abbrev pub step_of : AttemptState → Answer → List Step
+abbrev pub step_of : AttemptState → MaybeReply → List Step
 step_of state answer = map (λ (asked : Asked). record { asked = asked; answer = answer }) (asked_in (next state))
 
 -- the steps that these answers complete
-abbrev pub steps_from : AttemptState → List Answer → List Step
+abbrev pub steps_from : AttemptState → List MaybeReply → List Step
 steps_from state [] = []
 steps_from state (answer ∷ answers) = step_of state answer ++ steps_from (after state answer) answers
 
 -- each answer is one that its ask may have
-abbrev pub MayFollow : AttemptState → List Answer → Type 0
+abbrev pub MayFollow : AttemptState → List MaybeReply → Type 0
 MayFollow state [] = Unit {0}
 MayFollow state (answer ∷ answers) = IsTrue (may_come (sent state).due answer) × MayFollow (after state answer) answers
 
 -- the attempt that found no memory after so many answers
-abbrev pub wanting : ClaimPlan → TaskId → ℕ → List Answer → AttemptState
+abbrev pub wanting : ClaimPlan → TaskId → ℕ → List MaybeReply → AttemptState
 wanting plan task n answers = in_want (after_all (begun plan task) (take n answers))
 
 -- the steps of the attempt, if it found no memory after so many of them
-abbrev pub steps : ClaimPlan → TaskId → Option ℕ → List Answer → List Step
+abbrev pub steps : ClaimPlan → TaskId → Option ℕ → List MaybeReply → List Step
 steps plan task None answers = steps_from (begun plan task) answers
 steps plan task (Some n) answers = if nat_le n (length answers) then steps_from (begun plan task) (take n answers) ++ steps_from (wanting plan task n answers) (drop n answers) else steps_from (begun plan task) answers
 
 -- the answers may come in this order; where the attempt is out of memory after so many of them, those behind may come after it gave up
-abbrev pub AreSplit : Bool → ClaimPlan → TaskId → ℕ → List Answer → Type 0
+abbrev pub AreSplit : Bool → ClaimPlan → TaskId → ℕ → List MaybeReply → Type 0
 AreSplit true plan task n answers = MayFollow (begun plan task) (take n answers) × MayFollow (wanting plan task n answers) (drop n answers)
 AreSplit false plan task n answers = MayFollow (begun plan task) answers
 
 -- its answers are such as its asks may have
-abbrev pub AreAnswers : ClaimPlan → TaskId → Option ℕ → List Answer → Type 0
+abbrev pub AreAnswers : ClaimPlan → TaskId → Option ℕ → List MaybeReply → Type 0
 AreAnswers plan task None answers = MayFollow (begun plan task) answers
 AreAnswers plan task (Some n) answers = AreSplit (nat_le n (length answers)) plan task n answers
 
@@ -66,12 +66,12 @@ abbrev pub settling : List Asked → List Asked
 settling asked = filter (λ (a : Asked). is_settling a.ask) asked
 
 -- the place, where the answer is that messages were got there
-abbrev pub got_at : Answer → Place → List Place
+abbrev pub got_at : MaybeReply → Place → List Place
 got_at (Ok (replies.Got messages)) place = place ∷ []
 got_at _ place = []
 
 -- the place, where the answer is that room was booked there
-abbrev pub booked_at : Answer → Place → List Place
+abbrev pub booked_at : MaybeReply → Place → List Place
 booked_at (Ok replies.Booked) place = place ∷ []
 booked_at _ place = []
 
@@ -81,7 +81,7 @@ pub record Shot : Type 0 where
   pub cuts : List Cut
 
 -- the firing, where the answer is one
-abbrev pub shot_by : Answer → List Shot
+abbrev pub shot_by : MaybeReply → List Shot
 shot_by (Ok (replies.Fired task cuts)) = record { task = task; cuts = cuts } ∷ []
 shot_by _ = []
 
@@ -127,7 +127,7 @@ completed task past = map (consume_at task) (claims past) ++ flat_map shot_asks 
 
 -- the law holds of each attempt that was so answered, by its steps and by what it is behind them
 abbrev pub OfAttempts : (ClaimPlan → TaskId → List Step → AttemptState → Type 0) → Type 0
-OfAttempts law = (plan : ClaimPlan) (task : TaskId) (lack : Option ℕ) (answers : List Answer) → AreAnswers plan task lack answers → law plan task (steps plan task lack answers) (attempt_after plan task lack answers)
+OfAttempts law = (plan : ClaimPlan) (task : TaskId) (lack : Option ℕ) (answers : List MaybeReply) → AreAnswers plan task lack answers → law plan task (steps plan task lack answers) (attempt_after plan task lack answers)
 
 -- it never fired, and all that it settled is what it gives back
 abbrev pub IsReleased : TaskId → List Step → Type 0

@@ -60,7 +60,7 @@ module _ (w : Parts) (valid : IsValid w) where
       (fine.0, (fine_causes w m.causes fine.1).0, of_version w valid m.value small (λ none. posted_single w none (h ++ events.Post m ∷ []) legal m among))
 
   spot_known : (h : List Event) (spot : Spot) (names : List MsgId) → is_live w h spot ≡ true → is_choice w h spot names ≡ true → IsKnownSpot w spot
-  spot_known h (Branch branch) names live is = let found = some_of (λ (s : Placement). is_live_in w h branch s.arbiter s.branch.group) (placement w branch) live in there_some (placement w branch) found.0 found.1
+  spot_known h (Branch branch) names live is = let found = some_of (λ (s : Placement). is_live_in w h branch s.domain s.branch.group) (placement w branch) live in there_some (placement w branch) found.0 found.1
   spot_known h (Site branch site) names live is = let found = some_of (λ port. are_oldest (held h port) names) (site_port w branch site) is in there_some (site_port w branch site) found.0 found.1
 
   end_known : (h : List Event) (task : TaskId) (how : EndHow) → IsLegal w h → IsAllowed w h (events.End task how) → IsSmallEnd how → IsKnownEnd w how

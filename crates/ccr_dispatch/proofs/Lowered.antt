@@ -8,7 +8,7 @@ use Rattle.ccr_wiring.specs.Valid.{IsValid}
 use Rattle.ccr_claim.specs.declared.asks.Asked.{Asked}
 use Rattle.ccr_claim.specs.declared.asks.Reply.{Reply}
 use Rattle.ccr_claim.specs.declared.asks.Reply.TheVariants as replies
-use Rattle.ccr_claim.specs.Asks.{Answer, due_of, fits, is_settling, may_come}
+use Rattle.ccr_claim.specs.Asks.{MaybeReply, due_of, fits, is_settling, may_come}
 use Rattle.ccr_claim.specs.declared.asks.Ask.{Ask}
 use Rattle.ccr_claim.specs.declared.asks.Ask.TheVariants as kinds
 use Rattle.ccr_actor.specs.Hands.{AreSettling}
@@ -176,7 +176,7 @@ asks-long a one asks none = long-in a.wiring a.actor a.state (turn a.state) one 
     long-in wiring actor state stop one at none asks = absurd (cc asks)
 
 -- where nothing is in hand, each answer leaves fewer steps
-pub less_left : (a new : Acting) (one : Asked) (answer : Answer) → next a ≡ Some one → a.state.hand ≡ [] → may_come (due_in (sent a).asking) answer ≡ true → IsAfter (sent a) answer new → IsValid a.wiring → (a.state.is_short ≡ false → IsWithin a.state) → (new.state.is_short ≡ false → IsWithin new.state)
+pub less_left : (a new : Acting) (one : Asked) (answer : MaybeReply) → next a ≡ Some one → a.state.hand ≡ [] → may_come (due_in (sent a).asking) answer ≡ true → IsAfter (sent a) answer new → IsValid a.wiring → (a.state.is_short ≡ false → IsWithin a.state) → (new.state.is_short ≡ false → IsWithin new.state)
     → steps_left new < steps_left a
 less_left a new one (Ok reply) asks none may (inl so) valid old_in new_in =
     let long = asks-long a one asks none in
@@ -243,7 +243,7 @@ rank-seen false a new state long same is less =
     let before = left-long a long in
     omega (arith, left, before, less)
 
-pub settled_less : (a new : Acting) (one : Asked) (answer : Answer) → next a ≡ Some one → (a.state.hand ≡ [] → ⊥) → AreSettling a.state.hand → may_come (due_in (sent a).asking) answer ≡ true → IsAfter (sent a) answer new → IsSettled a new
+pub settled_less : (a new : Acting) (one : Asked) (answer : MaybeReply) → next a ≡ Some one → (a.state.hand ≡ [] → ⊥) → AreSettling a.state.hand → may_come (due_in (sent a).asking) answer ≡ true → IsAfter (sent a) answer new → IsSettled a new
 settled_less a new one (Ok reply) asks some all may so = by-so so
   where
     fit : fits (due_of one.ask) reply ≡ true

@@ -5,14 +5,14 @@ use Rattle.ccr_wiring.specs.declared.parts.Parts.{Parts}
 use Rattle.ccr_claim.specs.declared.asks.Ask.{Ask}
 use Rattle.ccr_claim.specs.declared.asks.Ask.TheVariants as kinds
 use Rattle.ccr_claim.specs.declared.asks.Asked.{Asked}
-use Rattle.ccr_claim.specs.Asks.{Answer, due_of, fits, is_settling, may_come}
+use Rattle.ccr_claim.specs.Asks.{MaybeReply, due_of, fits, is_settling, may_come}
 use Rattle.ccr_actor.specs.Acting.{Acting, due_in, next, sent, IsAfter}
 use Rattle.ccr_actor.specs.Nets.{Step}
 use Rattle.ccr_actor.specs.Following.{Follows}
 use Rattle.ccr_actor.proofs.Followed.{follows_reply, follows_refusal}
 
 -- a reply that the ask may have, or running out of memory where it doesn't settle
-pub may_answer : (ask : Ask) (answer : Answer) → IfOk answer (λ reply. fits (due_of ask) reply ≡ true) → (is_settling ask ≡ true → IsOk answer) → may_come (due_of ask) answer ≡ true
+pub may_answer : (ask : Ask) (answer : MaybeReply) → IfOk answer (λ reply. fits (due_of ask) reply ≡ true) → (is_settling ask ≡ true → IsOk answer) → may_come (due_of ask) answer ≡ true
 may_answer ask (Ok reply) fit ok = fit
 may_answer (kinds.Post m) (Err refused) fit ok = refl
 may_answer (kinds.Claim t slot) (Err refused) fit ok = refl
@@ -31,7 +31,7 @@ may_answer kinds.Leave (Err refused) fit ok = refl
 may_answer kinds.Left (Err refused) fit ok = refl
 
 -- the actor follows the net's list after the answer
-pub stepped : (wiring : Parts) (actor : ℕ) (old new : List Step) (a b : Acting) (one : Asked) (answer : Answer) → Follows wiring actor old a → next a ≡ Some one → may_come (due_in (sent a).asking) answer ≡ true → IsAfter (sent a) answer b
+pub stepped : (wiring : Parts) (actor : ℕ) (old new : List Step) (a b : Acting) (one : Asked) (answer : MaybeReply) → Follows wiring actor old a → next a ≡ Some one → may_come (due_in (sent a).asking) answer ≡ true → IsAfter (sent a) answer b
     → IfOk answer (λ reply. new ≡ old ++ (record { asked = one; reply = reply }) ∷ []) → OnErr answer (new ≡ old) → Follows wiring actor new b
 stepped wiring actor old new a b one (Ok reply) follows asks may so added refused = subst (λ steps. Follows wiring actor steps b) (sym added) (follows_reply wiring actor old a b one reply follows asks so)
 stepped wiring actor old new a b one (Err e) follows asks may so added refused = subst (λ steps. Follows wiring actor steps b) (sym refused) (follows_refusal wiring actor old a b one e follows asks may so)

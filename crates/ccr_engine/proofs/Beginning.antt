@@ -38,6 +38,6 @@ pub nothing_fires : (w : Parts) → IsValid w → (s : Spot) → could_fire w []
 nothing_fires w valid (Site n k) = refl
 nothing_fires w valid (Branch n) = of_placement (placement w n) refl
   where
-    of_placement : (o : Option Placement) → placement w n ≡ o → option_map_or (λ (s : Placement). is_live_in w [] n s.arbiter s.branch.group) o false && option_map_or (λ (s : Placement). has_enough (held []) s.branch.pattern) o false ≡ false
+    of_placement : (o : Option Placement) → placement w n ≡ o → option_map_or (λ (s : Placement). is_live_in w [] n s.domain s.branch.group) o false && option_map_or (λ (s : Placement). has_enough (held []) s.branch.pattern) o false ≡ false
     of_placement None at = refl
     of_placement (Some s) at = rw (pattern_empty s.branch.pattern (TakesSome-valid w valid n s at)) (and_false _)

@@ -66,9 +66,9 @@ all_on p q [] same = refl
 all_on p q (x ∷ ts) same = rw (same x (or_left (same_task x x) (has_task ts x) (same_task-self x)), all_on p q ts (λ u is. same u (or_right (same_task u x) (has_task ts u) is))) refl
 
 -- a placement is of one domain
-one_domain : (o : Option Placement) (i j : ℕ) → option_map_or (λ (s : Placement). s.arbiter == i) o false ≡ true → option_map_or (λ (s : Placement). s.arbiter == j) o false ≡ true → i ≡ j
+one_domain : (o : Option Placement) (i j : ℕ) → option_map_or (λ (s : Placement). s.domain == i) o false ≡ true → option_map_or (λ (s : Placement). s.domain == j) o false ≡ true → i ≡ j
 one_domain None i j here there = absurd (cc)
-one_domain (Some s) i j here there = sym (same_number s.arbiter i here) ∙ same_number s.arbiter j there
+one_domain (Some s) i j here there = sym (same_number s.domain i here) ∙ same_number s.domain j there
 
 -- the event lets nobody more wait in a domain at whose branches it does not fire
 none_comes : (w : Parts) (e : Event) (d : ℕ) → fires_for w e d ≡ false → fired_by w (is_placement_in d) (e ∷ []) ≡ []
@@ -80,9 +80,9 @@ none_comes w (End t how) d none = refl
 none_comes w (Fire t (Site n k) ms cs) d none = refl
 none_comes w (Fire t (Branch n) ms cs) d none = of_placement (placement w n) none
   where
-    of_placement : (o : Option Placement) → option_map_or (λ (s : Placement). d == s.arbiter) o false ≡ false → map (λ (f : Firing). f.task) (if option_map_or (is_placement_in d) o false then record { task = t; spot = Branch n; messages = ms; cuts = cs } ∷ [] else []) ≡ []
+    of_placement : (o : Option Placement) → option_map_or (λ (s : Placement). d == s.domain) o false ≡ false → map (λ (f : Firing). f.task) (if option_map_or (is_placement_in d) o false then record { task = t; spot = Branch n; messages = ms; cuts = cs } ∷ [] else []) ≡ []
     of_placement None none = refl
-    of_placement (Some s) none = rw (turned d s.arbiter none, and_false (is_interleave s.kind)) refl
+    of_placement (Some s) none = rw (turned d s.domain none, and_false (is_interleave s.kind)) refl
 
 module _ (w : Parts) (h : List Event) (legal : IsLegal w h) where
   -- who waits in a domain fired, and is of it
@@ -91,7 +91,7 @@ module _ (w : Parts) (h : List Event) (legal : IsLegal w h) where
       let facts = WaitingFacts-waiting w h d u (OneName-legal w h legal) waits in
       let branch = BranchFacts-where w (is_placement_in d) facts.firing.spot facts.is_branch in
       let place : placement_of w h u ≡ Some branch.place = placement_by w h u facts.firing facts.is_firing ∙ (ap (λ s. placement w (branch_of s)) branch.is_branch ∙ branch.is_place) in
-      ((facts.firing, facts.is_firing), ap (λ o. option_map_or (λ (s : Placement). s.arbiter == d) o false) place ∙ (both (is_interleave branch.place.kind) (branch.place.arbiter == d) branch.passes).1)
+      ((facts.firing, facts.is_firing), ap (λ o. option_map_or (λ (s : Placement). s.domain == d) o false) place ∙ (both (is_interleave branch.place.kind) (branch.place.domain == d) branch.passes).1)
 
   -- whom the event cuts does not wait in a domain at whose branches it does not fire
   none_cut : (e : Event) (d : ℕ) → IsAllowed w h e → fires_for w e d ≡ false → (u : TaskId) → has_task (waiting w h d) u ≡ true → has_task (cut (e ∷ [])) u ≡ false
@@ -106,11 +106,11 @@ module _ (w : Parts) (h : List Event) (legal : IsLegal w h) where
       of_test a other false = refl
       of_test a other true = refuted (has_task (waiting w h a) u) (λ there. no_both (subst (λ k. (d == k) ≡ true) (one_domain (placement_of w h u) d a (waits_within d u waits).1 (waits_within a u there).1) (eq-self d)) other)
 
-      of_placement : (o : Option Placement) → option_map_or (λ (s : Placement). d == s.arbiter) o false ≡ false → has_task (option_map_or (λ (s : Placement). if is_teardown s.branch.group then waiting w h s.arbiter else []) o []) u ≡ false
+      of_placement : (o : Option Placement) → option_map_or (λ (s : Placement). d == s.domain) o false ≡ false → has_task (option_map_or (λ (s : Placement). if is_teardown s.branch.group then waiting w h s.domain else []) o []) u ≡ false
       of_placement None none = refl
-      of_placement (Some s) none = of_test s.arbiter none (is_teardown s.branch.group)
+      of_placement (Some s) none = of_test s.domain none (is_teardown s.branch.group)
 
-      of_spot : (spot : Spot) → is_branch_where w (λ s. d == s.arbiter) spot ≡ false → has_task (cuts_at w h spot) u ≡ false
+      of_spot : (spot : Spot) → is_branch_where w (λ s. d == s.domain) spot ≡ false → has_task (cuts_at w h spot) u ≡ false
       of_spot (Site n k) none = refl
       of_spot (Branch n) none = of_placement (placement w n) none
 
@@ -127,16 +127,16 @@ module _ (w : Parts) (h : List Event) (legal : IsLegal w h) where
       admits within =
           let rules = refused_not (is_oldest_waiting w h x) _ _ allowed in
           let may = (refused_not (may_admit w h x) _ None rules.1).0 in
-          let found = some_of (λ (s : Placement). is_first (waiting w h s.arbiter) x) (placement_of w h x) rules.0 in
-          let head = first_rest (waiting w h found.0.arbiter) x found.2 in
-          let own : found.0.arbiter ≡ d = one_domain (placement_of w h x) found.0.arbiter d (ap (λ o. option_map_or (λ (s : Placement). s.arbiter == found.0.arbiter) o false) found.1 ∙ eq-self found.0.arbiter) within in
+          let found = some_of (λ (s : Placement). is_first (waiting w h s.domain) x) (placement_of w h x) rules.0 in
+          let head = first_rest (waiting w h found.0.domain) x found.2 in
+          let own : found.0.domain ≡ d = one_domain (placement_of w h x) found.0.domain d (ap (λ o. option_map_or (λ (s : Placement). s.domain == found.0.domain) o false) found.1 ∙ eq-self found.0.domain) within in
           let shut : admit_first w h (x ∷ head.0) ≡ None = sym (ap (admit_first w h) head.1) ∙ subst (λ k. admission w h k ≡ None) (sym own) was in
           let opens : Some (Admit x) ≡ None = sym (ap (λ b. if b then Some (Admit x) else None) may) ∙ shut in
           cc
 
   -- the domain of a task that fired stays
   within_same : (e : Event) (d : ℕ) (u : TaskId) → IsFired h u → is_in_arbiter w (h ++ e ∷ []) d u ≡ is_in_arbiter w h d u
-  within_same e d u fired = ap (λ o. option_map_or (λ (s : Placement). s.arbiter == d) o false) (placement_stays w h (e ∷ []) u fired)
+  within_same e d u fired = ap (λ o. option_map_or (λ (s : Placement). s.domain == d) o false) (placement_stays w h (e ∷ []) u fired)
 
   -- by a task of another domain no root of the domain is over
   over_last : (e : Event) (d : ℕ) (x : TaskId) → last_by e ≡ x ∷ [] → IsFired h x → is_in_arbiter w h d x || false ≡ false → (u : TaskId) → is_in_arbiter w h d u ≡ true → is_over (h ++ e ∷ []) u ≡ is_over h u
@@ -145,7 +145,7 @@ module _ (w : Parts) (h : List Event) (legal : IsLegal w h) where
       root : same_task (root_of h x) u ≡ true → ⊥
       root same =
           let here : is_in_arbiter w h d (root_of h x) ≡ true = subst (λ v. is_in_arbiter w h d v ≡ true) (sym (same_task-is (root_of h x) u same)) within in
-          no_both (ap (λ o. option_map_or (λ (s : Placement). s.arbiter == d) o false) (sym (placement_of_root w h legal x fired)) ∙ here) (neither (is_in_arbiter w h d x) false out).0
+          no_both (ap (λ o. option_map_or (λ (s : Placement). s.domain == d) o false) (sym (placement_of_root w h legal x fired)) ∙ here) (neither (is_in_arbiter w h d x) false out).0
 
   -- who ends fired
   ended_fired : (t : TaskId) (how : EndHow) → IsAllowed w h (End t how) → IsFired h t
@@ -172,7 +172,7 @@ module _ (w : Parts) (h : List Event) (legal : IsLegal w h) where
   none_enters (Start t a) d allowed others = refl
   none_enters (End t how) d allowed others = refl
   none_enters (Admit t) d allowed others =
-      let found = some_of (λ (s : Placement). is_first (waiting w h s.arbiter) t) (placement_of w h t) (refused_not (is_oldest_waiting w h t) _ _ allowed).0 in
+      let found = some_of (λ (s : Placement). is_first (waiting w h s.domain) t) (placement_of w h t) (refused_not (is_oldest_waiting w h t) _ _ allowed).0 in
       let out : is_in_arbiter w (h ++ Admit t ∷ []) d t ≡ false = within_same (Admit t) d t (placement_fired w h t found.0 found.1) ∙ others t (or_left (same_task t t) false (same_task-self t)) in
       rw out refl
 
@@ -210,7 +210,7 @@ module _ (w : Parts) (h : List Event) (legal : IsLegal w h) where
     -- who waits there may be admitted as before
     may_same : (t : TaskId) → has_task (waiting w h d) t ≡ true → may_admit w (h ++ e ∷ []) t ≡ may_admit w h t
     may_same t waits =
-        ap (λ o. option_map_or (λ (s : Placement). if is_concurrent s.branch.group then list_all (is_concurrent_task w (h ++ e ∷ [])) (admitted w (h ++ e ∷ []) s.arbiter) else is_none_of (admitted w (h ++ e ∷ []) s.arbiter)) o false) (placement_stays w h (e ∷ []) t (waits_within d t waits).0)
+        ap (λ o. option_map_or (λ (s : Placement). if is_concurrent s.branch.group then list_all (is_concurrent_task w (h ++ e ∷ [])) (admitted w (h ++ e ∷ []) s.domain) else is_none_of (admitted w (h ++ e ∷ []) s.domain)) o false) (placement_stays w h (e ∷ []) t (waits_within d t waits).0)
         ∙ of_placement (placement_of w h t) (waits_within d t waits).1
       where
         all_same : list_all (is_concurrent_task w (h ++ e ∷ [])) (admitted w h d) ≡ list_all (is_concurrent_task w h) (admitted w h d)
@@ -224,9 +224,9 @@ module _ (w : Parts) (h : List Event) (legal : IsLegal w h) where
         of_domain : (c : Bool) (a : ℕ) → a ≡ d → (if c then list_all (is_concurrent_task w (h ++ e ∷ [])) (admitted w (h ++ e ∷ []) a) else is_none_of (admitted w (h ++ e ∷ []) a)) ≡ (if c then list_all (is_concurrent_task w h) (admitted w h a) else is_none_of (admitted w h a))
         of_domain c a same = rw same (of_test c)
 
-        of_placement : (o : Option Placement) → option_map_or (λ (s : Placement). s.arbiter == d) o false ≡ true → option_map_or (λ (s : Placement). if is_concurrent s.branch.group then list_all (is_concurrent_task w (h ++ e ∷ [])) (admitted w (h ++ e ∷ []) s.arbiter) else is_none_of (admitted w (h ++ e ∷ []) s.arbiter)) o false ≡ option_map_or (λ (s : Placement). if is_concurrent s.branch.group then list_all (is_concurrent_task w h) (admitted w h s.arbiter) else is_none_of (admitted w h s.arbiter)) o false
+        of_placement : (o : Option Placement) → option_map_or (λ (s : Placement). s.domain == d) o false ≡ true → option_map_or (λ (s : Placement). if is_concurrent s.branch.group then list_all (is_concurrent_task w (h ++ e ∷ [])) (admitted w (h ++ e ∷ []) s.domain) else is_none_of (admitted w (h ++ e ∷ []) s.domain)) o false ≡ option_map_or (λ (s : Placement). if is_concurrent s.branch.group then list_all (is_concurrent_task w h) (admitted w h s.domain) else is_none_of (admitted w h s.domain)) o false
         of_placement None within = absurd (cc)
-        of_placement (Some s) within = of_domain (is_concurrent s.branch.group) s.arbiter (same_number s.arbiter d within)
+        of_placement (Some s) within = of_domain (is_concurrent s.branch.group) s.domain (same_number s.domain d within)
 
     -- none of them is admitted first, as before
     first_same : admit_first w h (waiting w h d) ≡ None → admit_first w (h ++ e ∷ []) (waiting w h d) ≡ None

@@ -43,11 +43,11 @@ cuts_wait : (w : Parts) (h : List Event) (s : Spot) (u : TaskId) → has_task (c
 cuts_wait w h (Site b k) u among = absurd (cc)
 cuts_wait w h (Branch b) u among = of_option (placement w b) among
   where
-    of_test : (z : Placement) (c : Bool) → has_task (if c then waiting w h z.arbiter else []) u ≡ true → (i : ℕ) × (has_task (waiting w h i) u ≡ true)
-    of_test z true is = (z.arbiter, is)
+    of_test : (z : Placement) (c : Bool) → has_task (if c then waiting w h z.domain else []) u ≡ true → (i : ℕ) × (has_task (waiting w h i) u ≡ true)
+    of_test z true is = (z.domain, is)
     of_test z false is = absurd (cc)
 
-    of_option : (o : Option Placement) → has_task (option_map_or (λ (z : Placement). if is_teardown z.branch.group then waiting w h z.arbiter else []) o []) u ≡ true → (i : ℕ) × (has_task (waiting w h i) u ≡ true)
+    of_option : (o : Option Placement) → has_task (option_map_or (λ (z : Placement). if is_teardown z.branch.group then waiting w h z.domain else []) o []) u ≡ true → (i : ℕ) × (has_task (waiting w h i) u ≡ true)
     of_option None is = absurd (cc)
     of_option (Some z) is = of_test z (is_teardown z.branch.group) is
 
@@ -144,8 +144,8 @@ may_put-admit w h t u legal allowed = of_test (same_task u t) refl
     facts : AdmitFacts w h t
     facts = AdmitFacts-allowed w h t allowed
 
-    waits : WaitingFacts w h facts.place.arbiter t
-    waits = WaitingFacts-waiting w h facts.place.arbiter t (OneName-legal w h legal) facts.waits
+    waits : WaitingFacts w h facts.place.domain t
+    waits = WaitingFacts-waiting w h facts.place.domain t (OneName-legal w h legal) facts.waits
 
     or_right_true : (a b : Bool) → a || (b || true) ≡ true
     or_right_true true b = refl
@@ -153,7 +153,7 @@ may_put-admit w h t u legal allowed = of_test (same_task u t) refl
     or_right_true false false = refl
 
     admitted : may_put w (h ++ Admit t ∷ []) t ≡ true
-    admitted = rw (put-push, ever_admitted-push, firings-other h (Admit t) refl, append-nil (put h), waits.is_firing, waits_unput w h facts.place.arbiter t (CutFacts-legal w h legal) waits, waits.not_cut, has_task-append (ever_admitted h) (t ∷ []) t, same_task-self t) (or_right_true (needs_no_admission w waits.firing.spot) (has_task (ever_admitted h) t))
+    admitted = rw (put-push, ever_admitted-push, firings-other h (Admit t) refl, append-nil (put h), waits.is_firing, waits_unput w h facts.place.domain t (CutFacts-legal w h legal) waits, waits.not_cut, has_task-append (ever_admitted h) (t ∷ []) t, same_task-self t) (or_right_true (needs_no_admission w waits.firing.spot) (has_task (ever_admitted h) t))
 
     of_test : (b : Bool) → same_task u t ≡ b → may_put w (h ++ Admit t ∷ []) u ≡ b || may_put w h u
     of_test true is = let one : u ≡ t = same_task-is u t is in subst (λ v. may_put w (h ++ Admit t ∷ []) v ≡ true) (sym one) admitted

@@ -38,9 +38,9 @@ module _ (w : Parts) (valid : IsValid w) (h : List Event) (legal : IsLegal w h) 
 
   domain_told : (domain : ℕ) (t : TaskId) → is_in_arbiter w h domain t ≡ true → is_in_domain b domain t ≡ true
   domain_told domain t within =
-      let found = some_of (λ (s : Placement). s.arbiter == domain) (placement_of w h t) within in
+      let found = some_of (λ (s : Placement). s.domain == domain) (placement_of w h t) within in
       let facts = CardFacts-fired w h t b legal keeps.tasks (placement_fired w h t found.0 found.1) in
-      let own : facts.card.domain ≡ domain = facts.domain ∙ same_number facts.place.arbiter domain (sym (ap (λ o. option_map_or (λ (s : Placement). s.arbiter == domain) o false) facts.is_placement) ∙ within) in
+      let own : facts.card.domain ≡ domain = facts.domain ∙ same_number facts.place.domain domain (sym (ap (λ o. option_map_or (λ (s : Placement). s.domain == domain) o false) facts.is_placement) ∙ within) in
       rw (facts.is_card, own) (eq-self domain)
 
   for_queue_told : (queue : ℕ) (t : TaskId) → is_for_queue w h queue t ≡ true → is_for_queue_in b queue t ≡ true

@@ -34,12 +34,12 @@ use Rattle.ccr_model.proofs.Suspending.{yielded_fired, yields_stays}
 
 -- a branch
 placement_before : (w : Parts) (h : List Event) (e : Event) (n : ℕ) (o : Option Placement) → option_map_or (touches_branch e) o false ≡ false
-    → option_map_or (λ (s : Placement). is_live_in w (h ++ e ∷ []) n s.arbiter s.branch.group) o false && option_map_or (λ (s : Placement). has_enough (held (h ++ e ∷ [])) s.branch.pattern) o false ≡ true
-    → option_map_or (λ (s : Placement). is_live_in w h n s.arbiter s.branch.group) o false && option_map_or (λ (s : Placement). has_enough (held h) s.branch.pattern) o false ≡ true
+    → option_map_or (λ (s : Placement). is_live_in w (h ++ e ∷ []) n s.domain s.branch.group) o false && option_map_or (λ (s : Placement). has_enough (held (h ++ e ∷ [])) s.branch.pattern) o false ≡ true
+    → option_map_or (λ (s : Placement). is_live_in w h n s.domain s.branch.group) o false && option_map_or (λ (s : Placement). has_enough (held h) s.branch.pattern) o false ≡ true
 placement_before w h e n None none is = absurd (cc)
 placement_before w h e n (Some s) none is =
-    let parts = both (is_live_in w (h ++ e ∷ []) n s.arbiter s.branch.group) (has_enough (held (h ++ e ∷ [])) s.branch.pattern) is in
-    rw (live_before w h e n s.arbiter s.branch.group parts.0) (enough_before (held (h ++ e ∷ [])) (held h) (posts_to e) s.branch.pattern (less_before h e) none parts.1)
+    let parts = both (is_live_in w (h ++ e ∷ []) n s.domain s.branch.group) (has_enough (held (h ++ e ∷ [])) s.branch.pattern) is in
+    rw (live_before w h e n s.domain s.branch.group parts.0) (enough_before (held (h ++ e ∷ [])) (held h) (posts_to e) s.branch.pattern (less_before h e) none parts.1)
 
 -- a site
 some_left : (n : ℕ) (ts : List TaskId) → not (is_none_of (drop n ts)) ≡ true → n < length ts

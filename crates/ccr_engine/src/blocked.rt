@@ -5,7 +5,7 @@ ghost use Rattle.std.specs.List.{slice_get};
 ghost use Rattle.ccr_ledger.specs.Rows.{row, with_row, empty_rows};
 ghost use Rattle.ccr_engine.specs.Ready.{has_number, IsLeastFirst};
 
-use crate::numbers::Numbers;
+use crate::numbers::NumberSet;
 use ccr_base::OutOfMemory;
 use std::alloc::Global;
 use std::marker::Model;
@@ -13,7 +13,7 @@ use std::marker::Model;
 /// The places of the blocked branches, of each queue its own.
 #[derive(Drop)]
 pub(crate) struct Blocked {
-    queues: Vec<Numbers>,
+    queues: Vec<NumberSet>,
 }
 
 impl Model for Blocked {
@@ -31,7 +31,7 @@ impl Blocked {
     {
         let mut queues = Vec::new(alloc);
         for _ in 0..count {
-            queues.push(Numbers::new(alloc))?;
+            queues.push(NumberSet::new(alloc))?;
         }
         Ok(Blocked { queues })
     }

@@ -7,7 +7,7 @@ ghost use Rattle.ccr_engine.specs.Desk.{Follows, IsAhead, IsIdle, after_attempt,
 
 use crate::blocked::Blocked;
 use crate::domains::note_domains;
-use crate::numbers::Numbers;
+use crate::numbers::NumberSet;
 use crate::parts::{first_admit, first_post, first_put, first_run, first_start};
 use crate::places::Places;
 use crate::queues::note_queue;
@@ -30,15 +30,15 @@ pub(crate) struct Desk {
     /// No poster before it has a line left.
     poster: usize,
     /// The places of the spots that may fire: no other can, room aside, but the blocked ones.
-    touched: Numbers,
+    touched: NumberSet,
     /// The places of the branches that lacked room when they were asked, by their queues.
     blocked: Blocked,
     /// The domains that may have a task to admit: no other has one.
-    domains: Numbers,
+    domains: NumberSet,
     /// The numbers of the firings whose tasks may be put.
-    ready: Numbers,
+    ready: NumberSet,
     /// The queues that may have a task: no other has one.
-    queues: Numbers,
+    queues: NumberSet,
 }
 
 /// The closer's next attempt after the event.
@@ -73,7 +73,7 @@ fn note_ready(
     ledger: &Ledger,
     wiring: &Wiring,
     event: &Event,
-    ready: &mut Numbers,
+    ready: &mut NumberSet,
 ) -> Result<(), OutOfMemory>
     ensures members { OnOk result ((number : ℕ) → has_number ready.new number ≡ after_ready wiring.now ledger.now event.now ready.old number) }
     ensures least { OnOk result (IsLeastFirst ready.old → IsLeastFirst ready.new) }
@@ -117,11 +117,11 @@ impl Desk {
             ledger: Ledger::new(alloc, wiring)?,
             attempt: 0,
             poster: 0,
-            touched: Numbers::new(alloc),
+            touched: NumberSet::new(alloc),
             blocked: Blocked::new(alloc, wiring.parts().queues.as_slice().len())?,
-            domains: Numbers::new(alloc),
-            ready: Numbers::new(alloc),
-            queues: Numbers::new(alloc),
+            domains: NumberSet::new(alloc),
+            ready: NumberSet::new(alloc),
+            queues: NumberSet::new(alloc),
         })
     }
 

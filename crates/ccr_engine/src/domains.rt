@@ -5,19 +5,19 @@ ghost use Rattle.ccr_model.specs.Tasks.{is_branch_where};
 ghost use Rattle.ccr_engine.specs.Numbered.{Gains};
 ghost use Rattle.ccr_engine.specs.Parts.{is_in_domain, touches_domain_in};
 
-use crate::numbers::Numbers;
+use crate::numbers::NumberSet;
 use ccr_base::{OutOfMemory, Spot, TaskId};
 use ccr_ledger::Ledger;
 use ccr_model::{EndHow, Event};
 use ccr_wiring::Wiring;
 
 /// The domain of the branch comes in.
-fn note_branch(wiring: &Wiring, spot: Spot, domains: &mut Numbers) -> Result<(), OutOfMemory>
-    ensures { OnOk result (Gains (λ domain. is_branch_where wiring.now (λ s. domain == s.arbiter) spot) domains.old domains.new) }
+fn note_branch(wiring: &Wiring, spot: Spot, domains: &mut NumberSet) -> Result<(), OutOfMemory>
+    ensures { OnOk result (Gains (λ domain. is_branch_where wiring.now (λ s. domain == s.domain) spot) domains.old domains.new) }
 {
     match spot {
         Spot::Branch(branch) => match wiring.placement(branch) {
-            Some(placement) => domains.enter(placement.arbiter),
+            Some(placement) => domains.enter(placement.domain),
             None => Ok(()),
         },
         Spot::Site(_, _) => Ok(()),
@@ -25,7 +25,7 @@ fn note_branch(wiring: &Wiring, spot: Spot, domains: &mut Numbers) -> Result<(),
 }
 
 /// The domain of the task comes in, where it fired.
-fn note_task(ledger: &Ledger, task: TaskId, domains: &mut Numbers) -> Result<(), OutOfMemory>
+fn note_task(ledger: &Ledger, task: TaskId, domains: &mut NumberSet) -> Result<(), OutOfMemory>
     ensures { OnOk result (Gains (λ domain. is_in_domain ledger.now domain task) domains.old domains.new) }
 {
     match ledger.card(task) {
@@ -39,7 +39,7 @@ pub(crate) fn note_domains(
     ledger: &Ledger,
     wiring: &Wiring,
     event: &Event,
-    domains: &mut Numbers,
+    domains: &mut NumberSet,
 ) -> Result<(), OutOfMemory>
     ensures { OnOk result (Gains (touches_domain_in wiring.now ledger.now event.now) domains.old domains.new) }
 {

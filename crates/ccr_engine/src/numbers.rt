@@ -12,11 +12,11 @@ use std::marker::Model;
 
 /// Numbers, each once.
 #[derive(Drop)]
-pub(crate) struct Numbers {
+pub(crate) struct NumberSet {
     numbers: BTreeSet<usize>,
 }
 
-impl Model for Numbers {
+impl Model for NumberSet {
     ghost use Rattle.std.specs.Prelude.{List as Listed, ℕ};
 
     ghost Value = { Listed ℕ };
@@ -24,12 +24,12 @@ impl Model for Numbers {
     ghost view = { λ s. s.numbers.keys };
 }
 
-impl Numbers {
+impl NumberSet {
     /// No numbers.
     pub(crate) fn new(alloc: Global) -> Self
         ensures { result ≡ [] }
     {
-        Numbers {
+        NumberSet {
             numbers: BTreeSet::new(alloc),
         }
     }

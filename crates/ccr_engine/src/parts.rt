@@ -9,7 +9,7 @@ ghost use Rattle.ccr_engine.specs.Ready.{IsLeastFirst};
 ghost use Rattle.ccr_engine.specs.Numbered.{IsNoneBut};
 ghost use Rattle.ccr_engine.specs.Parts.{admission_in, are_done_in, choose_in, fire_in, first_admit_in, line_in, post_in, put_in, run_in, start_at_in, start_in};
 
-use crate::numbers::Numbers;
+use crate::numbers::NumberSet;
 use ccr_base::{
     ActorNo, CauseNo, List, Msg, MsgId, OutOfMemory, PortNo, QueueNo, Spot, TaskId, Value,
 };
@@ -144,7 +144,11 @@ fn admit_number(wiring: &Wiring, ledger: &Ledger, number: usize) -> Option<Event
 }
 
 /// The admission at the first domain that has one, which is one of these. Those that are asked in vain leave.
-pub(crate) fn first_admit(wiring: &Wiring, ledger: &Ledger, domains: &mut Numbers) -> Option<Event>
+pub(crate) fn first_admit(
+    wiring: &Wiring,
+    ledger: &Ledger,
+    domains: &mut NumberSet,
+) -> Option<Event>
     requires others { IsNoneBut (admission_in ledger.now) (length wiring.now.arbiters) domains.old }
     requires least { IsLeastFirst domains.old }
     ensures event { result ≡ first_admit_in ledger.now 0 wiring.now.arbiters }
@@ -161,7 +165,7 @@ pub(crate) fn first_admit(wiring: &Wiring, ledger: &Ledger, domains: &mut Number
 }
 
 /// The put of the task that fired first among those that may be put.
-pub(crate) fn first_put(wiring: &Wiring, ledger: &Ledger, ready: &Numbers) -> Option<Event>
+pub(crate) fn first_put(wiring: &Wiring, ledger: &Ledger, ready: &NumberSet) -> Option<Event>
     ensures { result ≡ option_and_then (put_in wiring.now ledger.now) (slice_get ready.now 0) }
 {
     let task = ledger.fired(ready.first()?)?;
@@ -259,7 +263,7 @@ pub(crate) fn first_start(
     wiring: &Wiring,
     ledger: &Ledger,
     closer: ActorNo,
-    queues: &mut Numbers,
+    queues: &mut NumberSet,
 ) -> Option<Event>
     requires few { length wiring.now.queues < 2 ^ 32 }
     requires others { IsNoneBut (start_at_in closer ledger.now) (length wiring.now.queues) queues.old }

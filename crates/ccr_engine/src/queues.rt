@@ -4,7 +4,7 @@ ghost use Rattle.std.specs.Prelude.{OnOk};
 ghost use Rattle.ccr_engine.specs.Numbered.{Gains};
 ghost use Rattle.ccr_engine.specs.Parts.{touches_queue_in};
 
-use crate::numbers::Numbers;
+use crate::numbers::NumberSet;
 use ccr_base::OutOfMemory;
 use ccr_ledger::Ledger;
 use ccr_model::Event;
@@ -13,7 +13,7 @@ use ccr_model::Event;
 pub(crate) fn note_queue(
     ledger: &Ledger,
     event: &Event,
-    queues: &mut Numbers,
+    queues: &mut NumberSet,
 ) -> Result<(), OutOfMemory>
     ensures { OnOk result (Gains (touches_queue_in ledger.now event.now) queues.old queues.new) }
 {

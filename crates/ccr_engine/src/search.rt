@@ -11,7 +11,7 @@ ghost use Rattle.ccr_engine.specs.Candidates.{AreCandidates, IsFirstOpen, IsLeft
 ghost use Rattle.ccr_engine.specs.Parts.{could_fire_in, fire_in, first_fire_in};
 
 use crate::blocked::Blocked;
-use crate::numbers::Numbers;
+use crate::numbers::NumberSet;
 use crate::parts::{choose_at, fire_at};
 use ccr_base::{OutOfMemory, QueueNo, Spot, TaskId};
 use ccr_ledger::Ledger;
@@ -159,7 +159,7 @@ fn first_touched(
     wiring: &Wiring,
     ledger: &mut Ledger,
     task: TaskId,
-    touched: &mut Numbers,
+    touched: &mut NumberSet,
     blocked: &mut Blocked,
     limit: Option<usize>,
 ) -> Result<Option<Event>, OutOfMemory>
@@ -227,7 +227,7 @@ fn first_of_both(
     wiring: &Wiring,
     ledger: &mut Ledger,
     task: TaskId,
-    touched: &mut Numbers,
+    touched: &mut NumberSet,
     blocked: &mut Blocked,
 ) -> Result<Option<Event>, OutOfMemory>
     requires { AreCandidates wiring.now ledger.old touched.old blocked.old }
@@ -251,7 +251,7 @@ pub(crate) fn first_fire(
     wiring: &Wiring,
     ledger: &mut Ledger,
     task: TaskId,
-    touched: &mut Numbers,
+    touched: &mut NumberSet,
     blocked: &mut Blocked,
 ) -> Result<Option<Event>, OutOfMemory>
     requires { AreCandidates wiring.now ledger.old touched.old blocked.old }

@@ -7,14 +7,14 @@ ghost use Rattle.ccr_wiring.specs.Wirings.{spots};
 ghost use Rattle.ccr_engine.specs.Numbered.{Gains, passes_at};
 ghost use Rattle.ccr_engine.specs.Parts.{touches_in, yields_in};
 
-use crate::numbers::Numbers;
+use crate::numbers::NumberSet;
 use crate::places::Places;
 use ccr_base::{OutOfMemory, TaskId};
 use ccr_ledger::Ledger;
 use ccr_model::{EndHow, Event};
 
 /// The place comes in, if there is one.
-fn note_place(place: Option<usize>, touched: &mut Numbers) -> Result<(), OutOfMemory>
+fn note_place(place: Option<usize>, touched: &mut NumberSet) -> Result<(), OutOfMemory>
     ensures { OnOk result (Gains (λ number. option_map_or (λ one. number == one) place false) touched.old touched.new) }
 {
     match place {
@@ -28,7 +28,7 @@ fn note_yield(
     ledger: &Ledger,
     places: &Places<'_>,
     task: TaskId,
-    touched: &mut Numbers,
+    touched: &mut NumberSet,
 ) -> Result<(), OutOfMemory>
     ensures { OnOk result (Gains (passes_at (λ (spot : SomeSpot). yields_in ledger.now spot task) (spots places.now)) touched.old touched.new) }
 {
@@ -43,7 +43,7 @@ pub(crate) fn note_touched(
     ledger: &Ledger,
     places: &Places<'_>,
     event: &Event,
-    touched: &mut Numbers,
+    touched: &mut NumberSet,
 ) -> Result<(), OutOfMemory>
     ensures { OnOk result (Gains (passes_at (touches_in places.now ledger.now event.now) (spots places.now)) touched.old touched.new) }
 {

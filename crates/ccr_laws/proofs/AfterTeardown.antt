@@ -63,10 +63,10 @@ cuts_all : (w : Parts) (h : List Event) (i : ℕ) (s : Spot) → tears_down w i 
 cuts_all w h i s tears =
     let facts = BranchFacts-where w (is_teardown_in i) s tears in
     let parts = both (is_placement_in i facts.place) (is_teardown facts.place.branch.group) facts.passes in
-    let number = same_number facts.place.arbiter i (both (is_interleave facts.place.kind) (facts.place.arbiter == i) parts.0).1 in
+    let number = same_number facts.place.domain i (both (is_interleave facts.place.kind) (facts.place.domain == i) parts.0).1 in
     at_branch facts parts.1 ∙ ap (λ n. waiting w h n) number
   where
-    at_branch : (facts : BranchFacts w (is_teardown_in i) s) → is_teardown facts.place.branch.group ≡ true → cuts_at w h s ≡ waiting w h facts.place.arbiter
+    at_branch : (facts : BranchFacts w (is_teardown_in i) s) → is_teardown facts.place.branch.group ≡ true → cuts_at w h s ≡ waiting w h facts.place.domain
     at_branch facts group = rw (facts.is_branch, facts.is_place, group) refl
 
 torn_fire : (w : Parts) → HasGroups w → (i : ℕ) (h : List Event) (x : TaskId) (s : Spot) (ms : List MsgId) (cs : List TaskId) → IsAllowed w h (Fire x s ms cs) → IsTornDown w i h → IsTornDown w i (h ++ Fire x s ms cs ∷ [])
@@ -111,7 +111,7 @@ admitted_before : (w : Parts) (h : List Event) (e : Event) (i : ℕ) (t : TaskId
 admitted_before w h e i t legal allowed is =
     let facts = AdmittedFacts-admitted w (h ++ e ∷ []) i t is in
     of_more (ever_admitted h) (admitted_by e) t ((has_task (admitted w h i) t ≡ true) ⊎ ((has_task (admitted_by e) t ≡ true) × (is_in_arbiter w (h ++ e ∷ []) i t ≡ true))) (subst (λ ts. has_task ts t ≡ true) (ever_admitted-push h e) facts.entered)
-    (λ old. inl (admitted_whole w h i t old (sym (ap (λ o. option_map_or (λ (s : Placement). s.arbiter == i) o false) (placement_stays w h (e ∷ []) t (ever_admitted_fired w h legal t old))) ∙ facts.within) (not_over_before w h e t legal facts.lasts)))
+    (λ old. inl (admitted_whole w h i t old (sym (ap (λ o. option_map_or (λ (s : Placement). s.domain == i) o false) (placement_stays w h (e ∷ []) t (ever_admitted_fired w h legal t old))) ∙ facts.within) (not_over_before w h e t legal facts.lasts)))
     (λ new. inr (new, facts.within))
 
 -- a teardown branch isn't concurrent
@@ -157,8 +157,8 @@ none_else_kept w groups_fit i r f h e legal allowed named tears known t is = of_
         let one : t ≡ x = of_one x t new in
         let place : placement_of w (h ++ Admit x ∷ []) x ≡ Some facts.place = placement_stays w h (Admit x ∷ []) x (placement_fired w h x facts.place facts.is_place) ∙ facts.is_place in
         let within_x : is_in_arbiter w (h ++ Admit x ∷ []) i x ≡ true = subst (λ y. is_in_arbiter w (h ++ Admit x ∷ []) i y ≡ true) one within in
-        let there : (facts.place.arbiter == i) ≡ true = sym (ap (λ o. option_map_or (λ (s : Placement). s.arbiter == i) o false) place) ∙ within_x in
-        let number = same_number facts.place.arbiter i there in
+        let there : (facts.place.domain == i) ≡ true = sym (ap (λ o. option_map_or (λ (s : Placement). s.domain == i) o false) place) ∙ within_x in
+        let number = same_number facts.place.domain i there in
         one ∙ IsTornDown-legal w groups_fit i h legal r f named tears x (subst (λ n. has_task (waiting w h n) x ≡ true) number facts.waits)
     by_event (Post m) allowed' new within = absurd (cc)
     by_event (Fire x s ms cs) allowed' new within = absurd (cc)

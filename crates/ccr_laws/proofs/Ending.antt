@@ -47,10 +47,10 @@ spot_fired h t s is = fired_has h t (some_map (λ (f : Firing). f.spot) (firing_
 -- who is admitted fired, and wasn't admitted
 admit_next : (w : Parts) (h : List Event) (t : TaskId) → is_oldest_waiting w h t ≡ true → (has_task (fired h) t ≡ true) × (has_task (ever_admitted h) t ≡ false)
 admit_next w h t is =
-    let found = some_of (λ (s : Placement). is_first (waiting w h s.arbiter) t) (placement_of w h t) is in
-    let n = found.0.arbiter in
+    let found = some_of (λ (s : Placement). is_first (waiting w h s.domain) t) (placement_of w h t) is in
+    let n = found.0.domain in
     let head = head_rest (waiting w h n) t (first_is (waiting w h n) t found.2) in
-    let passes = head_passes (λ u. not (has_task (ever_admitted h ++ cut h) u)) (fired_by w (λ s. is_interleave s.kind && (s.arbiter == n)) h) t head.0 head.1 in
+    let passes = head_passes (λ u. not (has_task (ever_admitted h ++ cut h) u)) (fired_by w (λ s. is_interleave s.kind && (s.domain == n)) h) t head.0 head.1 in
     let out : has_task (ever_admitted h ++ cut h) t ≡ false = grind (arith, passes) in
     (fired_has h t (placement_fired w h t found.0 found.1), out_left (ever_admitted h) (cut h) t out)
 

@@ -56,8 +56,8 @@ alone_since w i before since t legal exclusive lasts =
     let entered : has_task (ever_admitted h) t ≡ true = rw (ever_admitted_more, has_task-append (ever_admitted before) (t ∷ ever_admitted since) t) (or_right (has_task (ever_admitted before) t) (has_task (t ∷ ever_admitted since) t) (or_left (same_task t t) (has_task (ever_admitted since) t) (same_task-self t))) in
     let found = some_of (is_exclusive_in i) (placement_of w h t) exclusive in
     let parts = both (is_placement_in i found.0) (not (is_concurrent found.0.branch.group)) found.2 in
-    let number = (both (is_interleave found.0.kind) (found.0.arbiter == i) parts.0).1 in
-    let there : is_in_arbiter w h i t ≡ true = ap (λ o. option_map_or (λ (s : Placement). s.arbiter == i) o false) found.1 ∙ number in
+    let number = (both (is_interleave found.0.kind) (found.0.domain == i) parts.0).1 in
+    let there : is_in_arbiter w h i t ≡ true = ap (λ o. option_map_or (λ (s : Placement). s.domain == i) o false) found.1 ∙ number in
     alone w h legal i t exclusive (admitted_whole w h i t entered there lasts)
   where
     ever_admitted_more : ever_admitted (before ++ Admit t ∷ since) ≡ ever_admitted before ++ t ∷ ever_admitted since

@@ -105,7 +105,7 @@ cuts_less w h s cs is = of_spot s is
 
     of_waiting : (i : ℕ) → cs ≡ waiting w h i → length cs + length (without (fired h) (cut h ++ cs)) ≤ length (without (fired h) (cut h))
     of_waiting i waits =
-        let less = left_less (λ (f : Firing). is_branch_where w (λ s. is_interleave s.kind && (s.arbiter == i)) f.spot) (ever_admitted h) (cut h) cs (firings h) (λ u among. subst (λ ts. has_task ts u ≡ true) (sym waits) among) in
+        let less = left_less (λ (f : Firing). is_branch_where w (λ s. is_interleave s.kind && (s.domain == i)) f.spot) (ever_admitted h) (cut h) cs (firings h) (λ u among. subst (λ ts. has_task ts u ≡ true) (sym waits) among) in
         let same = ap length waits in
         omega (arith, less, same)
 
@@ -113,12 +113,12 @@ cuts_less w h s cs is = of_spot s is
     of_spot (Site b k) at = no_cuts at
     of_spot (Branch b) at = of_option (placement w b) at
       where
-        of_option : (o : Option Placement) → cs ≡ option_map_or (λ (z : Placement). if is_teardown z.branch.group then waiting w h z.arbiter else []) o [] → length cs + length (without (fired h) (cut h ++ cs)) ≤ length (without (fired h) (cut h))
+        of_option : (o : Option Placement) → cs ≡ option_map_or (λ (z : Placement). if is_teardown z.branch.group then waiting w h z.domain else []) o [] → length cs + length (without (fired h) (cut h ++ cs)) ≤ length (without (fired h) (cut h))
         of_option None none = no_cuts none
         of_option (Some z) so = of_test (is_teardown z.branch.group) so
           where
-            of_test : (b : Bool) → cs ≡ (if b then waiting w h z.arbiter else []) → length cs + length (without (fired h) (cut h ++ cs)) ≤ length (without (fired h) (cut h))
-            of_test true waits = of_waiting z.arbiter waits
+            of_test : (b : Bool) → cs ≡ (if b then waiting w h z.domain else []) → length cs + length (without (fired h) (cut h ++ cs)) ≤ length (without (fired h) (cut h))
+            of_test true waits = of_waiting z.domain waits
             of_test false none = no_cuts none
 
 fits_kept : (w : Parts) (h : List Event) (e : Event) → CutFits h → IsAllowed w h e → CutFits (h ++ e ∷ [])

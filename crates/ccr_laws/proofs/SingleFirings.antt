@@ -73,9 +73,9 @@ none_there : (ts : List TaskId) → is_none_of ts ≡ true → length ts ≡ 0
 none_there ts is = grind (arith, nat_tests, is)
 
 -- a branch of an arbiter's domain has its kind
-kind_of : (w : Parts) → HasDomains w → (number : ℕ) (arbiter : ArbiterPart) (branch : ℕ) (s : Placement) → slice_get w.arbiters number ≡ Some arbiter → placement w branch ≡ Some s → s.arbiter ≡ number → s.kind ≡ arbiter.kind
+kind_of : (w : Parts) → HasDomains w → (number : ℕ) (arbiter : ArbiterPart) (branch : ℕ) (s : Placement) → slice_get w.arbiters number ≡ Some arbiter → placement w branch ≡ Some s → s.domain ≡ number → s.kind ≡ arbiter.kind
 kind_of w domains number arbiter branch s at known is =
-    let there : slice_get w.arbiters s.arbiter ≡ Some arbiter = ap (slice_get w.arbiters) is ∙ at in
+    let there : slice_get w.arbiters s.domain ≡ Some arbiter = ap (slice_get w.arbiters) is ∙ at in
     sym (subst (λ o. IsSomeAnd o (λ (a : ArbiterPart). a.kind ≡ s.kind)) there (domains branch s known))
 
 choice_group : (kind : Kind) (group : Group) → kind ≡ kinds.Choice → may_have kind group ≡ true → group ≡ groups.Choice
@@ -88,18 +88,18 @@ choice_group kinds.Choice groups.Teardown is may = absurd (cc)
 choice_group kinds.Choice groups.Exclusive is may = absurd (cc)
 choice_group kinds.Choice groups.Concurrent is may = absurd (cc)
 
-choice_first : (w : Parts) → IsValid w → (number : ℕ) (arbiter : ArbiterPart) → slice_get w.arbiters number ≡ Some arbiter → arbiter.kind ≡ kinds.Choice → (h : List Event) (s : Spot) → is_live w h s ≡ true → is_branch_where w (λ (s : Placement). s.arbiter == number) s ≡ true → length (fired_by w (λ (s : Placement). s.arbiter == number) h) ≡ 0
+choice_first : (w : Parts) → IsValid w → (number : ℕ) (arbiter : ArbiterPart) → slice_get w.arbiters number ≡ Some arbiter → arbiter.kind ≡ kinds.Choice → (h : List Event) (s : Spot) → is_live w h s ≡ true → is_branch_where w (λ (s : Placement). s.domain == number) s ≡ true → length (fired_by w (λ (s : Placement). s.domain == number) h) ≡ 0
 choice_first w valid number arbiter at kind h s live is =
-    let at_branch = BranchFacts-where w (λ (s : Placement). s.arbiter == number) s is in
+    let at_branch = BranchFacts-where w (λ (s : Placement). s.domain == number) s is in
     let its = at_branch.place in
-    let live_so = live_at w h (λ (s : Placement). s.arbiter == number) s at_branch live in
-    let same : its.arbiter ≡ number = same_number its.arbiter number at_branch.passes in
+    let live_so = live_at w h (λ (s : Placement). s.domain == number) s at_branch live in
+    let same : its.domain ≡ number = same_number its.domain number at_branch.passes in
     let group : its.branch.group ≡ groups.Choice = choice_group its.kind its.branch.group (kind_of w (sound w valid).domains number arbiter at_branch.number its at at_branch.is_place same ∙ kind) ((sound w valid).groups at_branch.number its at_branch.is_place) in
-    let none : is_live_in w h at_branch.number number groups.Choice ≡ true = subst (λ n. is_live_in w h at_branch.number n groups.Choice ≡ true) same (subst (λ g. is_live_in w h at_branch.number its.arbiter g ≡ true) group live_so) in
-    none_there (fired_by w (λ (s : Placement). s.arbiter == number) h) none
+    let none : is_live_in w h at_branch.number number groups.Choice ≡ true = subst (λ n. is_live_in w h at_branch.number n groups.Choice ≡ true) same (subst (λ g. is_live_in w h at_branch.number its.domain g ≡ true) group live_so) in
+    none_there (fired_by w (λ (s : Placement). s.domain == number) h) none
 
 pub choice_once : (w : Parts) → IsValid w → (h : List Event) → IsLegal w h → (number : ℕ) (arbiter : ArbiterPart) → slice_get w.arbiters number ≡ Some arbiter → arbiter.kind ≡ kinds.Choice → times_any_fired w h number ≤ 1
-choice_once w valid h legal number arbiter at kind = at_most_once w (is_branch_where w (λ (s : Placement). s.arbiter == number)) (choice_first w valid number arbiter at kind) h legal
+choice_once w valid h legal number arbiter at kind = at_most_once w (is_branch_where w (λ (s : Placement). s.domain == number)) (choice_first w valid number arbiter at kind) h legal
 
 same_branch : (b : ℕ) (s : Spot) → same_spot s (Branch b) ≡ true → s ≡ Branch b
 same_branch b (Branch c) is = ap (λ n. Branch n) (same_number c b is)
@@ -108,8 +108,8 @@ same_branch b (Site c k) is = absurd (cc)
 once_first : (w : Parts) (b : ℕ) (its : Placement) → placement w b ≡ Some its → its.branch.group ≡ groups.Once → (h : List Event) (s : Spot) → is_live w h s ≡ true → same_spot s (Branch b) ≡ true → length (fired_at h (Branch b)) ≡ 0
 once_first w b its at group h s live is =
     let there : is_live w h (Branch b) ≡ true = subst (λ r. is_live w h r ≡ true) (same_branch b s is) live in
-    let known : is_live_in w h b its.arbiter its.branch.group ≡ true = subst (λ o. option_map_or (λ (s : Placement). is_live_in w h b s.arbiter s.branch.group) o false ≡ true) at there in
-    let none : is_live_in w h b its.arbiter groups.Once ≡ true = subst (λ g. is_live_in w h b its.arbiter g ≡ true) group known in
+    let known : is_live_in w h b its.domain its.branch.group ≡ true = subst (λ o. option_map_or (λ (s : Placement). is_live_in w h b s.domain s.branch.group) o false ≡ true) at there in
+    let none : is_live_in w h b its.domain groups.Once ≡ true = subst (λ g. is_live_in w h b its.domain g ≡ true) group known in
     none_there (fired_at h (Branch b)) none
 
 pub receiver_once : (w : Parts) (h : List Event) → IsLegal w h → (b : ℕ) (its : Placement) → placement w b ≡ Some its → its.branch.group ≡ groups.Once → times_fired h b ≤ 1
@@ -123,16 +123,16 @@ teardown_group groups.Choice is = absurd (cc)
 teardown_group groups.Exclusive is = absurd (cc)
 teardown_group groups.Concurrent is = absurd (cc)
 
-teardown_first : (w : Parts) (i : ℕ) (h : List Event) (s : Spot) → is_live w h s ≡ true → is_branch_where w (λ (s : Placement). (s.arbiter == i) && is_teardown s.branch.group) s ≡ true → length (fired_by w (λ (s : Placement). (s.arbiter == i) && is_teardown s.branch.group) h) ≡ 0
+teardown_first : (w : Parts) (i : ℕ) (h : List Event) (s : Spot) → is_live w h s ≡ true → is_branch_where w (λ (s : Placement). (s.domain == i) && is_teardown s.branch.group) s ≡ true → length (fired_by w (λ (s : Placement). (s.domain == i) && is_teardown s.branch.group) h) ≡ 0
 teardown_first w i h s live is =
-    let at_branch = BranchFacts-where w (λ (s : Placement). (s.arbiter == i) && is_teardown s.branch.group) s is in
+    let at_branch = BranchFacts-where w (λ (s : Placement). (s.domain == i) && is_teardown s.branch.group) s is in
     let its = at_branch.place in
-    let live_so = live_at w h (λ (s : Placement). (s.arbiter == i) && is_teardown s.branch.group) s at_branch live in
-    let parts = both (its.arbiter == i) (is_teardown its.branch.group) at_branch.passes in
-    let same : its.arbiter ≡ i = same_number its.arbiter i parts.0 in
+    let live_so = live_at w h (λ (s : Placement). (s.domain == i) && is_teardown s.branch.group) s at_branch live in
+    let parts = both (its.domain == i) (is_teardown its.branch.group) at_branch.passes in
+    let same : its.domain ≡ i = same_number its.domain i parts.0 in
     let group : its.branch.group ≡ groups.Teardown = teardown_group its.branch.group parts.1 in
-    let none : is_live_in w h at_branch.number i groups.Teardown ≡ true = subst (λ n. is_live_in w h at_branch.number n groups.Teardown ≡ true) same (subst (λ g. is_live_in w h at_branch.number its.arbiter g ≡ true) group live_so) in
-    none_there (fired_by w (λ (s : Placement). (s.arbiter == i) && is_teardown s.branch.group) h) none
+    let none : is_live_in w h at_branch.number i groups.Teardown ≡ true = subst (λ n. is_live_in w h at_branch.number n groups.Teardown ≡ true) same (subst (λ g. is_live_in w h at_branch.number its.domain g ≡ true) group live_so) in
+    none_there (fired_by w (λ (s : Placement). (s.domain == i) && is_teardown s.branch.group) h) none
 
 pub teardown_once : (w : Parts) (h : List Event) → IsLegal w h → (i : ℕ) → times_torn_down w h i ≤ 1
-teardown_once w h legal i = at_most_once w (is_branch_where w (λ (s : Placement). (s.arbiter == i) && is_teardown s.branch.group)) (teardown_first w i) h legal
+teardown_once w h legal i = at_most_once w (is_branch_where w (λ (s : Placement). (s.domain == i) && is_teardown s.branch.group)) (teardown_first w i) h legal

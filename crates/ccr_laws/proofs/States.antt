@@ -110,8 +110,8 @@ waits_in w h t f r found with_placement uncut bound outside (Branch b) at =
     let known : placement w b ≡ Some r = ap (λ s. placement w (branch_of s)) (sym at) ∙ with_placement in
     let tied : not (is_interleave r.kind) ≡ false = ap (λ o. option_map_or (λ (s : Placement). not (is_interleave s.kind)) o false) (sym known) ∙ ap (λ s. needs_no_admission w s) (sym at) ∙ bound in
     let kind : is_interleave r.kind ≡ true = grind (arith, tied) in
-    let passes : is_branch_where w (is_placement_in r.arbiter) f.spot ≡ true = ap (λ s. is_branch_where w (is_placement_in r.arbiter) s) at ∙ ap (λ o. option_map_or (is_placement_in r.arbiter) o false) known ∙ rw (kind, eq-self r.arbiter) refl in
-    record { interleave = r.arbiter; among = waits_whole w h r.arbiter t (fired_by_has w (is_placement_in r.arbiter) h t f found passes) outside uncut }
+    let passes : is_branch_where w (is_placement_in r.domain) f.spot ≡ true = ap (λ s. is_branch_where w (is_placement_in r.domain) s) at ∙ ap (λ o. option_map_or (is_placement_in r.domain) o false) known ∙ rw (kind, eq-self r.domain) refl in
+    record { interleave = r.domain; among = waits_whole w h r.domain t (fired_by_has w (is_placement_in r.domain) h t f found passes) outside uncut }
 
 unready : (w : Parts) (h : List Event) (t : TaskId) (f : Firing) → firing_named h t ≡ Some f → has_task (cut h) t ≡ false → has_task (put h) t ≡ false → may_put w h t ≡ false → needs_no_admission w f.spot || has_task (ever_admitted h) t ≡ false
 unready w h t f found uncut unput out = sym (by_parts (has_task (put h) t) (has_task (cut h) t) (option_map_or (λ spot. needs_no_admission w spot || has_task (ever_admitted h) t) (spot_of h t) false) unput uncut ∙ ap (λ o. option_map_or (λ spot. needs_no_admission w spot || has_task (ever_admitted h) t) (option_map (λ (g : Firing). g.spot) o) false) found) ∙ out

@@ -13,8 +13,8 @@ times_fired history branch = length (fired_at history (Branch branch))
 
 -- how often the branches of the domain fired, all together; a choice is its own domain
 abbrev pub times_any_fired : Parts → List Event → ℕ → ℕ
-times_any_fired wiring history domain = length (fired_by wiring (λ (s : Placement). s.arbiter == domain) history)
+times_any_fired wiring history domain = length (fired_by wiring (λ (s : Placement). s.domain == domain) history)
 
 -- how often its teardown branches fired, all together
 abbrev pub times_torn_down : Parts → List Event → ℕ → ℕ
-times_torn_down wiring history domain = length (fired_by wiring (λ (s : Placement). (s.arbiter == domain) && is_teardown s.branch.group) history)
+times_torn_down wiring history domain = length (fired_by wiring (λ (s : Placement). (s.domain == domain) && is_teardown s.branch.group) history)

@@ -88,8 +88,8 @@ module _ (w : Parts) (h : List Event) (legal : IsLegal w h) where
       over : is_over h t ≡ true → ⊥
       over is =
           let facts = AdmitFacts-allowed w h t allowed in
-          let waits = WaitingFacts-waiting w h facts.place.arbiter t (OneName-legal w h legal) facts.waits in
-          let no_put = waits_unput w h facts.place.arbiter t (CutFacts-legal w h legal) waits in
+          let waits = WaitingFacts-waiting w h facts.place.domain t (OneName-legal w h legal) facts.waits in
+          let no_put = waits_unput w h facts.place.domain t (CutFacts-legal w h legal) waits in
           let placed = ArePlaced-legal w h legal in
           let ended_so = AreEnded-legal w h legal in
           let no_start = not_within (started h) (put h) t (placed.lists.put_started t) no_put in

@@ -29,8 +29,8 @@ use Rattle.ccr_model.proofs.Ending.{RunningFacts-allowed}
 use Rattle.ccr_model.proofs.Alone.{ever_admitted_fired}
 use Rattle.ccr_model.proofs.Roots.{AreRooted-legal}
 use Rattle.ccr_ledger.specs.declared.cards.Card.{Card}
-use Rattle.ccr_ledger.specs.declared.cards.Stage.{Stage}
-use Rattle.ccr_ledger.specs.declared.cards.Stage.TheVariants as stages
+use Rattle.ccr_ledger.specs.declared.cards.TaskStage.{TaskStage}
+use Rattle.ccr_ledger.specs.declared.cards.TaskStage.TheVariants as stages
 use Rattle.ccr_ledger.specs.Books.{Books, card_at, number, more, less, changed, moved}
 use Rattle.ccr_ledger.specs.Posting.{counted}
 use Rattle.ccr_ledger.specs.Firing.{after_cut, after_cuts, after_taking, after_fire, resumed_card}
@@ -71,13 +71,13 @@ table-size false w b sizes = sizes.alone
 -- what is said of a task that fired stays but for who is over
 counts-by : (all : Bool) (w : Parts) (h : List Event) (e : Event) (i : ℕ) (t : TaskId) (over : Bool) → IsFired h t → is_over (h ++ e ∷ []) t ≡ over → counts_as all w (h ++ e ∷ []) i t ≡ (is_in_arbiter w h i t && not over) && (all || not (is_concurrent_task w h t))
 counts-by all w h e i t over fired is =
-    ap (λ o. (option_map_or (λ (s : Placement). s.arbiter == i) o false && not (is_over (h ++ e ∷ []) t)) && (all || not (option_map_or (λ (s : Placement). is_concurrent s.branch.group) o false))) (placement_stays w h (e ∷ []) t fired)
+    ap (λ o. (option_map_or (λ (s : Placement). s.domain == i) o false && not (is_over (h ++ e ∷ []) t)) && (all || not (option_map_or (λ (s : Placement). is_concurrent s.branch.group) o false))) (placement_stays w h (e ∷ []) t fired)
     ∙ ap (λ b. (is_in_arbiter w h i t && not b) && (all || not (is_concurrent_task w h t))) is
 
 -- and by its card
 counts-card : (all : Bool) (w : Parts) (h : List Event) (i : ℕ) (t : TaskId) (b : Books) → (facts : CardFacts w h t b) → counts_as all w h i t ≡ ((facts.card.domain == i) && not (is_over h t)) && (all || not facts.card.concurrent)
 counts-card all w h i t b facts =
-    ap (λ o. (option_map_or (λ (s : Placement). s.arbiter == i) o false && not (is_over h t)) && (all || not (option_map_or (λ (s : Placement). is_concurrent s.branch.group) o false))) facts.is_placement
+    ap (λ o. (option_map_or (λ (s : Placement). s.domain == i) o false && not (is_over h t)) && (all || not (option_map_or (λ (s : Placement). is_concurrent s.branch.group) o false))) facts.is_placement
     ∙ rw (facts.domain, facts.concurrent) refl
 
 -- those that were let in count as they did
@@ -175,7 +175,7 @@ counted-less all w h e x b ns legal no_admit last fired facts size counts i low 
         ∙ ap (λ is. has_task (ever_admitted h) r && is) (sym (counts-card all w h i r b facts)))
 
 -- the last segment of a root, in books where its task's stage alone was moved
-counted-last : (all : Bool) (w : Parts) (h : List Event) (e : Event) (x r : TaskId) (stage : Stage) (b d : Books) → IsLegal w h → admitted_by e ≡ [] → last_by e ≡ x ∷ [] → IsFired h x → r ≡ root_of h x → KeepsTasks w h b → HasSizes w b
+counted-last : (all : Bool) (w : Parts) (h : List Event) (e : Event) (x r : TaskId) (stage : TaskStage) (b d : Books) → IsLegal w h → admitted_by e ≡ [] → last_by e ≡ x ∷ [] → IsFired h x → r ≡ root_of h x → KeepsTasks w h b → HasSizes w b
     → d.tasks ≡ moved stage x b.tasks → roots_of d ≡ roots_of b → AreCounted all w h (table all (roots_of b)) → AreCounted all w (h ++ e ∷ []) (table all (roots_of (after_last r d)))
 counted-last all w h e x r stage b d legal no_admit last fired is tasks sizes cards roots counts =
     let root = AreRooted-legal w h legal x fired.0 fired.1 in

@@ -26,8 +26,8 @@ use Rattle.ccr_model.proofs.SameNames.{same_task-sym, same_task-self}
 use Rattle.ccr_model.proofs.Stable.{firing_named-append, before-append, load_at-append, play_of-append}
 use Rattle.ccr_model.proofs.TaskPlaces.{ArePlaced-legal, PutFacts-allowed, StartFacts-allowed, new_drop}
 use Rattle.ccr_ledger.specs.declared.cards.Card.{Card}
-use Rattle.ccr_ledger.specs.declared.cards.Stage.{Stage}
-use Rattle.ccr_ledger.specs.declared.cards.Stage.TheVariants as stages
+use Rattle.ccr_ledger.specs.declared.cards.TaskStage.{TaskStage}
+use Rattle.ccr_ledger.specs.declared.cards.TaskStage.TheVariants as stages
 use Rattle.ccr_ledger.specs.Books.{Books, card_at, changed, in_stage, moved}
 use Rattle.ccr_ledger.specs.Posting.{with_post, counted}
 use Rattle.ccr_ledger.specs.Events.{admit_root, not_admitted, after_last, after_discard, after_stop, after_yield, after_end, after_event}
@@ -41,11 +41,11 @@ load_of-append : (w : Parts) (h es : List Event) (t : TaskId) (f : Firing) → f
 load_of-append w h es t f is = rw (firing_named-append h es t f is, is, load_at-append w h es (branch_of f.spot) (segment_of f.spot) t f is) refl
 
 -- the card, with what events change of it
-abbrev pub altered : Stage → Bool → ℕ → Card → Card
+abbrev pub altered : TaskStage → Bool → ℕ → Card → Card
 altered stage admitted made card = record card { stage = stage; admitted = admitted; made = made }
 
 -- an event changes of the card of a task that fired its stage, whether it is admitted, and how many posts it made
-pub card-stays : (w : Parts) (h : List Event) (e : Event) (u : TaskId) (f : Firing) (stage : Stage) (admitted : Bool) (made : ℕ) → firing_named h u ≡ Some f
+pub card-stays : (w : Parts) (h : List Event) (e : Event) (u : TaskId) (f : Firing) (stage : TaskStage) (admitted : Bool) (made : ℕ) → firing_named h u ≡ Some f
     → stage_of w (h ++ e ∷ []) u f.spot ≡ stage → is_admitted (h ++ e ∷ []) u ≡ admitted → posts_of_task (h ++ e ∷ []) u ≡ made
     → card_of w (h ++ e ∷ []) u f ≡ altered stage admitted made (card_of w h u f)
 card-stays w h e u f stage admitted made is stage_so admitted_so made_so =

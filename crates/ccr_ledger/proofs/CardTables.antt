@@ -7,8 +7,8 @@ use Rattle.ccr_base.specs.Names.{same_task, has_task}
 use Rattle.ccr_model.proofs.SameNames.{same_task-is, same_task-self, same_task-sym}
 use Rattle.ccr_model.proofs.Booleans.{neither}
 use Rattle.ccr_ledger.specs.declared.cards.Card.{Card}
-use Rattle.ccr_ledger.specs.declared.cards.Stage.{Stage}
-use Rattle.ccr_ledger.specs.declared.cards.Stage.TheVariants as stages
+use Rattle.ccr_ledger.specs.declared.cards.TaskStage.{TaskStage}
+use Rattle.ccr_ledger.specs.declared.cards.TaskStage.TheVariants as stages
 use Rattle.ccr_ledger.specs.Books.{Books, card_at, changed, in_stage, moved, all_moved}
 use Rattle.ccr_ledger.specs.Firing.{with_card, cut_card, after_cut, after_cuts}
 use Rattle.ccr_ledger.specs.Events.{not_admitted, after_over, after_last}
@@ -26,7 +26,7 @@ names-changed change t (e ∷ cards) = of_test (same_task t e.0) (names-changed 
     of_test true rest = refl
     of_test false rest = ap (λ (ts : List TaskId). e.0 ∷ ts) rest
 
-pub names-all_moved : (stage : Stage) (ts : List TaskId) (cards : List (TaskId × Card)) → names (all_moved stage ts cards) ≡ names cards
+pub names-all_moved : (stage : TaskStage) (ts : List TaskId) (cards : List (TaskId × Card)) → names (all_moved stage ts cards) ≡ names cards
 names-all_moved stage [] cards = refl
 names-all_moved stage (t ∷ ts) cards = names-all_moved stage ts (moved stage t cards) ∙ names-changed (in_stage stage) t cards
 
@@ -68,10 +68,10 @@ pub card-twice : (f g : Card → Card) (cards : List (TaskId × Card)) (t s u : 
 card-twice f g cards t s u = card-on f (changed g s cards) t u ∙ (ap (option_map (on t f u)) (card-on g cards s u) ∙ map-map (on t f u) (on s g u) (card_at cards u))
 
 -- the card, in the stage where the task is one of these
-abbrev pub among : List TaskId → Stage → TaskId → Card → Card
+abbrev pub among : List TaskId → TaskStage → TaskId → Card → Card
 among ts stage u card = if has_task ts u then in_stage stage card else card
 
-pub card-all_moved : (stage : Stage) (ts : List TaskId) (cards : List (TaskId × Card)) (u : TaskId) → card_at (all_moved stage ts cards) u ≡ option_map (among ts stage u) (card_at cards u)
+pub card-all_moved : (stage : TaskStage) (ts : List TaskId) (cards : List (TaskId × Card)) (u : TaskId) → card_at (all_moved stage ts cards) u ≡ option_map (among ts stage u) (card_at cards u)
 card-all_moved stage [] cards u = of_card (card_at cards u)
   where
     of_card : (o : Option Card) → o ≡ option_map (λ (card : Card). card) o

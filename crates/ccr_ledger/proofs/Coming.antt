@@ -30,7 +30,7 @@ use Rattle.ccr_model.proofs.TaskPlaces.{ArePlaced-legal, StartFacts-allowed, Sta
 use Rattle.ccr_model.proofs.FiringFacts.{FiresSo-allowed, WaitingFacts, firings-other}
 use Rattle.ccr_model.proofs.Cutting.{CutFacts-legal, cut_by, waits_unput}
 use Rattle.ccr_ledger.specs.declared.cards.Card.{Card}
-use Rattle.ccr_ledger.specs.declared.cards.Stage.TheVariants as stages
+use Rattle.ccr_ledger.specs.declared.cards.TaskStage.TheVariants as stages
 use Rattle.ccr_ledger.specs.Books.{Books, card_at, number, more, less}
 use Rattle.ccr_ledger.specs.Posting.{counted}
 use Rattle.ccr_ledger.specs.Firing.{without_coming, cut_card, after_cut, after_cuts, after_taking, resumed_card}
@@ -142,12 +142,12 @@ counted-cuts w h out (t ∷ cs) b legal size once apart cards counts =
 distinct_cuts : (w : Parts) (h : List Event) (n : ℕ) → IsLegal w h → are_distinct_tasks (cuts_at w h (Branch n)) ≡ true
 distinct_cuts w h n legal = of_option (placement w n)
   where
-    of_option : (o : Option Placement) → are_distinct_tasks (option_map_or (λ (z : Placement). if is_teardown z.branch.group then waiting w h z.arbiter else []) o []) ≡ true
+    of_option : (o : Option Placement) → are_distinct_tasks (option_map_or (λ (z : Placement). if is_teardown z.branch.group then waiting w h z.domain else []) o []) ≡ true
     of_option None = refl
     of_option (Some z) = of_test (is_teardown z.branch.group)
       where
-        of_test : (b : Bool) → are_distinct_tasks (if b then waiting w h z.arbiter else []) ≡ true
-        of_test true = distinct-filter _ (fired_by w (is_placement_in z.arbiter) h) (fired_once w (λ (f : Firing). is_branch_where w (is_placement_in z.arbiter) f.spot) h legal)
+        of_test : (b : Bool) → are_distinct_tasks (if b then waiting w h z.domain else []) ≡ true
+        of_test true = distinct-filter _ (fired_by w (is_placement_in z.domain) h) (fired_once w (λ (f : Firing). is_branch_where w (is_placement_in z.domain) f.spot) h legal)
         of_test false = refl
 
 length-cuts : (cs : List TaskId) (b : Books) → length (after_cuts cs b).coming ≡ length b.coming
@@ -171,7 +171,7 @@ counted-other w h e b no_fire no_start no_drop no_cut same counts =
 counted-branch : (w : Parts) (h : List Event) (t : TaskId) (n : ℕ) (ms : List MsgId) (cs : List TaskId) (b : Books) → IsLegal w h → IsAllowed w h (Fire t (Branch n) ms cs) → HasSizes w b → KeepsTasks w h b → AreCounted w h (gone h) b.coming → Counts w h (Fire t (Branch n) ms cs) b
 counted-branch w h t n ms cs b legal allowed sizes tasks counts =
     let so = FiresSo-allowed w h t (Branch n) ms cs allowed in
-    let at = some_of (λ (s : Placement). is_live_in w h n s.arbiter s.branch.group) (placement w n) so.live in
+    let at = some_of (λ (s : Placement). is_live_in w h n s.domain s.branch.group) (placement w n) so.live in
     let once : are_distinct_tasks cs ≡ true = subst (λ ts. are_distinct_tasks ts ≡ true) (sym so.cuts) (distinct_cuts w h n legal) in
     let e : Event = Fire t (Branch n) ms cs in
     let after = counted-cuts w h (gone h) cs b legal sizes.coming once (λ u is. out u (waits u is)) (λ u is. card u (waits u is)) counts in

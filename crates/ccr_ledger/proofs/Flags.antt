@@ -90,8 +90,8 @@ none-more test (g ∷ fs) f = of_test (test g) (test f) (none-more test fs f)
 flags-other : (w : Parts) (h : List Event) (e : Event) (b c : Books) → firing_of e ≡ [] → flags_of c ≡ flags_of b → KeepsFlags w h b → KeepsFlags w (h ++ e ∷ []) c
 flags-other w h e b c other same keeps = record {
   spent = λ n low. ap (λ (fs : Flags). flag fs.spent n) same ∙ (keeps.spent n low ∙ ap (λ fs. not (is_none_of (map (λ (f : Firing). f.task) (filter (λ (f : Firing). same_spot f.spot (Branch n)) fs)))) (sym (firings-other h e other)));
-  chosen = λ i low. ap (λ (fs : Flags). flag fs.chosen i) same ∙ (keeps.chosen i low ∙ ap (λ fs. not (is_none_of (map (λ (f : Firing). f.task) (filter (λ (f : Firing). is_branch_where w (λ s. s.arbiter == i) f.spot) fs)))) (sym (firings-other h e other)));
-  torn = λ i low. ap (λ (fs : Flags). flag fs.torn i) same ∙ (keeps.torn i low ∙ ap (λ fs. not (is_none_of (map (λ (f : Firing). f.task) (filter (λ (f : Firing). is_branch_where w (λ s. (s.arbiter == i) && is_teardown s.branch.group) f.spot) fs)))) (sym (firings-other h e other)));
+  chosen = λ i low. ap (λ (fs : Flags). flag fs.chosen i) same ∙ (keeps.chosen i low ∙ ap (λ fs. not (is_none_of (map (λ (f : Firing). f.task) (filter (λ (f : Firing). is_branch_where w (λ s. s.domain == i) f.spot) fs)))) (sym (firings-other h e other)));
+  torn = λ i low. ap (λ (fs : Flags). flag fs.torn i) same ∙ (keeps.torn i low ∙ ap (λ fs. not (is_none_of (map (λ (f : Firing). f.task) (filter (λ (f : Firing). is_branch_where w (λ s. (s.domain == i) && is_teardown s.branch.group) f.spot) fs)))) (sym (firings-other h e other)));
 }
 
 -- how a firing moves a flag of those that pass
@@ -118,8 +118,8 @@ flags-branch : (w : Parts) (h : List Event) (t : TaskId) (n : ℕ) (ms : List Ms
     → KeepsFlags w (h ++ Fire t (Branch n) ms cs ∷ []) (after_taking w t n ms c s)
 flags-branch w h t n ms cs b c s at same sizes keeps = record {
   spent = λ m low. ap (λ (fs : Flags). flag (raised n fs.spent) m) same ∙ (flag-set b.spent n m true (omega (arith, low, sizes.spent)) ∙ (if_same (n == m) _ _ (keeps.spent m low) ∙ sym (fired_more h t (Branch n) ms cs (λ (f : Firing). same_spot f.spot (Branch m)))));
-  chosen = λ i low. ap (λ (fs : Flags). flag (raised s.arbiter fs.chosen) i) same ∙ (flag-set b.chosen s.arbiter i true (omega (arith, low, sizes.chosen)) ∙ (if_same (s.arbiter == i) _ _ (keeps.chosen i low) ∙ sym (fired_more h t (Branch n) ms cs (λ (f : Firing). is_branch_where w (λ z. z.arbiter == i) f.spot) ∙ rw at refl)));
-  torn = λ i low. ap (λ (fs : Flags). flag (if is_teardown s.branch.group then raised s.arbiter fs.torn else fs.torn) i) same ∙ (torn-set b.torn s.arbiter i (is_teardown s.branch.group) _ (omega (arith, low, sizes.torn)) (keeps.torn i low) ∙ sym (fired_more h t (Branch n) ms cs (λ (f : Firing). is_branch_where w (λ z. (z.arbiter == i) && is_teardown z.branch.group) f.spot) ∙ rw at refl));
+  chosen = λ i low. ap (λ (fs : Flags). flag (raised s.domain fs.chosen) i) same ∙ (flag-set b.chosen s.domain i true (omega (arith, low, sizes.chosen)) ∙ (if_same (s.domain == i) _ _ (keeps.chosen i low) ∙ sym (fired_more h t (Branch n) ms cs (λ (f : Firing). is_branch_where w (λ z. z.domain == i) f.spot) ∙ rw at refl)));
+  torn = λ i low. ap (λ (fs : Flags). flag (if is_teardown s.branch.group then raised s.domain fs.torn else fs.torn) i) same ∙ (torn-set b.torn s.domain i (is_teardown s.branch.group) _ (omega (arith, low, sizes.torn)) (keeps.torn i low) ∙ sym (fired_more h t (Branch n) ms cs (λ (f : Firing). is_branch_where w (λ z. (z.domain == i) && is_teardown z.branch.group) f.spot) ∙ rw at refl));
 }
 
 none_past : (ss : List Placement) (n : ℕ) → slice_get ss n ≡ None → length ss ≤ n
@@ -131,8 +131,8 @@ none_past (s ∷ ss) (suc n) none = omega (arith, none_past ss n none)
 flags-nowhere : (w : Parts) (h : List Event) (t : TaskId) (n : ℕ) (ms : List MsgId) (cs : List TaskId) (b : Books) → placement w n ≡ None → KeepsFlags w h b → KeepsFlags w (h ++ Fire t (Branch n) ms cs ∷ []) b
 flags-nowhere w h t n ms cs b none keeps = record {
   spent = λ m low. keeps.spent m low ∙ (of_test m low (n == m) refl _ ∙ sym (fired_more h t (Branch n) ms cs (λ (f : Firing). same_spot f.spot (Branch m))));
-  chosen = λ i low. keeps.chosen i low ∙ sym (fired_more h t (Branch n) ms cs (λ (f : Firing). is_branch_where w (λ z. z.arbiter == i) f.spot) ∙ rw none refl);
-  torn = λ i low. keeps.torn i low ∙ sym (fired_more h t (Branch n) ms cs (λ (f : Firing). is_branch_where w (λ z. (z.arbiter == i) && is_teardown z.branch.group) f.spot) ∙ rw none refl);
+  chosen = λ i low. keeps.chosen i low ∙ sym (fired_more h t (Branch n) ms cs (λ (f : Firing). is_branch_where w (λ z. z.domain == i) f.spot) ∙ rw none refl);
+  torn = λ i low. keeps.torn i low ∙ sym (fired_more h t (Branch n) ms cs (λ (f : Firing). is_branch_where w (λ z. (z.domain == i) && is_teardown z.branch.group) f.spot) ∙ rw none refl);
 }
   where
     of_test : (m : ℕ) → m < length (placements w) → (is : Bool) → (n == m) ≡ is → (was : Bool) → was ≡ (if is then true else was)
@@ -143,8 +143,8 @@ flags-nowhere w h t n ms cs b none keeps = record {
 flags-site : (w : Parts) (h : List Event) (t : TaskId) (n k : ℕ) (ms : List MsgId) (cs : List TaskId) (b c : Books) → flags_of c ≡ flags_of b → KeepsFlags w h b → KeepsFlags w (h ++ Fire t (Site n k) ms cs ∷ []) c
 flags-site w h t n k ms cs b c same keeps = record {
   spent = λ m low. ap (λ (fs : Flags). flag fs.spent m) same ∙ (keeps.spent m low ∙ sym (fired_more h t (Site n k) ms cs (λ (f : Firing). same_spot f.spot (Branch m))));
-  chosen = λ i low. ap (λ (fs : Flags). flag fs.chosen i) same ∙ (keeps.chosen i low ∙ sym (fired_more h t (Site n k) ms cs (λ (f : Firing). is_branch_where w (λ z. z.arbiter == i) f.spot)));
-  torn = λ i low. ap (λ (fs : Flags). flag fs.torn i) same ∙ (keeps.torn i low ∙ sym (fired_more h t (Site n k) ms cs (λ (f : Firing). is_branch_where w (λ z. (z.arbiter == i) && is_teardown z.branch.group) f.spot)));
+  chosen = λ i low. ap (λ (fs : Flags). flag fs.chosen i) same ∙ (keeps.chosen i low ∙ sym (fired_more h t (Site n k) ms cs (λ (f : Firing). is_branch_where w (λ z. z.domain == i) f.spot)));
+  torn = λ i low. ap (λ (fs : Flags). flag fs.torn i) same ∙ (keeps.torn i low ∙ sym (fired_more h t (Site n k) ms cs (λ (f : Firing). is_branch_where w (λ z. (z.domain == i) && is_teardown z.branch.group) f.spot)));
 }
 
 -- after each event the flags still say which branches and domains fired, and in which a teardown fired

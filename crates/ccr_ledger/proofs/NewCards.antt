@@ -32,7 +32,7 @@ use Rattle.ccr_model.proofs.Suspending.{ResumeFacts}
 use Rattle.ccr_model.proofs.TaskPlaces.{ArePlaced-legal}
 use Rattle.ccr_model.proofs.TaskSteps.{firing_named-fire}
 use Rattle.ccr_ledger.specs.declared.cards.Card.{Card}
-use Rattle.ccr_ledger.specs.declared.cards.Stage.TheVariants as stages
+use Rattle.ccr_ledger.specs.declared.cards.TaskStage.TheVariants as stages
 use Rattle.ccr_ledger.specs.Books.{Books, card_at, in_stage, all_moved}
 use Rattle.ccr_ledger.specs.Taking.{Takes, take_pattern}
 use Rattle.ccr_ledger.specs.Firing.{with_card, branch_card, site_card, load_left, first_stage, after_cuts, after_taking, after_site}

@@ -24,7 +24,7 @@ use Rattle.ccr_model.proofs.Ending.{AreEnded-legal}
 use Rattle.ccr_ledger.specs.Rows.{row}
 use Rattle.ccr_ledger.specs.declared.cards.Card.{Card}
 use Rattle.ccr_ledger.specs.declared.cards.Runner.{Runner}
-use Rattle.ccr_ledger.specs.declared.cards.Stage.TheVariants as stages
+use Rattle.ccr_ledger.specs.declared.cards.TaskStage.TheVariants as stages
 use Rattle.ccr_ledger.specs.Books.{Books, card_at, runners, runners_of}
 use Rattle.ccr_ledger.specs.Asked.{has_fired, waits_first, is_ready_stage, is_ready, queued_first, is_busy, runs, has_more, unfinished}
 use Rattle.ccr_ledger.specs.Kept.{Keeps, card_of}
@@ -94,7 +94,7 @@ module _ (w : Parts) (valid : IsValid w) (h : List Event) (legal : IsLegal w h) 
       of_firing None at = rw at refl
       of_firing (Some f) at =
           let place = with_placement w valid h legal b keeps t f at in
-          rw (place.1, place.2, keeps.places.waiting place.0.arbiter (arbiter_within w valid (branch_of f.spot) place.0 place.1)) refl
+          rw (place.1, place.2, keeps.places.waiting place.0.domain (arbiter_within w valid (branch_of f.spot) place.0 place.1)) refl
 
   pub queued_first_told : (t : TaskId) → queued_first b t ≡ is_oldest_queued w h t
   queued_first_told t = rw (keeps.tasks.cards t) (of_firing (firing_named h t) refl)

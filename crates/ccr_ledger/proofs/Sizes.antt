@@ -86,10 +86,10 @@ length-suspended rows n k ts = of_test (nat_lt k sites_each)
 length-wait : (s : Placement) (t : TaskId) (rows : List (List TaskId)) → length (after_wait s t rows) ≡ length rows
 length-wait s t rows = of_tests (is_interleave s.kind) (is_teardown s.branch.group)
   where
-    of_tests : (a b : Bool) → length (if a then with_row (if b then with_row rows s.arbiter [] else rows) s.arbiter (row (if b then with_row rows s.arbiter [] else rows) s.arbiter ++ t ∷ []) else rows) ≡ length rows
+    of_tests : (a b : Bool) → length (if a then with_row (if b then with_row rows s.domain [] else rows) s.domain (row (if b then with_row rows s.domain [] else rows) s.domain ++ t ∷ []) else rows) ≡ length rows
     of_tests false b = refl
-    of_tests true true = length-with_row (with_row rows s.arbiter []) s.arbiter _ ∙ length-with_row rows s.arbiter []
-    of_tests true false = length-with_row rows s.arbiter _
+    of_tests true true = length-with_row (with_row rows s.domain []) s.domain _ ∙ length-with_row rows s.domain []
+    of_tests true false = length-with_row rows s.domain _
 
 pub length-take_slots : (slots : List Slot) (ports : List (List Msg)) → length (take_slots slots ports).ports ≡ length ports
 length-take_slots [] ports = refl
@@ -127,8 +127,8 @@ alike-taking w t n ms b s i = record (sizes_of b) {
   ports = length-take_pattern s.branch.pattern ms b.ports i;
   waiting = length-wait s t b.waiting i;
   spent = length-set b.spent n true i;
-  chosen = length-set b.chosen s.arbiter true i;
-  torn = flags_if (is_teardown s.branch.group) s.arbiter b.torn i;
+  chosen = length-set b.chosen s.domain true i;
+  torn = flags_if (is_teardown s.branch.group) s.domain b.torn i;
   coming = length-set b.coming s.branch.queue (number b.coming s.branch.queue + 1) i;
 }
 

@@ -25,13 +25,13 @@ use Rattle.ccr_model.proofs.SameNames.{same_task-is, same_task-sym}
 use Rattle.ccr_model.proofs.TaskLists.{among_right, not_within}
 use Rattle.ccr_model.proofs.TaskPlaces.{ArePlaced-legal, PutFacts-allowed, new_drop}
 use Rattle.ccr_model.proofs.TasksLeft.{has_task-append}
-use Rattle.ccr_ledger.specs.declared.cards.Stage.{Stage}
-use Rattle.ccr_ledger.specs.declared.cards.Stage.TheVariants as stages
+use Rattle.ccr_ledger.specs.declared.cards.TaskStage.{TaskStage}
+use Rattle.ccr_ledger.specs.declared.cards.TaskStage.TheVariants as stages
 use Rattle.ccr_ledger.specs.Kept.{stage_of}
 use Rattle.ccr_ledger.proofs.Running.{unended}
 
 -- over plain lists of those that ended, started, were dropped, put, cut and let in
-abbrev stage_in : List TaskId → List TaskId → List TaskId → List TaskId → List TaskId → List TaskId → Bool → TaskId → Stage
+abbrev stage_in : List TaskId → List TaskId → List TaskId → List TaskId → List TaskId → List TaskId → Bool → TaskId → TaskStage
 stage_in es ss ds ps cs ls free u =
     if has_task es u then stages.Ended else
     if has_task ss u then stages.Running else
@@ -56,7 +56,7 @@ not_this ts t u is out = let one : t ≡ u = same_task-is t u is in subst (λ v.
 in-end : (es ss ds ps cs ls : List TaskId) (free : Bool) (t u : TaskId) → stage_in (es ++ t ∷ []) ss ds ps cs ls free u ≡ (if same_task t u then stages.Ended else stage_in es ss ds ps cs ls free u)
 in-end es ss ds ps cs ls free t u = rw (has-last es t u) (of_test (same_task t u))
   where
-    others : Stage
+    others : TaskStage
     others = if has_task ss u then stages.Running else if has_task ds u then stages.Dropped else if has_task ps u then stages.Queued else if has_task cs u then stages.Cut else if free || has_task ls u then stages.Ready else stages.Waiting
 
     of_test : (b : Bool) → (if (if b then true else has_task es u) then stages.Ended else others) ≡ (if b then stages.Ended else if has_task es u then stages.Ended else others)
@@ -66,7 +66,7 @@ in-end es ss ds ps cs ls free t u = rw (has-last es t u) (of_test (same_task t u
 in-start : (es ss ds ps cs ls : List TaskId) (free : Bool) (t u : TaskId) → has_task es t ≡ false → stage_in es (ss ++ t ∷ []) ds ps cs ls free u ≡ (if same_task t u then stages.Running else stage_in es ss ds ps cs ls free u)
 in-start es ss ds ps cs ls free t u no_end = rw (has-last ss t u) (of_test (same_task t u) refl)
   where
-    others : Stage
+    others : TaskStage
     others = if has_task ds u then stages.Dropped else if has_task ps u then stages.Queued else if has_task cs u then stages.Cut else if free || has_task ls u then stages.Ready else stages.Waiting
 
     of_test : (b : Bool) → same_task t u ≡ b → (if has_task es u then stages.Ended else if (if b then true else has_task ss u) then stages.Running else others) ≡ (if b then stages.Running else if has_task es u then stages.Ended else if has_task ss u then stages.Running else others)
@@ -97,7 +97,7 @@ in-admit es ss ds ps cs ls free t u out no_cut = rw (has-last ls t u) (of_test (
 in-cut : (es ss ds ps cs ls more : List TaskId) (free : Bool) (u : TaskId) → (has_task more u ≡ true → IsOut es ss ds ps u) → stage_in es ss ds ps (cs ++ more) ls free u ≡ (if has_task more u then stages.Cut else stage_in es ss ds ps cs ls free u)
 in-cut es ss ds ps cs ls more free u outs = rw (has_task-append cs more u) (of_test (has_task more u) refl)
   where
-    last : Stage
+    last : TaskStage
     last = if free || has_task ls u then stages.Ready else stages.Waiting
 
     of_cut : (b : Bool) → (if b || true then stages.Cut else last) ≡ stages.Cut
@@ -115,10 +115,10 @@ in-put : (es ss ds ps cs ls more : List TaskId) (free : Bool) (t u : TaskId) →
     → stage_in es ss (ds ++ more) (ps ++ t ∷ []) cs ls free u ≡ (if same_task t u then stages.Queued else if has_task more u then stages.Dropped else stage_in es ss ds ps cs ls free u)
 in-put es ss ds ps cs ls more free t u out kept outs = rw (has-last ps t u, has_task-append ds more u) (of_tests (same_task t u) (has_task more u) refl refl)
   where
-    last : Stage
+    last : TaskStage
     last = if has_task cs u then stages.Cut else if free || has_task ls u then stages.Ready else stages.Waiting
 
-    of_dropped : (b : Bool) (s : Stage) → (if b || true then stages.Dropped else s) ≡ stages.Dropped
+    of_dropped : (b : Bool) (s : TaskStage) → (if b || true then stages.Dropped else s) ≡ stages.Dropped
     of_dropped true s = refl
     of_dropped false s = refl
 
@@ -160,8 +160,8 @@ module _ (w : Parts) (h : List Event) where
   pub stage-admit : (t u : TaskId) (s : Spot) → IsLegal w h → IsAllowed w h (Admit t) → stage_of w (h ++ Admit t ∷ []) u s ≡ (if same_task t u then stages.Ready else stage_of w h u s)
   stage-admit t u s legal allowed =
       let facts = AdmitFacts-allowed w h t allowed in
-      let waits = WaitingFacts-waiting w h facts.place.arbiter t (OneName-legal w h legal) facts.waits in
-      let no_put = waits_unput w h facts.place.arbiter t (CutFacts-legal w h legal) waits in
+      let waits = WaitingFacts-waiting w h facts.place.domain t (OneName-legal w h legal) facts.waits in
+      let no_put = waits_unput w h facts.place.domain t (CutFacts-legal w h legal) waits in
       stage-push (Admit t) u s ∙ rw (append-nil (ended h), append-nil (started h), append-nil (dropped h), append-nil (put h), append-nil (cut h)) (in-admit (ended h) (started h) (dropped h) (put h) (cut h) (ever_admitted h) (needs_no_admission w s) t u (unput t legal no_put) waits.not_cut)
 
   pub stage-put : (t : TaskId) (d : Option TaskId) (u : TaskId) (s : Spot) → IsLegal w h → IsAllowed w h (Put t d)

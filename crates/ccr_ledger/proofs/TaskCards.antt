@@ -17,7 +17,7 @@ use Rattle.ccr_model.proofs.FiringPlacements.{firing_with_placement}
 use Rattle.ccr_model.proofs.FiredTasks.{IsFired}
 use Rattle.ccr_model.proofs.TaskPlaces.{placement_by}
 use Rattle.ccr_ledger.specs.declared.cards.Card.{Card}
-use Rattle.ccr_ledger.specs.declared.cards.Stage.{Stage}
+use Rattle.ccr_ledger.specs.declared.cards.TaskStage.{TaskStage}
 use Rattle.ccr_ledger.specs.Books.{Books, card_at, in_stage, moved}
 use Rattle.ccr_ledger.specs.Kept.{KeepsTasks, card_of, is_admitted}
 use Rattle.ccr_ledger.proofs.Tables.{card-changed}
@@ -42,7 +42,7 @@ pub record CardFacts (w : Parts) (h : List Event) (t : TaskId) (b : Books) : Typ
   pub is_placement : placement_of w h t ≡ Some place
   pub spot : card.spot ≡ firing.spot
   pub queue : card.queue ≡ place.branch.queue
-  pub domain : card.domain ≡ place.arbiter
+  pub domain : card.domain ≡ place.domain
   pub concurrent : card.concurrent ≡ is_concurrent place.branch.group
   pub root : card.root ≡ root_of h t
   pub admitted : card.admitted ≡ is_admitted h t
@@ -61,14 +61,14 @@ CardFacts-fired w h t b legal tasks fired =
       is_placement = placement_by w h t f fired.1 ∙ with_placement.1;
       spot = refl;
       queue = ap (λ o. option_map_or (λ (s : Placement). s.branch.queue) o 0) with_placement.1;
-      domain = ap (λ o. option_map_or (λ (s : Placement). s.arbiter) o 0) with_placement.1;
+      domain = ap (λ o. option_map_or (λ (s : Placement). s.domain) o 0) with_placement.1;
       concurrent = ap (λ o. option_map_or (λ (s : Placement). is_concurrent s.branch.group) o false) with_placement.1;
       root = refl;
       admitted = refl;
     }
 
 -- another stage of a card changes nothing of this
-pub card_moved : (w : Parts) (h : List Event) (stage : Stage) (x : TaskId) (b d : Books) (t : TaskId) → d.tasks ≡ moved stage x b.tasks → CardFacts w h t b → CardFacts w h t d
+pub card_moved : (w : Parts) (h : List Event) (stage : TaskStage) (x : TaskId) (b d : Books) (t : TaskId) → d.tasks ≡ moved stage x b.tasks → CardFacts w h t b → CardFacts w h t d
 card_moved w h stage x b d t same facts = of_test (same_task x t) refl
   where
     at : card_at d.tasks t ≡ (if same_task x t then option_map (in_stage stage) (card_at b.tasks t) else card_at b.tasks t)

@@ -48,12 +48,12 @@ use Rattle.ccr_ledger.specs.Asked.{lives, group_lives, room, queue_has_room, can
 use Rattle.ccr_ledger.specs.Kept.{Keeps, card_of}
 
 -- the number of a branch's domain is one of the wiring's arbiters
-pub arbiter_within : (w : Parts) → IsValid w → (n : ℕ) (s : Placement) → placement w n ≡ Some s → s.arbiter < length w.arbiters
-arbiter_within w valid n s at = of_arbiter (slice_get w.arbiters s.arbiter) refl ((sound w valid).domains n s at)
+pub arbiter_within : (w : Parts) → IsValid w → (n : ℕ) (s : Placement) → placement w n ≡ Some s → s.domain < length w.arbiters
+arbiter_within w valid n s at = of_arbiter (slice_get w.arbiters s.domain) refl ((sound w valid).domains n s at)
   where
-    of_arbiter : (o : Option ArbiterPart) → slice_get w.arbiters s.arbiter ≡ o → IsSomeAnd o (λ (arbiter : ArbiterPart). arbiter.kind ≡ s.kind) → s.arbiter < length w.arbiters
+    of_arbiter : (o : Option ArbiterPart) → slice_get w.arbiters s.domain ≡ o → IsSomeAnd o (λ (arbiter : ArbiterPart). arbiter.kind ≡ s.kind) → s.domain < length w.arbiters
     of_arbiter None there is = absurd is
-    of_arbiter (Some arbiter) there is = some-below w.arbiters s.arbiter arbiter there
+    of_arbiter (Some arbiter) there is = some-below w.arbiters s.domain arbiter there
 
 -- what is asked of the ports of a pattern is the same where they hold the same
 slots_same : (f g : ℕ → List Msg) (slots : List Slot) → ((place port : ℕ) → slice_get (slot_ports slots) place ≡ Some port → f port ≡ g port) → choice_of_slots f slots ≡ choice_of_slots g slots
@@ -110,19 +110,19 @@ find_member p (y ∷ xs) x is = of_test (p y) is (find_member p xs x)
     of_test false at rest = inr (rest at)
 
 module _ (w : Parts) (valid : IsValid w) (h : List Event) (legal : IsLegal w h) (b : Books) (keeps : Keeps w h b) where
-  group_told : (n : ℕ) (s : Placement) → placement w n ≡ Some s → (g : Group) → group_lives b n s.arbiter g ≡ is_live_in w h n s.arbiter g
+  group_told : (n : ℕ) (s : Placement) → placement w n ≡ Some s → (g : Group) → group_lives b n s.domain g ≡ is_live_in w h n s.domain g
   group_told n s at groups.Always = refl
   group_told n s at groups.Once = rw (keeps.flags.spent n (some-below (placements w) n s at)) (not_not _)
-  group_told n s at groups.Choice = rw (keeps.flags.chosen s.arbiter (arbiter_within w valid n s at)) (not_not _)
-  group_told n s at groups.Concurrent = rw (keeps.flags.torn s.arbiter (arbiter_within w valid n s at)) (not_not _)
-  group_told n s at groups.Exclusive = rw (keeps.flags.torn s.arbiter (arbiter_within w valid n s at)) (not_not _)
-  group_told n s at groups.Teardown = rw (keeps.flags.torn s.arbiter (arbiter_within w valid n s at)) (not_not _)
+  group_told n s at groups.Choice = rw (keeps.flags.chosen s.domain (arbiter_within w valid n s at)) (not_not _)
+  group_told n s at groups.Concurrent = rw (keeps.flags.torn s.domain (arbiter_within w valid n s at)) (not_not _)
+  group_told n s at groups.Exclusive = rw (keeps.flags.torn s.domain (arbiter_within w valid n s at)) (not_not _)
+  group_told n s at groups.Teardown = rw (keeps.flags.torn s.domain (arbiter_within w valid n s at)) (not_not _)
 
   pub lives_told : (s : Spot) → lives w b s ≡ is_live w h s
   lives_told (Site n k) = rw (keeps.places.suspended n k) refl
   lives_told (Branch n) = of_placement (placement w n) refl
     where
-      of_placement : (o : Option Placement) → placement w n ≡ o → option_map_or (λ (s : Placement). group_lives b n s.arbiter s.branch.group) o false ≡ option_map_or (λ (s : Placement). is_live_in w h n s.arbiter s.branch.group) o false
+      of_placement : (o : Option Placement) → placement w n ≡ o → option_map_or (λ (s : Placement). group_lives b n s.domain s.branch.group) o false ≡ option_map_or (λ (s : Placement). is_live_in w h n s.domain s.branch.group) o false
       of_placement None at = refl
       of_placement (Some s) at = group_told n s at s.branch.group
 
@@ -186,9 +186,9 @@ module _ (w : Parts) (valid : IsValid w) (h : List Event) (legal : IsLegal w h) 
   cuts_told (Site n k) = refl
   cuts_told (Branch n) = of_placement (placement w n) refl
     where
-      of_placement : (o : Option Placement) → placement w n ≡ o → option_map_or (λ (s : Placement). if is_teardown s.branch.group then row b.waiting s.arbiter else []) o [] ≡ option_map_or (λ (s : Placement). if is_teardown s.branch.group then waiting w h s.arbiter else []) o []
+      of_placement : (o : Option Placement) → placement w n ≡ o → option_map_or (λ (s : Placement). if is_teardown s.branch.group then row b.waiting s.domain else []) o [] ≡ option_map_or (λ (s : Placement). if is_teardown s.branch.group then waiting w h s.domain else []) o []
       of_placement None at = refl
-      of_placement (Some s) at = rw (keeps.places.waiting s.arbiter (arbiter_within w valid n s at)) refl
+      of_placement (Some s) at = rw (keeps.places.waiting s.domain (arbiter_within w valid n s at)) refl
 
   -- the placement of a task that fired
   pub with_placement : (t : TaskId) (f : Firing) → firing_named h t ≡ Some f → (s : Placement) × (placement w (branch_of f.spot) ≡ Some s) × (placement_of w h t ≡ Some s)
@@ -199,7 +199,7 @@ module _ (w : Parts) (valid : IsValid w) (h : List Event) (legal : IsLegal w h) 
   may_admit_card_told : (t : TaskId) (f : Firing) → firing_named h t ≡ Some f → may_admit_card b (card_of w h t f) ≡ may_admit w h t
   may_admit_card_told t f is =
       let place = with_placement t f is in
-      rw (place.1, place.2) (of_test (is_concurrent place.0.branch.group) place.0.arbiter (arbiter_within w valid (branch_of f.spot) place.0 place.1))
+      rw (place.1, place.2) (of_test (is_concurrent place.0.branch.group) place.0.domain (arbiter_within w valid (branch_of f.spot) place.0 place.1))
     where
       of_test : (c : Bool) (d : ℕ) → d < length w.arbiters → (if c then number b.alone d == 0 else number b.admitted d == 0) ≡ (if c then list_all (is_concurrent_task w h) (admitted w h d) else is_none_of (admitted w h d))
       of_test true d low = rw (keeps.counts.alone d low) (none_fail (is_concurrent_task w h) (admitted w h d))

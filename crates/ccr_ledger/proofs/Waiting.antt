@@ -97,12 +97,12 @@ module _ (w : Parts) (h : List Event) (t : TaskId) (n : ℕ) (ms : List MsgId) (
   unfired : IsFired h t → ⊥
   unfired fired = no_both (fired_has h t fired) (FiresSo-allowed w h t (Branch n) ms cs allowed).new_name
 
-  cuts_so : cs ≡ (if is_teardown s.branch.group then waiting w h s.arbiter else [])
-  cuts_so = (FiresSo-allowed w h t (Branch n) ms cs allowed).cuts ∙ ap (λ o. option_map_or (λ (r : Placement). if is_teardown r.branch.group then waiting w h r.arbiter else []) o []) at
+  cuts_so : cs ≡ (if is_teardown s.branch.group then waiting w h s.domain else [])
+  cuts_so = (FiresSo-allowed w h t (Branch n) ms cs allowed).cuts ∙ ap (λ o. option_map_or (λ (r : Placement). if is_teardown r.branch.group then waiting w h r.domain else []) o []) at
 
-  not_cut : (is : Bool) → is_teardown s.branch.group ≡ is → has_task (if is then waiting w h s.arbiter else []) t ≡ false
+  not_cut : (is : Bool) → is_teardown s.branch.group ≡ is → has_task (if is then waiting w h s.domain else []) t ≡ false
   not_cut false e = refl
-  not_cut true e = refuted (has_task (waiting w h s.arbiter) t) (λ waits. (let facts = WaitingFacts-waiting w h s.arbiter t (OneName-legal w h legal) waits in unfired (facts.firing, facts.is_firing)))
+  not_cut true e = refuted (has_task (waiting w h s.domain) t) (λ waits. (let facts = WaitingFacts-waiting w h s.domain t (OneName-legal w h legal) waits in unfired (facts.firing, facts.is_firing)))
 
   stays : has_task (ever_admitted h ++ (cut h ++ cs)) t ≡ false
   stays = not_more (ever_admitted h) (cut h ++ cs) t
@@ -129,28 +129,28 @@ module _ (w : Parts) (h : List Event) (t : TaskId) (n : ℕ) (ms : List MsgId) (
   cleared : (rows : List (List TaskId)) (i : ℕ) → i < length rows → row rows i ≡ waiting w h i → row (after_clear s rows) i ≡ without (waiting w h i) cs
   cleared rows i low known = of_test (is_teardown s.branch.group) refl ∙ ap (λ ts. without (waiting w h i) ts) (sym cuts_so)
     where
-      of_place : (b : Bool) → (s.arbiter == i) ≡ b → (if b then [] else row rows i) ≡ without (waiting w h i) (waiting w h s.arbiter)
-      of_place true is = let one : s.arbiter ≡ i = same_number s.arbiter i is in rw one (sym (all_gone (waiting w h i) (waiting w h i) (λ u among. among)))
-      of_place false is = known ∙ sym (without_none (waiting w h i) (waiting w h s.arbiter) (λ u here. refuted (has_task (waiting w h s.arbiter) u) (λ there. no_both here (waits_elsewhere w h s.arbiter i u legal there is))))
+      of_place : (b : Bool) → (s.domain == i) ≡ b → (if b then [] else row rows i) ≡ without (waiting w h i) (waiting w h s.domain)
+      of_place true is = let one : s.domain ≡ i = same_number s.domain i is in rw one (sym (all_gone (waiting w h i) (waiting w h i) (λ u among. among)))
+      of_place false is = known ∙ sym (without_none (waiting w h i) (waiting w h s.domain) (λ u here. refuted (has_task (waiting w h s.domain) u) (λ there. no_both here (waits_elsewhere w h s.domain i u legal there is))))
 
-      of_test : (b : Bool) → is_teardown s.branch.group ≡ b → row (if b then with_row rows s.arbiter [] else rows) i ≡ without (waiting w h i) (if b then waiting w h s.arbiter else [])
-      of_test true e = row-with_row rows s.arbiter i [] low ∙ of_place (s.arbiter == i) refl
+      of_test : (b : Bool) → is_teardown s.branch.group ≡ b → row (if b then with_row rows s.domain [] else rows) i ≡ without (waiting w h i) (if b then waiting w h s.domain else [])
+      of_test true e = row-with_row rows s.domain i [] low ∙ of_place (s.domain == i) refl
       of_test false e = known ∙ sym (none_gone (waiting w h i))
 
   -- the rows once the new task has entered
   waited : (k : Bool) → is_interleave s.kind ≡ k → may_have s.kind s.branch.group ≡ true → (rows : List (List TaskId)) (i : ℕ) → i < length rows → row rows i ≡ waiting w h i
-      → row (if k then with_row (after_clear s rows) s.arbiter (row (after_clear s rows) s.arbiter ++ t ∷ []) else rows) i ≡ without (waiting w h i) cs ++ (if k && (s.arbiter == i) then t ∷ [] else [])
+      → row (if k then with_row (after_clear s rows) s.domain (row (after_clear s rows) s.domain ++ t ∷ []) else rows) i ≡ without (waiting w h i) cs ++ (if k && (s.domain == i) then t ∷ [] else [])
   waited true is may rows i low known =
-      row-entered (after_clear s rows) s.arbiter i t (omega (arith, low, length-cleared (is_teardown s.branch.group))) ∙ ap (λ ts. ts ++ (if s.arbiter == i then t ∷ [] else [])) (cleared rows i low known)
+      row-entered (after_clear s rows) s.domain i t (omega (arith, low, length-cleared (is_teardown s.branch.group))) ∙ ap (λ ts. ts ++ (if s.domain == i then t ∷ [] else [])) (cleared rows i low known)
     where
-      length-cleared : (b : Bool) → length (if b then with_row rows s.arbiter [] else rows) ≡ length rows
-      length-cleared true = length-with_row rows s.arbiter []
+      length-cleared : (b : Bool) → length (if b then with_row rows s.domain [] else rows) ≡ length rows
+      length-cleared true = length-with_row rows s.domain []
       length-cleared false = refl
   waited false is may rows i low known =
       known ∙ (sym (none_gone (waiting w h i)) ∙ (ap (λ ts. without (waiting w h i) ts) (sym none) ∙ sym (append-nil (without (waiting w h i) cs))))
     where
       none : cs ≡ []
-      none = cuts_so ∙ ap (λ b. if b then waiting w h s.arbiter else []) (no_teardown s.kind s.branch.group may is)
+      none = cuts_so ∙ ap (λ b. if b then waiting w h s.domain else []) (no_teardown s.kind s.branch.group may is)
 
   waiting-event-branch : IsValid w → (b : Books) → HasSizes w b → SaysWaiting w h b.waiting → SaysWaiting w (h ++ Fire t (Branch n) ms cs ∷ []) (after_event w (Fire t (Branch n) ms cs) b).waiting
   waiting-event-branch valid b sizes known i low =
@@ -160,10 +160,10 @@ module _ (w : Parts) (h : List Event) (t : TaskId) (n : ℕ) (ms : List MsgId) (
 waiting-event-admit : (w : Parts) (h : List Event) (t : TaskId) (b : Books) → IsLegal w h → IsAllowed w h (Admit t) → HasSizes w b → KeepsTasks w h b → SaysWaiting w h b.waiting → SaysWaiting w (h ++ Admit t ∷ []) (after_event w (Admit t) b).waiting
 waiting-event-admit w h t b legal allowed sizes tasks known i low =
     let first = (refused_not (is_oldest_waiting w h t) _ _ allowed).0 in
-    let found = some_of (λ (s : Placement). is_first (waiting w h s.arbiter) t) (placement_of w h t) first in
-    let head = first_rest (waiting w h found.0.arbiter) t found.2 in
+    let found = some_of (λ (s : Placement). is_first (waiting w h s.domain) t) (placement_of w h t) first in
+    let head = first_rest (waiting w h found.0.domain) t found.2 in
     let facts = CardFacts-fired w h t b legal tasks (placement_fired w h t found.0 found.1) in
-    let own : facts.card.domain ≡ found.0.arbiter = facts.domain ∙ ap (λ (s : Placement). s.arbiter) (same_placement facts.place found.0 (placement_of w h t) facts.is_placement found.1) in
+    let own : facts.card.domain ≡ found.0.domain = facts.domain ∙ ap (λ (s : Placement). s.domain) (same_placement facts.place found.0 (placement_of w h t) facts.is_placement found.1) in
     let oldest : waiting w h facts.card.domain ≡ t ∷ head.0 = ap (waiting w h) own ∙ head.1 in
     ap (λ (r : Rows). row r.waiting i) (rows-admit w t b facts.card facts.is_card)
     ∙ (row-left b.waiting (waiting w h) facts.card.domain i t head.0 (omega (arith, low, sizes.waiting)) (known i low) oldest (waiting_once w h facts.card.domain legal)

@@ -24,8 +24,8 @@ use Rattle.ccr_model.specs.Rules.{is_first, drop_by}
 use Rattle.ccr_ledger.specs.Rows.{row}
 use Rattle.ccr_ledger.specs.declared.cards.Card.{Card}
 use Rattle.ccr_ledger.specs.declared.cards.Runner.{Runner}
-use Rattle.ccr_ledger.specs.declared.cards.Stage.{Stage}
-use Rattle.ccr_ledger.specs.declared.cards.Stage.TheVariants as stages
+use Rattle.ccr_ledger.specs.declared.cards.TaskStage.{TaskStage}
+use Rattle.ccr_ledger.specs.declared.cards.TaskStage.TheVariants as stages
 use Rattle.ccr_ledger.specs.Books.{Books, number, flag, card_at, suspended_at}
 
 -- rule 4: whether the task fired
@@ -41,7 +41,7 @@ group_lives books branch domain _ = not (flag books.torn domain)
 
 -- whether the spot may fire once more
 abbrev pub lives : Parts → Books → Spot → Bool
-lives wiring books (Branch branch) = option_map_or (λ (s : Placement). group_lives books branch s.arbiter s.branch.group) (placement wiring branch) false
+lives wiring books (Branch branch) = option_map_or (λ (s : Placement). group_lives books branch s.domain s.branch.group) (placement wiring branch) false
 lives wiring books (Site branch site) = not (is_none_of (suspended_at books.suspended branch site))
 
 -- rule 6: whether the ports hold enough for the spot
@@ -71,7 +71,7 @@ room wiring books (Site branch site) = true
 
 -- rule 8: the tasks that a firing at the spot cuts
 abbrev pub cuts : Parts → Books → Spot → List TaskId
-cuts wiring books (Branch branch) = option_map_or (λ (s : Placement). if is_teardown s.branch.group then row books.waiting s.arbiter else []) (placement wiring branch) []
+cuts wiring books (Branch branch) = option_map_or (λ (s : Placement). if is_teardown s.branch.group then row books.waiting s.domain else []) (placement wiring branch) []
 cuts wiring books (Site branch site) = []
 
 -- rule 9: whether the task is the oldest that waits in its domain
@@ -87,7 +87,7 @@ abbrev pub may_admit_task : Books → TaskId → Bool
 may_admit_task books task = option_map_or (may_admit_card books) (card_at books.tasks task) false
 
 -- rule 11: whether the task may be put
-abbrev pub is_ready_stage : Stage → Bool
+abbrev pub is_ready_stage : TaskStage → Bool
 is_ready_stage stages.Ready = true
 is_ready_stage _ = false
 

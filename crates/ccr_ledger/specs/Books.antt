@@ -9,7 +9,7 @@ use Rattle.ccr_base.specs.Names.{same_task}
 use Rattle.ccr_ledger.specs.Rows.{row, with_row}
 use Rattle.ccr_ledger.specs.declared.cards.Card.{Card}
 use Rattle.ccr_ledger.specs.declared.cards.Runner.{Runner}
-use Rattle.ccr_ledger.specs.declared.cards.Stage.{Stage}
+use Rattle.ccr_ledger.specs.declared.cards.TaskStage.{TaskStage}
 
 -- what stands where after a history
 pub record Books : Type 0 where
@@ -84,15 +84,15 @@ changed change task [] = []
 changed change task (entry ∷ cards) = if same_task task entry.0 then (entry.0, change entry.1) ∷ cards else entry ∷ changed change task cards
 
 -- the card in this stage
-abbrev pub in_stage : Stage → Card → Card
+abbrev pub in_stage : TaskStage → Card → Card
 in_stage stage card = record card { stage = stage }
 
 -- the cards with that of the task in this stage
-abbrev pub moved : Stage → TaskId → List (TaskId × Card) → List (TaskId × Card)
+abbrev pub moved : TaskStage → TaskId → List (TaskId × Card) → List (TaskId × Card)
 moved stage task cards = changed (in_stage stage) task cards
 
 -- the cards with those of the tasks in this stage
-abbrev pub all_moved : Stage → List TaskId → List (TaskId × Card) → List (TaskId × Card)
+abbrev pub all_moved : TaskStage → List TaskId → List (TaskId × Card) → List (TaskId × Card)
 all_moved stage [] cards = cards
 all_moved stage (task ∷ tasks) cards = all_moved stage tasks (moved stage task cards)
 

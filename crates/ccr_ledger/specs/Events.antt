@@ -13,7 +13,7 @@ use Rattle.ccr_model.specs.declared.history.EndHow.TheVariants.{Yield}
 use Rattle.ccr_ledger.specs.Rows.{row, with_row, empty_rows}
 use Rattle.ccr_ledger.specs.declared.cards.Card.{Card}
 use Rattle.ccr_ledger.specs.declared.cards.Runner.{Runner}
-use Rattle.ccr_ledger.specs.declared.cards.Stage.TheVariants as stages
+use Rattle.ccr_ledger.specs.declared.cards.TaskStage.TheVariants as stages
 use Rattle.ccr_ledger.specs.Books.{Books, card_at, changed, moved, more, less, sites_each, suspended_at, with_suspended}
 use Rattle.ccr_ledger.specs.Posting.{after_post}
 use Rattle.ccr_ledger.specs.Firing.{without_coming, after_fire}

@@ -15,8 +15,8 @@ use Rattle.ccr_model.specs.TaskData.{Load, no_load, play_at, with_messages}
 use Rattle.ccr_model.specs.Tasks.{is_interleave, is_teardown, is_concurrent}
 use Rattle.ccr_ledger.specs.Rows.{row, with_row}
 use Rattle.ccr_ledger.specs.declared.cards.Card.{Card}
-use Rattle.ccr_ledger.specs.declared.cards.Stage.{Stage}
-use Rattle.ccr_ledger.specs.declared.cards.Stage.TheVariants.{Waiting, Ready, Cut}
+use Rattle.ccr_ledger.specs.declared.cards.TaskStage.{TaskStage}
+use Rattle.ccr_ledger.specs.declared.cards.TaskStage.TheVariants.{Waiting, Ready, Cut}
 use Rattle.ccr_ledger.specs.Books.{Books, card_at, moved, more, less, raised, suspended_at, with_suspended}
 use Rattle.ccr_ledger.specs.Taking.{Takes, take_pattern, take_site}
 
@@ -43,14 +43,14 @@ after_cuts (task ∷ tasks) books = after_cuts tasks (after_cut task books)
 
 -- the rows without those that a firing of the branch cuts
 abbrev pub after_clear : Placement → List (List TaskId) → List (List TaskId)
-after_clear s waiting = if is_teardown s.branch.group then with_row waiting s.arbiter [] else waiting
+after_clear s waiting = if is_teardown s.branch.group then with_row waiting s.domain [] else waiting
 
 -- a task that a branch of the Interleave fired waits; one of a teardown branch alone, as those before it are cut
 abbrev pub after_wait : Placement → TaskId → List (List TaskId) → List (List TaskId)
-after_wait s task waiting = if is_interleave s.kind then with_row (after_clear s waiting) s.arbiter (row (after_clear s waiting) s.arbiter ++ task ∷ []) else waiting
+after_wait s task waiting = if is_interleave s.kind then with_row (after_clear s waiting) s.domain (row (after_clear s waiting) s.domain ++ task ∷ []) else waiting
 
 -- where the task of a firing at the branch stands first
-abbrev pub first_stage : Placement → Stage
+abbrev pub first_stage : Placement → TaskStage
 first_stage s = if is_interleave s.kind then Waiting else Ready
 
 -- the card of a task that the branch fires, which so many fired before, with what it starts with
@@ -58,7 +58,7 @@ abbrev pub branch_card : Parts → TaskId → ℕ → Placement → ℕ → Load
 branch_card wiring task branch s fired_before load = record {
   spot = Branch branch;
   queue = s.branch.queue;
-  domain = s.arbiter;
+  domain = s.domain;
   concurrent = is_concurrent s.branch.group;
   root = task;
   number = fired_before;
@@ -77,8 +77,8 @@ first_card wiring task branch s fired_before names ports = branch_card wiring ta
 abbrev pub after_choice : ℕ → Placement → Books → Books
 after_choice branch s books = record books {
   spent = raised branch books.spent;
-  chosen = raised s.arbiter books.chosen;
-  torn = if is_teardown s.branch.group then raised s.arbiter books.torn else books.torn;
+  chosen = raised s.domain books.chosen;
+  torn = if is_teardown s.branch.group then raised s.domain books.torn else books.torn;
 }
 
 -- the task of the card, which the branch fired, stands in the tables

@@ -17,12 +17,12 @@ use Rattle.ccr_model.specs.Live.{is_none_of}
 use Rattle.ccr_model.specs.Rules.{needs_no_admission, is_concurrent_task}
 use Rattle.ccr_ledger.specs.Rows.{row}
 use Rattle.ccr_ledger.specs.declared.cards.Card.{Card}
-use Rattle.ccr_ledger.specs.declared.cards.Stage.{Stage}
-use Rattle.ccr_ledger.specs.declared.cards.Stage.TheVariants as stages
+use Rattle.ccr_ledger.specs.declared.cards.TaskStage.{TaskStage}
+use Rattle.ccr_ledger.specs.declared.cards.TaskStage.TheVariants as stages
 use Rattle.ccr_ledger.specs.Books.{Books, number, flag, card_at, suspended_at, runners, runners_of, sites_each}
 
 -- how far a task that fired at the spot has come
-abbrev pub stage_of : Parts → List Event → TaskId → Spot → Stage
+abbrev pub stage_of : Parts → List Event → TaskId → Spot → TaskStage
 stage_of wiring history task spot =
     if has_task (ended history) task then stages.Ended else
     if has_task (started history) task then stages.Running else
@@ -41,7 +41,7 @@ queue_of wiring spot = option_map_or (λ (s : Placement). s.branch.queue) (place
 
 -- the number of the domain of the spot's branch
 abbrev pub domain_of : Parts → Spot → ℕ
-domain_of wiring spot = option_map_or (λ (s : Placement). s.arbiter) (placement wiring (branch_of spot)) 0
+domain_of wiring spot = option_map_or (λ (s : Placement). s.domain) (placement wiring (branch_of spot)) 0
 
 -- whether tasks of the spot's branch run beside others
 abbrev pub is_concurrent_at : Parts → Spot → Bool
@@ -102,8 +102,8 @@ pub record KeepsPlaces (wiring : Parts) (history : List Event) (books : Books) :
 -- which branches and domains fired
 pub record KeepsFlags (wiring : Parts) (history : List Event) (books : Books) : Type 0 where
   pub spent : (branch : ℕ) → branch < length (placements wiring) → flag books.spent branch ≡ not (is_none_of (fired_at history (Branch branch)))
-  pub chosen : (domain : ℕ) → domain < length wiring.arbiters → flag books.chosen domain ≡ not (is_none_of (fired_by wiring (λ s. s.arbiter == domain) history))
-  pub torn : (domain : ℕ) → domain < length wiring.arbiters → flag books.torn domain ≡ not (is_none_of (fired_by wiring (λ s. (s.arbiter == domain) && is_teardown s.branch.group) history))
+  pub chosen : (domain : ℕ) → domain < length wiring.arbiters → flag books.chosen domain ≡ not (is_none_of (fired_by wiring (λ s. s.domain == domain) history))
+  pub torn : (domain : ℕ) → domain < length wiring.arbiters → flag books.torn domain ≡ not (is_none_of (fired_by wiring (λ s. (s.domain == domain) && is_teardown s.branch.group) history))
 
 -- how many are on their way to each queue, and admitted to each domain
 pub record KeepsCounts (wiring : Parts) (history : List Event) (books : Books) : Type 0 where

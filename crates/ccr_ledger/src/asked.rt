@@ -14,7 +14,7 @@ use crate::choices::{count, has_enough, names_of_choice, names_of_site};
 use crate::counts::{flag, number};
 use crate::named_choices::{are_choice_of, are_oldest};
 use crate::tasks::first_suspended;
-use crate::{Card, Ledger, Rows, Runner, Stage};
+use crate::{Card, Ledger, Rows, Runner, TaskStage};
 use ccr_base::{
     ActorNo, BranchNo, Group, MsgId, OutOfMemory, Policy, PortNo, QueueNo, Spot, TaskId,
 };
@@ -24,11 +24,11 @@ use ccr_wiring::Wiring;
 use std::alloc::Global;
 
 /// Whether a task in the stage may be put.
-fn is_ready_stage(stage: Stage) -> bool
+fn is_ready_stage(stage: TaskStage) -> bool
     ensures { result ≡ is_ready_stage stage }
 {
     match stage {
-        Stage::Ready => true,
+        TaskStage::Ready => true,
         _ => false,
     }
 }
@@ -145,7 +145,7 @@ impl Ledger {
             Spot::Branch(branch) => match wiring.placement(branch) {
                 Some(placement) => self.group_lives(
                     branch,
-                    placement.arbiter,
+                    placement.domain,
                     placement.branch.group,
                 ),
                 None => false,
@@ -258,7 +258,7 @@ impl Ledger {
             return Ok(Vec::new(self.alloc));
         };
         if is_teardown(placement.branch.group) {
-            row_of(self.alloc, &self.waiting, placement.arbiter)
+            row_of(self.alloc, &self.waiting, placement.domain)
         } else {
             Ok(Vec::new(self.alloc))
         }

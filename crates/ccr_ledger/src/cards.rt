@@ -5,7 +5,7 @@ use ccr_base::{ActorNo, QueueNo, Spot, TaskId};
 
 /// How far a task has come.
 #[derive(Clone, Copy, PartialEq, Eq)]
-pub enum Stage {
+pub enum TaskStage {
     /// It waits for its admission.
     Waiting,
     /// It may be put.
@@ -40,7 +40,7 @@ pub struct Card {
     pub made: u32,
     /// Whether its branch is a concurrent one.
     pub concurrent: bool,
-    pub stage: Stage,
+    pub stage: TaskStage,
     /// Whether it is a root that was admitted and isn't over.
     pub admitted: bool,
 }

@@ -12,7 +12,7 @@ use crate::ledger::arrive;
 use crate::loads::{load_left, with_messages};
 use crate::ports::{take_pattern, take_site};
 use crate::tasks::{first_suspended, move_to, resume};
-use crate::{Card, HeldMessages, KeptPlay, KeptValues, Ledger, Rows, Stage};
+use crate::{Card, HeldMessages, KeptPlay, KeptValues, Ledger, Rows, TaskStage};
 use ccr_base::{BranchNo, MsgId, OutOfMemory, Spot, TaskId};
 use ccr_model::data::{TaskLoad, no_load, play_at_spot};
 use ccr_model::placements::{PlacementOf, is_concurrent, is_interleave, is_teardown};
@@ -20,13 +20,13 @@ use ccr_wiring::Wiring;
 use std::alloc::Global;
 
 /// Where the task of a firing at the branch stands first.
-fn first_stage(placement: PlacementOf<'_>) -> Stage
+fn first_stage(placement: PlacementOf<'_>) -> TaskStage
     ensures { result ≡ first_stage (placement_seen placement.entry) }
 {
     if is_interleave(placement.kind) {
-        Stage::Waiting
+        TaskStage::Waiting
     } else {
-        Stage::Ready
+        TaskStage::Ready
     }
 }
 
@@ -44,9 +44,9 @@ fn wait(
         return Ok(());
     }
     if is_teardown(placement.branch.group) {
-        waiting.enter_alone(placement.arbiter, task)
+        waiting.enter_alone(placement.domain, task)
     } else {
-        waiting.enter(placement.arbiter, task)
+        waiting.enter(placement.domain, task)
     }
 }
 
@@ -68,7 +68,7 @@ fn branch_card(
     Ok(Card {
         spot,
         queue: placement.branch.queue,
-        domain: placement.arbiter,
+        domain: placement.domain,
         concurrent: is_concurrent(placement.branch.group),
         root: task,
         number,
@@ -104,7 +104,7 @@ fn site_card(
         number,
         values: KeptValues::of(alloc, values)?,
         play,
-        stage: Stage::Ready,
+        stage: TaskStage::Ready,
         admitted: false,
         made: 0,
     })
@@ -159,7 +159,7 @@ impl Ledger {
         };
         let spot = card.spot;
         let queue = card.queue;
-        move_to(&mut self.tasks, task, Stage::Cut);
+        move_to(&mut self.tasks, task, TaskStage::Cut);
         arrive(&mut self.coming, spot, queue);
     }
 
@@ -177,9 +177,9 @@ impl Ledger {
         ensures { self.new ≡ after_choice branch (placement_seen placement.entry) self.old }
     {
         raise(&mut self.spent, branch as usize);
-        raise(&mut self.chosen, placement.arbiter);
+        raise(&mut self.chosen, placement.domain);
         if is_teardown(placement.branch.group) {
-            raise(&mut self.torn, placement.arbiter);
+            raise(&mut self.torn, placement.domain);
         }
     }
 

@@ -14,7 +14,7 @@ use crate::ports::{empty_ports, post_to};
 use crate::tasks::{
     SITES_EACH, admit_root, count_post, end_root, move_to, stop, suspend, uncount_post,
 };
-use crate::{Card, HeldMessages, Rows, Runner, Stage};
+use crate::{Card, HeldMessages, Rows, Runner, TaskStage};
 use ccr_base::{ActorNo, Msg, MsgId, OutOfMemory, QueueNo, Spot, TaskId};
 use ccr_model::{EndHow, Event};
 use ccr_wiring::{ArbiterPart, Wiring};
@@ -300,7 +300,7 @@ impl Ledger {
     fn discard(&mut self, task: TaskId, spot: Spot, queue: QueueNo)
         ensures { self.new ≡ after_discard task spot queue self.old }
     {
-        move_to(&mut self.tasks, task, Stage::Dropped);
+        move_to(&mut self.tasks, task, TaskStage::Dropped);
         self.queued.leave(queue as usize);
         arrive(&mut self.coming, spot, queue);
     }
@@ -332,7 +332,7 @@ impl Ledger {
             self.drop_oldest(oldest);
         }
         self.queued.enter(queue as usize, task)?;
-        move_to(&mut self.tasks, task, Stage::Queued);
+        move_to(&mut self.tasks, task, TaskStage::Queued);
         Ok(())
     }
 
@@ -347,7 +347,7 @@ impl Ledger {
         let spot = card.spot;
         let queue = card.queue;
         self.running.push(Runner { task, actor })?;
-        move_to(&mut self.tasks, task, Stage::Running);
+        move_to(&mut self.tasks, task, TaskStage::Running);
         self.queued.leave(queue as usize);
         arrive(&mut self.coming, spot, queue);
         Ok(())
@@ -357,7 +357,7 @@ impl Ledger {
     fn stop(&mut self, task: TaskId)
         ensures { self.new ≡ after_stop task self.old }
     {
-        move_to(&mut self.tasks, task, Stage::Ended);
+        move_to(&mut self.tasks, task, TaskStage::Ended);
         stop(&mut self.running, task);
     }
 

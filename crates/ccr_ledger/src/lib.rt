@@ -18,7 +18,7 @@ mod ports;
 mod rows;
 mod tasks;
 
-pub use cards::{Card, Runner, Stage};
+pub use cards::{Card, Runner, TaskStage};
 pub use held::HeldMessages;
 pub use kept_plays::{KeptPlay, PostOf};
 pub use kept_values::KeptValues;

@@ -6,7 +6,7 @@ ghost use Rattle.ccr_ledger.specs.Books.{changed, moved, suspended_at, with_susp
 ghost use Rattle.ccr_ledger.specs.Posting.{with_post, without_post};
 ghost use Rattle.ccr_ledger.specs.Events.{admit_root, not_admitted, stopped};
 
-use crate::{Card, Rows, Runner, Stage};
+use crate::{Card, Rows, Runner, TaskStage};
 use ccr_base::{BranchNo, OutOfMemory, TaskId};
 use indexmap::IndexMap;
 
@@ -14,7 +14,7 @@ use indexmap::IndexMap;
 pub(crate) const SITES_EACH: u32 = 16;
 
 /// The task comes to this stage.
-pub(crate) fn move_to(tasks: &mut IndexMap<TaskId, Card>, task: TaskId, stage: Stage)
+pub(crate) fn move_to(tasks: &mut IndexMap<TaskId, Card>, task: TaskId, stage: TaskStage)
     ensures { tasks.new.entries ≡ moved stage task tasks.old.entries }
 {
     if let Some(card) = tasks.get_mut(&task) {
@@ -27,7 +27,7 @@ pub(crate) fn admit_root(tasks: &mut IndexMap<TaskId, Card>, task: TaskId)
     ensures { tasks.new.entries ≡ changed admit_root task tasks.old.entries }
 {
     if let Some(card) = tasks.get_mut(&task) {
-        card.stage = Stage::Ready;
+        card.stage = TaskStage::Ready;
         card.admitted = true;
     }
 }

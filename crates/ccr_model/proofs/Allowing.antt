@@ -239,16 +239,16 @@ fired_where_some p (g ∷ fs) t among = of_test (p g) refl among (fired_where_so
     of_test false e more rest = let r = rest more in (r.0, inr r.1, r.2, r.3)
 
 -- the oldest waiting task has its placement there
-waiting_placement : (w : Parts) (h : List Event) (n : ℕ) (t : TaskId) (ts : List TaskId) → OneName h → waiting w h n ≡ t ∷ ts → (s : Placement) × (placement_of w h t ≡ Some s) × (s.arbiter ≡ n)
+waiting_placement : (w : Parts) (h : List Event) (n : ℕ) (t : TaskId) (ts : List TaskId) → OneName h → waiting w h n ≡ t ∷ ts → (s : Placement) × (placement_of w h t ≡ Some s) × (s.domain ≡ n)
 waiting_placement w h n t ts one is =
-    let found = fired_where_some (λ f. is_branch_where w (λ s. is_interleave s.kind && (s.arbiter == n)) f.spot) (firings h) t (filter_head _ _ t ts is) in
+    let found = fired_where_some (λ f. is_branch_where w (λ s. is_interleave s.kind && (s.domain == n)) f.spot) (firings h) t (filter_head _ _ t ts is) in
     let named : firing_named h t ≡ Some found.0 = subst (λ u. firing_named h u ≡ Some found.0) found.3 (one found.0 found.1) in
     rw named (of_spot found.0.spot found.2)
   where
-    of_spot : (sp : Spot) → is_branch_where w (λ s. is_interleave s.kind && (s.arbiter == n)) sp ≡ true → (s : Placement) × (placement w (branch_of sp) ≡ Some s) × (s.arbiter ≡ n)
+    of_spot : (sp : Spot) → is_branch_where w (λ s. is_interleave s.kind && (s.domain == n)) sp ≡ true → (s : Placement) × (placement w (branch_of sp) ≡ Some s) × (s.domain ≡ n)
     of_spot (Branch b) passes =
-        let r = some_of (λ (s : Placement). is_interleave s.kind && (s.arbiter == n)) (placement w b) passes in
-        (r.0, r.1, grind (arith, nat_tests, (both (is_interleave r.0.kind) (r.0.arbiter == n) r.2).1))
+        let r = some_of (λ (s : Placement). is_interleave s.kind && (s.domain == n)) (placement w b) passes in
+        (r.0, r.1, grind (arith, nat_tests, (both (is_interleave r.0.kind) (r.0.domain == n) r.2).1))
     of_spot (Site b k) passes = absurd (cc)
 
 admit_allowed : (w : Parts) (h : List Event) (n : ℕ) → OneName h → IfSome (admit_first w h (waiting w h n)) (IsAllowed w h)

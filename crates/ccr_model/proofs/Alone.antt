@@ -87,7 +87,7 @@ last_fired w h (Start t a) known allowed = none_fired h
 let_fired : (w : Parts) (h : List Event) (e : Event) → IsAllowed w h e → AreFired h (admitted_by e)
 let_fired w h (Admit t) allowed =
     let a = refused_not (is_oldest_waiting w h t) _ _ allowed in
-    let found = some_of (λ (s : Placement). is_first (waiting w h s.arbiter) t) (placement_of w h t) a.0 in
+    let found = some_of (λ (s : Placement). is_first (waiting w h s.domain) t) (placement_of w h t) a.0 in
     AreFired-one h t (placement_fired w h t found.0 found.1)
 let_fired w h (Post m) allowed = none_fired h
 let_fired w h (Fire t s ms cs) allowed = none_fired h
@@ -177,10 +177,10 @@ one_more c p ts t may_be_admitted is = of_test (p t) refl may_be_admitted
 -- what an allowed admission says of those in its Interleave
 may_be_admitted : (w : Parts) (h : List Event) (t : TaskId) (i : ℕ) → may_admit w h t ≡ true → is_in_arbiter w h i t ≡ true → ((is_concurrent_task w h t ≡ true) × (list_all (is_concurrent_task w h) (admitted w h i) ≡ true)) ⊎ (length (admitted w h i) ≡ 0)
 may_be_admitted w h t i may within =
-    let test : Placement → Bool = λ s. (if is_concurrent s.branch.group then list_all (is_concurrent_task w h) (admitted w h s.arbiter) else is_none_of (admitted w h s.arbiter)) in
+    let test : Placement → Bool = λ s. (if is_concurrent s.branch.group then list_all (is_concurrent_task w h) (admitted w h s.domain) else is_none_of (admitted w h s.domain)) in
     let found = some_of test (placement_of w h t) may in
-    let there : (found.0.arbiter == i) ≡ true = rw found.1 at within in
-    let number : found.0.arbiter ≡ i = grind (arith, nat_tests, there) in
+    let there : (found.0.domain == i) ≡ true = rw found.1 at within in
+    let number : found.0.domain ≡ i = grind (arith, nat_tests, there) in
     let group : is_concurrent_task w h t ≡ is_concurrent found.0.branch.group = ap (λ o. option_map_or (λ (s : Placement). is_concurrent s.branch.group) o false) found.1 in
     by_group (is_concurrent found.0.branch.group) group (subst (λ n. (if is_concurrent found.0.branch.group then list_all (is_concurrent_task w h) (admitted w h n) else is_none_of (admitted w h n)) ≡ true) number found.2)
   where
@@ -192,7 +192,7 @@ alone_admit : (w : Parts) (h : List Event) (t : TaskId) → IsAllowed w h (Admit
 alone_admit w h t allowed known i =
     let a = refused_not (is_oldest_waiting w h t) _ _ allowed in
     let may = (refused_not (may_admit w h t) _ None a.1).0 in
-    let placement_at = some_of (λ (s : Placement). is_first (waiting w h s.arbiter) t) (placement_of w h t) a.0 in
+    let placement_at = some_of (λ (s : Placement). is_first (waiting w h s.domain) t) (placement_of w h t) a.0 in
     let fired = placement_fired w h t placement_at.0 placement_at.1 in
     let g = h ++ Admit t ∷ [] in
     let now : TaskId → Bool = λ u. is_in_arbiter w g i u && not (is_over g u) in

@@ -43,7 +43,7 @@ pub fired_by-append : (w : Parts) (test : Placement → Bool) (h es : List Event
 fired_by-append w test h es = grind (arith, common_steps)
 
 -- a branch of an Interleave may fire while no teardown of it fired
-ends_live : (w : Parts) (h : List Event) (b i : ℕ) (k : Kind) (g : Group) → may_have k g ≡ true → is_interleave k ≡ true → is_live_in w h b i g ≡ true → is_none_of (fired_by w (λ s. (s.arbiter == i) && is_teardown s.branch.group) h) ≡ true
+ends_live : (w : Parts) (h : List Event) (b i : ℕ) (k : Kind) (g : Group) → may_have k g ≡ true → is_interleave k ≡ true → is_live_in w h b i g ≡ true → is_none_of (fired_by w (λ s. (s.domain == i) && is_teardown s.branch.group) h) ≡ true
 ends_live w h b i k groups.Teardown may is live = live
 ends_live w h b i k groups.Exclusive may is live = live
 ends_live w h b i k groups.Concurrent may is live = live
@@ -62,15 +62,15 @@ none_has (x ∷ ts) t is none = grind (arith, nat_tests, none)
 pub dead : (w : Parts) → HasGroups w → (i : ℕ) (h : List Event) (t : TaskId) (f : Firing) (s : Spot) → firing_named h t ≡ Some f → tears_down w i f.spot ≡ true → is_live w h s ≡ true → is_branch_where w (is_placement_in i) s ≡ true → ⊥
 dead w groups_fit i h t f s is tears live branch =
     let facts = BranchFacts-where w (is_placement_in i) s branch in
-    let parts = both (is_interleave facts.place.kind) (facts.place.arbiter == i) facts.passes in
-    let number = same_number facts.place.arbiter i parts.1 in
-    let live_here : is_live_in w h facts.number facts.place.arbiter facts.place.branch.group ≡ true = live_at w h (is_placement_in i) s facts live in
-    let none = ends_live w h facts.number facts.place.arbiter facts.place.kind facts.place.branch.group (groups_fit facts.number facts.place facts.is_place) parts.0 live_here in
+    let parts = both (is_interleave facts.place.kind) (facts.place.domain == i) facts.passes in
+    let number = same_number facts.place.domain i parts.1 in
+    let live_here : is_live_in w h facts.number facts.place.domain facts.place.branch.group ≡ true = live_at w h (is_placement_in i) s facts live in
+    let none = ends_live w h facts.number facts.place.domain facts.place.kind facts.place.branch.group (groups_fit facts.number facts.place facts.is_place) parts.0 live_here in
     let tore = BranchFacts-where w (is_teardown_in i) f.spot tears in
-    let tore_parts = both (is_interleave tore.place.kind && (tore.place.arbiter == i)) (is_teardown tore.place.branch.group) tore.passes in
-    let tore_number = (both (is_interleave tore.place.kind) (tore.place.arbiter == i) tore_parts.0).1 in
-    let passes : is_branch_where w (λ z. (z.arbiter == i) && is_teardown z.branch.group) f.spot ≡ true = rw (tore.is_branch, tore.is_place, tore_number, tore_parts.1) refl in
-    none_has (fired_by w (λ z. (z.arbiter == i) && is_teardown z.branch.group) h) t (fired_by_has w (λ z. (z.arbiter == i) && is_teardown z.branch.group) h t f is passes) (subst (λ n. is_none_of (fired_by w (λ z. (z.arbiter == n) && is_teardown z.branch.group) h) ≡ true) number none)
+    let tore_parts = both (is_interleave tore.place.kind && (tore.place.domain == i)) (is_teardown tore.place.branch.group) tore.passes in
+    let tore_number = (both (is_interleave tore.place.kind) (tore.place.domain == i) tore_parts.0).1 in
+    let passes : is_branch_where w (λ z. (z.domain == i) && is_teardown z.branch.group) f.spot ≡ true = rw (tore.is_branch, tore.is_place, tore_number, tore_parts.1) refl in
+    none_has (fired_by w (λ z. (z.domain == i) && is_teardown z.branch.group) h) t (fired_by_has w (λ z. (z.domain == i) && is_teardown z.branch.group) h t f is passes) (subst (λ n. is_none_of (fired_by w (λ z. (z.domain == n) && is_teardown z.branch.group) h) ≡ true) number none)
 
 -- who fired at the teardown
 fired_then : (w : Parts) (before : List Event) (t : TaskId) (s : Spot) (ms : List MsgId) (cs : List TaskId) (done : List Event) → IsAllowed w before (Fire t s ms cs) → firing_named ((before ++ Fire t s ms cs ∷ []) ++ done) t ≡ Some (record { task = t; spot = s; messages = ms; cuts = cs })
@@ -100,16 +100,16 @@ no_branch_fires w groups_fit i before after t s ms cs legal tears =
 pub record AdmitFacts (w : Parts) (h : List Event) (t : TaskId) : Type 0 where
   pub place : Placement
   pub is_place : placement_of w h t ≡ Some place
-  pub waits : has_task (waiting w h place.arbiter) t ≡ true
+  pub waits : has_task (waiting w h place.domain) t ≡ true
   pub may_be_admitted : may_admit w h t ≡ true
 
 pub AdmitFacts-allowed : (w : Parts) (h : List Event) (t : TaskId) → IsAllowed w h (Admit t) → AdmitFacts w h t
 AdmitFacts-allowed w h t allowed =
     let a = refused_not (is_oldest_waiting w h t) _ _ allowed in
     let b = refused_not (may_admit w h t) _ None a.1 in
-    let found = some_of (λ (s : Placement). is_first (waiting w h s.arbiter) t) (placement_of w h t) a.0 in
-    let head = first_rest (waiting w h found.0.arbiter) t found.2 in
-    record { place = found.0; is_place = found.1; waits = has_oldest (waiting w h found.0.arbiter) head.0 t head.1; may_be_admitted = b.0 }
+    let found = some_of (λ (s : Placement). is_first (waiting w h s.domain) t) (placement_of w h t) a.0 in
+    let head = first_rest (waiting w h found.0.domain) t found.2 in
+    record { place = found.0; is_place = found.1; waits = has_oldest (waiting w h found.0.domain) head.0 t head.1; may_be_admitted = b.0 }
 
 -- a cut task is neither admitted nor put; a branch's task of an Interleave was admitted before it was put
 pub record CutFacts (w : Parts) (h : List Event) : Type 0 where
@@ -122,12 +122,12 @@ cuts_wait : (w : Parts) (h : List Event) (s : Spot) (t : TaskId) → has_task (c
 cuts_wait w h (Site b k) t among = absurd (cc)
 cuts_wait w h (Branch b) t among = of_option (placement w b) among
   where
-    of_option : (o : Option Placement) → has_task (option_map_or (λ (z : Placement). if is_teardown z.branch.group then waiting w h z.arbiter else []) o []) t ≡ true → (i : ℕ) × (has_task (waiting w h i) t ≡ true)
+    of_option : (o : Option Placement) → has_task (option_map_or (λ (z : Placement). if is_teardown z.branch.group then waiting w h z.domain else []) o []) t ≡ true → (i : ℕ) × (has_task (waiting w h i) t ≡ true)
     of_option None is = absurd (cc)
     of_option (Some z) is = of_test (is_teardown z.branch.group) is
       where
-        of_test : (b : Bool) → has_task (if b then waiting w h z.arbiter else []) t ≡ true → (i : ℕ) × (has_task (waiting w h i) t ≡ true)
-        of_test true is' = (z.arbiter, is')
+        of_test : (b : Bool) → has_task (if b then waiting w h z.domain else []) t ≡ true → (i : ℕ) × (has_task (waiting w h i) t ≡ true)
+        of_test true is' = (z.domain, is')
         of_test false is' = absurd (cc)
 
 -- a waiting task wasn't put
@@ -169,7 +169,7 @@ entered_more false ts us t is = among_left ts us t is
 CutFacts-admit : (w : Parts) (h : List Event) (t : TaskId) → OneName h → ArePlaced h → IsAllowed w h (Admit t) → CutFacts w h → CutFacts w (h ++ Admit t ∷ [])
 CutFacts-admit w h t one placed allowed known =
     let facts = AdmitFacts-allowed w h t allowed in
-    let waits = WaitingFacts-waiting w h facts.place.arbiter t one facts.waits in
+    let waits = WaitingFacts-waiting w h facts.place.domain t one facts.waits in
     record {
       not_ever_admitted = λ u among. rw (ever_admitted-push h (Admit t)) (let there = subst (λ ts. has_task ts u ≡ true) (same_cut h (Admit t) refl) among in not_more (ever_admitted h) (t ∷ []) u (known.not_ever_admitted u there) (not_one t u (cut h) waits.not_cut there));
       not_put = λ u among. rw (put-push h (Admit t), append-nil (put h)) (known.not_put u (subst (λ ts. has_task ts u ≡ true) (same_cut h (Admit t) refl) among));

@@ -139,7 +139,7 @@ BranchFacts-where w test (Branch b) is =
 BranchFacts-where w test (Site b k) is = absurd (cc)
 
 -- it is live where the spot is
-pub live_at : (w : Parts) (h : List Event) (test : Placement → Bool) (s : Spot) → (facts : BranchFacts w test s) → is_live w h s ≡ true → is_live_in w h facts.number facts.place.arbiter facts.place.branch.group ≡ true
+pub live_at : (w : Parts) (h : List Event) (test : Placement → Bool) (s : Spot) → (facts : BranchFacts w test s) → is_live w h s ≡ true → is_live_in w h facts.number facts.place.domain facts.place.branch.group ≡ true
 live_at w h test s facts live = rw (facts.is_branch, facts.is_place) at live
 
 -- a waiting task is one that fired there, neither admitted nor cut
@@ -169,6 +169,6 @@ WaitingFacts-waiting w h i t one is =
 pub waits_outside : (w : Parts) (h : List Event) (i : ℕ) (t : TaskId) → (waits : WaitingFacts w h i t) → needs_no_admission w waits.firing.spot || has_task (ever_admitted h) t ≡ false
 waits_outside w h i t waits =
     let branch = BranchFacts-where w (is_placement_in i) waits.firing.spot waits.is_branch in
-    let parts = both (is_interleave branch.place.kind) (branch.place.arbiter == i) branch.passes in
+    let parts = both (is_interleave branch.place.kind) (branch.place.domain == i) branch.passes in
     let needs : needs_no_admission w waits.firing.spot ≡ false = rw (branch.is_branch, branch.is_place, parts.0) refl in
     rw (needs, waits.not_ever_admitted) refl

@@ -25,12 +25,12 @@ domain-low (part ∷ parts) arbiter = of_test (has_port part.members arbiter) (d
     of_test false rest = rest
 
 -- the number of a branch's domain is that of one of the arbiters
-pub placement-within : (w : Parts) (branch : ℕ) (s : Placement) → placement w branch ≡ Some s → s.arbiter < length w.arbiters
+pub placement-within : (w : Parts) (branch : ℕ) (s : Placement) → placement w branch ≡ Some s → s.domain < length w.arbiters
 placement-within w branch s at = of_placement (slice_get (placements_from 0 w.arbiters) branch) refl (placement-domain w branch ∙ at)
   where
-    of_placement : (o : Option Placement) → slice_get (placements_from 0 w.arbiters) branch ≡ o → option_map (in_domain w.domains) o ≡ Some s → s.arbiter < length w.arbiters
+    of_placement : (o : Option Placement) → slice_get (placements_from 0 w.arbiters) branch ≡ o → option_map (in_domain w.domains) o ≡ Some s → s.domain < length w.arbiters
     of_placement None there is = absurd (cc)
     of_placement (Some r) there is =
         let placed = placement_of_arbiter 0 w.arbiters branch r there in
-        let number : domain_of w.domains r.arbiter ≡ s.arbiter = cc in
-        omega (arith, domain-low w.domains r.arbiter, placed.number, some-below w.arbiters placed.place placed.arbiter placed.at, number)
+        let number : domain_of w.domains r.domain ≡ s.domain = cc in
+        omega (arith, domain-low w.domains r.domain, placed.number, some-below w.arbiters placed.place placed.arbiter placed.at, number)

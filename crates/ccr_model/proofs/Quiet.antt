@@ -172,12 +172,12 @@ no_admit : (w : Parts) (h : List Event) (t : TaskId) → admit_from w h 0 w.arbi
 no_admit w h t none allowed =
     let a = refused_not (is_oldest_waiting w h t) _ _ allowed in
     let b = refused_not (may_admit w h t) _ None a.1 in
-    let found = some_of (λ (s : Placement). is_first (waiting w h s.arbiter) t) (placement_of w h t) a.0 in
+    let found = some_of (λ (s : Placement). is_first (waiting w h s.domain) t) (placement_of w h t) a.0 in
     let placed = some_then (λ spot. placement w (branch_of spot)) (spot_of h t) found.0 found.1 in
-    let inside : found.0.arbiter < length w.arbiters = placement-within w (branch_of placed.0) found.0 placed.2 in
-    let e : 0 + found.0.arbiter ≡ found.0.arbiter = omega arith in
-    let nothing = subst (λ i. admit_first w h (waiting w h i) ≡ None) e (admit_none w h 0 found.0.arbiter w.arbiters none inside) in
-    let no = admit_head w h (waiting w h found.0.arbiter) t (first_is (waiting w h found.0.arbiter) t found.2) nothing in
+    let inside : found.0.domain < length w.arbiters = placement-within w (branch_of placed.0) found.0 placed.2 in
+    let e : 0 + found.0.domain ≡ found.0.domain = omega arith in
+    let nothing = subst (λ i. admit_first w h (waiting w h i) ≡ None) e (admit_none w h 0 found.0.domain w.arbiters none inside) in
+    let no = admit_head w h (waiting w h found.0.domain) t (first_is (waiting w h found.0.domain) t found.2) nothing in
     absurd (cc (no, b.0))
 
 -- Put

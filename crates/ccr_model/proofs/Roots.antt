@@ -273,10 +273,10 @@ pub at_work_admitted : (w : Parts) (h : List Event) → IsLegal w h → (i : ℕ
 at_work_admitted w h legal i t within work =
     let fired = (ArePlaced-legal w h legal).all_fired t work.put_so in
     let found = some_of (is_placement_in i) (placement_of w h t) within in
-    let parts = both (is_interleave found.0.kind) (found.0.arbiter == i) found.2 in
+    let parts = both (is_interleave found.0.kind) (found.0.domain == i) found.2 in
     let place : placement w (branch_of fired.0.spot) ≡ Some found.0 = sym (placement_by w h t fired.0 fired.1) ∙ found.1 in
     let entered = put_ever_admitted w h legal (AreEverAdmitted-legal w h legal) t fired.0 fired.0.spot found.0 work.put_so fired.1 refl place parts.0 in
-    let there : is_in_arbiter w h i (root_of h t) ≡ true = ap (λ o. option_map_or (λ (s : Placement). s.arbiter == i) o false) (placement_of_root w h legal t fired ∙ found.1) ∙ parts.1 in
+    let there : is_in_arbiter w h i (root_of h t) ≡ true = ap (λ o. option_map_or (λ (s : Placement). s.domain == i) o false) (placement_of_root w h legal t fired ∙ found.1) ∙ parts.1 in
     admitted_whole w h i (root_of h t) entered there (not_over w h legal t work)
 
 unfinished_last : (w : Parts) (h : List Event) → IsLegal w h → (t : TaskId) → has_task (ended h) t ≡ false → has_task (dropped h) t ≡ false → has_task (last_segments h) t ≡ false

@@ -66,7 +66,7 @@ branch_in_one w i j (Site n k) here there = absurd (cc)
 branch_in_one w i j (Branch n) here there =
     let found = some_of (is_placement_in i) (placement w n) here in
     let other : is_placement_in j found.0 ≡ true = sym (ap (λ o. option_map_or (is_placement_in j) o false) found.1) ∙ there in
-    sym (same_number found.0.arbiter i (both (is_interleave found.0.kind) (found.0.arbiter == i) found.2).1) ∙ same_number found.0.arbiter j (both (is_interleave found.0.kind) (found.0.arbiter == j) other).1
+    sym (same_number found.0.domain i (both (is_interleave found.0.kind) (found.0.domain == i) found.2).1) ∙ same_number found.0.domain j (both (is_interleave found.0.kind) (found.0.domain == j) other).1
 
 pub waits_in_one : (w : Parts) (h : List Event) (i j : ℕ) (t : TaskId) → IsLegal w h → has_task (waiting w h i) t ≡ true → has_task (waiting w h j) t ≡ true → i ≡ j
 waits_in_one w h i j t legal here there =

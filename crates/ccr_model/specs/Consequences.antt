@@ -39,9 +39,9 @@ is_once _ = false
 
 -- fires at most once: a choice, a once receiver and the teardowns of a domain together
 abbrev pub has_one_firing : Parts → List Event → ℕ → Kind → Bool
-has_one_firing wiring history arbiter kinds.Receive = nat_le (length (fired_by wiring (λ s. (s.arbiter == arbiter) && is_once s.branch.group) history)) 1
-has_one_firing wiring history arbiter kinds.Choice = nat_le (length (fired_by wiring (λ s. s.arbiter == arbiter) history)) 1
-has_one_firing wiring history arbiter kinds.Interleave = nat_le (length (fired_by wiring (λ s. (s.arbiter == arbiter) && is_teardown s.branch.group) history)) 1
+has_one_firing wiring history arbiter kinds.Receive = nat_le (length (fired_by wiring (λ s. (s.domain == arbiter) && is_once s.branch.group) history)) 1
+has_one_firing wiring history arbiter kinds.Choice = nat_le (length (fired_by wiring (λ s. s.domain == arbiter) history)) 1
+has_one_firing wiring history arbiter kinds.Interleave = nat_le (length (fired_by wiring (λ s. (s.domain == arbiter) && is_teardown s.branch.group) history)) 1
 
 -- exclusion: of the admitted roots that aren't over, all are concurrent or there is one
 abbrev pub keeps_exclusion : Parts → List Event → ℕ → Bool
@@ -62,7 +62,7 @@ stay_last test (task ∷ tasks) = (not (test task) || list_all test tasks) && st
 
 -- after a teardown's firing no other branch of the domain fires, and once a segment of it started no task of another root starts
 abbrev pub ends_by_teardown : Parts → List Event → ℕ → Bool
-ends_by_teardown wiring history arbiter = stay_last (is_teardown_task wiring history) (fired_by wiring (λ s. s.arbiter == arbiter) history) && stay_last (is_teardown_task wiring history) (filter (is_in_arbiter wiring history arbiter) (started history))
+ends_by_teardown wiring history arbiter = stay_last (is_teardown_task wiring history) (fired_by wiring (λ s. s.domain == arbiter) history) && stay_last (is_teardown_task wiring history) (filter (is_in_arbiter wiring history arbiter) (started history))
 
 -- the domains, by the numbers of the arbiters, of which the first has this one, fire and admit as they should
 abbrev pub are_kept_from : Parts → List Event → ℕ → List ArbiterPart → Bool

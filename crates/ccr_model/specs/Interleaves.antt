@@ -11,7 +11,7 @@ use Rattle.ccr_model.specs.Tasks.{is_interleave, is_teardown, is_concurrent, is_
 
 -- whether the branch is one of the domain's Interleaves
 abbrev pub is_placement_in : ℕ → Placement → Bool
-is_placement_in domain s = is_interleave s.kind && (s.arbiter == domain)
+is_placement_in domain s = is_interleave s.kind && (s.domain == domain)
 
 -- whether the branch is a teardown branch of the domain
 abbrev pub is_teardown_in : ℕ → Placement → Bool

@@ -23,12 +23,12 @@ is_none_of tasks = length tasks == 0
 abbrev pub is_live_in : Parts → List Event → ℕ → ℕ → Group → Bool
 is_live_in wiring history branch arbiter Always = true
 is_live_in wiring history branch arbiter Once = is_none_of (fired_at history (Branch branch))
-is_live_in wiring history branch arbiter Choice = is_none_of (fired_by wiring (λ s. s.arbiter == arbiter) history)
-is_live_in wiring history branch arbiter _ = is_none_of (fired_by wiring (λ s. (s.arbiter == arbiter) && is_teardown s.branch.group) history)
+is_live_in wiring history branch arbiter Choice = is_none_of (fired_by wiring (λ s. s.domain == arbiter) history)
+is_live_in wiring history branch arbiter _ = is_none_of (fired_by wiring (λ s. (s.domain == arbiter) && is_teardown s.branch.group) history)
 
 -- whether the spot may fire once more: a branch by its group, a site while a task is suspended there
 abbrev pub is_live : Parts → List Event → Spot → Bool
-is_live wiring history (Branch branch) = option_map_or (λ (s : Placement). is_live_in wiring history branch s.arbiter s.branch.group) (placement wiring branch) false
+is_live wiring history (Branch branch) = option_map_or (λ (s : Placement). is_live_in wiring history branch s.domain s.branch.group) (placement wiring branch) false
 is_live wiring history (Site branch site) = not (is_none_of (suspended history (Site branch site)))
 
 -- on a throttle queue: while fewer of its tasks than its number are on their way or queued

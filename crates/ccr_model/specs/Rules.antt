@@ -53,7 +53,7 @@ is_new history task = not (has_task (fired history) task) && nat_le task.actor 3
 
 -- rule 8: the tasks that a firing at the spot cuts
 abbrev pub cuts_at : Parts → List Event → Spot → List TaskId
-cuts_at wiring history (Branch branch) = option_map_or (λ (s : Placement). if is_teardown s.branch.group then waiting wiring history s.arbiter else []) (placement wiring branch) []
+cuts_at wiring history (Branch branch) = option_map_or (λ (s : Placement). if is_teardown s.branch.group then waiting wiring history s.domain else []) (placement wiring branch) []
 cuts_at wiring history (Site branch site) = []
 
 -- whether the task is the first of the list
@@ -62,7 +62,7 @@ is_first tasks task = option_map_or (same_task task) (slice_get tasks 0) false
 
 -- rule 9: it is the oldest waiting task of its domain of Interleaves
 abbrev pub is_oldest_waiting : Parts → List Event → TaskId → Bool
-is_oldest_waiting wiring history task = option_map_or (λ (s : Placement). is_first (waiting wiring history s.arbiter) task) (placement_of wiring history task) false
+is_oldest_waiting wiring history task = option_map_or (λ (s : Placement). is_first (waiting wiring history s.domain) task) (placement_of wiring history task) false
 
 -- whether a concurrent branch fired the task
 abbrev pub is_concurrent_task : Parts → List Event → TaskId → Bool
@@ -70,7 +70,7 @@ is_concurrent_task wiring history task = option_map_or (λ (s : Placement). is_c
 
 -- rule 10: a concurrent task is admitted beside concurrent ones alone, any other where no admitted root is left that is not over
 abbrev pub may_admit : Parts → List Event → TaskId → Bool
-may_admit wiring history task = option_map_or (λ (s : Placement). (if is_concurrent s.branch.group then list_all (is_concurrent_task wiring history) (admitted wiring history s.arbiter) else is_none_of (admitted wiring history s.arbiter))) (placement_of wiring history task) false
+may_admit wiring history task = option_map_or (λ (s : Placement). (if is_concurrent s.branch.group then list_all (is_concurrent_task wiring history) (admitted wiring history s.domain) else is_none_of (admitted wiring history s.domain))) (placement_of wiring history task) false
 
 -- whether tasks of the spot are put without an admission: those of sites, and of branches outside Interleaves
 abbrev pub needs_no_admission : Parts → Spot → Bool

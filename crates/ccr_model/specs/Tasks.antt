@@ -39,7 +39,7 @@ fired_by wiring test history = fired_where (λ f. is_branch_where wiring test f.
 
 -- the tasks that branches of this domain of Interleaves fired, neither admitted nor cut
 abbrev pub waiting : Parts → List Event → ℕ → List TaskId
-waiting wiring history domain = without (fired_by wiring (λ s. is_interleave s.kind && (s.arbiter == domain)) history) (ever_admitted history ++ cut history)
+waiting wiring history domain = without (fired_by wiring (λ s. is_interleave s.kind && (s.domain == domain)) history) (ever_admitted history ++ cut history)
 
 -- whether the task's branch is on the queue
 abbrev pub is_for_queue : Parts → List Event → ℕ → TaskId → Bool
@@ -68,7 +68,7 @@ is_over history root = list_any (λ task. same_task (root_of history task) root)
 
 -- whether the task's branch is of an arbiter of the domain
 abbrev pub is_in_arbiter : Parts → List Event → ℕ → TaskId → Bool
-is_in_arbiter wiring history domain task = option_map_or (λ (s : Placement). s.arbiter == domain) (placement_of wiring history task) false
+is_in_arbiter wiring history domain task = option_map_or (λ (s : Placement). s.domain == domain) (placement_of wiring history task) false
 
 -- the roots of the domain that were admitted and aren't over
 abbrev pub admitted : Parts → List Event → ℕ → List TaskId

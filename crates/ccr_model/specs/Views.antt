@@ -20,7 +20,7 @@ load_seen l = record { values = l.values; causes = l.causes }
 
 -- whether the branch is one of those that are meant
 abbrev pub means : Branches → Placement → Bool
-means (OfInterleave number) s = is_interleave s.kind && (s.arbiter == number)
-means (OfArbiter number) s = s.arbiter == number
-means (TeardownsOf number) s = (s.arbiter == number) && is_teardown s.branch.group
+means (OfInterleave number) s = is_interleave s.kind && (s.domain == number)
+means (OfArbiter number) s = s.domain == number
+means (TeardownsOf number) s = (s.domain == number) && is_teardown s.branch.group
 means (OfQueue queue) s = s.branch.queue == queue

@@ -51,7 +51,7 @@ pub fn is_live(
             wiring,
             events,
             branch,
-            placement.arbiter,
+            placement.domain,
             placement.branch.group,
         ),
         None => Ok(false),

@@ -119,7 +119,7 @@ pub fn cuts_at(
     if let Spot::Branch(branch) = spot {
         if let Some(placement) = wiring.placement(branch) {
             if is_teardown(placement.branch.group) {
-                return waiting(alloc, wiring, events, placement.arbiter);
+                return waiting(alloc, wiring, events, placement.domain);
             }
         }
     }
@@ -157,7 +157,7 @@ pub(crate) fn is_oldest_waiting(
 {
     match placement_of(wiring, events, task) {
         Some(placement) => {
-            let waiting = waiting(alloc, wiring, events, placement.arbiter)?;
+            let waiting = waiting(alloc, wiring, events, placement.domain)?;
             Ok(is_first(&waiting, task))
         }
         None => Ok(false),
@@ -193,7 +193,7 @@ pub fn may_admit(
     let Some(placement) = placement_of(wiring, events, task) else {
         return Ok(false);
     };
-    let admitted = admitted(alloc, wiring, events, placement.arbiter)?;
+    let admitted = admitted(alloc, wiring, events, placement.domain)?;
     if is_concurrent(placement.branch.group) {
         Ok(are_concurrent(wiring, events, &admitted))
     } else {

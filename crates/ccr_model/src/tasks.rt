@@ -34,10 +34,10 @@ fn means(which: Branches, placement: &PlacementOf<'_>) -> bool
 {
     match which {
         Branches::OfInterleave(number) => is_interleave(placement.kind)
-            && placement.arbiter == number,
-        Branches::OfArbiter(number) => placement.arbiter == number,
+            && placement.domain == number,
+        Branches::OfArbiter(number) => placement.domain == number,
         Branches::TeardownsOf(number) => {
-            placement.arbiter == number && is_teardown(placement.branch.group)
+            placement.domain == number && is_teardown(placement.branch.group)
         }
         Branches::OfQueue(queue) => placement.branch.queue == queue,
     }
@@ -167,7 +167,7 @@ fn is_in_arbiter(wiring: &Wiring, events: &[Event], arbiter: usize, task: TaskId
     ensures { result ≡ is_in_arbiter wiring.now events.now arbiter task }
 {
     match placement_of(wiring, events, task) {
-        Some(placement) => placement.arbiter == arbiter,
+        Some(placement) => placement.domain == arbiter,
         None => false,
     }
 }

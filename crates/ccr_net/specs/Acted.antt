@@ -1,12 +1,13 @@
 -- The places on one thread: what the acts so far leave there, and the act that an ask makes.
-use Rattle.std.specs.Prelude.{◌≡◌, ◌≤◌, ℕ, suc, max, true, ◌==◌, cond, List, [], ◌∷◌, length, slice_get, slice_index}
+use Rattle.std.specs.Prelude.{◌≡◌, ◌≤◌, ℕ, suc, max, true, ◌==◌, cond, List, [], ◌∷◌, length, map, slice_get, slice_index}
 use Rattle.std.specs.Option.{option_map_or}
+use Rattle.std.specs.declared.snapshot.Snapshot.{Snapshot}
 use Rattle.ccr_base.specs.declared.names.Place.{Place}
 use Rattle.ccr_wiring.specs.declared.parts.Parts.{Parts}
 use Rattle.ccr_claim.specs.declared.asks.Ask.{Ask}
 use Rattle.ccr_claim.specs.Asks.{due_of, fits}
-use Rattle.ccr_object.specs.declared.deed.Answer.{Answer}
-use Rattle.ccr_object.specs.declared.deed.Answer.TheVariants.{Replied, Unmet}
+use Rattle.ccr_object.specs.declared.deed.PlaceAnswer.{PlaceAnswer}
+use Rattle.ccr_object.specs.declared.deed.PlaceAnswer.TheVariants.{Replied, Unmet}
 use Rattle.ccr_object.specs.declared.deed.Deed.{Deed}
 use Rattle.ccr_object.specs.declared.object.PlaceObject.{PlaceObject}
 use Rattle.ccr_object.specs.declared.object.Placed.{Placed}
@@ -51,17 +52,21 @@ abbrev pub act_after : Parts → List (Act Deed) → ℕ → Place → Ask → A
 act_after wiring acts actor place ask = act_at (scene_after wiring acts) (stamp_of actor acts) (number_at wiring place) actor ask
 
 -- a reply is one that the ask may have
-abbrev pub IsFitting : Ask → Answer → Type 0
+abbrev pub IsFitting : Ask → PlaceAnswer → Type 0
 IsFitting ask (Replied reply) = fits (due_of ask) reply ≡ true
 IsFitting ask Unmet = Unit {0}
 
 -- ---- the code's view
 
 -- the wiring, the acts so far, and for how many acts there is room
-pub record Stage : Type 0 where
+pub record PlainState : Type 0 where
   pub wiring : Parts
   pub acts : List (Act Deed)
   pub room : ℕ
+
+-- the acts that the snapshots hold
+abbrev pub seen_acts : List (Snapshot (Act Deed)) → List (Act Deed)
+seen_acts items = map (λ (seen : Snapshot (Act Deed)). seen.value) items
 
 -- what contracts see of the object of this number
 abbrev pub placed_in : List PlaceObject → ℕ → Placed

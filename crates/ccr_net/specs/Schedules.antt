@@ -9,11 +9,11 @@ use Rattle.ccr_claim.specs.declared.asks.Asked.{Asked}
 use Rattle.ccr_claim.specs.declared.asks.Reply.{Reply}
 use Rattle.ccr_actor.specs.Acting.{Acting, at_state, next, sent, started, IsAfter}
 use Rattle.ccr_actor.specs.Actors.{state_after}
-use Rattle.ccr_object.specs.declared.deed.Answer.TheVariants.{Replied}
+use Rattle.ccr_object.specs.declared.deed.PlaceAnswer.TheVariants.{Replied}
 use Rattle.ccr_object.specs.Objects.{note_of, reply_of}
 use Rattle.ccr_runs.specs.Runs.{IsRunFrom, cast}
 use Rattle.ccr_runs.specs.declared.entries.Entry.{Entry}
-use Rattle.ccr_net.specs.Acted.{Stage, act_after, scene_after}
+use Rattle.ccr_net.specs.Acted.{PlainState, act_after, scene_after}
 use Rattle.ccr_runs.specs.Played.{entries_of, entry_of, number_at, rules, scene}
 use Rattle.ccr_runs.specs.EntryRuns.{Lacks, replies_of}
 
@@ -22,11 +22,11 @@ abbrev pub AreStarted : Parts → ℕ → List Acting → Type 0
 AreStarted wiring count actors = (length actors ≡ count) × ((k : ℕ) (a : Acting) → slice_get actors k ≡ Some a → a ≡ started wiring k)
 
 -- the condition of the actor's next ask is met at its place
-abbrev pub IsMet : Stage → Acting → Type 0
+abbrev pub IsMet : PlainState → Acting → Type 0
 IsMet stage a = (one : Asked) → next a ≡ Some one → is_some (note_of (scene_after stage.wiring stage.acts (number_at stage.wiring one.place)).0 one.ask) ≡ true
 
 -- the ask that the actor made is answered at its place, and the actor took in the reply; one that had memory still has
-pub record IsAnswered (stage : Stage) (a : Acting) (entries : List Entry) (place : Place) (ask : Ask) (later : Stage) (b : Acting) (more : List Entry) : Type 0 where
+pub record IsAnswered (stage : PlainState) (a : Acting) (entries : List Entry) (place : Place) (ask : Ask) (later : PlainState) (b : Acting) (more : List Entry) : Type 0 where
   pub wiring : later.wiring ≡ stage.wiring
   pub acts : later.acts ≡ stage.acts ++ act_after stage.wiring stage.acts a.actor place ask ∷ []
   pub entry : Entry
@@ -38,7 +38,7 @@ pub record IsAnswered (stage : Stage) (a : Acting) (entries : List Entry) (place
   pub long : a.state.is_short ≡ false → b.state.is_short ≡ false
 
 -- the actor's next ask is answered so
-pub record IsStep (stage : Stage) (a : Acting) (entries : List Entry) (later : Stage) (b : Acting) (more : List Entry) : Type 0 where
+pub record IsStep (stage : PlainState) (a : Acting) (entries : List Entry) (later : PlainState) (b : Acting) (more : List Entry) : Type 0 where
   pub one : Asked
   pub asks : next a ≡ Some one
   pub made : IsAnswered stage (sent a) entries one.place one.ask later b more
@@ -54,7 +54,7 @@ pub record IsActing (wiring : Parts) (lacks : Lacks) (entries : List Entry) (k :
   pub short : IsShortAfter (lacks k) (replies_of wiring entries k) a.state.is_short
 
 -- the acts are a run, the entries are theirs, and each actor stands where these lead it
-pub record IsPlayed (workers : ℕ) (lacks : Lacks) (stage : Stage) (actors : List Acting) (entries : List Entry) : Type 0 where
+pub record IsPlayed (workers : ℕ) (lacks : Lacks) (stage : PlainState) (actors : List Acting) (entries : List Entry) : Type 0 where
   pub valid : IsValid stage.wiring
   pub run : IsRunFrom (rules stage.wiring lacks) (length stage.wiring.posters + workers) (scene stage.wiring) (cast (rules stage.wiring lacks)) stage.acts
   pub same : entries ≡ entries_of stage.wiring stage.acts

@@ -10,7 +10,7 @@ use Rattle.ccr_object.specs.declared.deed.Deed.{Deed}
 use Rattle.ccr_runs.specs.declared.acts.Act.{Act}
 use Rattle.ccr_runs.specs.Runs.{IsRunFrom, cast}
 use Rattle.ccr_runs.specs.declared.entries.Entry.{Entry}
-use Rattle.ccr_net.specs.Acted.{Stage}
+use Rattle.ccr_net.specs.Acted.{PlainState}
 use Rattle.ccr_net.specs.Owed.{owed_to, AreFitting}
 use Rattle.ccr_runs.specs.Played.{entries_of, rules, scene, steps_in}
 use Rattle.ccr_runs.specs.EntryRuns.{Lacks, replies_of}
@@ -41,7 +41,7 @@ pub record IsServing (wiring : Parts) (acts : List (Act Deed)) : Type 0 where
   pub others : (actor : ℕ) → seats wiring ≤ actor → steps_in wiring acts actor ≡ []
 
 -- the entries are those of the acts, there is room for all that is owed, and so many actors are served
-pub record IsRoomy (stage : Stage) (entries : List Entry) (room owed count : ℕ) : Type 0 where
+pub record IsRoomy (stage : PlainState) (entries : List Entry) (room owed count : ℕ) : Type 0 where
   pub serving : IsServing stage.wiring stage.acts
   pub same : entries ≡ entries_of stage.wiring stage.acts
   pub owes : owed ≡ owed_to stage.wiring stage.acts (seats stage.wiring)

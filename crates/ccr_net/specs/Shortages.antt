@@ -7,7 +7,7 @@ use Rattle.ccr_claim.specs.Asks.{is_settling}
 use Rattle.ccr_actor.specs.Acting.{Acting, next as asks_next, sent, shortened as left_short}
 use Rattle.ccr_actor.specs.Actors.{next}
 use Rattle.ccr_runs.specs.declared.entries.Entry.{Entry}
-use Rattle.ccr_net.specs.Acted.{Stage}
+use Rattle.ccr_net.specs.Acted.{PlainState}
 use Rattle.ccr_runs.specs.EntryRuns.{Lacks, made_by, never, replies_of, with_made}
 use Rattle.ccr_net.specs.Schedules.{IsAnswered, IsPlayed}
 
@@ -64,28 +64,28 @@ shortened wiring refused turns = (turned_from wiring refused nothing_yet turns).
 -- ---- turns of the code
 
 -- the places and the actors have played a run, whoever of them lacks memory
-abbrev pub HasPlayed : ℕ → Stage → List Acting → List Entry → Type 0
+abbrev pub HasPlayed : ℕ → PlainState → List Acting → List Entry → Type 0
 HasPlayed workers stage actors entries = (lacks : Lacks) × IsPlayed workers lacks stage actors entries
 
 -- they have played this run
-pub record HasRun (workers : ℕ) (run : SoFar) (stage : Stage) (actors : List Acting) (entries : List Entry) (asks : ℕ) : Type 0 where
+pub record HasRun (workers : ℕ) (run : SoFar) (stage : PlainState) (actors : List Acting) (entries : List Entry) (asks : ℕ) : Type 0 where
   pub played : IsPlayed workers run.lacks stage actors entries
   pub number : asks ≡ run.asks
   pub same : entries ≡ run.entries
 
 -- whoever lacked memory before, after the turn they have played the run that the turn makes, and so many asks that don't settle were made
-abbrev pub HasTurned : ℕ → List ℕ → ℕ → ℕ → Stage → List Acting → List Entry → Stage → List Acting → List Entry → ℕ → Type 0
+abbrev pub HasTurned : ℕ → List ℕ → ℕ → ℕ → PlainState → List Acting → List Entry → PlainState → List Acting → List Entry → ℕ → Type 0
 HasTurned workers refused turn asks stage actors entries later after more number =
     (lacks : Lacks) → IsPlayed workers lacks stage actors entries → HasRun workers (turned stage.wiring refused (record { lacks = lacks; asks = asks; entries = entries }) turn) later after more number
 
 -- what becomes of an ask, by whether it settles and whether its number is refused
-abbrev pub IsTaken : Bool → Bool → Asked → ℕ → Stage → Acting → List Entry → Stage → Acting → List Entry → ℕ → Type 0
+abbrev pub IsTaken : Bool → Bool → Asked → ℕ → PlainState → Acting → List Entry → PlainState → Acting → List Entry → ℕ → Type 0
 IsTaken true refused one asks stage a entries later b more number = IsAnswered stage (sent a) entries one.place one.ask later b more × (number ≡ asks)
 IsTaken false true one asks stage a entries later b more number = (b ≡ left_short (sent a)) × ((later ≡ stage) × ((more ≡ entries) × (number ≡ asks + 1)))
 IsTaken false false one asks stage a entries later b more number = IsAnswered stage (sent a) entries one.place one.ask later b more × (number ≡ asks + 1)
 
 -- the actor's next ask is made or refused
-pub record IsTurn (refused : List ℕ) (asks : ℕ) (stage : Stage) (a : Acting) (entries : List Entry) (later : Stage) (b : Acting) (more : List Entry) (number : ℕ) : Type 0 where
+pub record IsTurn (refused : List ℕ) (asks : ℕ) (stage : PlainState) (a : Acting) (entries : List Entry) (later : PlainState) (b : Acting) (more : List Entry) (number : ℕ) : Type 0 where
   pub one : Asked
   pub is : asks_next a ≡ Some one
   pub taken : IsTaken (is_settling one.ask) (is_refused refused asks) one asks stage a entries later b more number

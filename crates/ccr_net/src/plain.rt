@@ -3,14 +3,14 @@
 ghost use Rattle.std.specs.Prelude.{◌≡◌, ◌≢◌, ◌<◌, ◌≤◌, ◌+◌, ◌^◌, ℕ, suc, max, true, [], ◌∷◌, ◌++◌, length, slice_index, IfOk, OnOk, OnErr, IsOk, Some, is_some};
 ghost use Rattle.ccr_base.specs.Bounds.{most_actors};
 ghost use Rattle.ccr_claim.specs.Asks.{due_of, fits, is_settling};
-ghost use Rattle.ccr_object.specs.declared.deed.Answer.TheVariants.{Replied};
+ghost use Rattle.ccr_object.specs.declared.deed.PlaceAnswer.TheVariants.{Replied};
 ghost use Rattle.ccr_object.specs.Objects.{after_at, is_due, note_of, reply_of};
 ghost use Rattle.ccr_net.specs.Acted.{act_after, deed_at, placed_in, scene_after, IsFitting};
 ghost use Rattle.ccr_runs.specs.Played.{entry_of, number_at};
 
 use ccr_base::{ActorNo, OutOfMemory, Place};
 use ccr_claim::{Ask, Reply};
-use ccr_object::{Answer, Deed, PlaceObject, place_objects};
+use ccr_object::{Deed, PlaceAnswer, PlaceObject, place_objects};
 use ccr_runs::{Act, Directory, Entry};
 use ccr_wiring::Wiring;
 use std::alloc::Global;
@@ -33,17 +33,14 @@ pub(crate) struct PlainPlaces<'w> {
 }
 
 impl<'w> Model for PlainPlaces<'w> {
-    ghost use Rattle.std.specs.Prelude.{◌-◌, map, vec_capacity, vec_len};
-    ghost use Rattle.ccr_object.specs.declared.deed.Deed.{Deed as DeedOf};
-    ghost use Rattle.ccr_runs.specs.declared.acts.Act.{Act as ActOf};
-    ghost use Rattle.std.specs.declared.snapshot.Snapshot.{Snapshot as Seen};
-    ghost use Rattle.ccr_net.specs.Acted.{IsLeft, Stage};
+    ghost use Rattle.std.specs.Prelude.{◌-◌, vec_capacity, vec_len};
+    ghost use Rattle.ccr_net.specs.Acted.{IsLeft, PlainState, seen_acts};
 
-    ghost Value = { Stage };
+    ghost Value = { PlainState };
 
-    ghost view = { λ places. record { wiring = places.wiring.now; acts = map (λ (seen : Seen (ActOf DeedOf)). seen.value) places.acts.items; room = vec_capacity places.acts - vec_len places.acts } };
+    ghost view = { λ places. record { wiring = places.wiring.now; acts = seen_acts places.acts.items; room = vec_capacity places.acts - vec_len places.acts } };
 
-    ghost invariant = { λ places. IsLeft places.wiring.now places.directory places.objects.items places.place_stamps.items places.actor_stamps.items (map (λ (seen : Seen (ActOf DeedOf)). seen.value) places.acts.items) };
+    ghost invariant = { λ places. IsLeft places.wiring.now places.directory places.objects.items places.place_stamps.items places.actor_stamps.items (seen_acts places.acts.items) };
 }
 
 impl<'w> PlainPlaces<'w> {
@@ -90,7 +87,7 @@ impl<'w> PlainPlaces<'w> {
         actor: ActorNo,
         place: Place,
         ask: Ask,
-    ) -> Result<(Answer, Act<Deed>), OutOfMemory>
+    ) -> Result<(PlaceAnswer, Act<Deed>), OutOfMemory>
         requires seat { actor < most_actors }
         requires room { 1 ≤ self.old.room }
         ensures answer { IfOk result (λ given. given.0 ≡ reply_of (scene_after self.old.wiring self.old.acts (number_at self.old.wiring place)).0 ask) }
@@ -160,7 +157,7 @@ impl<'w> PlainPlaces<'w> {
         let Some(entry) = self.entry(act) else {
             unreachable!();
         };
-        let Answer::Replied(reply) = answer else {
+        let PlaceAnswer::Replied(reply) = answer else {
             unreachable!();
         };
         Ok((reply, entry))
@@ -194,7 +191,7 @@ fn answer_at(
     objects: &mut [PlaceObject],
     number: u32,
     ask: Ask,
-) -> Result<(Answer, Deed), OutOfMemory>
+) -> Result<(PlaceAnswer, Deed), OutOfMemory>
     requires { number < length objects.old }
     ensures reply { IfOk result (λ given. given.0 ≡ reply_of (placed_in objects.old number) ask) }
     ensures fits { IfOk result (λ given. is_due ask given.0 ≡ true) }

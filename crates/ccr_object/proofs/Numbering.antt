@@ -29,7 +29,7 @@ use Rattle.ccr_object.specs.Numbers.{Known, numbers_of, no_numbers, domain_tests
 
 module _ (wiring : Parts) where
   one_arbiter : (arbiter : ℕ) (kind : Kind) (branches : List BranchPart) (rest : List Placement)
-      → map (λ (s : Placement). site_count wiring s.branch) (map (λ branch. record { arbiter = arbiter; kind = kind; branch = branch }) branches ++ rest) ≡ map (site_count wiring) branches ++ map (λ (s : Placement). site_count wiring s.branch) rest
+      → map (λ (s : Placement). site_count wiring s.branch) (map (λ branch. record { domain = arbiter; kind = kind; branch = branch }) branches ++ rest) ≡ map (site_count wiring) branches ++ map (λ (s : Placement). site_count wiring s.branch) rest
   one_arbiter arbiter kind [] rest = refl
   one_arbiter arbiter kind (b ∷ bs) rest = ap (λ (l : List ℕ). site_count wiring b ∷ l) (one_arbiter arbiter kind bs rest)
 

@@ -1,8 +1,8 @@
 -- What an object keeps, and what it answers: messages and tasks whose numbers are those of its place.
 use Rattle.std.specs.Prelude.{Bool, true}
 use Rattle.std.specs.List.{list_all}
-use Rattle.ccr_object.specs.declared.deed.Answer.{Answer}
-use Rattle.ccr_object.specs.declared.deed.Answer.TheVariants.{Replied, Unmet}
+use Rattle.ccr_object.specs.declared.deed.PlaceAnswer.{PlaceAnswer}
+use Rattle.ccr_object.specs.declared.deed.PlaceAnswer.TheVariants.{Replied, Unmet}
 use Rattle.ccr_object.specs.declared.object.Object.{Object}
 use Rattle.ccr_object.specs.declared.object.Object.TheVariants.{Port, Arbiter, Interleave, Site, Queue, Meter}
 use Rattle.ccr_object.specs.declared.object.Placed.{Placed}
@@ -22,6 +22,6 @@ abbrev pub keeps_own : Placed → Bool
 keeps_own place = keeps_known place.numbers place.object
 
 -- whether all numbers in the answer are among these
-abbrev pub answers_known : Known → Answer → Bool
+abbrev pub answers_known : Known → PlaceAnswer → Bool
 answers_known known Unmet = true
 answers_known known (Replied reply) = names_known known reply

@@ -5,8 +5,8 @@ use Rattle.ccr_claim.specs.declared.asks.Ask.{Ask}
 use Rattle.ccr_claim.specs.declared.asks.Reply.{Reply}
 use Rattle.ccr_claim.specs.Asks.{due_of, fits}
 use Rattle.ccr_places.specs.declared.notes.Note.{Note}
-use Rattle.ccr_object.specs.declared.deed.Answer.{Answer}
-use Rattle.ccr_object.specs.declared.deed.Answer.TheVariants.{Replied, Unmet}
+use Rattle.ccr_object.specs.declared.deed.PlaceAnswer.{PlaceAnswer}
+use Rattle.ccr_object.specs.declared.deed.PlaceAnswer.TheVariants.{Replied, Unmet}
 use Rattle.ccr_object.specs.declared.deed.Deed.{Deed}
 use Rattle.ccr_object.specs.declared.object.Object.{Object}
 use Rattle.ccr_object.specs.declared.object.Object.TheVariants.{Port, Arbiter, Interleave, Site, Queue, Meter}
@@ -40,7 +40,7 @@ after (Queue queue) ask = Queue (queues.after queue ask)
 after (Meter meter) ask = Meter (meters.after meter ask)
 
 -- what the actor hears of it
-abbrev pub answered : Option (Reply × Note) → Answer
+abbrev pub answered : Option (Reply × Note) → PlaceAnswer
 answered None = Unmet
 answered (Some given) = Replied given.0
 
@@ -65,7 +65,7 @@ abbrev pub after_at : Placed → Ask → Placed
 after_at place ask = record { numbers = place.numbers; object = if is_known place.numbers ask then after place.object ask else place.object }
 
 -- what the place answers to the ask
-abbrev pub reply_of : Placed → Ask → Answer
+abbrev pub reply_of : Placed → Ask → PlaceAnswer
 reply_of place ask = answered (answer_at place ask)
 
 -- what is noted where the place answers the ask
@@ -73,12 +73,12 @@ abbrev pub note_of : Placed → Ask → Option Note
 note_of place ask = noted (answer_at place ask)
 
 -- whether the answer is one that the ask may have: Unmet, or a reply that fits it
-abbrev pub is_due : Ask → Answer → Bool
+abbrev pub is_due : Ask → PlaceAnswer → Bool
 is_due ask Unmet = true
 is_due ask (Replied reply) = fits (due_of ask) reply
 
 -- the answer to the ask, and the entry that bears the ask with its note; what is replied fits the ask
-abbrev pub IsGiven : Placed → Ask → Answer → Deed → Type 0
+abbrev pub IsGiven : Placed → Ask → PlaceAnswer → Deed → Type 0
 IsGiven place ask reply deed = (reply ≡ reply_of place ask) × (deed.note ≡ note_of place ask) × (deed.ask.value ≡ ask) × (is_due ask reply ≡ true)
 
 -- what an entry leaves

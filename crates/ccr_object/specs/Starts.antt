@@ -59,7 +59,7 @@ places_of wiring = port_places (length wiring.ports) ++ arbiter_places wiring.do
 
 -- the branch's number and group, where it is one of the domain
 abbrev pub member_of : ℕ → ℕ → Placement → Option (ℕ × Group)
-member_of domain branch s = if s.arbiter == domain then Some (branch, s.branch.group) else None
+member_of domain branch s = if s.domain == domain then Some (branch, s.branch.group) else None
 
 -- the branch and its group, where it is one of this domain
 abbrev pub member_at : Parts → ℕ → Spot → Option (ℕ × Group)

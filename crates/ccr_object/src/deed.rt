@@ -6,7 +6,7 @@ use std::snapshot::Snapshot;
 
 /// The answer to an ask: a reply, or that its condition isn't met at its place.
 #[derive(Drop)]
-pub enum Answer {
+pub enum PlaceAnswer {
     Replied(Reply),
     Unmet,
 }

@@ -9,7 +9,7 @@ mod numbers;
 mod object;
 mod starting;
 
-pub use deed::{Answer, Deed};
+pub use deed::{Deed, PlaceAnswer};
 pub use laws::places_name_what_they_know;
 pub use making::place_objects;
 pub use numbers::Numbers;

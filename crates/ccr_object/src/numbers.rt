@@ -3,7 +3,6 @@
 ghost use Rattle.std.specs.Prelude.{◌≡◌, ◌↔◌, true, ◌++◌, length, map, nat_lt, IfOk, OnOk};
 ghost use Rattle.std.specs.List.{list_all};
 ghost use Rattle.ccr_base.specs.declared.tasks.Cut.{Cut as CutOf};
-ghost use Rattle.ccr_wiring.specs.Repeats.{has_port, are_apart};
 ghost use Rattle.ccr_wiring.specs.Wirings.{actions_of, awaited};
 ghost use Rattle.ccr_object.specs.Numbers.{numbers_of, domain_tests, site_count, site_counts, has_domain, has_spot, has_each, has_causes, has_message, has_task, has_handed, is_known, names_known};
 ghost use Rattle.ccr_claim.specs.declared.asks.Ask.{Ask};
@@ -12,7 +11,7 @@ ghost use Rattle.ccr_claim.specs.Wired.{IsKnown, IsReplyOf};
 
 use ccr_base::{Action, ArbiterNo, Cut, Msg, OutOfMemory, Spot, Task};
 use ccr_claim::{Ask, Reply};
-use ccr_wiring::{BranchPart, Wiring};
+use ccr_wiring::{BranchPart, Wiring, are_apart};
 use std::alloc::Global;
 use std::marker::Model;
 
@@ -164,23 +163,6 @@ fn has_each(count: usize, causes: &[u32]) -> bool
 {
     for cause in causes {
         if (*cause as usize) >= count {
-            return false;
-        }
-    }
-    true
-}
-
-fn has_number(numbers: &[u32], number: u32) -> bool
-    ensures { result ≡ has_port numbers.now number }
-{
-    numbers.contains(&number)
-}
-
-fn are_apart(numbers: &[u32]) -> bool
-    ensures { result ≡ are_apart numbers.now }
-{
-    for (place, number) in numbers.iter().enumerate() {
-        if has_number(&numbers[place + 1..], *number) {
             return false;
         }
     }

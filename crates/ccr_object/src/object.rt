@@ -5,7 +5,7 @@ ghost use Rattle.ccr_claim.specs.Asks.{is_settling};
 ghost use Rattle.ccr_object.specs.Events.{has_event};
 ghost use Rattle.ccr_object.specs.Objects.{answer, after, answered, noted, after_at, after_deed, is_due, placed, reply_of, note_of, IsGiven};
 
-use crate::deed::{Answer, Deed};
+use crate::deed::{Deed, PlaceAnswer};
 use crate::events::has_event;
 use crate::numbers::Numbers;
 use ccr_arbiter::ArbiterObject;
@@ -60,7 +60,7 @@ impl PlaceObject {
     /// Tests the condition of the ask, and does what it asks. Where the condition isn't met, or the ask isn't one for this
     /// kind of place, the object stays as it was, and so it does where memory runs out. A reply is one that the ask may have.
     #[inline(always)]
-    pub fn answer(&mut self, ask: Ask) -> Result<(Answer, Deed), OutOfMemory>
+    pub fn answer(&mut self, ask: Ask) -> Result<(PlaceAnswer, Deed), OutOfMemory>
         ensures reply { IfOk result (λ given. given.0 ≡ reply_of (placed self.old) ask) }
         ensures fits { IfOk result (λ given. is_due ask given.0 ≡ true) }
         ensures note { IfOk result (λ given. given.1.note ≡ note_of (placed self.old) ask) }
@@ -82,7 +82,7 @@ impl PlaceObject {
 impl Kept for PlaceObject {
     type Ask = Ask;
 
-    type Reply = Answer;
+    type Reply = PlaceAnswer;
 
     type Note = Deed;
 
@@ -101,7 +101,7 @@ impl Kept for PlaceObject {
         has_event(deed)
     }
 
-    fn act(&mut self, ask: Ask) -> Result<(Answer, Deed), OutOfMemory> {
+    fn act(&mut self, ask: Ask) -> Result<(PlaceAnswer, Deed), OutOfMemory> {
         self.answer(ask)
     }
 }
@@ -127,18 +127,18 @@ fn act(alloc: Global, object: &mut Object, ask: Ask) -> Result<Option<(Reply, No
 
 /// The answer, and the entry that bears the ask.
 #[inline(always)]
-fn told(given: Option<(Reply, Note)>, ask: Snapshot<Ask>) -> (Answer, Deed)
+fn told(given: Option<(Reply, Note)>, ask: Snapshot<Ask>) -> (PlaceAnswer, Deed)
     ensures reply { result.0 ≡ answered given }
     ensures deed { result.1 ≡ record { note = noted given; ask = ask } }
 {
     match given {
         Some((reply, note)) => (
-            Answer::Replied(reply),
+            PlaceAnswer::Replied(reply),
             Deed {
                 note: Some(note),
                 ask,
             },
         ),
-        None => (Answer::Unmet, Deed { note: None, ask }),
+        None => (PlaceAnswer::Unmet, Deed { note: None, ask }),
     }
 }

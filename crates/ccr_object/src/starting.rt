@@ -149,7 +149,7 @@ fn member_at(wiring: &Wiring, domain: ArbiterNo, spot: Spot) -> Option<(BranchNo
         return None;
     };
     let placement = wiring.placement(branch)?;
-    if placement.arbiter == domain as usize {
+    if placement.domain == domain as usize {
         Some((branch, placement.branch.group))
     } else {
         None

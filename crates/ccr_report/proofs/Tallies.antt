@@ -52,7 +52,7 @@ times-some f test k says (x ∷ xs) = of_number (f x) (test x) (says x) (times-s
         of_test true h = ap suc h
         of_test false h = h
 
-pub placements_queues : (number : ℕ) (arbiter : ArbiterPart) (branches : List BranchPart) → map (λ (part : BranchPart). part.queue) branches ≡ map (λ (s : Placement). s.branch.queue) (map (λ branch. record { arbiter = number; kind = arbiter.kind; branch = branch }) branches)
+pub placements_queues : (number : ℕ) (arbiter : ArbiterPart) (branches : List BranchPart) → map (λ (part : BranchPart). part.queue) branches ≡ map (λ (s : Placement). s.branch.queue) (map (λ branch. record { domain = number; kind = arbiter.kind; branch = branch }) branches)
 placements_queues number arbiter [] = refl
 placements_queues number arbiter (branch ∷ branches) = ap (λ (queues : List ℕ). branch.queue ∷ queues) (placements_queues number arbiter branches)
 

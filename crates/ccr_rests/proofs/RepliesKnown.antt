@@ -302,8 +302,8 @@ module _ (w : Parts) (workers : ℕ) (lacks : Lacks) (valid : IsValid w) (few : 
       facts : AdmitFacts w (visible past) t
       facts = AdmitFacts-allowed w (visible past) t allowed
 
-      waits_so : WaitingFacts w (visible past) facts.place.arbiter t
-      waits_so = WaitingFacts-waiting w (visible past) facts.place.arbiter t (OneName-legal w (visible past) before.legal) facts.waits
+      waits_so : WaitingFacts w (visible past) facts.place.domain t
+      waits_so = WaitingFacts-waiting w (visible past) facts.place.domain t (OneName-legal w (visible past) before.legal) facts.waits
 
   -- a put that dropped a task, and a take
   drops_known : (t d : TaskId) → e.note ≡ notes.Put t (Some d) → IsHanded w (visible (past ++ e ∷ [])) (Some (view w (visible (past ++ e ∷ [])) d))

@@ -381,7 +381,7 @@ module _ (w : Parts) (workers : ℕ) (lacks : Lacks) (valid : IsValid w) (few : 
           fired_by_named w (is_of i) (visible past) r (OneName-legal w (visible past) holds.legal) (ap (λ ts. has_task ts r) (sym (holds.arbiters i)) ∙ fired_at_it i r past (let one = over_then.0 in omega (arith, one)))
 
       its_arbiter : arbiter_of w (visible past) r ≡ i
-      its_arbiter = ap (λ o. option_map_or (λ (s : Placement). s.arbiter) o 0) (placement_by w (visible past) r named.0 named.1 ∙ ap (λ s. placement w (branch_of s)) facts.is_branch ∙ facts.is_place) ∙ same_number facts.place.arbiter i facts.passes
+      its_arbiter = ap (λ o. option_map_or (λ (s : Placement). s.domain) o 0) (placement_by w (visible past) r named.0 named.1 ∙ ap (λ s. placement w (branch_of s)) facts.is_branch ∙ facts.is_place) ∙ same_number facts.place.domain i facts.passes
         where
           facts : BranchFacts w (is_of i) (named.0).spot
           facts = BranchFacts-where w (is_of i) (named.0).spot named.2
@@ -422,7 +422,7 @@ module _ (w : Parts) (workers : ℕ) (lacks : Lacks) (valid : IsValid w) (few : 
           on = run_on w workers lacks [] past e known.run low made
 
           later : (x : Entry) (r : TaskId) → (x.place ≡ places.Arbiter (arbiter_of w (visible past) r)) × IsFired (visible past) r → (x.place ≡ places.Arbiter (arbiter_of w (visible (past ++ e ∷ [])) r)) × IsFired (visible (past ++ e ∷ [])) r
-          later x r is = subst (λ g. (x.place ≡ places.Arbiter (arbiter_of w g r)) × IsFired g r) (sym (visible-push past e)) (is.0 ∙ ap (λ o. places.Arbiter (option_map_or (λ (s : Placement). s.arbiter) o 0)) (sym (placement_stays w (visible past) (event_of e) r is.1)), IsFired-append (visible past) (event_of e) r is.1)
+          later x r is = subst (λ g. (x.place ≡ places.Arbiter (arbiter_of w g r)) × IsFired g r) (sym (visible-push past e)) (is.0 ∙ ap (λ o. places.Arbiter (option_map_or (λ (s : Placement). s.domain) o 0)) (sym (placement_stays w (visible past) (event_of e) r is.1)), IsFired-append (visible past) (event_of e) r is.1)
 
           of : (x : Entry) (r : TaskId) → has_task (over_by x.note) r ≡ true → Among x past ⊎ Among x (e ∷ []) → (x.place ≡ places.Arbiter (arbiter_of w (visible (past ++ e ∷ [])) r)) × IsFired (visible (past ++ e ∷ [])) r
           of x r has (inl old) = later x r (known.placed x old r has)

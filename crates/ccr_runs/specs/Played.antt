@@ -9,8 +9,8 @@ use Rattle.ccr_claim.specs.declared.asks.Asked.{Asked}
 use Rattle.ccr_claim.specs.declared.asks.Reply.{Reply}
 use Rattle.ccr_actor.specs.Actors.{next}
 use Rattle.ccr_actor.specs.Nets.{Step}
-use Rattle.ccr_object.specs.declared.deed.Answer.{Answer}
-use Rattle.ccr_object.specs.declared.deed.Answer.TheVariants.{Replied, Unmet}
+use Rattle.ccr_object.specs.declared.deed.PlaceAnswer.{PlaceAnswer}
+use Rattle.ccr_object.specs.declared.deed.PlaceAnswer.TheVariants.{Replied, Unmet}
 use Rattle.ccr_object.specs.declared.deed.Deed.{Deed}
 use Rattle.ccr_object.specs.declared.object.Placed.{Placed}
 use Rattle.ccr_object.specs.Objects.{after_deed, note_of, nothing, reply_of}
@@ -46,7 +46,7 @@ pub record Heard : Type 0 where
   pub given : List Reply
 
 -- the replies heard, once this answer came
-abbrev pub heard : Heard → Answer → Heard
+abbrev pub heard : Heard → PlaceAnswer → Heard
 heard s (Replied reply) = record s { given = s.given ++ reply ∷ [] }
 heard s Unmet = s
 
@@ -59,7 +59,7 @@ abbrev pub next_of : Parts → Lacks → Heard → Option (ℕ × Ask)
 next_of wiring lacks s = option_map (numbered wiring) (next wiring s.actor (lacks s.actor) s.given)
 
 -- the objects give what they answer, and the actors ask what comes next
-abbrev pub rules : Parts → Lacks → Rules Deed Placed Ask Answer Heard
+abbrev pub rules : Parts → Lacks → Rules Deed Placed Ask PlaceAnswer Heard
 rules wiring lacks = record {
   after = after_deed;
   asked = λ (deed : Deed). deed.ask.value;
@@ -81,7 +81,7 @@ given_in wiring lacks acts actor = (state_after (rules wiring lacks) (record { a
 -- ---- the steps of an actor
 
 -- the reply, where the condition was met
-abbrev pub reply_in : Answer → Option Reply
+abbrev pub reply_in : PlaceAnswer → Option Reply
 reply_in (Replied reply) = Some reply
 reply_in Unmet = None
 

@@ -96,7 +96,7 @@ no_branch w h end b s is =
 
 -- ---- held
 
-live_by : (w : Parts) (h : List Event) (n : ℕ) (g : Group) → may_have kinds.Interleave g ≡ true → is_live_in w h n 0 g ≡ is_none_of (fired_by w (λ (s : Placement). (s.arbiter == 0) && is_teardown s.branch.group) h)
+live_by : (w : Parts) (h : List Event) (n : ℕ) (g : Group) → may_have kinds.Interleave g ≡ true → is_live_in w h n 0 g ≡ is_none_of (fired_by w (λ (s : Placement). (s.domain == 0) && is_teardown s.branch.group) h)
 live_by w h n groups.Teardown is = refl
 live_by w h n groups.Exclusive is = refl
 live_by w h n groups.Concurrent is = refl
@@ -119,7 +119,7 @@ some_fits pred (x ∷ ms) m (inr more) is = by_test (holds pred x.value) (some_f
     by_test false rest = rest
 
 abbrev no_teardown : ServiceParts → List Event → Bool
-no_teardown s h = is_none_of (fired_by (expansion s) (λ (r : Placement). (r.arbiter == 0) && is_teardown r.branch.group) h)
+no_teardown s h = is_none_of (fired_by (expansion s) (λ (r : Placement). (r.domain == 0) && is_teardown r.branch.group) h)
 
 -- a throttle queue has room for one
 room_so : (s : ServiceParts) → IsService s → (most : ℕ) → s.policy ≡ Throttle most → 0 < most
@@ -130,7 +130,7 @@ could_fire : (s : ServiceParts) → IsService s → HasGroups (expansion s) → 
 could_fire s served fit h none_coming unturned op value m is takes among =
     let facts = PlacementFacts-placement s takes.number takes.place takes.is_place in
     let grouped : may_have kinds.Interleave takes.place.branch.group ≡ true = subst (λ k. may_have k takes.place.branch.group ≡ true) facts.kind (fit takes.number takes.place takes.is_place) in
-    let live : is_live (expansion s) h (Branch takes.number) ≡ true = ap (λ o. option_map_or (λ (r : Placement). is_live_in (expansion s) h takes.number r.arbiter r.branch.group) o false) takes.is_place ∙ ap (λ a. is_live_in (expansion s) h takes.number a takes.place.branch.group) facts.arbiter ∙ live_by (expansion s) h takes.number takes.place.branch.group grouped ∙ unturned in
+    let live : is_live (expansion s) h (Branch takes.number) ≡ true = ap (λ o. option_map_or (λ (r : Placement). is_live_in (expansion s) h takes.number r.domain r.branch.group) o false) takes.is_place ∙ ap (λ a. is_live_in (expansion s) h takes.number a takes.place.branch.group) facts.domain ∙ live_by (expansion s) h takes.number takes.place.branch.group grouped ∙ unturned in
     let room : has_room (expansion s) h (Branch takes.number) ≡ true = ap (λ o. option_map_or (λ (r : Placement). has_room_in (expansion s) h r.branch.queue (policy_of (expansion s) r.branch.queue)) o true) takes.is_place ∙ ap (λ q. has_room_in (expansion s) h q (policy_of (expansion s) q)) takes.serves.queue ∙ room_by (expansion s) h s.policy (room_so s served) none_coming in
     let fits = some_fits takes.pred (held h (request_port op)) m among (subst (λ v. holds takes.pred v ≡ true) (sym is) takes.holds_so) in
     let enough : has_enough (held h) takes.place.branch.pattern ≡ true = ap (has_enough (held h)) takes.serves.pattern ∙ rw fits refl in

@@ -5,7 +5,6 @@ use Rattle.std.specs.List.{list_any, list_all, slice_get}
 use Rattle.std.proofs.lemmas.List.{length-append}
 use Rattle.std.proofs.lemmas.Bool.Decides.{nat_tests}
 use Rattle.std.proofs.lemmas.Grind.{common_steps}
-use Rattle.std.proofs.lemmas.List.Sums.{sum_by-append}
 use Rattle.ccr_base.specs.declared.handlers.Action.TheVariants as actions
 use Rattle.ccr_base.specs.declared.messages.Sent.{Sent}
 use Rattle.ccr_base.specs.declared.patterns.Pred.{Pred}
@@ -25,6 +24,7 @@ use Rattle.ccr_wiring.specs.Versions.{has_strange_version, has_newer, expr_is_ne
 use Rattle.ccr_wiring.specs.Spots.{has_crowded_port, named_ports, branch_named, branches_named, pattern_ports, times}
 use Rattle.ccr_wiring.specs.Valid.{IsValid}
 use Rattle.ccr_wiring.specs.Wirings.{actions_of, awaited}
+use Rattle.ccr_wiring.proofs.Crowds.{times_append}
 use Rattle.ccr_model.proofs.Booleans.{both, no_both, same_number, not_true, eq-self}
 use Rattle.ccr_model.proofs.Options.{some-below}
 use Rattle.ccr_model.proofs.Members.{Among, Among-at}
@@ -301,9 +301,6 @@ branchless s is =
     rw none refl
 
 -- ---- few branches name one port
-
-times_append : (port : ℕ) (xs ys : List ℕ) → times port (xs ++ ys) ≡ times port xs + times port ys
-times_append port xs ys = sum_by-append (λ other. cond (other == port) 1 0) xs ys
 
 spread_append : {X Y : Type 0} (f : X → List Y) (xs ys : List X) → flat_map f (xs ++ ys) ≡ flat_map f xs ++ flat_map f ys
 spread_append f [] ys = refl

@@ -75,7 +75,7 @@ among_all faults n (suc k) (op ∷ ops) part b at among =
 -- ---- placements
 
 abbrev seated : BranchPart → Placement
-seated b = record { arbiter = 0; kind = kinds.Interleave; branch = b }
+seated b = record { domain = 0; kind = kinds.Interleave; branch = b }
 
 placements_are : (s : ServiceParts) → placements (expansion s) ≡ map seated (branches_from (length s.ops) 0 s.ops)
 placements_are s = ap (map (in_domain [])) (append-nil (map seated (branches_from (length s.ops) 0 s.ops))) ∙ alone (branches_from (length s.ops) 0 s.ops)
@@ -96,7 +96,7 @@ map_among (c ∷ bs) b (inr more) = inr (map_among bs b more)
 
 -- what a placement of an expansion is
 pub record PlacementFacts (s : ServiceParts) (r : Placement) : Type 0 where
-  pub arbiter : r.arbiter ≡ 0
+  pub domain : r.domain ≡ 0
   pub kind : r.kind ≡ kinds.Interleave
   pub op : ℕ
   pub part : OpPart
@@ -112,7 +112,7 @@ PlacementFacts-placement s b r is =
     let e : 0 + its.0 ≡ its.0 = omega arith in
     let served = serves_by (length s.ops) its.0 its.1 its.1.below found.0 refl (subst (λ i. Among found.0 (op_branches (length s.ops) i its.1 its.1.below)) e its.3) in
     record {
-      arbiter = ap (λ (x : Placement). x.arbiter) found.2;
+      domain = ap (λ (x : Placement). x.domain) found.2;
       kind = ap (λ (x : Placement). x.kind) found.2;
       op = its.0;
       part = its.1;

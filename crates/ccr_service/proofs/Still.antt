@@ -100,8 +100,8 @@ none_lasts w fit none h legal quiet end i = no_members (admitted w h i) (λ t is
     gone : (t : TaskId) → AdmittedFacts w h i t → ⊥
     gone t facts = by_put (has_task (put h) t) refl
       where
-        its : (s : Placement) × (placement_of w h t ≡ Some s) × ((s.arbiter == i) ≡ true)
-        its = some_of (λ (s : Placement). s.arbiter == i) (placement_of w h t) facts.within
+        its : (s : Placement) × (placement_of w h t ≡ Some s) × ((s.domain == i) ≡ true)
+        its = some_of (λ (s : Placement). s.domain == i) (placement_of w h t) facts.within
 
         fired : IsFired h t
         fired = placement_fired w h t its.0 its.1
@@ -145,9 +145,9 @@ none_waits w h legal quiet over i = by_list (waiting w h i) refl
         let facts = WaitingFacts-waiting w h i t (OneName-legal w h legal) among in
         let place = BranchFacts-where w (is_placement_in i) facts.firing.spot facts.is_branch in
         let seated : placement_of w h t ≡ Some place.place = placement_by w h t facts.firing facts.is_firing ∙ ap (λ s. placement w (branch_of s)) place.is_branch ∙ place.is_place in
-        let number = same_number place.place.arbiter i (both (is_interleave place.place.kind) (place.place.arbiter == i) place.passes).1 in
+        let number = same_number place.place.domain i (both (is_interleave place.place.kind) (place.place.domain == i) place.passes).1 in
         let oldest : is_oldest_waiting w h t ≡ true = rw (seated, number, is) (same_task-self t) in
-        let enters : may_admit w h t ≡ true = rw (seated, over place.place.arbiter) (free (is_concurrent place.place.branch.group)) in
+        let enters : may_admit w h t ≡ true = rw (seated, over place.place.domain) (free (is_concurrent place.place.branch.group)) in
         absurd (quiet (Admit t) (rw (oldest, enters) refl))
       where
         free : (b : Bool) → (if b then list_all (is_concurrent_task w h) [] else is_none_of []) ≡ true

@@ -33,7 +33,7 @@ use Rattle.ccr_service.specs.Served.{is_torn_down}
 use Rattle.ccr_service.proofs.Shape.{PlacementFacts-placement}
 
 abbrev teardown_placement : Placement → Bool
-teardown_placement r = (r.arbiter == 0) && is_teardown r.branch.group
+teardown_placement r = (r.domain == 0) && is_teardown r.branch.group
 
 some_more : (ts us : List TaskId) → not (is_none_of ts) ≡ true → not (is_none_of (ts ++ us)) ≡ true
 some_more [] us is = absurd (cc)
@@ -51,15 +51,15 @@ torn_now : (s : ServiceParts) (h : List Event) (x t : TaskId) (sp : Spot) (ms : 
 torn_now s h x t (Site b k) ms cs is = absurd (cc)
 torn_now s h x t (Branch b) ms cs is = by_placement (placement (expansion s) b) refl is
   where
-    by_group : (r : Placement) → placement (expansion s) b ≡ Some r → (g : Bool) → is_teardown r.branch.group ≡ g → has_task (if g then waiting (expansion s) h r.arbiter else []) t ≡ true → is_torn_down s (h ++ Fire x (Branch b) ms cs ∷ []) ≡ true
+    by_group : (r : Placement) → placement (expansion s) b ≡ Some r → (g : Bool) → is_teardown r.branch.group ≡ g → has_task (if g then waiting (expansion s) h r.domain else []) t ≡ true → is_torn_down s (h ++ Fire x (Branch b) ms cs ∷ []) ≡ true
     by_group r at false e gone = absurd (cc)
     by_group r at true e has =
-        let zero_arbiter = (PlacementFacts-placement s b r at).arbiter in
+        let zero_arbiter = (PlacementFacts-placement s b r at).domain in
         let passes : teardown_placement r ≡ true = rw (zero_arbiter, e) refl in
         let one : fired_by (expansion s) teardown_placement (Fire x (Branch b) ms cs ∷ []) ≡ x ∷ [] = rw (at, passes) refl in
         rw (fired_by-append (expansion s) teardown_placement h (Fire x (Branch b) ms cs ∷ []), one) (some_behind (fired_by (expansion s) teardown_placement h) [] x)
 
-    by_placement : (o : Option Placement) → placement (expansion s) b ≡ o → has_task (option_map_or (λ (r : Placement). if is_teardown r.branch.group then waiting (expansion s) h r.arbiter else []) o []) t ≡ true → is_torn_down s (h ++ Fire x (Branch b) ms cs ∷ []) ≡ true
+    by_placement : (o : Option Placement) → placement (expansion s) b ≡ o → has_task (option_map_or (λ (r : Placement). if is_teardown r.branch.group then waiting (expansion s) h r.domain else []) o []) t ≡ true → is_torn_down s (h ++ Fire x (Branch b) ms cs ∷ []) ≡ true
     by_placement None at gone = absurd (cc)
     by_placement (Some r) at has = by_group r at (is_teardown r.branch.group) refl has
 

@@ -15,4 +15,4 @@ asks_in_all (client ∷ clients) = length client.asks + asks_in_all clients
 
 -- whether a teardown operation has fired
 abbrev pub is_torn_down : ServiceParts → List Event → Bool
-is_torn_down service history = not (is_none_of (fired_by (expansion service) (λ (s : Placement). (s.arbiter == 0) && is_teardown s.branch.group) history))
+is_torn_down service history = not (is_none_of (fired_by (expansion service) (λ (s : Placement). (s.domain == 0) && is_teardown s.branch.group) history))

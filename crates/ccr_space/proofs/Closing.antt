@@ -28,7 +28,7 @@ use Rattle.ccr_runs.specs.Runs.{Gives, IsLog, IsMerged, IsProper}
 use Rattle.ccr_runs.specs.Stories.{story}
 use Rattle.ccr_runs.proofs.Telling.{run_of_logs, story_is}
 use Rattle.ccr_claim.specs.declared.asks.Ask.{Ask}
-use Rattle.ccr_object.specs.declared.deed.Answer.{Answer}
+use Rattle.ccr_object.specs.declared.deed.PlaceAnswer.{PlaceAnswer}
 use Rattle.ccr_object.specs.contracts.object.PlaceObjectKept.TheImpl.{ghosts}
 use Rattle.ccr_object.specs.declared.deed.Deed.{Deed}
 use Rattle.ccr_object.specs.declared.object.Placed.{Placed}
@@ -192,11 +192,11 @@ all_rising n (o ∷ os) [] all = absurd all
 all_rising n (o ∷ os) (k ∷ ks) all = All-cons (λ (left : PlaceObject × List (Held Deed)). Rises 0 (history_stamps left.1)) k ks all.0.rising (all_rising n os ks all.1)
 
 -- what locks kept that keep every entry is the whole histories
-pub is_whole : (space : Space) (seats : List (Seat PlaceObject Ask Answer Deed Placed ghosts)) (kept : List Kept) (its : IsKeptOf space seats kept) → keep_of space.turns ≡ Every → its.whole ≡ kept
+pub is_whole : (space : Space) (seats : List (Seat PlaceObject Ask PlaceAnswer Deed Placed ghosts)) (kept : List Kept) (its : IsKeptOf space seats kept) → keep_of space.turns ≡ Every → its.whole ≡ kept
 is_whole space seats kept its every = sym (its.part ∙ (ap (λ (k : Keep). map (sifted_of (keeps k has_event)) its.whole) every ∙ sifts_nothing has_event its.whole))
 
 -- so the entries of the closed locks are those of a run
-pub closed_by : (space : Space) (passes : List Pass) (seats : List (Seat PlaceObject Ask Answer Deed Placed ghosts)) (acts : List (Act Deed)) (entries : List Entry)
+pub closed_by : (space : Space) (passes : List Pass) (seats : List (Seat PlaceObject Ask PlaceAnswer Deed Placed ghosts)) (acts : List (Act Deed)) (entries : List Entry)
     → HasPlaces space → All (λ (pass : Pass). IsPassOf space pass) passes → seats ≡ map (λ (pass : Pass). pass.seat) passes
     → IsOfLocks space seats acts → ((actor : ℕ) → actor < actor_count space → HasSeat seats actor) → entries ≡ entries_of (wiring_of space) acts → IsClosed space passes entries
 closed_by space passes seats acts entries stands passed these locks numbers told =
@@ -206,7 +206,7 @@ closed_by space passes seats acts entries stands passed these locks numbers told
     let long = zip_length (IsLeft placed after_deed IsGiven n) objects locks.kept locks.left in
     let few = each_from_all (λ (e : Act Deed). e.place < length objects) acts (subst (λ k. All (λ (e : Act Deed). e.place < k) acts) (sym long) locks.inside) in
     let whole_run = merged w objects locks.kept n acts stands.objects locks.left locks.parts few locks.sorted in
-    let its : (i : ℕ) (seat : Seat PlaceObject Ask Answer Deed Placed ghosts) → get_elem? seats i ≡ some seat → IsLog after_deed (scene w) (number_of seat) acts (log_of seat)
+    let its : (i : ℕ) (seat : Seat PlaceObject Ask PlaceAnswer Deed Placed ghosts) → get_elem? seats i ≡ some seat → IsLog after_deed (scene w) (number_of seat) acts (log_of seat)
     = λ i seat at. log_is w objects locks.kept n acts stands.objects locks.left locks.parts few locks.sorted (full_log seat) (all_at (λ seat. Agrees placed after_deed objects locks.kept (full_log seat)) seats i seat locks.agrees at) in
     record {
       acts = acts;

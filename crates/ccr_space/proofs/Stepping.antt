@@ -12,8 +12,8 @@ use Rattle.ccr_places.specs.declared.notes.Note.{Note}
 use Rattle.ccr_claim.specs.declared.asks.Ask.{Ask}
 use Rattle.ccr_claim.specs.declared.asks.Asked.{Asked}
 use Rattle.ccr_claim.specs.declared.asks.Reply.{Reply}
-use Rattle.ccr_object.specs.declared.deed.Answer.{Answer}
-use Rattle.ccr_object.specs.declared.deed.Answer.TheVariants.{Replied, Unmet}
+use Rattle.ccr_object.specs.declared.deed.PlaceAnswer.{PlaceAnswer}
+use Rattle.ccr_object.specs.declared.deed.PlaceAnswer.TheVariants.{Replied, Unmet}
 use Rattle.ccr_object.specs.declared.deed.Deed.{Deed}
 use Rattle.ccr_object.specs.declared.object.Placed.{Placed}
 use Rattle.ccr_object.specs.Objects.{IsGiven, is_due, note_of, reply_of, answered, noted, answer_at}
@@ -28,7 +28,7 @@ use Rattle.ccr_space.specs.declared.space.step.Step.{Step as Came}
 use Rattle.ccr_space.specs.declared.space.step.Step.TheVariants as came
 use Rattle.ccr_space.specs.Spaces.{IsGoing, IsHeard, IsTaught, heard_in}
 
-abbrev pub is_met : Answer → Bool
+abbrev pub is_met : PlaceAnswer → Bool
 is_met Unmet = false
 is_met (Replied reply) = true
 
@@ -38,7 +38,7 @@ with_note None = refl
 with_note (Some given) = refl
 
 -- what an actor hears leaves its number
-heard_actor : (s : Heard) (answer : Answer) → (heard s answer).actor ≡ s.actor
+heard_actor : (s : Heard) (answer : PlaceAnswer) → (heard s answer).actor ≡ s.actor
 heard_actor s Unmet = refl
 heard_actor s (Replied reply) = refl
 
@@ -53,7 +53,7 @@ next_at wiring k marks o is =
     ap (λ n. option_map (numbered wiring) (next wiring n None (heard_in wiring k marks).given)) its ∙ ap (option_map (numbered wiring)) is
 
 -- what a step adds to the log
-pub record Stepped (wiring : Parts) (k : ℕ) (old new : List (Mark Deed Placed)) (reply : Answer) : Type 0 where
+pub record Stepped (wiring : Parts) (k : ℕ) (old new : List (Mark Deed Placed)) (reply : PlaceAnswer) : Type 0 where
   pub added : Mark Deed Placed
   pub more : new ≡ old ++ added ∷ []
   pub met : is_some added.note.note ≡ is_met reply
@@ -61,7 +61,7 @@ pub record Stepped (wiring : Parts) (k : ℕ) (old new : List (Mark Deed Placed)
   pub proper : IsProper (rules wiring never) (record { actor = k; given = [] }) 0 new
   pub state : heard_in wiring k new ≡ heard (heard_in wiring k old) reply
 
-pub stepped : (wiring : Parts) (k place : ℕ) (one : Asked) (reply : Answer) (old new : List (Mark Deed Placed)) → IsProper (rules wiring never) (record { actor = k; given = [] }) 0 old
+pub stepped : (wiring : Parts) (k place : ℕ) (one : Asked) (reply : PlaceAnswer) (old new : List (Mark Deed Placed)) → IsProper (rules wiring never) (record { actor = k; given = [] }) 0 old
     → next wiring k None (heard_in wiring k old).given ≡ Some one → place ≡ number_at wiring one.place → Acts IsGiven place one.ask reply old new → Stepped wiring k old new reply
 stepped wiring k place one reply old new proper asks there (stamp, note, before, earlier, more, high, given) =
     let asked : note.ask.value ≡ one.ask = given.2 in
@@ -99,16 +99,16 @@ goes_on wiring k old new a b one reply going asks taught state =
 -- ---- what a step came to
 
 -- what was handed to the actor tells what the step came to
-pub made_met : (answer : Answer) (result : Came × Bool) (short : Bool) → ((reply : Reply) → answer ≡ Replied reply → result ≡ (came.Made, short)) → (answer ≡ Unmet → result ≡ (came.Unmet, true)) → result.0 ≡ came.Made → (is_met answer ≡ true) × (result.1 ≡ short)
+pub made_met : (answer : PlaceAnswer) (result : Came × Bool) (short : Bool) → ((reply : Reply) → answer ≡ Replied reply → result ≡ (came.Made, short)) → (answer ≡ Unmet → result ≡ (came.Unmet, true)) → result.0 ≡ came.Made → (is_met answer ≡ true) × (result.1 ≡ short)
 made_met (Replied reply) result short replied unmet is = (refl, ap (λ (r : Came × Bool). r.1) (replied reply refl))
 made_met Unmet result short replied unmet is = absurd (let none = ap (λ (r : Came × Bool). r.0) (unmet refl) in cc)
 
-pub unmet_not : (answer : Answer) (result : Came × Bool) (short : Bool) → ((reply : Reply) → answer ≡ Replied reply → result ≡ (came.Made, short)) → (answer ≡ Unmet → result ≡ (came.Unmet, true)) → result.0 ≡ came.Unmet → (is_met answer ≡ false) × (result.1 ≡ true)
+pub unmet_not : (answer : PlaceAnswer) (result : Came × Bool) (short : Bool) → ((reply : Reply) → answer ≡ Replied reply → result ≡ (came.Made, short)) → (answer ≡ Unmet → result ≡ (came.Unmet, true)) → result.0 ≡ came.Unmet → (is_met answer ≡ false) × (result.1 ≡ true)
 unmet_not (Replied reply) result short replied unmet is = absurd (let made = ap (λ (r : Came × Bool). r.0) (replied reply refl) in cc)
 unmet_not Unmet result short replied unmet is = (refl, ap (λ (r : Came × Bool). r.1) (unmet refl))
 
 -- the actor goes on where the pass does
-pub heard_on : (wiring : Parts) (k : ℕ) (old new : List (Mark Deed Placed)) (a b : Acting) (one : Asked) (answer : Answer) → IsGoing wiring k old a → next_of a ≡ Some one → IsHeard (sent a) answer b
+pub heard_on : (wiring : Parts) (k : ℕ) (old new : List (Mark Deed Placed)) (a b : Acting) (one : Asked) (answer : PlaceAnswer) → IsGoing wiring k old a → next_of a ≡ Some one → IsHeard (sent a) answer b
     → heard_in wiring k new ≡ heard (heard_in wiring k old) answer → IsGoing wiring k new b
 heard_on wiring k old new a b one Unmet going asks taught state = absurd taught
 heard_on wiring k old new a b one (Replied reply) going asks taught state = goes_on wiring k old new a b one reply going asks taught state
@@ -116,5 +116,5 @@ heard_on wiring k old new a b one (Replied reply) going asks taught state = goes
 -- ---- what is answered is due
 
 -- an act's answer is one that its ask may have
-pub acts_due : (place : ℕ) (ask : Ask) (answer : Answer) (old new : List (Mark Deed Placed)) → Acts IsGiven place ask answer old new → is_due ask answer ≡ true
+pub acts_due : (place : ℕ) (ask : Ask) (answer : PlaceAnswer) (old new : List (Mark Deed Placed)) → Acts IsGiven place ask answer old new → is_due ask answer ≡ true
 acts_due place ask answer old new (stamp, note, before, earlier, more, high, given) = given.3

@@ -3,7 +3,7 @@ use Rattle.std.specs.Prelude.{◌≡◌, ◌⊎◌, ℕ, ◌+◌, ◌<◌, ◌^�
 use Rattle.std.specs.List.{AllZip, list_any}
 use Rattle.ccr_wiring.specs.declared.parts.Parts.{Parts}
 use Rattle.ccr_claim.specs.declared.asks.Ask.{Ask}
-use Rattle.ccr_object.specs.declared.deed.Answer.{Answer}
+use Rattle.ccr_object.specs.declared.deed.PlaceAnswer.{PlaceAnswer}
 use Rattle.ccr_object.specs.declared.deed.Deed.{Deed}
 use Rattle.ccr_object.specs.declared.object.Placed.{Placed}
 use Rattle.ccr_object.specs.declared.object.PlaceObject.{PlaceObject}
@@ -41,7 +41,7 @@ abbrev pub told : Parts → List Kept → List Entry
 told wiring kept = entries_of wiring (merged kept)
 
 -- the acts are the histories of the closed locks in one list, and the log of each seat is its part of them
-pub record IsOfLocks (space : Space) (seats : List (Seat PlaceObject Ask Answer Deed Placed ghosts)) (acts : List (Act Deed)) : Type 0 where
+pub record IsOfLocks (space : Space) (seats : List (Seat PlaceObject Ask PlaceAnswer Deed Placed ghosts)) (acts : List (Act Deed)) : Type 0 where
   -- at each place, by its number
   pub kept : List Kept
   -- each object is the one that its history leaves from its start, the stamps of the history rise, and each note was given
@@ -56,7 +56,7 @@ pub record IsOfLocks (space : Space) (seats : List (Seat PlaceObject Ask Answer 
   pub agrees : All (λ seat. Agrees placed after_deed (starts space.turns) kept (full_log seat)) seats
 
 -- what was kept is a part of the whole histories of the locks: of each the entries that are kept in memory
-pub record IsKeptOf (space : Space) (seats : List (Seat PlaceObject Ask Answer Deed Placed ghosts)) (kept : List Kept) : Type 0 where
+pub record IsKeptOf (space : Space) (seats : List (Seat PlaceObject Ask PlaceAnswer Deed Placed ghosts)) (kept : List Kept) : Type 0 where
   pub whole : List Kept
   pub part : kept ≡ map (sifted_of (keeps (keep_of space.turns) has_event)) whole
   pub few : length whole < 2 ^ 32

@@ -7,8 +7,8 @@ use Rattle.ccr_base.specs.declared.names.Place.{Place}
 use Rattle.ccr_wiring.specs.declared.parts.Parts.{Parts}
 use Rattle.ccr_claim.specs.declared.asks.Ask.{Ask}
 use Rattle.ccr_claim.specs.declared.asks.Reply.{Reply}
-use Rattle.ccr_object.specs.declared.deed.Answer.{Answer}
-use Rattle.ccr_object.specs.declared.deed.Answer.TheVariants.{Replied, Unmet}
+use Rattle.ccr_object.specs.declared.deed.PlaceAnswer.{PlaceAnswer}
+use Rattle.ccr_object.specs.declared.deed.PlaceAnswer.TheVariants.{Replied, Unmet}
 use Rattle.ccr_object.specs.declared.deed.Deed.{Deed}
 use Rattle.ccr_object.specs.declared.object.Placed.{Placed}
 use Rattle.ccr_object.specs.declared.object.PlaceObject.{PlaceObject}
@@ -31,11 +31,11 @@ use Rattle.ccr_space.specs.declared.space.PassOf.{PassOf}
 
 -- the locks with the places by their numbers and the wiring, and an actor with its seat
 abbrev pub Space : Type 0
-Space = SpaceOf (Turns PlaceObject Ask Answer Deed Placed) (List Place) (Bor Parts)
+Space = SpaceOf (Turns PlaceObject Ask PlaceAnswer Deed Placed) (List Place) (Bor Parts)
 
 -- a pass at the locks of the wiring's places
 abbrev pub Pass : Type 0
-Pass = PassOf Acting (Seat PlaceObject Ask Answer Deed Placed ghosts)
+Pass = PassOf Acting (Seat PlaceObject Ask PlaceAnswer Deed Placed ghosts)
 
 -- ---- what was made together
 
@@ -93,7 +93,7 @@ abbrev pub IsTaught : Acting → Reply → Acting → Type 0
 IsTaught old reply new = IsAfter old (Ok reply) new × (new.state.is_short ≡ false)
 
 -- the actor was taught the reply; an ask whose condition isn't met never comes
-abbrev pub IsHeard : Acting → Answer → Acting → Type 0
+abbrev pub IsHeard : Acting → PlaceAnswer → Acting → Type 0
 IsHeard old Unmet new = ⊥
 IsHeard old (Replied reply) new = IsTaught old reply new
 
@@ -124,8 +124,8 @@ abbrev pub stopped_of : List Pass → ℕ → List ℕ
 stopped_of passes count = filter (is_stopped_in passes) (range_with_len 0 count)
 
 -- the seat of this actor is among them
-abbrev pub HasSeat : List (Seat PlaceObject Ask Answer Deed Placed ghosts) → ℕ → Type 0
-HasSeat seats actor = (at : ℕ) × (seat : Seat PlaceObject Ask Answer Deed Placed ghosts) × (slice_get seats at ≡ Some seat) × (number_of seat ≡ actor)
+abbrev pub HasSeat : List (Seat PlaceObject Ask PlaceAnswer Deed Placed ghosts) → ℕ → Type 0
+HasSeat seats actor = (at : ℕ) × (seat : Seat PlaceObject Ask PlaceAnswer Deed Placed ghosts) × (slice_get seats at ≡ Some seat) × (number_of seat ≡ actor)
 
 -- the pass of this actor is among them
 abbrev pub HasPass : List Pass → ℕ → Type 0

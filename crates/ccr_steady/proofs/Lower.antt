@@ -224,7 +224,7 @@ enough_of h (Gather total first second) opened all = absurd cc
 
 could_fire : (w : Parts) → IsValid w → IsSteady w → (h : List Event) → IsLegal w h → IsQuiet w h → is_complete w h ≡ true → has_shed h ≡ false → (b : ℕ) (s : Placement) → placement w b ≡ Some s → list_any (lacks w (times_at (firings h)) b) (slots_of s.branch.pattern) ≡ false → can_fire w h (Branch b) ≡ true
 could_fire w valid steady h legal quiet complete unshed b s known none =
-    let live : is_live w h (Branch b) ≡ true = rw known (live_in w steady h b s.arbiter s.branch.group (steady.groups b s known)) in
+    let live : is_live w h (Branch b) ≡ true = rw known (live_in w steady h b s.domain s.branch.group (steady.groups b s known)) in
     let room : has_room w h (Branch b) ≡ true = rw known (room_in w valid steady h legal quiet s.branch.queue (policy_of w s.branch.queue) refl) in
     let takes : can_take w h (Branch b) ≡ true = rw known (enough_of h s.branch.pattern (steady.patterns b s known) slot_enough) in
     rw (live, room, takes) refl

@@ -130,24 +130,24 @@ none_waits w sound steady h legal none t waits = by (waiting w h waits.interleav
         let seated = firing_with_placement w h legal facts.firing (found_among (firings h) u facts.firing facts.is_firing) in
         let place : placement_of w h u ≡ Some seated.0 = placement_by w h u facts.firing facts.is_firing ∙ seated.1 in
         let its = at_interleave facts.firing.spot seated.0 seated.1 facts.is_branch in
-        let empty = no_members (admitted w h seated.0.arbiter) (none_admitted w sound steady h legal none seated.0.arbiter) in
-        let inside : seated.0.arbiter < length w.arbiters = placement-within w (branch_of facts.firing.spot) seated.0 seated.1 in
-        let zero_more : 0 + seated.0.arbiter ≡ seated.0.arbiter = omega arith in
-        let first_none = subst (λ (i : ℕ). admit_first w h (waiting w h i) ≡ None) zero_more (admit_none w h 0 seated.0.arbiter w.arbiters none.admit inside) in
+        let empty = no_members (admitted w h seated.0.domain) (none_admitted w sound steady h legal none seated.0.domain) in
+        let inside : seated.0.domain < length w.arbiters = placement-within w (branch_of facts.firing.spot) seated.0 seated.1 in
+        let zero_more : 0 + seated.0.domain ≡ seated.0.domain = omega arith in
+        let first_none = subst (λ (i : ℕ). admit_first w h (waiting w h i) ≡ None) zero_more (admit_none w h 0 seated.0.domain w.arbiters none.admit inside) in
         (subst (λ (i : ℕ). admit_first w h (waiting w h i) ≡ None) its first_none, may u seated.0 place empty)
       where
-        may : (u : TaskId) (s : Placement) → placement_of w h u ≡ Some s → admitted w h s.arbiter ≡ [] → may_admit w h u ≡ true
+        may : (u : TaskId) (s : Placement) → placement_of w h u ≡ Some s → admitted w h s.domain ≡ [] → may_admit w h u ≡ true
         may u s place empty = rw (place, empty) (either_way (is_concurrent s.branch.group))
           where
             either_way : (b : Bool) → (if b then list_all (is_concurrent_task w h) [] else is_none_of []) ≡ true
             either_way true = refl
             either_way false = refl
 
-        at_interleave : (spot : Spot) (s : Placement) → placement w (branch_of spot) ≡ Some s → Rattle.ccr_model.specs.Tasks.is_branch_where w (λ (r : Placement). Rattle.ccr_model.specs.Tasks.is_interleave r.kind && (r.arbiter == waits.interleave)) spot ≡ true → s.arbiter ≡ waits.interleave
+        at_interleave : (spot : Spot) (s : Placement) → placement w (branch_of spot) ≡ Some s → Rattle.ccr_model.specs.Tasks.is_branch_where w (λ (r : Placement). Rattle.ccr_model.specs.Tasks.is_interleave r.kind && (r.domain == waits.interleave)) spot ≡ true → s.domain ≡ waits.interleave
         at_interleave (Site b k) s known is = absurd cc
         at_interleave (Branch b) s known is =
-            let so : Rattle.ccr_model.specs.Tasks.is_interleave s.kind && (s.arbiter == waits.interleave) ≡ true = subst (λ (o : Option Placement). option_map_or (λ (r : Placement). Rattle.ccr_model.specs.Tasks.is_interleave r.kind && (r.arbiter == waits.interleave)) o false ≡ true) known is in
-            Rattle.ccr_model.proofs.Booleans.same_number s.arbiter waits.interleave (Rattle.ccr_model.proofs.Booleans.both (Rattle.ccr_model.specs.Tasks.is_interleave s.kind) (s.arbiter == waits.interleave) so).1
+            let so : Rattle.ccr_model.specs.Tasks.is_interleave s.kind && (s.domain == waits.interleave) ≡ true = subst (λ (o : Option Placement). option_map_or (λ (r : Placement). Rattle.ccr_model.specs.Tasks.is_interleave r.kind && (r.domain == waits.interleave)) o false ≡ true) known is in
+            Rattle.ccr_model.proofs.Booleans.same_number s.domain waits.interleave (Rattle.ccr_model.proofs.Booleans.both (Rattle.ccr_model.specs.Tasks.is_interleave s.kind) (s.domain == waits.interleave) so).1
 
     by : (ts : List TaskId) → waiting w h waits.interleave ≡ ts → has_task ts t ≡ true → ⊥
     by [] e among = absurd cc

@@ -8,7 +8,7 @@ ghost use Rattle.ccr_trace.specs.Known.{number_in, spot_known};
 ghost use Rattle.ccr_trace.specs.Answers.{Finds};
 
 use crate::cursor::Cursor;
-use crate::numbers::Numbers;
+use crate::numbers::NumberedNames;
 use crate::stop::Stop;
 use ccr_base::{CauseNo, List, Name, OutOfMemory, PortNo, Spot};
 use ccr_wiring::{ArbiterPart, CausePart, Parts, Wiring, valid_wirings_are_sound};
@@ -59,9 +59,9 @@ fn branch_names<'w>(alloc: Global, parts: &'w Parts) -> Result<Vec<&'w [u8]>, Ou
 pub struct Known<'w> {
     alloc: Global,
     wiring: &'w Wiring,
-    ports: Numbers<'w>,
-    causes: Numbers<'w>,
-    branches: Numbers<'w>,
+    ports: NumberedNames<'w>,
+    causes: NumberedNames<'w>,
+    branches: NumberedNames<'w>,
 }
 
 impl<'w> Model for Known<'w> {
@@ -84,11 +84,11 @@ impl<'w> Known<'w> {
         valid_wirings_are_sound();
         let parts = wiring.parts();
         let names = port_names(alloc, parts.ports.as_slice())?;
-        let ports = Numbers::of(alloc, &names)?;
+        let ports = NumberedNames::of(alloc, &names)?;
         let names = cause_names(alloc, parts.causes.as_slice())?;
-        let causes = Numbers::of(alloc, &names)?;
+        let causes = NumberedNames::of(alloc, &names)?;
         let names = branch_names(alloc, parts)?;
-        let branches = Numbers::of(alloc, &names)?;
+        let branches = NumberedNames::of(alloc, &names)?;
         Ok(Known {
             alloc,
             wiring,

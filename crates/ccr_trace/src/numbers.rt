@@ -14,11 +14,11 @@ use std::marker::Model;
 
 /// Names, each with its number, found by hashing. Contracts see the names in the order of their numbers.
 #[derive(Drop)]
-pub struct Numbers<'w> {
+pub struct NumberedNames<'w> {
     names: IndexSet<&'w [u8]>,
 }
 
-impl<'w> Model for Numbers<'w> {
+impl<'w> Model for NumberedNames<'w> {
     ghost use Rattle.std.specs.Prelude.{List as Listed, ℕ, ◌≤◌, length, map};
 
     ghost Value = { Listed (Listed ℕ) };
@@ -28,11 +28,11 @@ impl<'w> Model for Numbers<'w> {
     ghost invariant = { λ numbers. length numbers.names.keys ≤ 256 };
 }
 
-impl<'w> Numbers<'w> {
+impl<'w> NumberedNames<'w> {
     fn new(alloc: Global) -> Self
         ensures { result ≡ [] }
     {
-        Numbers {
+        NumberedNames {
             names: IndexSet::new(alloc),
         }
     }
@@ -52,7 +52,7 @@ impl<'w> Numbers<'w> {
         requires few { length names.now ≤ most_branches }
         ensures { IfOk result (λ numbers. numbers ≡ map (λ name. name.now) names.now) }
     {
-        let mut numbers = Numbers::new(alloc);
+        let mut numbers = NumberedNames::new(alloc);
         for name in names {
             numbers.add(*name)?;
         }

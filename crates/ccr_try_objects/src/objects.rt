@@ -7,7 +7,7 @@ use ccr_arbiter::ArbiterObject;
 use ccr_await::SiteObject;
 use ccr_base::{Group, List, Policy};
 use ccr_interleave::InterleaveObject;
-use ccr_object::{Answer, Deed, Numbers, Object, PlaceObject, place_objects};
+use ccr_object::{Deed, Numbers, Object, PlaceAnswer, PlaceObject, place_objects};
 use ccr_port::PortObject;
 use ccr_queue::{Meter, QueueObject};
 use ccr_try::{Row, put, put_number, put_task, put_word, text_of};
@@ -86,8 +86,8 @@ fn place(alloc: Global, wiring: &Wiring, kind: &str) -> Option<PlaceObject> {
 }
 
 /// Adds the answer, and tells whether it is a reply. Its entry and its answer tell alike whether the ask was met.
-fn put_given(out: &mut List<u8>, given: &(Answer, Deed)) -> bool {
-    let is_reply = matches!(given.0, Answer::Replied(_));
+fn put_given(out: &mut List<u8>, given: &(PlaceAnswer, Deed)) -> bool {
+    let is_reply = matches!(given.0, PlaceAnswer::Replied(_));
     if given.1.note.is_some() == is_reply {
         put_answer(out, &given.0);
         is_reply

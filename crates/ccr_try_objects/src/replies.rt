@@ -2,7 +2,7 @@
 
 use ccr_base::{By, List, Msg, Spot, Task, Value};
 use ccr_claim::Reply;
-use ccr_object::Answer;
+use ccr_object::PlaceAnswer;
 use ccr_try::{put, put_number, put_numbers, put_spot, put_task, put_word};
 
 pub fn put_values(out: &mut List<u8>, values: &[Value]) {
@@ -89,10 +89,10 @@ fn put_reply(out: &mut List<u8>, reply: &Reply) {
 }
 
 /// Adds the answer, and a comma.
-pub fn put_answer(out: &mut List<u8>, answer: &Answer) {
+pub fn put_answer(out: &mut List<u8>, answer: &PlaceAnswer) {
     match answer {
-        Answer::Replied(reply) => put_reply(out, reply),
-        Answer::Unmet => put_word(out, b"unmet"),
+        PlaceAnswer::Replied(reply) => put_reply(out, reply),
+        PlaceAnswer::Unmet => put_word(out, b"unmet"),
     }
     put(out, b",");
 }

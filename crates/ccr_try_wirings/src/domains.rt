@@ -62,7 +62,7 @@ pub fn domain_of_branch(alloc: Global, input: &str, out: &mut List<u8>) {
     let (branch, _) = first_number(input);
     if let Ok(wiring) = Wiring::check(alloc, combined(alloc, "4 2 3")) {
         match wiring.placement(branch) {
-            Some(placement) => put_number(out, placement.arbiter as u64),
+            Some(placement) => put_number(out, placement.domain as u64),
             None => put_word(out, b"none"),
         }
     }

@@ -3,7 +3,7 @@ use Rattle.std.proofs.Common.{◌≡◌, ℕ, zero, suc, ◌+◌, ◌<◌, ◌�
 use Rattle.std.specs.Prelude.{◌==◌, ◌||◌, nat_lt}
 use Rattle.std.specs.List.{list_any, slice_get}
 use Rattle.std.proofs.lemmas.Bool.Decides.{nat_tests}
-use Rattle.std.proofs.lemmas.List.Sums.{sum_by-append}
+use Rattle.ccr_wiring.proofs.Crowds.{times_append}
 use Rattle.ccr_wiring.specs.declared.parts.Parts.{Parts}
 use Rattle.ccr_wiring.specs.declared.parts.HandlerPart.{HandlerPart}
 use Rattle.ccr_wiring.specs.declared.parts.BranchPart.{BranchPart}
@@ -47,9 +47,6 @@ arbiters_same queues ports parts part (arbiter ∷ arbiters) fit =
 -- no port stands more than 16 times
 abbrev pub Uncrowded : List ℕ → Type 0
 Uncrowded ports = (port : ℕ) → times port ports ≤ 16
-
-pub times_append : (port : ℕ) (xs ys : List ℕ) → times port (xs ++ ys) ≡ times port xs + times port ys
-times_append port xs ys = sum_by-append _ xs ys
 
 pub times_none : (port : ℕ) (ports : List ℕ) → list_any (λ other. other == port) ports ≡ false → times port ports ≡ 0
 times_none port [] none = refl

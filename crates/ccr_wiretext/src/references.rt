@@ -2,8 +2,7 @@
 
 ghost use Rattle.std.specs.Prelude.{◌≡◌, ◌<◌, ◌==◌, ◌++◌, not, IfOk, IfSome, OnOk, length};
 ghost use Rattle.ccr_text.specs.Names.{meaning_of};
-ghost use Rattle.ccr_wiring.specs.Wirings.{actions_of, awaited};
-ghost use Rattle.ccr_wiring.specs.Spots.{pattern_ports, branch_named};
+ghost use Rattle.ccr_wiring.specs.Spots.{branch_named};
 ghost use Rattle.ccr_wiring.specs.Repeats.{has_port};
 ghost use Rattle.ccr_wiring.specs.References.{no_interleave};
 ghost use Rattle.ccr_wiretext.specs.Patterns.{is_combined};
@@ -14,8 +13,8 @@ ghost use Rattle.ccr_wiretext.specs.Names.{as_port, as_set};
 
 use crate::draft::Draft;
 use crate::named::Named;
-use ccr_base::{Action, ArbiterNo, HandlerNo, OutOfMemory, Pattern, PortNo};
-use ccr_wiring::{BranchPart, DomainPart, Kind};
+use ccr_base::{ArbiterNo, OutOfMemory, PortNo};
+use ccr_wiring::{BranchPart, DomainPart, Kind, add_branch_ports};
 
 /// Whether the port is among the ports.
 pub fn has_port(ports: &[PortNo], port: PortNo) -> bool
@@ -101,54 +100,12 @@ impl Draft {
         }
     }
 
-    fn actions(&self, handler: HandlerNo) -> &[Action]
-        ensures { result.now ≡ actions_of self.now.parts handler }
-    {
-        match self.parts.handlers.as_slice().get(handler as usize) {
-            Some(part) => part.handler.actions.as_slice(),
-            None => &[],
-        }
-    }
-
     /// The ports that a branch and its sites name, once for each.
     pub fn spotted_by(&self, branch: &BranchPart) -> Result<Vec<PortNo>, OutOfMemory>
         ensures { IfOk result (λ ports. ports.items ≡ branch_named self.now.parts branch.now) }
     {
         let mut ports = Vec::new(self.alloc);
-        push_pattern_ports(&mut ports, &branch.pattern)?;
-        push_awaited(&mut ports, self.actions(branch.handler))?;
+        add_branch_ports(&mut ports, &self.parts, branch)?;
         Ok(ports)
     }
-}
-
-fn push_pattern_ports(ports: &mut Vec<PortNo>, pattern: &Pattern) -> Result<(), OutOfMemory>
-    ensures { OnOk result (ports.new.items ≡ ports.old.items ++ pattern_ports pattern.now) }
-{
-    match pattern {
-        Pattern::Slots(slots) => {
-            for slot in slots.as_slice() {
-                ports.push(slot.port)?;
-            }
-        }
-        Pattern::Gather {
-            total: _,
-            first,
-            second,
-        } => {
-            ports.push(*first)?;
-            ports.push(*second)?;
-        }
-    }
-    Ok(())
-}
-
-fn push_awaited(ports: &mut Vec<PortNo>, actions: &[Action]) -> Result<(), OutOfMemory>
-    ensures { OnOk result (ports.new.items ≡ ports.old.items ++ awaited actions.now) }
-{
-    for action in actions {
-        if let Action::Await(port) = *action {
-            ports.push(port)?;
-        }
-    }
-    Ok(())
 }

@@ -8,7 +8,7 @@ use Rattle.ccr_wiring.specs.Spots.{times, has_crowded}
 use Rattle.ccr_wiring.proofs.Lists.{any_at, any_none}
 
 -- how often a port stands in two lists
-times_append : (port : ℕ) (xs ys : List ℕ) → times port (xs ++ ys) ≡ times port xs + times port ys
+pub times_append : (port : ℕ) (xs ys : List ℕ) → times port (xs ++ ys) ≡ times port xs + times port ys
 times_append port xs ys = sum_by-append _ xs ys
 
 -- the port at a place stands once more than before it

@@ -22,13 +22,13 @@ use Rattle.ccr_wiring.proofs.Lists.{neither}
 pub record ArbiterOf (first : ℕ) (arbiters : List ArbiterPart) (s : Placement) : Type 0 where
   pub place : ℕ
   pub arbiter : ArbiterPart
-  pub number : s.arbiter ≡ first + place
+  pub number : s.domain ≡ first + place
   pub at : slice_get arbiters place ≡ Some arbiter
   pub kind : s.kind ≡ arbiter.kind
 
 here_or_later : (number : ℕ) (kind : Kind) (branches : List BranchPart) (rest : List Placement) (branch : ℕ) (s : Placement)
-    → slice_get (map (λ branch. record { arbiter = number; kind = kind; branch = branch }) branches ++ rest) branch ≡ Some s
-    → ((s.arbiter ≡ number) × (s.kind ≡ kind)) ⊎ ((later : ℕ) × (slice_get rest later ≡ Some s))
+    → slice_get (map (λ branch. record { domain = number; kind = kind; branch = branch }) branches ++ rest) branch ≡ Some s
+    → ((s.domain ≡ number) × (s.kind ≡ kind)) ⊎ ((later : ℕ) × (slice_get rest later ≡ Some s))
 here_or_later number kind [] rest branch s at = inr (branch, at)
 here_or_later number kind (part ∷ branches) rest zero s at = inl (cc, cc)
 here_or_later number kind (part ∷ branches) rest (suc branch) s at = here_or_later number kind branches rest branch s at
@@ -41,7 +41,7 @@ placement_of_arbiter first [] branch s at = absurd (none_there at)
     none_there e = absurd cc
 placement_of_arbiter first (arbiter ∷ arbiters) branch s at = of_either (here_or_later first arbiter.kind arbiter.branches (placements_from (first + 1) arbiters) branch s at) (λ later is. placement_of_arbiter (first + 1) arbiters later s is)
   where
-    of_either : ((s.arbiter ≡ first) × (s.kind ≡ arbiter.kind)) ⊎ ((later : ℕ) × (slice_get (placements_from (first + 1) arbiters) later ≡ Some s))
+    of_either : ((s.domain ≡ first) × (s.kind ≡ arbiter.kind)) ⊎ ((later : ℕ) × (slice_get (placements_from (first + 1) arbiters) later ≡ Some s))
         → ((later : ℕ) → slice_get (placements_from (first + 1) arbiters) later ≡ Some s → ArbiterOf (first + 1) arbiters s) → ArbiterOf first (arbiter ∷ arbiters) s
     of_either (inl here) others = record { place = 0; arbiter = arbiter; number = omega (arith, here.0); at = refl; kind = here.1 }
     of_either (inr later) others =
@@ -106,16 +106,16 @@ domain_kind parts number arbiter (domain ∷ domains) none at =
         rw there (other_kind (slice_get parts.arbiters (least_with number domain.members)) arbiter.kind kind (kind_at (slice_get parts.arbiters (least_with number domain.members)) least))
 
 -- each branch's domain is the number of an arbiter of the kind of its own
-pub kept_domain : (parts : Parts) (branch : ℕ) (s : Placement) → has_dangling_domain parts ≡ false → placement parts branch ≡ Some s → IsSomeAnd (slice_get parts.arbiters s.arbiter) (λ (arbiter : ArbiterPart). arbiter.kind ≡ s.kind)
+pub kept_domain : (parts : Parts) (branch : ℕ) (s : Placement) → has_dangling_domain parts ≡ false → placement parts branch ≡ Some s → IsSomeAnd (slice_get parts.arbiters s.domain) (λ (arbiter : ArbiterPart). arbiter.kind ≡ s.kind)
 kept_domain parts branch s none at = of_own (slice_get (placements_from 0 parts.arbiters) branch) refl (sym (slice_get-map (in_domain parts.domains) (placements_from 0 parts.arbiters) branch) ∙ at)
   where
-    of_own : (found : Option Placement) → slice_get (placements_from 0 parts.arbiters) branch ≡ found → option_map (in_domain parts.domains) found ≡ Some s → IsSomeAnd (slice_get parts.arbiters s.arbiter) (λ (arbiter : ArbiterPart). arbiter.kind ≡ s.kind)
+    of_own : (found : Option Placement) → slice_get (placements_from 0 parts.arbiters) branch ≡ found → option_map (in_domain parts.domains) found ≡ Some s → IsSomeAnd (slice_get parts.arbiters s.domain) (λ (arbiter : ArbiterPart). arbiter.kind ≡ s.kind)
     of_own None found is = absurd cc
     of_own (Some own) found is =
         let p = placement_of_arbiter 0 parts.arbiters branch own found in
-        let number : own.arbiter ≡ p.place = omega (arith, p.number) in
-        let there : slice_get parts.arbiters own.arbiter ≡ Some p.arbiter = ap (slice_get parts.arbiters) number ∙ p.at in
-        let kept : IsSomeAnd (slice_get parts.arbiters (domain_of parts.domains own.arbiter)) (λ (arbiter : ArbiterPart). arbiter.kind ≡ p.arbiter.kind) = domain_kind parts own.arbiter p.arbiter parts.domains none there in
+        let number : own.domain ≡ p.place = omega (arith, p.number) in
+        let there : slice_get parts.arbiters own.domain ≡ Some p.arbiter = ap (slice_get parts.arbiters) number ∙ p.at in
+        let kept : IsSomeAnd (slice_get parts.arbiters (domain_of parts.domains own.domain)) (λ (arbiter : ArbiterPart). arbiter.kind ≡ p.arbiter.kind) = domain_kind parts own.domain p.arbiter parts.domains none there in
         let same : in_domain parts.domains own ≡ s = cc in
-        let kept' : IsSomeAnd (slice_get parts.arbiters (domain_of parts.domains own.arbiter)) (λ (arbiter : ArbiterPart). arbiter.kind ≡ own.kind) = rw p.kind kept in
-        subst (λ (x : Placement). IsSomeAnd (slice_get parts.arbiters x.arbiter) (λ (arbiter : ArbiterPart). arbiter.kind ≡ x.kind)) same kept'
+        let kept' : IsSomeAnd (slice_get parts.arbiters (domain_of parts.domains own.domain)) (λ (arbiter : ArbiterPart). arbiter.kind ≡ own.kind) = rw p.kind kept in
+        subst (λ (x : Placement). IsSomeAnd (slice_get parts.arbiters x.domain) (λ (arbiter : ArbiterPart). arbiter.kind ≡ x.kind)) same kept'

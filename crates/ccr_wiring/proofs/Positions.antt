@@ -24,7 +24,7 @@ get-back (x ∷ xs) ys zero past = absurd (omega arith)
 get-back (x ∷ xs) ys (suc k) past = let e : suc k - length (x ∷ xs) ≡ k - length xs = omega arith in rw e (get-back xs ys k (omega arith))
 
 -- the branch is one of the first arbiter's
-pub placement-here : (number : ℕ) (arbiter : ArbiterPart) (others : List ArbiterPart) (k : ℕ) (branch : BranchPart) → slice_get arbiter.branches k ≡ Some branch → slice_get (placements_from number (arbiter ∷ others)) k ≡ Some (record { arbiter = number; kind = arbiter.kind; branch = branch })
+pub placement-here : (number : ℕ) (arbiter : ArbiterPart) (others : List ArbiterPart) (k : ℕ) (branch : BranchPart) → slice_get arbiter.branches k ≡ Some branch → slice_get (placements_from number (arbiter ∷ others)) k ≡ Some (record { domain = number; kind = arbiter.kind; branch = branch })
 placement-here number arbiter others k branch is = get-front (placements_of number arbiter) (placements_from (number + 1) others) k _ (rw (slice_get-map _ arbiter.branches k, is) refl)
 
 -- it is one of a later arbiter's
@@ -73,7 +73,7 @@ from_positions domains number (arbiter ∷ arbiters) all same branch =
       | inl here ↦
           ap (option_and_then (placement_at all)) (get-front (positions_in number domain count) others branch position (position_in number domain count branch here.1))
           ∙ (ap (option_and_then (placement_among position)) first
-          ∙ (ap (option_map (λ (part : BranchPart). record { arbiter = domain; kind = arbiter.kind; branch = part })) here.2
+          ∙ (ap (option_map (λ (part : BranchPart). record { domain = domain; kind = arbiter.kind; branch = part })) here.2
           ∙ sym (ap (option_map (in_domain domains)) (placement-here number arbiter arbiters branch here.0 here.2))))
       | inr past ↦
           let long = length-positions_in number domain count in

@@ -41,7 +41,7 @@ at_most : (most n : ℕ) → nat_lt most n ≡ false → n ≤ most
 at_most most n none = grind (arith, nat_tests, none)
 
 -- tests of the branches of arbiters are tests of the placements
-placement_any : (q : Kind → BranchPart → Bool) (number : ℕ) (kind : Kind) (branches : List BranchPart) → list_any (λ (s : Placement). q s.kind s.branch) (map (λ branch. record { arbiter = number; kind = kind; branch = branch }) branches) ≡ list_any (q kind) branches
+placement_any : (q : Kind → BranchPart → Bool) (number : ℕ) (kind : Kind) (branches : List BranchPart) → list_any (λ (s : Placement). q s.kind s.branch) (map (λ branch. record { domain = number; kind = kind; branch = branch }) branches) ≡ list_any (q kind) branches
 placement_any q number kind [] = refl
 placement_any q number kind (branch ∷ branches) = ap (λ b. q kind branch || b) (placement_any q number kind branches)
 

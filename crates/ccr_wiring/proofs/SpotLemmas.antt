@@ -20,7 +20,7 @@ spots_by_branch : (parts : Parts) (number : ℕ) (ss : List Placement) → spots
 spots_by_branch parts number [] = refl
 spots_by_branch parts number (s ∷ ss) = ap (λ (rest : List Spot). (Branch number ∷ sites_from number 0 (awaited (actions_of parts s.branch.handler))) ++ rest) (spots_by_branch parts (number + 1) ss)
 
-placements_branches : (arbiter : ℕ) (kind : Kind) (branches : List BranchPart) (rest : List Placement) → placement_branches (map (λ branch. record { arbiter = arbiter; kind = kind; branch = branch }) branches ++ rest) ≡ branches ++ placement_branches rest
+placements_branches : (arbiter : ℕ) (kind : Kind) (branches : List BranchPart) (rest : List Placement) → placement_branches (map (λ branch. record { domain = arbiter; kind = kind; branch = branch }) branches ++ rest) ≡ branches ++ placement_branches rest
 placements_branches arbiter kind [] rest = refl
 placements_branches arbiter kind (branch ∷ branches) rest = ap (λ (bs : List BranchPart). branch ∷ bs) (placements_branches arbiter kind branches rest)
 

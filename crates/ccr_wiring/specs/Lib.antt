@@ -13,4 +13,5 @@ pub mod Takers
 pub mod Placements
 pub mod Codes
 pub mod Valid
+pub mod LookUps
 pub mod Answers

@@ -13,7 +13,7 @@ use Rattle.ccr_wiring.specs.Wirings.{Placement}
 
 -- the branch behind the reference, with its domain
 abbrev pub placement_seen : PlacementOf → Placement
-placement_seen s = record { arbiter = s.arbiter; kind = s.kind; branch = s.branch.now }
+placement_seen s = record { domain = s.domain; kind = s.kind; branch = s.branch.now }
 
 -- the positions of so many branches of one arbiter
 abbrev pub positions_in : ℕ → ℕ → ℕ → List Position
@@ -31,7 +31,7 @@ positions wiring = positions_from wiring.domains 0 wiring.arbiters
 
 -- the branch at the position, where this is its arbiter
 abbrev pub placement_among : Position → ArbiterPart → Option Placement
-placement_among position arbiter = option_map (λ (branch : BranchPart). record { arbiter = position.domain; kind = arbiter.kind; branch = branch }) (slice_get arbiter.branches position.branch)
+placement_among position arbiter = option_map (λ (branch : BranchPart). record { domain = position.domain; kind = arbiter.kind; branch = branch }) (slice_get arbiter.branches position.branch)
 
 -- the branch at the position
 abbrev pub placement_at : List ArbiterPart → Position → Option Placement

@@ -95,7 +95,7 @@ HasFewSpots wiring = (port : ℕ) → times port (named_ports wiring) ≤ 16
 
 -- each branch's domain is the number of an arbiter of the kind of its own
 abbrev pub HasDomains : Parts → Type 0
-HasDomains wiring = (branch : ℕ) (s : Placement) → placement wiring branch ≡ Some s → IsSomeAnd (slice_get wiring.arbiters s.arbiter) (λ (arbiter : ArbiterPart). arbiter.kind ≡ s.kind)
+HasDomains wiring = (branch : ℕ) (s : Placement) → placement wiring branch ≡ Some s → IsSomeAnd (slice_get wiring.arbiters s.domain) (λ (arbiter : ArbiterPart). arbiter.kind ≡ s.kind)
 
 -- how many of each kind there are at most
 pub record IsSmall (wiring : Parts) : Type 0 where

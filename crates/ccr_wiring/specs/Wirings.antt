@@ -18,13 +18,13 @@ use Rattle.ccr_wiring.specs.Domains.{domain_of}
 
 -- a branch with the number of its domain and the kind of its arbiter
 pub record Placement : Type 0 where
-  pub arbiter : ℕ
+  pub domain : ℕ
   pub kind : Kind
   pub branch : BranchPart
 
 -- the arbiter's branches, each with the arbiter's number and kind
 abbrev pub placements_of : ℕ → ArbiterPart → List Placement
-placements_of number arbiter = map (λ branch. record { arbiter = number; kind = arbiter.kind; branch = branch }) arbiter.branches
+placements_of number arbiter = map (λ branch. record { domain = number; kind = arbiter.kind; branch = branch }) arbiter.branches
 
 -- the branches of the arbiters, of which the first has this number
 abbrev pub placements_from : ℕ → List ArbiterPart → List Placement
@@ -33,7 +33,7 @@ placements_from number (arbiter ∷ arbiters) = placements_of number arbiter ++ 
 
 -- the branch in the domain of its arbiter
 abbrev pub in_domain : List DomainPart → Placement → Placement
-in_domain domains s = record { arbiter = domain_of domains s.arbiter; kind = s.kind; branch = s.branch }
+in_domain domains s = record { domain = domain_of domains s.domain; kind = s.kind; branch = s.branch }
 
 -- all branches, in the order of their numbers
 abbrev pub placements : Parts → List Placement

@@ -32,10 +32,10 @@ pub use parts::{
 };
 pub use placements::PlacementOf;
 pub use references::is_interleave;
-pub use repeats::are_apart;
+pub use repeats::{are_apart, has_slot_at};
 pub use script_posts::ScriptPost;
 pub use spot_names::{branch_names, name_at};
 pub use spot_words::{put_spot_word, spot_text};
-pub use spots::{branch_of, segment_of};
+pub use spots::{add_branch_ports, branch_of, segment_of};
 pub use unfit::Unfit;
 pub use wiring::Wiring;

@@ -14,7 +14,7 @@ use std::alloc::Global;
 /// A branch with the number of its arbiter's domain and the arbiter's kind.
 #[derive(Clone, Copy)]
 pub struct PlacementOf<'w> {
-    pub arbiter: usize,
+    pub domain: usize,
     pub kind: Kind,
     pub branch: &'w BranchPart,
 }
@@ -96,7 +96,7 @@ pub(crate) fn placement_at(arbiters: &[ArbiterPart], position: Position) -> Opti
     let arbiter = arbiters.get(position.arbiter as usize)?;
     let branch = arbiter.branches.as_slice().get(position.branch)?;
     Some(PlacementOf {
-        arbiter: position.domain as usize,
+        domain: position.domain as usize,
         kind: arbiter.kind,
         branch,
     })

@@ -26,7 +26,8 @@ pub fn are_apart(numbers: &[u32]) -> bool
     true
 }
 
-fn has_slot_at(slots: &[Slot], port: PortNo) -> bool
+/// Whether one of the slots names the port.
+pub fn has_slot_at(slots: &[Slot], port: PortNo) -> bool
     ensures { result ≡ has_port (slot_ports slots.now) port }
 {
     for slot in slots {

@@ -54,7 +54,8 @@ fn add_pattern(ports: &mut Vec<PortNo>, pattern: &Pattern) -> Result<(), OutOfMe
     }
 }
 
-fn add_branch(
+/// Adds the ports that the branch names, and behind them those that its sites await.
+pub fn add_branch_ports(
     ports: &mut Vec<PortNo>,
     parts: &Parts,
     branch: &BranchPart,
@@ -73,7 +74,7 @@ fn add_branches(
     ensures { OnOk result (ports.new.items ≡ ports.old.items ++ branches_named parts.now branches.now) }
 {
     for branch in branches {
-        add_branch(ports, parts, branch)?;
+        add_branch_ports(ports, parts, branch)?;
     }
     Ok(())
 }

@@ -39,18 +39,14 @@ struct Known {
 }
 
 impl Model for Wiring {
-    ghost use Rattle.std.specs.Prelude.{◌≡◌};
     ghost use Rattle.ccr_wiring.specs.declared.parts.Parts.{Parts};
-    ghost use Rattle.ccr_wiring.specs.Placements.{positions as positions_of};
-    ghost use Rattle.ccr_wiring.specs.Wirings.{spots as spots_of};
-    ghost use Rattle.ccr_wiring.specs.Takers.{AreTaken};
-    ghost use Rattle.ccr_wiring.specs.Valid.{IsValid};
+    ghost use Rattle.ccr_wiring.specs.LookUps.{AreKnown};
 
     ghost Value = { Parts };
 
     ghost view = { λ wiring. wiring.known.value.parts };
 
-    ghost invariant = { λ wiring. IsValid wiring.known.value.parts × (wiring.known.value.spots.items ≡ spots_of wiring.known.value.parts) × (wiring.known.value.positions.items ≡ positions_of wiring.known.value.parts) × AreTaken wiring.known.value.parts wiring.known.value.spots.items wiring.known.value.takers.ports.items wiring.known.value.takers.queues.items };
+    ghost invariant = { λ wiring. AreKnown wiring.known.value.parts wiring.known.value.spots.items wiring.known.value.positions.items wiring.known.value.takers.ports.items wiring.known.value.takers.queues.items };
 }
 
 impl Wiring {

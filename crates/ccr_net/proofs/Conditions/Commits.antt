@@ -168,24 +168,24 @@ site_shape b k earlier = shaped (sites.start b k) earlier
 -- ---- the commit
 
 module _ (w : Parts) (valid : IsValid w) (domains : HasDomains w) (n : ℕ) (lacks : Lacks) (es : List Entry) (holds : Holds w n lacks es) (name : TaskId) (new : has_task (fired (visible es)) name ≡ false) where
-  at_branch : (b : ℕ) (task : Task) (ms : List MsgId) (s : Placement) → placement w b ≡ Some s → task.id ≡ name → task.spot ≡ Branch b → is_some (note_at_arbiter w s.arbiter (slice_get w.arbiters s.arbiter) (notes_at es (places.Arbiter s.arbiter)) (asks.Commit task ms)) ≡ true
-  at_branch b task ms s sits id spot = of_part (slice_get w.arbiters s.arbiter) refl (domains b s sits)
+  at_branch : (b : ℕ) (task : Task) (ms : List MsgId) (s : Placement) → placement w b ≡ Some s → task.id ≡ name → task.spot ≡ Branch b → is_some (note_at_arbiter w s.domain (slice_get w.arbiters s.domain) (notes_at es (places.Arbiter s.domain)) (asks.Commit task ms)) ≡ true
+  at_branch b task ms s sits id spot = of_part (slice_get w.arbiters s.domain) refl (domains b s sits)
     where
       earlier : List Note
-      earlier = notes_at es (places.Arbiter s.arbiter)
+      earlier = notes_at es (places.Arbiter s.domain)
 
       fresh : has_task (fired_there earlier) task.id ≡ false
-      fresh = ap (has_task (fired_there earlier)) id ∙ new_there es (places.Arbiter s.arbiter) name new
+      fresh = ap (has_task (fired_there earlier)) id ∙ new_there es (places.Arbiter s.domain) name new
 
-      of_part : (o : Option ArbiterPart) → slice_get w.arbiters s.arbiter ≡ o → IsSomeAnd o (λ (part : ArbiterPart). part.kind ≡ s.kind) → is_some (note_at_arbiter w s.arbiter o earlier (asks.Commit task ms)) ≡ true
+      of_part : (o : Option ArbiterPart) → slice_get w.arbiters s.domain ≡ o → IsSomeAnd o (λ (part : ArbiterPart). part.kind ≡ s.kind) → is_some (note_at_arbiter w s.domain o earlier (asks.Commit task ms)) ≡ true
       of_part None at none = absurd none
       of_part (Some part) at kind_so = by part.kind refl
         where
           start : ArbiterState
-          start = arbiter_after (first_branch w s.arbiter) part []
+          start = arbiter_after (first_branch w s.domain) part []
 
           now : ArbiterState
-          now = arbiter_after (first_branch w s.arbiter) part earlier
+          now = arbiter_after (first_branch w s.domain) part earlier
 
           shape : KeepsShape start now (fired_there earlier)
           shape = kept_shape start earlier
@@ -203,27 +203,27 @@ module _ (w : Parts) (valid : IsValid w) (domains : HasDomains w) (n : ℕ) (lac
               seat = ap (arbiters.has_spot now) spot ∙ (λ i. nat_le (first_so i) b && nat_lt b (first_so i + count_so i)) ∙ branch_seat w valid b s part sits at kind_so outside
 
               none : has_task now.fired task.id ≡ false
-              none = ap (λ ts. has_task ts task.id) (shape.fired ∙ ap (λ ts. ts ++ fired_there earlier) (none_at_first (first_branch w s.arbiter) part)) ∙ fresh
+              none = ap (λ ts. has_task ts task.id) (shape.fired ∙ ap (λ ts. ts ++ fired_there earlier) (none_at_first (first_branch w s.domain) part)) ∙ fresh
 
-          shared : part.kind ≡ kinds.Interleave → interleaves.may_commit (interleave_after w s.arbiter earlier) task ≡ true
+          shared : part.kind ≡ kinds.Interleave → interleaves.may_commit (interleave_after w s.domain earlier) task ≡ true
           shared is = rw (seat, none) refl
             where
-              number : is_interleave_number w s.arbiter ≡ true
+              number : is_interleave_number w s.domain ≡ true
               number = ap (λ o. option_map_or (λ (p : ArbiterPart). plans.is_interleave p.kind) o false) at ∙ ap plans.is_interleave is
 
-              within : is_placement_in s.arbiter s ≡ true
-              within = ap (λ k. is_interleave k && (s.arbiter == s.arbiter)) (sym kind_so ∙ is) ∙ eq-self s.arbiter
+              within : is_placement_in s.domain s ≡ true
+              within = ap (λ k. is_interleave k && (s.domain == s.domain)) (sym kind_so ∙ is) ∙ eq-self s.domain
 
-              seat : is_some (interleaves.group_at (interleave_after w s.arbiter earlier) task.spot) ≡ true
-              seat = ap (λ x. is_some (interleaves.group_at (interleave_after w s.arbiter earlier) x)) spot ∙ ap (λ o. is_some o) (group_so w (visible es) s.arbiter b (domain_at w es s.arbiter) s sits within (holds.domains s.arbiter number))
+              seat : is_some (interleaves.group_at (interleave_after w s.domain earlier) task.spot) ≡ true
+              seat = ap (λ x. is_some (interleaves.group_at (interleave_after w s.domain earlier) x)) spot ∙ ap (λ o. is_some o) (group_so w (visible es) s.domain b (domain_at w es s.domain) s sits within (holds.domains s.domain number))
 
-              none : has_task (interleave_after w s.arbiter earlier).fired task.id ≡ false
-              none = ap (λ ts. has_task ts task.id) (domain_fired_all (interleave_after w s.arbiter []) earlier) ∙ fresh
+              none : has_task (interleave_after w s.domain earlier).fired task.id ≡ false
+              none = ap (λ ts. has_task ts task.id) (domain_fired_all (interleave_after w s.domain []) earlier) ∙ fresh
 
           outside_of : (kind : Kind) → part.kind ≡ kind → is_interleave kind ≡ false → is_interleave s.kind ≡ false
           outside_of kind is out = ap is_interleave (sym kind_so ∙ is) ∙ out
 
-          by : (kind : Kind) → part.kind ≡ kind → is_some (note_by_kind w s.arbiter kind part earlier (asks.Commit task ms)) ≡ true
+          by : (kind : Kind) → part.kind ≡ kind → is_some (note_by_kind w s.domain kind part earlier (asks.Commit task ms)) ≡ true
           by kinds.Receive is = is_given _ _ (ordinary (outside_of kinds.Receive is refl))
           by kinds.Choice is = is_given _ _ (ordinary (outside_of kinds.Choice is refl))
           by kinds.Interleave is = is_given _ _ (shared is)
@@ -250,5 +250,5 @@ module _ (w : Parts) (valid : IsValid w) (domains : HasDomains w) (n : ℕ) (lac
       task : Task
       task = firing_task (plan_of w (Branch b)) name messages
 
-      number : (plan_of w (Branch b)).arbiter ≡ (fits.0).arbiter
-      number = ap (λ o. option_map_or (λ (s : Placement). s.arbiter) o 0) fits.1
+      number : (plan_of w (Branch b)).arbiter ≡ (fits.0).domain
+      number = ap (λ o. option_map_or (λ (s : Placement). s.domain) o 0) fits.1

@@ -28,7 +28,7 @@ use Rattle.ccr_net.proofs.Kept.PlainWirings.{one_branch}
 record InPlace (n : ℕ) (parts : List ArbiterPart) (b : ℕ) (r : Placement) : Type 0 where
   place : ℕ
   part : ArbiterPart
-  number : r.arbiter ≡ n + place
+  number : r.domain ≡ n + place
   at : slice_get parts place ≡ Some part
   kind : r.kind ≡ part.kind
   low : branches_before place parts ≤ b
@@ -47,7 +47,7 @@ in_place n [] b r at = absurd (nobody at)
 in_place n (a ∷ parts) b r at = by (nat_lt b (length a.branches)) refl (λ k later. in_place (n + 1) parts k r later)
   where
     by : (c : Bool) → nat_lt b (length a.branches) ≡ c → ((k : ℕ) → slice_get (placements_from (n + 1) parts) k ≡ Some r → InPlace (n + 1) parts k r) → InPlace n (a ∷ parts) b r
-    by true e rest = record { place = 0; part = a; number = ap (λ (s : Placement). s.arbiter) is ∙ (let same : n ≡ n + 0 = omega arith in same); at = refl; kind = ap (λ (s : Placement). s.kind) is; low = omega arith; high = omega (arith, below) }
+    by true e rest = record { place = 0; part = a; number = ap (λ (s : Placement). s.domain) is ∙ (let same : n ≡ n + 0 = omega arith in same); at = refl; kind = ap (λ (s : Placement). s.kind) is; low = omega arith; high = omega (arith, below) }
       where
         below : b < length a.branches
         below = grind (arith, nat_tests, e)
@@ -55,7 +55,7 @@ in_place n (a ∷ parts) b r at = by (nat_lt b (length a.branches)) refl (λ k l
         found : (branch : BranchPart) × (slice_get a.branches b ≡ Some branch)
         found = get-some a.branches b below
 
-        is : r ≡ record { arbiter = n; kind = a.kind; branch = found.0 }
+        is : r ≡ record { domain = n; kind = a.kind; branch = found.0 }
         is = inside r _ (sym at ∙ placement-here n a parts b found.0 found.1)
           where
             inside : (x y : Placement) → Some x ≡ Some y → x ≡ y
@@ -95,13 +95,13 @@ own_domain w number part (domain ∷ domains) none at out =
         known = rw (at, out) refl
 
 -- a branch is one of its receiver's or choice's
-pub branch_seat : (w : Parts) → IsValid w → (b : ℕ) (s : Placement) (part : ArbiterPart) → placement w b ≡ Some s → slice_get w.arbiters s.arbiter ≡ Some part → part.kind ≡ s.kind → is_interleave s.kind ≡ false → arbiters.has_spot (arbiter_after (first_branch w s.arbiter) part []) (Branch b) ≡ true
+pub branch_seat : (w : Parts) → IsValid w → (b : ℕ) (s : Placement) (part : ArbiterPart) → placement w b ≡ Some s → slice_get w.arbiters s.domain ≡ Some part → part.kind ≡ s.kind → is_interleave s.kind ≡ false → arbiters.has_spot (arbiter_after (first_branch w s.domain) part []) (Branch b) ≡ true
 branch_seat w valid b s part sits at kind_so outside = of_placement (slice_get (placements_from 0 w.arbiters) b) refl (placement-domain w b ∙ sits)
   where
     dangling : has_dangling_domain w ≡ false
     dangling = (neither (has_dangling_set w || has_dangling_cause w || has_dangling_handler w || has_dangling_arbiter w || has_dangling_poster w) (has_dangling_domain w) (no_codes w valid).references).1
 
-    of_placement : (o : Option Placement) → slice_get (placements_from 0 w.arbiters) b ≡ o → option_map (in_domain w.domains) o ≡ Some s → arbiters.has_spot (arbiter_after (first_branch w s.arbiter) part []) (Branch b) ≡ true
+    of_placement : (o : Option Placement) → slice_get (placements_from 0 w.arbiters) b ≡ o → option_map (in_domain w.domains) o ≡ Some s → arbiters.has_spot (arbiter_after (first_branch w s.domain) part []) (Branch b) ≡ true
     of_placement None here is = absurd (cc)
     of_placement (Some r) here is = seated s.kind refl
       where
@@ -111,14 +111,14 @@ branch_seat w valid b s part sits at kind_so outside = of_placement (slice_get (
         there : InPlace 0 w.arbiters b r
         there = in_place 0 w.arbiters b r here
 
-        raw : r.arbiter ≡ there.place
+        raw : r.domain ≡ there.place
         raw = there.number ∙ (let e : 0 + there.place ≡ there.place = omega arith in e)
 
         free : is_interleave there.part.kind ≡ false
         free = ap is_interleave (sym there.kind ∙ ap (λ (x : Placement). x.kind) same) ∙ outside
 
-        number : s.arbiter ≡ there.place
-        number = ap (λ (x : Placement). x.arbiter) (sym same) ∙ ap (domain_of w.domains) raw ∙ own_domain w there.place there.part w.domains dangling there.at free
+        number : s.domain ≡ there.place
+        number = ap (λ (x : Placement). x.domain) (sym same) ∙ ap (domain_of w.domains) raw ∙ own_domain w there.place there.part w.domains dangling there.at free
 
         part_so : there.part ≡ part
         part_so = inside there.part part (sym there.at ∙ ap (slice_get w.arbiters) (sym number) ∙ at)
@@ -126,20 +126,20 @@ branch_seat w valid b s part sits at kind_so outside = of_placement (slice_get (
             inside : (x y : ArbiterPart) → Some x ≡ Some y → x ≡ y
             inside x y e = cc
 
-        low : first_branch w s.arbiter ≤ b
+        low : first_branch w s.domain ≤ b
         low = subst (λ k. branches_before k w.arbiters ≤ b) (sym number) there.low
 
-        high : b < first_branch w s.arbiter + length part.branches
+        high : b < first_branch w s.domain + length part.branches
         high = subst (λ k. b < branches_before k w.arbiters + length part.branches) (sym number) (subst (λ (x : ArbiterPart). b < branches_before there.place w.arbiters + length x.branches) part_so there.high)
 
-        within : (count : ℕ) → length part.branches ≡ count → nat_le (first_branch w s.arbiter) b && nat_lt b (first_branch w s.arbiter + count) ≡ true
+        within : (count : ℕ) → length part.branches ≡ count → nat_le (first_branch w s.domain) b && nat_lt b (first_branch w s.domain + count) ≡ true
         within count is' =
-            let above : nat_le (first_branch w s.arbiter) b ≡ true = grind (arith, nat_tests, low) in
-            let small : b < first_branch w s.arbiter + count = omega (arith, high, is') in
-            let below : nat_lt b (first_branch w s.arbiter + count) ≡ true = grind (arith, nat_tests, small) in
+            let above : nat_le (first_branch w s.domain) b ≡ true = grind (arith, nat_tests, low) in
+            let small : b < first_branch w s.domain + count = omega (arith, high, is') in
+            let below : nat_lt b (first_branch w s.domain + count) ≡ true = grind (arith, nat_tests, small) in
             rw (above, below) refl
 
-        seated : (kind : Kind) → s.kind ≡ kind → arbiters.has_spot (arbiter_after (first_branch w s.arbiter) part []) (Branch b) ≡ true
-        seated kinds.Receive is' = let receives : part.kind ≡ kinds.Receive = kind_so ∙ is' in let found = one_branch w valid s.arbiter part at receives in rw receives (within 1 (ap (λ (bs : List BranchPart). length bs) found.1))
+        seated : (kind : Kind) → s.kind ≡ kind → arbiters.has_spot (arbiter_after (first_branch w s.domain) part []) (Branch b) ≡ true
+        seated kinds.Receive is' = let receives : part.kind ≡ kinds.Receive = kind_so ∙ is' in let found = one_branch w valid s.domain part at receives in rw receives (within 1 (ap (λ (bs : List BranchPart). length bs) found.1))
         seated kinds.Choice is' = rw (kind_so ∙ is') (within (length part.branches) refl)
         seated kinds.Interleave is' = absurd (let out = rw is' at outside in cc)

@@ -186,7 +186,7 @@ module _ (w : Parts) (n : ℕ) (first : PlainFacts w) (few : n ≤ 33) (lacks : 
           note = (rw (is, choosable) at note_so) ∙ ap (λ j. notes.Claim (name_at e.actor before) slot (Got j)) (sym facts.whole)
 
   -- a firing at a branch, with these cuts
-  fires_branch : (b : ℕ) (s : Placement) (more : List Spot) (had : List Had) (i : ℕ) (cs : List TaskId) → placement w b ≡ Some s → s.arbiter ≡ i → turn before ≡ drive (Branch b) more → before.phase ≡ claiming [] had → Fits s.branch.pattern [] had → e.place ≡ places.Arbiter i → is_live w h (Branch b) ≡ true → cs ≡ cuts_at w h (Branch b) → e.note ≡ notes.Fired (name_at e.actor before) (Branch b) (names_of (in_pattern s.branch.pattern had)) cs → ((ms : List MsgId) → IsAllowed w h (events.Fire (name_at e.actor before) (Branch b) ms cs) → e.note ≡ notes.Fired (name_at e.actor before) (Branch b) ms cs → DomainsMatch w (h ++ events.Fire (name_at e.actor before) (Branch b) ms cs ∷ []) (es ++ e ∷ [])) → Done
+  fires_branch : (b : ℕ) (s : Placement) (more : List Spot) (had : List Had) (i : ℕ) (cs : List TaskId) → placement w b ≡ Some s → s.domain ≡ i → turn before ≡ drive (Branch b) more → before.phase ≡ claiming [] had → Fits s.branch.pattern [] had → e.place ≡ places.Arbiter i → is_live w h (Branch b) ≡ true → cs ≡ cuts_at w h (Branch b) → e.note ≡ notes.Fired (name_at e.actor before) (Branch b) (names_of (in_pattern s.branch.pattern had)) cs → ((ms : List MsgId) → IsAllowed w h (events.Fire (name_at e.actor before) (Branch b) ms cs) → e.note ≡ notes.Fired (name_at e.actor before) (Branch b) ms cs → DomainsMatch w (h ++ events.Fire (name_at e.actor before) (Branch b) ms cs ∷ []) (es ++ e ∷ [])) → Done
   fires_branch b s more had i cs sits at_its turns phase fits there live cut_so had_note domains = step_fire w n first few lacks es e low holds (Branch b) more (record {
     place = places.Arbiter i;
     there = there;
@@ -242,7 +242,7 @@ module _ (w : Parts) (n : ℕ) (first : PlainFacts w) (few : n ≤ 33) (lacks : 
   no_teardown_in kinds.Interleave groups.Teardown outside may = absurd (cc)
 
   -- the commit at a receiver or a choice
-  commit_arbiter : (b : ℕ) (s : Placement) (more : List Spot) (had : List Had) (i : ℕ) (part : ArbiterPart) → placement w b ≡ Some s → s.arbiter ≡ i → slice_get w.arbiters i ≡ Some part → is_interleave s.kind ≡ false → is_interleave_number w i ≡ false → turn before ≡ drive (Branch b) more → before.phase ≡ claiming [] had → Fits s.branch.pattern [] had → e.place ≡ places.Arbiter i → arbiter_note (arbiter_after (first_branch w i) part (notes_at es (places.Arbiter i))) (asks.Commit (firing_task (plan_of w (Branch b)) (name_at e.actor before) (in_pattern s.branch.pattern had)) (names_of (in_pattern s.branch.pattern had))) ≡ Some e.note → Done
+  commit_arbiter : (b : ℕ) (s : Placement) (more : List Spot) (had : List Had) (i : ℕ) (part : ArbiterPart) → placement w b ≡ Some s → s.domain ≡ i → slice_get w.arbiters i ≡ Some part → is_interleave s.kind ≡ false → is_interleave_number w i ≡ false → turn before ≡ drive (Branch b) more → before.phase ≡ claiming [] had → Fits s.branch.pattern [] had → e.place ≡ places.Arbiter i → arbiter_note (arbiter_after (first_branch w i) part (notes_at es (places.Arbiter i))) (asks.Commit (firing_task (plan_of w (Branch b)) (name_at e.actor before) (in_pattern s.branch.pattern had)) (names_of (in_pattern s.branch.pattern had))) ≡ Some e.note → Done
   commit_arbiter b s more had i part sits at_its there_part outside plain turns phase fits there gives = by_dead (arbiters.dead_by arbiter) refl
     where
       task : Task
@@ -260,16 +260,16 @@ module _ (w : Parts) (n : ℕ) (first : PlainFacts w) (few : n ≤ 33) (lacks : 
       given_so : (arbiters.may_commit arbiter task ≡ true) × (e.note ≡ commit_note task (names_of (in_pattern s.branch.pattern had)) (arbiters.dead_by arbiter) (notes.Fired task.id task.spot (names_of (in_pattern s.branch.pattern had)) []))
       given_so = given_some (arbiters.may_commit arbiter task) _ e.note gives
 
-      here : arbiters.has_spot (arbiter_after (first_branch w s.arbiter) part []) (Branch b) ≡ true
+      here : arbiters.has_spot (arbiter_after (first_branch w s.domain) part []) (Branch b) ≡ true
       here = ap (λ k. arbiters.has_spot (arbiter_after (first_branch w k) part []) (Branch b)) at_its ∙ (λ j. nat_le (sym shape.first j) b && nat_lt b (sym shape.first j + sym shape.count j)) ∙ (both (arbiters.has_spot arbiter (Branch b)) _ given_so.0).0
 
       live : arbiters.dead_by arbiter ≡ None → is_live w h (Branch b) ≡ true
       live alive = rw sits (by (first.retires b s part sits (ap (slice_get w.arbiters) at_its ∙ there_part) outside here))
         where
-          none_there : (arbiter_after (first_branch w s.arbiter) part []).once ≡ true → fired_by w (is_of i) h ≡ []
+          none_there : (arbiter_after (first_branch w s.domain) part []).once ≡ true → fired_by w (is_of i) h ≡ []
           none_there once = sym (holds.arbiters i) ∙ (sym (ap (λ ts. ts ++ fired_there (notes_at es (places.Arbiter i))) (none_at_first (first_branch w i) part)) ∙ sym shape.fired ∙ none_fired arbiter (shape.once ∙ ap (λ k. (arbiter_after (first_branch w k) part []).once) (sym at_its) ∙ once) alive)
 
-          by : Retires w s part → is_live_in w h b s.arbiter s.branch.group ≡ true
+          by : Retires w s part → is_live_in w h b s.domain s.branch.group ≡ true
           by (inl always) = rw always refl
           by (inr (once, inl group)) = rw (group, none_at_branch w h b i s sits at_its (none_there once)) refl
           by (inr (once, inr group)) = rw (group, at_its, none_there once) refl
@@ -282,7 +282,7 @@ module _ (w : Parts) (n : ℕ) (first : PlainFacts w) (few : n ≤ 33) (lacks : 
       by_dead (Some by) is = step_dead w n lacks es e low holds i (Branch b) more (name_at e.actor before) (Branch b) by there (noted (Some by) is) turns (rw (turns, noted (Some by) is) refl)
 
   -- the commit at an Interleave
-  commit_interleave : (b : ℕ) (s : Placement) (more : List Spot) (had : List Had) (i : ℕ) → placement w b ≡ Some s → s.arbiter ≡ i → s.kind ≡ kinds.Interleave → is_interleave_number w i ≡ true → turn before ≡ drive (Branch b) more → before.phase ≡ claiming [] had → Fits s.branch.pattern [] had → e.place ≡ places.Arbiter i → interleave_note (domain_at w es i) (asks.Commit (firing_task (plan_of w (Branch b)) (name_at e.actor before) (in_pattern s.branch.pattern had)) (names_of (in_pattern s.branch.pattern had))) ≡ Some e.note → Done
+  commit_interleave : (b : ℕ) (s : Placement) (more : List Spot) (had : List Had) (i : ℕ) → placement w b ≡ Some s → s.domain ≡ i → s.kind ≡ kinds.Interleave → is_interleave_number w i ≡ true → turn before ≡ drive (Branch b) more → before.phase ≡ claiming [] had → Fits s.branch.pattern [] had → e.place ≡ places.Arbiter i → interleave_note (domain_at w es i) (asks.Commit (firing_task (plan_of w (Branch b)) (name_at e.actor before) (in_pattern s.branch.pattern had)) (names_of (in_pattern s.branch.pattern had))) ≡ Some e.note → Done
   commit_interleave b s more had i sits at_its kind number turns phase fits there gives = by_dead (interleaves.dead_by place) refl
     where
       place : InterleaveState
@@ -303,7 +303,7 @@ module _ (w : Parts) (n : ℕ) (first : PlainFacts w) (few : n ≤ 33) (lacks : 
       within : is_placement_in i s ≡ true
       within = rw (kind, at_its) (eq-self i)
 
-      live_in : (g : Group) → may_have kinds.Interleave g ≡ true → is_none_of (fired_by w (tears s.arbiter) h) ≡ true → is_live_in w h b s.arbiter g ≡ true
+      live_in : (g : Group) → may_have kinds.Interleave g ≡ true → is_none_of (fired_by w (tears s.domain) h) ≡ true → is_live_in w h b s.domain g ≡ true
       live_in groups.Teardown may none = none
       live_in groups.Exclusive may none = none
       live_in groups.Concurrent may none = none
@@ -324,7 +324,7 @@ module _ (w : Parts) (n : ℕ) (first : PlainFacts w) (few : n ≤ 33) (lacks : 
       i : ℕ
       i = arbiter_at w (Branch b)
 
-      at_its : s.arbiter ≡ i
+      at_its : s.domain ≡ i
       at_its = rw sits refl
 
       earlier : List Note

@@ -46,13 +46,13 @@ IsEven (Gather total first second) = Unit {0}
 
 -- a branch fires always, or one firing retires its arbiter
 abbrev pub Retires : Parts → Placement → ArbiterPart → Type 0
-Retires w s part = (s.branch.group ≡ groups.Always) ⊎ (((arbiter_after (first_branch w s.arbiter) part []).once ≡ true) × ((s.branch.group ≡ groups.Once) ⊎ (s.branch.group ≡ groups.Choice)))
+Retires w s part = (s.branch.group ≡ groups.Always) ⊎ (((arbiter_after (first_branch w s.domain) part []).once ≡ true) × ((s.branch.group ≡ groups.Once) ⊎ (s.branch.group ≡ groups.Choice)))
 
 -- what the proofs use of a valid wiring
 pub record PlainFacts (w : Parts) : Type 0 where
-  pub kinds_so : (b : ℕ) (s : Placement) (part : ArbiterPart) → placement w b ≡ Some s → slice_get w.arbiters s.arbiter ≡ Some part → part.kind ≡ s.kind
+  pub kinds_so : (b : ℕ) (s : Placement) (part : ArbiterPart) → placement w b ≡ Some s → slice_get w.arbiters s.domain ≡ Some part → part.kind ≡ s.kind
   pub groups_so : (b : ℕ) (s : Placement) → placement w b ≡ Some s → may_have s.kind s.branch.group ≡ true
-  pub retires : (b : ℕ) (s : Placement) (part : ArbiterPart) → placement w b ≡ Some s → slice_get w.arbiters s.arbiter ≡ Some part → is_interleave s.kind ≡ false → arbiters.has_spot (arbiter_after (first_branch w s.arbiter) part []) (Branch b) ≡ true → Retires w s part
+  pub retires : (b : ℕ) (s : Placement) (part : ArbiterPart) → placement w b ≡ Some s → slice_get w.arbiters s.domain ≡ Some part → is_interleave s.kind ≡ false → arbiters.has_spot (arbiter_after (first_branch w s.domain) part []) (Branch b) ≡ true → Retires w s part
   pub even : (b : ℕ) (s : Placement) → placement w b ≡ Some s → IsEven s.branch.pattern
   pub places_so : (spot : Spot) → Among spot (spots w) → SpotFits w spot
   pub sites_so : (task : Task) (site : ℕ) → (play_in w task).end ≡ plays.Yield site → SpotFits w (next_site task.spot)

@@ -85,14 +85,14 @@ its_branch w b i s part one sits at is number = of_placement (slice_get (placeme
         same : (x y : BranchPart) → Some x ≡ Some y → x ≡ y
         same x y e = cc
 
-retires_so : (w : Parts) → IsValid w → (b : ℕ) (s : Placement) (part : ArbiterPart) → placement w b ≡ Some s → slice_get w.arbiters s.arbiter ≡ Some part → is_interleave s.kind ≡ false → arbiters.has_spot (arbiter_after (first_branch w s.arbiter) part []) (Branch b) ≡ true → Retires w s part
+retires_so : (w : Parts) → IsValid w → (b : ℕ) (s : Placement) (part : ArbiterPart) → placement w b ≡ Some s → slice_get w.arbiters s.domain ≡ Some part → is_interleave s.kind ≡ false → arbiters.has_spot (arbiter_after (first_branch w s.domain) part []) (Branch b) ≡ true → Retires w s part
 retires_so w valid b s part sits at outside here = by s.kind s.branch.group refl refl (all.groups b s sits) outside
   where
     all : IsSound w
     all = sound w valid
 
     i : ℕ
-    i = s.arbiter
+    i = s.domain
 
     kind_so : part.kind ≡ s.kind
     kind_so = subst (λ (o : Option ArbiterPart). IsSomeAnd o (λ (p : ArbiterPart). p.kind ≡ s.kind)) at (all.domains b s sits)

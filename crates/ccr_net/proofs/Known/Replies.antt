@@ -7,7 +7,7 @@ use Rattle.ccr_wiring.specs.declared.parts.Parts.{Parts}
 use Rattle.ccr_claim.specs.declared.asks.Ask.{Ask}
 use Rattle.ccr_claim.specs.declared.asks.Reply.{Reply}
 use Rattle.ccr_claim.specs.Wired.{IsReplyOf}
-use Rattle.ccr_object.specs.declared.deed.Answer.TheVariants.{Replied}
+use Rattle.ccr_object.specs.declared.deed.PlaceAnswer.TheVariants.{Replied}
 use Rattle.ccr_object.specs.declared.deed.Deed.{Deed}
 use Rattle.ccr_object.specs.declared.object.Placed.{Placed}
 use Rattle.ccr_object.specs.Keeping.{answers_known, keeps_own}

@@ -153,7 +153,7 @@ domain-again (d ∷ ds) j apart = by (has_port d.members j) refl (domain-again d
 
 -- the number is the domain of a branch
 abbrev pub IsDomain : Parts → ℕ → Type 0
-IsDomain w i = (b : ℕ) × (s : Placement) × (placement w b ≡ Some s) × (s.arbiter ≡ i)
+IsDomain w i = (b : ℕ) × (s : Placement) × (placement w b ≡ Some s) × (s.domain ≡ i)
 
 pub domain_low : (w : Parts) (i : ℕ) → IsDomain w i → i < length w.arbiters
 domain_low w i is = subst (λ k. k < length w.arbiters) is.3 (placement-within w is.0 is.1 is.2)
@@ -174,8 +174,8 @@ domain_own w valid i is = of_placement (slice_get (placements_from 0 w.arbiters)
     of_placement : (o : Option Placement) → option_map (in_domain w.domains) o ≡ Some is.1 → (domain_of w.domains i == i) ≡ true
     of_placement None at = absurd (cc)
     of_placement (Some r) at =
-        let number : domain_of w.domains r.arbiter ≡ i = ap (λ (s : Placement). s.arbiter) (inside (in_domain w.domains r) is.1 at) ∙ is.3 in
-        ap (λ k. domain_of w.domains k == i) (sym number) ∙ ap (λ k. k == i) (domain-again w.domains r.arbiter apart ∙ number) ∙ eq-self i
+        let number : domain_of w.domains r.domain ≡ i = ap (λ (s : Placement). s.domain) (inside (in_domain w.domains r) is.1 at) ∙ is.3 in
+        ap (λ k. domain_of w.domains k == i) (sym number) ∙ ap (λ k. k == i) (domain-again w.domains r.domain apart ∙ number) ∙ eq-self i
 
 -- ---- spots
 
@@ -193,7 +193,7 @@ spot_known w (Branch b) fits = some-below _ b fits.0 fits.1
 spot_known w (Site b k) fits = ap is_some fits.1
 
 pub spot_domain : (w : Parts) (spot : Spot) → SpotFits w spot → IsDomain w (arbiter_at w spot)
-spot_domain w spot fits = let seat = seat_of w spot fits in (branch_of spot, seat.0, seat.1, sym (ap (λ o. option_map_or (λ (s : Placement). s.arbiter) o 0) seat.1))
+spot_domain w spot fits = let seat = seat_of w spot fits in (branch_of spot, seat.0, seat.1, sym (ap (λ o. option_map_or (λ (s : Placement). s.domain) o 0) seat.1))
 
 pub spot_queue : (w : Parts) → IsSound w → (spot : Spot) → SpotFits w spot → queue_at w spot < length w.queues
 spot_queue w all spot fits = let seat = seat_of w spot fits in subst (λ k. k < length w.queues) (sym (ap (λ o. option_map_or (λ (s : Placement). s.branch.queue) o 0) seat.1)) (all.queues (branch_of spot) seat.0 seat.1)
@@ -256,7 +256,7 @@ module _ (w : Parts) (all : IsSound w) (h : List Event) (legal : IsLegal w h) (t
   placed_so = ap (λ o. option_and_then (λ spot. placement w (branch_of spot)) (option_map (λ (f : Firing). f.spot) o)) fires.1
 
   arbiter_so : (view w h t).arbiter ≡ arbiter_at w fires.0.spot
-  arbiter_so = ap (λ o. option_map_or (λ (s : Placement). s.arbiter) o 0) placed_so
+  arbiter_so = ap (λ o. option_map_or (λ (s : Placement). s.domain) o 0) placed_so
 
   queue_so : (view w h t).queue ≡ queue_at w fires.0.spot
   queue_so = ap (λ o. option_map_or (λ (s : Placement). s.branch.queue) o 0) placed_so

@@ -159,12 +159,12 @@ cuts_distinct w h (Branch b) legal = of_option (placement w b)
     apart : (i : ℕ) → are_distinct_tasks (waiting w h i) ≡ true
     apart i = distinct-filter (λ u. not (has_task (ever_admitted h ++ cut h) u)) _ (some_once (λ (f : Firing). is_branch_where w (is_placement_in i) f.spot) (firings h) (fired_once w h legal))
 
-    of_option : (o : Option Placement) → are_distinct_tasks (option_map_or (λ (z : Placement). if is_teardown z.branch.group then waiting w h z.arbiter else []) o []) ≡ true
+    of_option : (o : Option Placement) → are_distinct_tasks (option_map_or (λ (z : Placement). if is_teardown z.branch.group then waiting w h z.domain else []) o []) ≡ true
     of_option None = refl
     of_option (Some z) = of_test (is_teardown z.branch.group)
       where
-        of_test : (c : Bool) → are_distinct_tasks (if c then waiting w h z.arbiter else []) ≡ true
-        of_test true = apart z.arbiter
+        of_test : (c : Bool) → are_distinct_tasks (if c then waiting w h z.domain else []) ≡ true
+        of_test true = apart z.domain
         of_test false = refl
 
 module _ (w : Parts) (n : ℕ) (lacks : Lacks) (es : List Entry) (holds : Holds w n lacks es) where
@@ -379,17 +379,17 @@ module _ (w : Parts) (n : ℕ) (lacks : Lacks) (es : List Entry) (e : Entry) (st
       facts : AdmitFacts w (visible es) t
       facts = AdmitFacts-allowed w (visible es) t (allowed (events.Admit t) shows)
 
-      waits_so : WaitingFacts w (visible es) facts.place.arbiter t
-      waits_so = WaitingFacts-waiting w (visible es) facts.place.arbiter t (OneName-legal w (visible es) holds.legal) facts.waits
+      waits_so : WaitingFacts w (visible es) facts.place.domain t
+      waits_so = WaitingFacts-waiting w (visible es) facts.place.domain t (OneName-legal w (visible es) holds.legal) facts.waits
 
       queue_so : queue_of w after t ≡ queue_of w (visible es) t
       queue_so = ap (λ g. queue_of w g t) shows ∙ queue_stays w (visible es) (events.Admit t ∷ []) t (waits_so.firing, waits_so.is_firing)
 
       is_new : (u : TaskId) → u ≡ t → IsNew (queue_of w after t) u
       is_new u same_name = subst (IsNew (queue_of w after t)) (sym same_name) (record {
-        one = let now = ap (many (queue_of w after t) t) is in let self : bit ((queue_of w after t == queue_of w after t) && (same_task t t || false)) ≡ 1 = rw (eq-self (queue_of w after t), same_task-self t) refl in let none = owes_none w n lacks es holds facts.place.arbiter t waits_so e.actor (queue_of w after t) in omega (arith, now, self, none);
-        met = same_at (places.Arbiter i) given.there refl (queue_of w after t) t (subst (λ q. is_booked_at w es q t ≡ true) (sym queue_so) (waiting_booked w n lacks es holds facts.place.arbiter t waits_so));
-        nobody = λ b other. owes_none w n lacks es holds facts.place.arbiter t waits_so b (queue_of w after t);
+        one = let now = ap (many (queue_of w after t) t) is in let self : bit ((queue_of w after t == queue_of w after t) && (same_task t t || false)) ≡ 1 = rw (eq-self (queue_of w after t), same_task-self t) refl in let none = owes_none w n lacks es holds facts.place.domain t waits_so e.actor (queue_of w after t) in omega (arith, now, self, none);
+        met = same_at (places.Arbiter i) given.there refl (queue_of w after t) t (subst (λ q. is_booked_at w es q t ≡ true) (sym queue_so) (waiting_booked w n lacks es holds facts.place.domain t waits_so));
+        nobody = λ b other. owes_none w n lacks es holds facts.place.domain t waits_so b (queue_of w after t);
       })
   on_of (booked spot given note was is) = changes_so (one_more (plan_of w spot).queue name (λ u k. now u k) is_new) _ given (λ q t. about_quiet (attempt_ask (plan_of w spot) name booking) q t refl)
     where

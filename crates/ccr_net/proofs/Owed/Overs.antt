@@ -281,7 +281,7 @@ module _ (w : Parts) (domains : HasDomains w) (n : ℕ) (lacks : Lacks) (es : Li
 
   -- the root of who is at work may be noted over
   pub at_work_may : (t : TaskId) → IsAtWork h t → may_over_at w es (arbiter_of w h t) (root_of h t) ≡ true
-  at_work_may t work = ap (λ i. may_over_at w es i root) (ap (λ o. option_map_or (λ (z : Placement). z.arbiter) o 0) placed) ∙ of_part (slice_get w.arbiters s.arbiter) refl (domains (branch_of fires.0.spot) s place.1)
+  at_work_may t work = ap (λ i. may_over_at w es i root) (ap (λ o. option_map_or (λ (z : Placement). z.domain) o 0) placed) ∙ of_part (slice_get w.arbiters s.domain) refl (domains (branch_of fires.0.spot) s place.1)
     where
       root : TaskId
       root = root_of h t
@@ -299,40 +299,40 @@ module _ (w : Parts) (domains : HasDomains w) (n : ℕ) (lacks : Lacks) (es : Li
       placed = placement_by w h t fires.0 fires.1 ∙ place.1
 
       earlier : List Note
-      earlier = notes_at es (places.Arbiter s.arbiter)
+      earlier = notes_at es (places.Arbiter s.domain)
 
-      ordinary : (part : ArbiterPart) → arbiters.may_over (arbiter_after (first_branch w s.arbiter) part earlier) root ≡ true
+      ordinary : (part : ArbiterPart) → arbiters.may_over (arbiter_after (first_branch w s.domain) part earlier) root ≡ true
       ordinary part = rw (there, none) refl
         where
           start : ArbiterState
-          start = arbiter_after (first_branch w s.arbiter) part []
+          start = arbiter_after (first_branch w s.domain) part []
 
           rooted : (g : Firing) × (firing_named h root ≡ Some g) × (g.spot ≡ Branch (branch_of fires.0.spot))
           rooted = AreRooted-legal w h holds.legal t fires.0 fires.1
 
-          passes : is_branch_where w (is_of s.arbiter) rooted.0.spot ≡ true
-          passes = ap (is_branch_where w (is_of s.arbiter)) rooted.2 ∙ ap (λ o. option_map_or (is_of s.arbiter) o false) place.1 ∙ eq-self s.arbiter
+          passes : is_branch_where w (is_of s.domain) rooted.0.spot ≡ true
+          passes = ap (is_branch_where w (is_of s.domain)) rooted.2 ∙ ap (λ o. option_map_or (is_of s.domain) o false) place.1 ∙ eq-self s.domain
 
-          there : has_task (arbiter_after (first_branch w s.arbiter) part earlier).fired root ≡ true
-          there = ap (λ ts. has_task ts root) ((kept_shape start earlier).fired ∙ ap (λ ts. ts ++ fired_there earlier) (none_at_first (first_branch w s.arbiter) part) ∙ holds.arbiters s.arbiter) ∙ fired_by_has w (is_of s.arbiter) h root rooted.0 rooted.1 passes
+          there : has_task (arbiter_after (first_branch w s.domain) part earlier).fired root ≡ true
+          there = ap (λ ts. has_task ts root) ((kept_shape start earlier).fired ∙ ap (λ ts. ts ++ fired_there earlier) (none_at_first (first_branch w s.domain) part) ∙ holds.arbiters s.domain) ∙ fired_by_has w (is_of s.domain) h root rooted.0 rooted.1 passes
 
-          none : has_task (arbiter_after (first_branch w s.arbiter) part earlier).over root ≡ false
-          none = refuted _ (λ is. no_both (noted s.arbiter root (subst (λ ts. has_task ts root ≡ true) (over_so start earlier ∙ ap (λ ts. ts ++ over_there earlier) (none_over_first (first_branch w s.arbiter) part)) is)) (not_over w h holds.legal t work))
+          none : has_task (arbiter_after (first_branch w s.domain) part earlier).over root ≡ false
+          none = refuted _ (λ is. no_both (noted s.domain root (subst (λ ts. has_task ts root ≡ true) (over_so start earlier ∙ ap (λ ts. ts ++ over_there earlier) (none_over_first (first_branch w s.domain) part)) is)) (not_over w h holds.legal t work))
 
-      of_part : (o : Option ArbiterPart) → slice_get w.arbiters s.arbiter ≡ o → IsSomeAnd o (λ (part : ArbiterPart). part.kind ≡ s.kind) → over_of w s.arbiter o earlier root ≡ true
+      of_part : (o : Option ArbiterPart) → slice_get w.arbiters s.domain ≡ o → IsSomeAnd o (λ (part : ArbiterPart). part.kind ≡ s.kind) → over_of w s.domain o earlier root ≡ true
       of_part None at none = absurd none
       of_part (Some part) at kind_so = by_kind part.kind refl
         where
-          shared : part.kind ≡ kinds.Interleave → interleaves.may_over (interleave_after w s.arbiter earlier) root ≡ true
-          shared is = kept_admitted (is_concurrent_task w h root) (domain_at w es s.arbiter) root ((holds.domains s.arbiter number).roots_so root (at_work_admitted w h holds.legal s.arbiter t within work))
+          shared : part.kind ≡ kinds.Interleave → interleaves.may_over (interleave_after w s.domain earlier) root ≡ true
+          shared is = kept_admitted (is_concurrent_task w h root) (domain_at w es s.domain) root ((holds.domains s.domain number).roots_so root (at_work_admitted w h holds.legal s.domain t within work))
             where
-              number : is_interleave_number w s.arbiter ≡ true
+              number : is_interleave_number w s.domain ≡ true
               number = ap (λ o. option_map_or (λ (p : ArbiterPart). plans.is_interleave p.kind) o false) at ∙ ap plans.is_interleave is
 
-              within : is_of_interleave w h s.arbiter t ≡ true
-              within = ap (λ o. option_map_or (is_placement_in s.arbiter) o false) placed ∙ ap (λ k. is_interleave k && (s.arbiter == s.arbiter)) (sym kind_so ∙ is) ∙ eq-self s.arbiter
+              within : is_of_interleave w h s.domain t ≡ true
+              within = ap (λ o. option_map_or (is_placement_in s.domain) o false) placed ∙ ap (λ k. is_interleave k && (s.domain == s.domain)) (sym kind_so ∙ is) ∙ eq-self s.domain
 
-          by_kind : (kind : Kind) → part.kind ≡ kind → over_in w s.arbiter kind part earlier root ≡ true
+          by_kind : (kind : Kind) → part.kind ≡ kind → over_in w s.domain kind part earlier root ≡ true
           by_kind kinds.Receive is = ordinary part
           by_kind kinds.Choice is = ordinary part
           by_kind kinds.Interleave is = shared is
@@ -516,7 +516,7 @@ module _ (w : Parts) (domains : HasDomains w) (n : ℕ) (lacks : Lacks) (es : Li
       root_so = ap (λ g. root_of g d) shows ∙ root_stays now (event ∷ []) d fires
 
       arbiter_so : arbiter_of w after d ≡ arbiter_of w now d
-      arbiter_so = ap (λ g. arbiter_of w g d) shows ∙ ap (λ o. option_map_or (λ (s : Placement). s.arbiter) o 0) (placement_stays w now (event ∷ []) d fires)
+      arbiter_so = ap (λ g. arbiter_of w g d) shows ∙ ap (λ o. option_map_or (λ (s : Placement). s.domain) o 0) (placement_stays w now (event ∷ []) d fires)
 
       lasting : is_over now (root_of after d) ≡ false
       lasting = ap (is_over now) root_so ∙ not_over w now holds.legal d work

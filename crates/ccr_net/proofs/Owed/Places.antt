@@ -120,9 +120,9 @@ waits_at w domains (Branch b) is = of_option (placement w b) refl is
         by kinds.Receive at = absurd (let out = rw at at kind_so in cc)
         by kinds.Choice at = absurd (let out = rw at at kind_so in cc)
 
-    of_option : (o : Option Placement) → placement w b ≡ o → option_map_or (λ (s : Placement). is_interleave s.kind) o false ≡ true → is_interleave_number w (option_map_or (λ (s : Placement). s.arbiter) o 0) ≡ true
+    of_option : (o : Option Placement) → placement w b ≡ o → option_map_or (λ (s : Placement). is_interleave s.kind) o false ≡ true → is_interleave_number w (option_map_or (λ (s : Placement). s.domain) o 0) ≡ true
     of_option None at now = absurd (cc)
-    of_option (Some s) at now = of_part s (slice_get w.arbiters s.arbiter) now (domains b s at)
+    of_option (Some s) at now = of_part s (slice_get w.arbiters s.domain) now (domains b s at)
 
 fired_admits : (w : Parts) → HasDomains w → (spot : Spot) (v : Task) (c : Bool) → waits w spot ≡ c → AreInterleaves w (admissions_after w spot (if c then None else Some v))
 fired_admits w domains spot v false is i none = absurd none

@@ -19,8 +19,8 @@ use Rattle.ccr_actor.specs.Actors.{next}
 use Rattle.ccr_actor.specs.Nets.{AreNext, IsProper, Step}
 use Rattle.ccr_actor.specs.Nets as nets
 use Rattle.ccr_actor.proofs.Followed.{next_more}
-use Rattle.ccr_object.specs.declared.deed.Answer.{Answer}
-use Rattle.ccr_object.specs.declared.deed.Answer.TheVariants.{Replied}
+use Rattle.ccr_object.specs.declared.deed.PlaceAnswer.{PlaceAnswer}
+use Rattle.ccr_object.specs.declared.deed.PlaceAnswer.TheVariants.{Replied}
 use Rattle.ccr_object.specs.declared.deed.Deed.{Deed}
 use Rattle.ccr_object.specs.declared.object.Placed.{Placed}
 use Rattle.ccr_object.specs.Objects.{after_deed, note_of, reply_of}
@@ -29,7 +29,7 @@ use Rattle.ccr_runs.specs.declared.acts.Act.{Act}
 use Rattle.ccr_runs.specs.Runs.{IsRunFrom, cast}
 use Rattle.ccr_runs.specs.Stories.{Scene, moved, story}
 use Rattle.ccr_runs.specs.declared.entries.Entry.{Entry}
-use Rattle.ccr_net.specs.Acted.{act_after, scene_from, scene_after, Stage}
+use Rattle.ccr_net.specs.Acted.{act_after, scene_from, scene_after, PlainState}
 use Rattle.ccr_net.specs.Owed.{cost, gain, most, owed_after, owed_by, owed_to, AreFitting}
 use Rattle.ccr_runs.specs.Played.{entries_of, entry_of, number_at, place_at, reply_in, rules, scene, step_of, steps_in}
 use Rattle.ccr_runs.specs.EntryRuns.{Lacks, IsRun, entry_for, never, replies_of, with_made}
@@ -202,7 +202,7 @@ module _ (w : Parts) (acts : List (Act Deed)) (serving : IsServing w acts) (k : 
           last : filter_map (step_of w) (story after_deed k (scene_after w acts) (act ∷ [])) ≡ step ∷ []
           last = ap (λ b. filter_map (step_of w) (cond b ((record { place = act.place; stamp = act.stamp; note = act.note; before = (scene_after w acts act.place).0; earlier = (scene_after w acts act.place).1 }) ∷ []) [])) (eq-self k)
               ∙ ap (λ (p : Place). cons_option (option_map (λ (r : Reply). record { asked = record { place = p; ask = one.ask }; reply = r }) (reply_in (reply_of (scene_after w acts (number_at w one.place)).0 one.ask))) []) there
-              ∙ ap (λ (a : Answer). cons_option (option_map (λ (r : Reply). record { asked = one; reply = r }) (reply_in a)) []) replied
+              ∙ ap (λ (a : PlaceAnswer). cons_option (option_map (λ (r : Reply). record { asked = one; reply = r }) (reply_in a)) []) replied
 
       pub steps_other : (j : ℕ) → (k == j) ≡ false → steps_in w (acts ++ act_after w acts k one.place one.ask ∷ []) j ≡ steps_in w acts j
       steps_other j other = steps-push w acts act j ∙ ap (λ b. steps_in w acts j ++ filter_map (step_of w) (cond b ((record { place = act.place; stamp = act.stamp; note = act.note; before = (scene_after w acts act.place).0; earlier = (scene_after w acts act.place).1 }) ∷ []) [])) other ∙ append-nil (steps_in w acts j)
@@ -300,23 +300,23 @@ free_so ask reply owed len capacity mid_len mid new_len new extra left fit withi
     by false other = let room = made other in omega (arith, within, room, same, longer, as_wide, is)
 
 -- what of the net contracts see
-abbrev pub seen : Stage → List Entry → Served
+abbrev pub seen : PlainState → List Entry → Served
 seen stage entries = record { wiring = stage.wiring; acts = stage.acts; entries = entries }
 
 -- one call of the net: what it began with, what it made room for, and what it did
-pub record Acts (old : Stage) (es : List Entry) (room owed count : ℕ) (k : ℕ) (one : Asked) : Type 0 where
+pub record Acts (old : PlainState) (es : List Entry) (room owed count : ℕ) (k : ℕ) (one : Asked) : Type 0 where
   pub roomy : IsRoomy old es room owed count
   pub proper : IsProper old.wiring k (steps_in old.wiring old.acts k) one
   pub is_seated : is_settling one.ask ≡ false → nat_lt k count ≡ true
 
-pub acts_from : (old : Stage) (es : List Entry) (room owed count k : ℕ) (one : Asked) (served : Served) → IsRoomy old es room owed count → seen old es ≡ served → IsProper served.wiring k (steps_in served.wiring served.acts k) one → (is_settling one.ask ≡ false → nat_lt k count ≡ true) → Acts old es room owed count k one
+pub acts_from : (old : PlainState) (es : List Entry) (room owed count k : ℕ) (one : Asked) (served : Served) → IsRoomy old es room owed count → seen old es ≡ served → IsProper served.wiring k (steps_in served.wiring served.acts k) one → (is_settling one.ask ≡ false → nat_lt k count ≡ true) → Acts old es room owed count k one
 acts_from old es room owed count k one served roomy view proper is_seated = record {
   roomy = roomy;
   proper = subst (λ (x : Served). IsProper x.wiring k (steps_in x.wiring x.acts k) one) (sym view) proper;
   is_seated = is_seated;
 }
 
-module _ (old : Stage) (es : List Entry) (room owed count k : ℕ) (one : Asked) (a : Acts old es room owed count k one) where
+module _ (old : PlainState) (es : List Entry) (room owed count k : ℕ) (one : Asked) (a : Acts old es room owed count k one) where
   abbrev w : Parts
   w = old.wiring
 
@@ -335,7 +335,7 @@ module _ (old : Stage) (es : List Entry) (room owed count k : ℕ) (one : Asked)
   pub act_costs : cost one.ask ≤ owed
   act_costs = let here = owed_here old.wiring old.acts a.roomy.serving k one a.proper low in let same = a.roomy.owes in omega (arith, here, same)
 
-  module _ (later : Stage) (more : List Entry) (entry : Entry) (reply : Reply) (wiring_so : later.wiring ≡ old.wiring) (acts_so : later.acts ≡ old.acts ++ act_after old.wiring old.acts k one.place one.ask ∷ []) (is_entry : entry_of old.wiring (act_after old.wiring old.acts k one.place one.ask) ≡ Some entry) (replied : reply_of (scene_after old.wiring old.acts (number_at old.wiring one.place)).0 one.ask ≡ Replied reply) (fit : fits (due_of one.ask) reply ≡ true) (more_so : more ≡ es ++ entry ∷ []) where
+  module _ (later : PlainState) (more : List Entry) (entry : Entry) (reply : Reply) (wiring_so : later.wiring ≡ old.wiring) (acts_so : later.acts ≡ old.acts ++ act_after old.wiring old.acts k one.place one.ask ∷ []) (is_entry : entry_of old.wiring (act_after old.wiring old.acts k one.place one.ask) ≡ Some entry) (replied : reply_of (scene_after old.wiring old.acts (number_at old.wiring one.place)).0 one.ask ≡ Replied reply) (fit : fits (due_of one.ask) reply ≡ true) (more_so : more ≡ es ++ entry ∷ []) where
     pub act_gains : gain reply ≤ most (length old.acts) one.ask
     act_gains = gains old.wiring old.acts a.roomy.serving k one a.proper low entry reply is_entry replied fit
 
@@ -377,7 +377,7 @@ module _ (old : Stage) (es : List Entry) (room owed count k : ℕ) (one : Asked)
         }))
 
 -- the start
-pub roomy_start : (stage : Stage) (es : List Entry) (room count : ℕ) → IsValid stage.wiring → stage.acts ≡ [] → es ≡ [] → count ≡ seats stage.wiring → IsRoomy stage es room 0 count
+pub roomy_start : (stage : PlainState) (es : List Entry) (room count : ℕ) → IsValid stage.wiring → stage.acts ≡ [] → es ≡ [] → count ≡ seats stage.wiring → IsRoomy stage es room 0 count
 roomy_start stage es room count valid none empty all =
     let P : List (Act Deed) → Type 0 = λ done. IsRoomy (record { wiring = stage.wiring; acts = done; room = stage.room }) es room 0 count in
     subst P (sym none) (record {
@@ -389,5 +389,5 @@ roomy_start stage es room count valid none empty all =
       seated = all;
     })
 
-pub roomy_run : (stage : Stage) (es : List Entry) (room owed count : ℕ) → IsRoomy stage es room owed count → IsRun stage.wiring 16 es
+pub roomy_run : (stage : PlainState) (es : List Entry) (room owed count : ℕ) → IsRoomy stage es room owed count → IsRun stage.wiring 16 es
 roomy_run stage es room owed count roomy = subst (IsRun stage.wiring 16) (sym roomy.same) (serving_run stage.wiring stage.acts roomy.serving)

@@ -39,7 +39,7 @@ fired_there earlier = flat_map fired_note earlier
 
 -- whether the branch is of the arbiter's domain
 abbrev pub is_of : ℕ → Placement → Bool
-is_of i s = s.arbiter == i
+is_of i s = s.domain == i
 
 -- at each arbiter
 abbrev pub ArbitersMatch : Parts → List Event → List Entry → Type 0
@@ -99,7 +99,7 @@ pub FiresAlike-other : (w : Parts) (e : Entry) (ev : Event) → event_of e ≡ e
 FiresAlike-other w e ev is none = FiresAlike-none w e (ap firings is ∙ append-nil (firing_of ev) ∙ none)
 
 -- a firing at a branch of the arbiter
-pub FiresAlike-fire : (w : Parts) (e : Entry) (i b : ℕ) (s : Placement) (t : TaskId) (ms : List MsgId) (cs : List TaskId) → placement w b ≡ Some s → s.arbiter ≡ i → e.place ≡ places.Arbiter i → e.note ≡ notes.Fired t (Branch b) ms cs → FiresAlike w e (event_of e)
+pub FiresAlike-fire : (w : Parts) (e : Entry) (i b : ℕ) (s : Placement) (t : TaskId) (ms : List MsgId) (cs : List TaskId) → placement w b ≡ Some s → s.domain ≡ i → e.place ≡ places.Arbiter i → e.note ≡ notes.Fired t (Branch b) ms cs → FiresAlike w e (event_of e)
 FiresAlike-fire w e i b s t ms cs sits at_i place note j = rw (note, place, sits, at_i) (by (i == j))
   where
     by : (c : Bool) → fired_there (if c then notes.Fired t (Branch b) ms cs ∷ [] else []) ≡ map (λ (f : Firing). f.task) (if c then (record { task = t; spot = Branch b; messages = ms; cuts = cs }) ∷ [] else [])
@@ -182,7 +182,7 @@ none_among p q (f ∷ fs) within none = by (q f) (p f) refl refl none (none_amon
     by false true e g now rest = absurd (cc)
     by false false e g now rest = rest now
 
-pub none_at_branch : (w : Parts) (h : List Event) (b i : ℕ) (s : Placement) → placement w b ≡ Some s → s.arbiter ≡ i → fired_by w (is_of i) h ≡ [] → fired_at h (Branch b) ≡ []
+pub none_at_branch : (w : Parts) (h : List Event) (b i : ℕ) (s : Placement) → placement w b ≡ Some s → s.domain ≡ i → fired_by w (is_of i) h ≡ [] → fired_at h (Branch b) ≡ []
 none_at_branch w h b i s sits at_i none = none_among (λ (f : Firing). is_branch_where w (is_of i) f.spot) (λ (f : Firing). same_spot f.spot (Branch b)) (firings h) (λ f is. here f.spot is) none
   where
     here : (spot : Spot) → same_spot spot (Branch b) ≡ true → is_branch_where w (is_of i) spot ≡ true

@@ -59,7 +59,7 @@ domain_at w es i = interleave_after w i (notes_at es (places.Arbiter i))
 
 -- a teardown branch of the domain
 abbrev pub tears : ℕ → Placement → Bool
-tears i s = (s.arbiter == i) && is_teardown s.branch.group
+tears i s = (s.domain == i) && is_teardown s.branch.group
 
 abbrev pub waiting_task : Waiting → TaskId
 waiting_task x = x.task
@@ -148,7 +148,7 @@ pub group_so : (w : Parts) (h : List Event) (i b : ℕ) (place : InterleaveState
 group_so w h i b place s sits within match = rw (match.branches_so, match.groups_so) (ap (λ k. group_among (branches_from i 0 (placements w)) (groups_in w i) (Branch k)) (let same : b ≡ 0 + b = omega arith in same) ∙ its_group i 0 b (placements w) s sits within)
 
 -- what a firing there cuts is what the rule cuts
-pub cuts_so : (w : Parts) (h : List Event) (i b : ℕ) (place : InterleaveState) (s : Placement) → placement w b ≡ Some s → s.arbiter ≡ i → is_placement_in i s ≡ true → DomainMatches w h i place → interleaves.cut_note place (Branch b) ≡ cuts_at w h (Branch b)
+pub cuts_so : (w : Parts) (h : List Event) (i b : ℕ) (place : InterleaveState) (s : Placement) → placement w b ≡ Some s → s.domain ≡ i → is_placement_in i s ≡ true → DomainMatches w h i place → interleaves.cut_note place (Branch b) ≡ cuts_at w h (Branch b)
 cuts_so w h i b place s sits at_i within match = rw (group_so w h i b place s sits within match, sits, at_i, same_teardown s.branch.group, match.waiting_so) refl
 
 -- ---- an event that fires nothing and admits nobody
@@ -252,7 +252,7 @@ DomainMatches-fire w h t b ms i s place legal allowed sits within match = record
         no_and false = refl
 
         untorn : is_branch_where w (tears i) (Branch b) ≡ false
-        untorn = rw (sits, is) (no_and (s.arbiter == i))
+        untorn = rw (sits, is) (no_and (s.domain == i))
 
 -- ---- the oldest waiting task
 
@@ -267,7 +267,7 @@ pub record Oldest (w : Parts) (h : List Event) (i : ℕ) (place : InterleaveStat
   pub placed : placement_of w h first.task ≡ Some s
   pub sits : placement w number ≡ Some s
   pub within : is_placement_in i s ≡ true
-  pub at_i : s.arbiter ≡ i
+  pub at_i : s.domain ≡ i
   pub waits : waiting w h i ≡ first.task ∷ map waiting_task others
 
 abbrev pub oldest : (w : Parts) (h : List Event) (i : ℕ) (place : InterleaveState) (x : Waiting) (others : List Waiting) → IsLegal w h → place.waiting ≡ x ∷ others → DomainMatches w h i place → Oldest w h i place
@@ -287,7 +287,7 @@ oldest w h i place x others legal list match =
       placed = placement_by w h x.task known.firing known.is_firing ∙ ap (λ r. placement w (branch_of r)) at_branch.is_branch ∙ at_branch.is_place;
       sits = at_branch.is_place;
       within = at_branch.passes;
-      at_i = same_number at_branch.place.arbiter i (both (is_interleave at_branch.place.kind) (at_branch.place.arbiter == i) at_branch.passes).1;
+      at_i = same_number at_branch.place.domain i (both (is_interleave at_branch.place.kind) (at_branch.place.domain == i) at_branch.passes).1;
       waits = waits_so;
     }
   where
@@ -385,7 +385,7 @@ pub DomainsMatch-resume : (w : Parts) (h : List Event) (es : List Entry) (e : En
 DomainsMatch-resume w h es e t b k ms legal allowed there match = DomainsMatch-elsewhere w (h ++ events.Fire t (Site b k) ms [] ∷ []) es e (places.Site b k) there refl (λ i is. DomainMatches-fire-else w h t (Site b k) ms [] i (domain_at w es i) legal allowed refl refl (none_gone (waiting w h i)) (match i is))
 
 -- where the branch is of another number
-other_branch : (w : Parts) (b i j : ℕ) (s : Placement) → placement w b ≡ Some s → s.arbiter ≡ j → (j == i) ≡ false → (is_branch_where w (is_placement_in i) (Branch b) ≡ false) × (is_branch_where w (tears i) (Branch b) ≡ false)
+other_branch : (w : Parts) (b i j : ℕ) (s : Placement) → placement w b ≡ Some s → s.domain ≡ j → (j == i) ≡ false → (is_branch_where w (is_placement_in i) (Branch b) ≡ false) × (is_branch_where w (tears i) (Branch b) ≡ false)
 other_branch w b i j s sits at_j other = (rw (sits, at_j, other) (no_and (is_interleave s.kind)), rw (sits, at_j, other) refl)
   where
     no_and : (c : Bool) → c && false ≡ false
@@ -393,7 +393,7 @@ other_branch w b i j s sits at_j other = (rw (sits, at_j, other) (no_and (is_int
     no_and false = refl
 
 -- a firing at a receiver or a choice
-pub DomainsMatch-branch : (w : Parts) (h : List Event) (es : List Entry) (e : Entry) (t : TaskId) (b j : ℕ) (s : Placement) (ms : List MsgId) → IsLegal w h → IsAllowed w h (events.Fire t (Branch b) ms []) → placement w b ≡ Some s → s.arbiter ≡ j → is_interleave_number w j ≡ false → e.place ≡ places.Arbiter j → e.note ≡ notes.Fired t (Branch b) ms [] → DomainsMatch w h es → DomainsMatch w (h ++ events.Fire t (Branch b) ms [] ∷ []) (es ++ e ∷ [])
+pub DomainsMatch-branch : (w : Parts) (h : List Event) (es : List Entry) (e : Entry) (t : TaskId) (b j : ℕ) (s : Placement) (ms : List MsgId) → IsLegal w h → IsAllowed w h (events.Fire t (Branch b) ms []) → placement w b ≡ Some s → s.domain ≡ j → is_interleave_number w j ≡ false → e.place ≡ places.Arbiter j → e.note ≡ notes.Fired t (Branch b) ms [] → DomainsMatch w h es → DomainsMatch w (h ++ events.Fire t (Branch b) ms [] ∷ []) (es ++ e ∷ [])
 DomainsMatch-branch w h es e t b j s ms legal allowed sits at_j plain there noted match = DomainsMatch-at w (h ++ events.Fire t (Branch b) ms [] ∷ []) es e j (notes.Fired t (Branch b) ms []) there noted (λ is. absurd (no_both is plain)) (λ i other is. (let out = other_branch w b i j s sits at_j other in DomainMatches-fire-else w h t (Branch b) ms [] i (domain_at w es i) legal allowed out.0 out.1 (none_gone (waiting w h i)) (match i is)))
 
 -- a firing at a branch of an Interleave
@@ -405,8 +405,8 @@ DomainsMatch-fire w h es e t b j s ms legal allowed sits within number there not
     cs : List TaskId
     cs = interleaves.cut_note (domain_at w es j) (Branch b)
 
-    at_j : s.arbiter ≡ j
-    at_j = same_number s.arbiter j (both (is_interleave s.kind) (s.arbiter == j) within).1
+    at_j : s.domain ≡ j
+    at_j = same_number s.domain j (both (is_interleave s.kind) (s.domain == j) within).1
 
     stay : (i : ℕ) → (j == i) ≡ false → without (waiting w h i) cs ≡ waiting w h i
     stay i other = by (interleaves.is_teardown (group_at (domain_at w es j) (Branch b)))
@@ -436,10 +436,10 @@ roots_admitted w h t i place place' legal fires grows new match u is =
     stays = ap (λ o. option_map_or (λ (s : Placement). is_concurrent s.branch.group) o false) placed
 
     within_before : is_in_arbiter w (h ++ events.Admit t ∷ []) i t ≡ true → is_in_arbiter w h i t ≡ true
-    within_before is' = ap (λ o. option_map_or (λ (s : Placement). s.arbiter == i) o false) (sym placed) ∙ is'
+    within_before is' = ap (λ o. option_map_or (λ (s : Placement). s.domain == i) o false) (sym placed) ∙ is'
 
 -- of another domain
-admit_else : (w : Parts) (h : List Event) (t : TaskId) (i j : ℕ) (place : InterleaveState) (s : Placement) → IsLegal w h → has_task (waiting w h j) t ≡ true → placement_of w h t ≡ Some s → s.arbiter ≡ j → IsFired h t → (j == i) ≡ false → DomainMatches w h i place → DomainMatches w (h ++ events.Admit t ∷ []) i place
+admit_else : (w : Parts) (h : List Event) (t : TaskId) (i j : ℕ) (place : InterleaveState) (s : Placement) → IsLegal w h → has_task (waiting w h j) t ≡ true → placement_of w h t ≡ Some s → s.domain ≡ j → IsFired h t → (j == i) ≡ false → DomainMatches w h i place → DomainMatches w (h ++ events.Admit t ∷ []) i place
 admit_else w h t i j place s legal waits placed at_j fires other match = record {
   branches_so = match.branches_so;
   groups_so = match.groups_so;

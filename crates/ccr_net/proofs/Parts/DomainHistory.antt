@@ -153,7 +153,7 @@ pub admitted_before : (w : Parts) (h : List Event) (e : Event) (i : ℕ) (t : Ta
 admitted_before w h e i t legal entered is =
     let facts = AdmittedFacts-admitted w (h ++ e ∷ []) i t is in
     let stays = placement_stays w h (e ∷ []) t (ever_admitted_fired w h legal t entered) in
-    let within : is_in_arbiter w h i t ≡ true = ap (λ o. option_map_or (λ (s : Placement). s.arbiter == i) o false) (sym stays) ∙ facts.within in
+    let within : is_in_arbiter w h i t ≡ true = ap (λ o. option_map_or (λ (s : Placement). s.domain == i) o false) (sym stays) ∙ facts.within in
     admitted_whole w h i t entered within (refuted (is_over h t) (λ over. no_both (over_stays h e t (lasts_fired w h legal) over) facts.lasts))
 
 pub concurrent_stays : (w : Parts) (h : List Event) (e : Event) (t : TaskId) → IsLegal w h → has_task (ever_admitted h) t ≡ true → is_concurrent_task w (h ++ e ∷ []) t ≡ is_concurrent_task w h t

@@ -12,7 +12,7 @@ use Rattle.ccr_base.specs.declared.names.Place.{Place}
 use Rattle.ccr_wiring.specs.declared.parts.Parts.{Parts}
 use Rattle.ccr_model.proofs.Booleans.{same_number, eq-self}
 use Rattle.ccr_claim.specs.declared.asks.Ask.{Ask}
-use Rattle.ccr_object.specs.declared.deed.Answer.{Answer}
+use Rattle.ccr_object.specs.declared.deed.PlaceAnswer.{PlaceAnswer}
 use Rattle.ccr_object.specs.declared.deed.Deed.{Deed}
 use Rattle.ccr_object.specs.declared.object.PlaceObject.{PlaceObject}
 use Rattle.ccr_object.specs.declared.object.Placed.{Placed}
@@ -21,7 +21,7 @@ use Rattle.ccr_object.specs.Starts.{placed_at, places_of}
 use Rattle.ccr_runs.specs.declared.acts.Act.{Act}
 use Rattle.ccr_runs.specs.Stories.{Scene, moved}
 use Rattle.ccr_runs.specs.Played.{scene}
-use Rattle.ccr_net.specs.Acted.{scene_from, scene_after, stamp_from, stamp_of, deed_at, act_at, placed_in, IsLeft}
+use Rattle.ccr_net.specs.Acted.{scene_from, scene_after, stamp_from, stamp_of, deed_at, act_at, placed_in, seen_acts, IsLeft}
 
 -- ---- outcomes
 
@@ -41,7 +41,7 @@ pub on_err : {X E : Type 0} {P Q : Type 0} (r : Result X E) → (P → Q) → On
 on_err (Ok x) f p = tt
 on_err (Err e) f p = f p
 
-pub deed_given : (x : Placed) (ask : Ask) (r : Result (Answer × Deed) OutOfMemory) → IfOk r (λ (given : Answer × Deed). given.1.note ≡ note_of x ask) → IfOk r (λ (given : Answer × Deed). given.1.ask.value ≡ ask) → IfOk r (λ (given : Answer × Deed). given.1 ≡ deed_at x ask)
+pub deed_given : (x : Placed) (ask : Ask) (r : Result (PlaceAnswer × Deed) OutOfMemory) → IfOk r (λ (given : PlaceAnswer × Deed). given.1.note ≡ note_of x ask) → IfOk r (λ (given : PlaceAnswer × Deed). given.1.ask.value ≡ ask) → IfOk r (λ (given : PlaceAnswer × Deed). given.1 ≡ deed_at x ask)
 deed_given x ask (Ok given) note asks = λ j. record { note = note j; ask = record { marker = record {}; value = asks j } }
 deed_given x ask (Err e) note asks = tt
 
@@ -166,9 +166,6 @@ IsLeft-start w places objects ps qs all stand count seats none nobody = record {
 
 pub act_here : (w : Parts) (acts : List (Act Deed)) (number actor : ℕ) (ask : Ask) (stamp : ℕ) (deed : Deed) → stamp ≡ suc (max (scene_after w acts number).1 (stamp_of actor acts)) → deed ≡ deed_at (scene_after w acts number).0 ask → ◌≡◌ {A = Act Deed} (record { place = number; seat = actor; stamp = stamp; note = deed }) (act_at (scene_after w acts) (stamp_of actor acts) number actor ask)
 act_here w acts number actor ask stamp deed stamps gives = λ j. record { place = number; seat = actor; stamp = stamps j; note = gives j }
-
-abbrev pub seen_acts : List (Snapshot (Act Deed)) → List (Act Deed)
-seen_acts items = map (λ (seen : Snapshot (Act Deed)). seen.value) items
 
 pub seen-push : (items : List (Snapshot (Act Deed))) (seen : Snapshot (Act Deed)) (done : Act Deed) → seen.value ≡ done → seen_acts (items ++ seen ∷ []) ≡ seen_acts items ++ done ∷ []
 seen-push items seen done is = map-append (λ (s : Snapshot (Act Deed)). s.value) items (seen ∷ []) ∙ ap (λ a. seen_acts items ++ a ∷ []) is

@@ -74,7 +74,7 @@ module _ (w : Parts) (valid : IsValid w) (plain : PlainFacts w) (i : ℕ) (part 
     where
       unwaiting : waits w task.spot ≡ false
       unwaiting =
-          let part_of : slice_get w.arbiters built.seat.arbiter ≡ Some part = ap (slice_get w.arbiters) built.at_i ∙ at in
+          let part_of : slice_get w.arbiters built.seat.domain ≡ Some part = ap (slice_get w.arbiters) built.at_i ∙ at in
           let kind : part.kind ≡ built.seat.kind = plain.kinds_so built.number built.seat part built.sits part_of in
           ap (waits w) built.branch ∙ ap (λ o. option_map_or (λ (s : Placement). is_interleave s.kind) o false) built.sits ∙ ap is_interleave (sym kind) ∙ outside
 

@@ -224,7 +224,7 @@ pub record IsBuilt (w : Parts) (es : List Entry) (e : Entry) (i : ℕ) (task : T
   pub seat : Placement
   pub branch : task.spot ≡ Branch number
   pub sits : placement w number ≡ Some seat
-  pub at_i : seat.arbiter ≡ i
+  pub at_i : seat.domain ≡ i
   pub whole : (cs : List TaskId) → e.note ≡ notes.Fired task.id task.spot ms cs → task ≡ view w (visible (es ++ e ∷ [])) task.id
 
 -- a task committed at the site goes on for the first that is suspended there

@@ -4,13 +4,13 @@ use Rattle.std.specs.Option.{is_some}
 use Rattle.ccr_claim.specs.declared.asks.Ask.{Ask}
 use Rattle.ccr_claim.specs.declared.asks.Reply.{Reply}
 use Rattle.ccr_places.specs.declared.notes.Note.{Note}
-use Rattle.ccr_object.specs.declared.deed.Answer.{Answer}
-use Rattle.ccr_object.specs.declared.deed.Answer.TheVariants.{Replied, Unmet}
+use Rattle.ccr_object.specs.declared.deed.PlaceAnswer.{PlaceAnswer}
+use Rattle.ccr_object.specs.declared.deed.PlaceAnswer.TheVariants.{Replied, Unmet}
 use Rattle.ccr_object.specs.declared.object.Placed.{Placed}
 use Rattle.ccr_object.specs.Objects.{answer_at, answered, is_due, note_of, noted, reply_of}
 use Rattle.ccr_net.specs.Acted.{IsFitting}
 
-pub fitting_answer : (ask : Ask) (answer : Answer) → is_due ask answer ≡ true → IsFitting ask answer
+pub fitting_answer : (ask : Ask) (answer : PlaceAnswer) → is_due ask answer ≡ true → IsFitting ask answer
 fitting_answer ask (Replied reply) due = due
 fitting_answer ask Unmet due = tt
 

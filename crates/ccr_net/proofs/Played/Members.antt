@@ -100,17 +100,17 @@ length-numbered b [] = refl
 length-numbered b (x ∷ xs) = ap suc (length-numbered (b + 1) xs)
 
 module _ (ds : List DomainPart) (i : ℕ) where
-  others : (n b : ℕ) (kind : Kind) (branches : List BranchPart) (rest : List Placement) → (domain_of ds n == i) ≡ false → members_from i b (map (in_domain ds) (map (λ branch. record { arbiter = n; kind = kind; branch = branch }) branches ++ rest)) ≡ members_from i (b + length branches) (map (in_domain ds) rest)
+  others : (n b : ℕ) (kind : Kind) (branches : List BranchPart) (rest : List Placement) → (domain_of ds n == i) ≡ false → members_from i b (map (in_domain ds) (map (λ branch. record { domain = n; kind = kind; branch = branch }) branches ++ rest)) ≡ members_from i (b + length branches) (map (in_domain ds) rest)
   others n b kind [] rest apart = ap (λ k. members_from i k (map (in_domain ds) rest)) (let same : b ≡ b + 0 = omega arith in same)
   others n b kind (x ∷ xs) rest apart =
-      ap (λ t. cons_option (if t then Some (b, x.group) else None) (members_from i (b + 1) (map (in_domain ds) (map (λ branch. record { arbiter = n; kind = kind; branch = branch }) xs ++ rest)))) apart
+      ap (λ t. cons_option (if t then Some (b, x.group) else None) (members_from i (b + 1) (map (in_domain ds) (map (λ branch. record { domain = n; kind = kind; branch = branch }) xs ++ rest)))) apart
       ∙ others n (b + 1) kind xs rest apart
       ∙ ap (λ k. members_from i k (map (in_domain ds) rest)) (let same : (b + 1) + length xs ≡ b + length (x ∷ xs) = omega arith in same)
 
-  own : (n b : ℕ) (kind : Kind) (branches : List BranchPart) (rest : List Placement) → (domain_of ds n == i) ≡ true → members_from i b (map (in_domain ds) (map (λ branch. record { arbiter = n; kind = kind; branch = branch }) branches ++ rest)) ≡ numbered b branches ++ members_from i (b + length branches) (map (in_domain ds) rest)
+  own : (n b : ℕ) (kind : Kind) (branches : List BranchPart) (rest : List Placement) → (domain_of ds n == i) ≡ true → members_from i b (map (in_domain ds) (map (λ branch. record { domain = n; kind = kind; branch = branch }) branches ++ rest)) ≡ numbered b branches ++ members_from i (b + length branches) (map (in_domain ds) rest)
   own n b kind [] rest here = ap (λ k. members_from i k (map (in_domain ds) rest)) (let same : b ≡ b + 0 = omega arith in same)
   own n b kind (x ∷ xs) rest here =
-      ap (λ t. cons_option (if t then Some (b, x.group) else None) (members_from i (b + 1) (map (in_domain ds) (map (λ branch. record { arbiter = n; kind = kind; branch = branch }) xs ++ rest)))) here
+      ap (λ t. cons_option (if t then Some (b, x.group) else None) (members_from i (b + 1) (map (in_domain ds) (map (λ branch. record { domain = n; kind = kind; branch = branch }) xs ++ rest)))) here
       ∙ ap (λ l. (b, x.group) ∷ l) (own n (b + 1) kind xs rest here ∙ ap (λ k. numbered (b + 1) xs ++ members_from i k (map (in_domain ds) rest)) (let same : (b + 1) + length xs ≡ b + length (x ∷ xs) = omega arith in same))
 
   module _ (test : (j : ℕ) → (domain_of ds j == i) ≡ (j == i)) where

@@ -20,8 +20,8 @@ use Rattle.ccr_actor.specs.Hands.{AreSettling}
 use Rattle.ccr_actor.proofs.Followed.{state_short}
 use Rattle.ccr_actor.proofs.Kept.{kept_asked, kept_short, kept_whole}
 use Rattle.ccr_actor.proofs.Settled.{all_settle, short_settles}
-use Rattle.ccr_object.specs.declared.deed.Answer.{Answer}
-use Rattle.ccr_object.specs.declared.deed.Answer.TheVariants.{Replied, Unmet}
+use Rattle.ccr_object.specs.declared.deed.PlaceAnswer.{PlaceAnswer}
+use Rattle.ccr_object.specs.declared.deed.PlaceAnswer.TheVariants.{Replied, Unmet}
 use Rattle.ccr_object.specs.declared.deed.Deed.{Deed}
 use Rattle.ccr_object.specs.declared.object.Placed.{Placed}
 use Rattle.ccr_object.specs.Objects.{after_deed, reply_of}
@@ -29,7 +29,7 @@ use Rattle.ccr_runs.specs.declared.acts.Act.{Act}
 use Rattle.ccr_runs.specs.Runs.{Cast, IsRunFrom, cast, taught}
 use Rattle.ccr_runs.specs.Stories.{Scene, moved}
 use Rattle.ccr_runs.specs.declared.entries.Entry.{Entry}
-use Rattle.ccr_net.specs.Acted.{Stage}
+use Rattle.ccr_net.specs.Acted.{PlainState}
 use Rattle.ccr_runs.specs.Played.{Heard, entries_of, heard, next_of, numbered, rules, scene}
 use Rattle.ccr_runs.specs.EntryRuns.{Lacks, entry_for, made_by, never, replies_of, scheduled, scheduled_from, with_made, IsRun, IsRunAfter}
 use Rattle.ccr_net.specs.Schedules.{IsActing, IsPlayed, IsShortAfter, IsStep}
@@ -144,7 +144,7 @@ fewer w k n given less =
     let no : nat_le n (length given) ≡ false = grind (arith, nat_tests, less) in
     ap (λ b. asked w k (cond b (after_all w k (shorten w k (after_all w k (start w k) (take n given))) (drop n given)) (after_all w k (start w k) given))) no
 
-heard_more : (s : Heard) (answer : Answer) → length s.given ≤ length (heard s answer).given
+heard_more : (s : Heard) (answer : PlaceAnswer) → length s.given ≤ length (heard s answer).given
 heard_more s (Replied reply) = longer s.given (reply ∷ [])
 heard_more s Unmet = same_length (length s.given)
 
@@ -199,7 +199,7 @@ module _ (w : Parts) (workers : ℕ) (lacks : Lacks) (valid : IsValid w) (few : 
 
 -- ---- one turn
 
-module _ (workers : ℕ) (lacks : Lacks) (stage : Stage) (team : List Acting) (entries : List Entry) (few : workers ≤ 16) (played : IsPlayed workers lacks stage team entries) (k : ℕ) (low : k < length team) (a : Acting) (there : slice_get team k ≡ Some a) where
+module _ (workers : ℕ) (lacks : Lacks) (stage : PlainState) (team : List Acting) (entries : List Entry) (few : workers ≤ 16) (played : IsPlayed workers lacks stage team entries) (k : ℕ) (low : k < length team) (a : Acting) (there : slice_get team k ≡ Some a) where
   abbrev w : Parts
   w = stage.wiring
 
@@ -243,7 +243,7 @@ module _ (workers : ℕ) (lacks : Lacks) (stage : Stage) (team : List Acting) (e
         let is : actors.next w k (lacks k) (replies_of w entries k) ≡ None = sym (next_same w lacks entries k a (played.acting k a there)) ∙ none in
         subst (λ r. HasRun workers r stage team entries asks) (sym (ap (turned_by w refused run k) is)) (record { played = played; number = refl; same = refl })
 
-    module _ (later : Stage) (b : Acting) (more : List Entry) (number : ℕ) (turn : IsTurn refused asks stage a entries later b more number) where
+    module _ (later : PlainState) (b : Acting) (more : List Entry) (number : ℕ) (turn : IsTurn refused asks stage a entries later b more number) where
       by_turn : (s r : Bool) → is_settling turn.one.ask ≡ s → IsTaken s r turn.one asks stage a entries later b more number → HasRun workers (if s then make w run k else (if r then refuse w (counted run) k else make w (counted run) k)) later (slice_set team k b) more number
       by_turn true r is taken =
           let step : IsStep stage a entries later b more = record { one = turn.one; asks = turn.is; made = taken.0 } in
@@ -254,7 +254,7 @@ module _ (workers : ℕ) (lacks : Lacks) (stage : Stage) (team : List Acting) (e
           }
       by_turn false true is taken =
           let here = played_refused b turn.one turn.is is taken.0 in
-          let after = subst (λ (s : Stage). IsPlayed workers (lacking lacks k count) s (slice_set team k b) entries) (sym taken.1.0) here in
+          let after = subst (λ (s : PlainState). IsPlayed workers (lacking lacks k count) s (slice_set team k b) entries) (sym taken.1.0) here in
           record {
             played = subst (IsPlayed workers (lacking lacks k count) later (slice_set team k b)) (sym taken.1.1.0) after;
             number = taken.1.1.1;
@@ -274,10 +274,10 @@ module _ (workers : ℕ) (lacks : Lacks) (stage : Stage) (team : List Acting) (e
           subst (λ r. HasRun workers r later (slice_set team k b) more number) (sym (ap (turned_by w refused run k) is)) (by_turn (is_settling turn.one.ask) (is_refused refused asks) refl turn.taken)
 
 -- what a turn leaves in any case: the wiring, and at most one ask more
-module _ (refused : List ℕ) (asks : ℕ) (stage : Stage) (a : Acting) (entries : List Entry) (later : Stage) (b : Acting) (more : List Entry) (number : ℕ) where
+module _ (refused : List ℕ) (asks : ℕ) (stage : PlainState) (a : Acting) (entries : List Entry) (later : PlainState) (b : Acting) (more : List Entry) (number : ℕ) where
   wiring_by : (s r : Bool) (one : Asked) → IsTaken s r one asks stage a entries later b more number → later.wiring ≡ stage.wiring
   wiring_by true r one taken = taken.0.wiring
-  wiring_by false true one taken = ap (λ (s : Stage). s.wiring) taken.1.0
+  wiring_by false true one taken = ap (λ (s : PlainState). s.wiring) taken.1.0
   wiring_by false false one taken = taken.0.wiring
 
   few_by : (s r : Bool) (one : Asked) → IsTaken s r one asks stage a entries later b more number → number ≤ asks + 1
@@ -292,7 +292,7 @@ module _ (refused : List ℕ) (asks : ℕ) (stage : Stage) (a : Acting) (entries
   turn_few turn = few_by (is_settling turn.one.ask) (is_refused refused asks) turn.one turn.taken
 
 -- a turn, by what became of its ask
-pub taken_turn : (s r : Bool) (refused : List ℕ) (asks : ℕ) (stage : Stage) (a : Acting) (entries : List Entry) (later : Stage) (b : Acting) (more : List Entry) (number : ℕ) (one : Asked) → next a ≡ Some one → is_settling one.ask ≡ s → is_refused refused asks ≡ r → IsTaken s r one asks stage a entries later b more number → IsTurn refused asks stage a entries later b more number
+pub taken_turn : (s r : Bool) (refused : List ℕ) (asks : ℕ) (stage : PlainState) (a : Acting) (entries : List Entry) (later : PlainState) (b : Acting) (more : List Entry) (number : ℕ) (one : Asked) → next a ≡ Some one → is_settling one.ask ≡ s → is_refused refused asks ≡ r → IsTaken s r one asks stage a entries later b more number → IsTurn refused asks stage a entries later b more number
 taken_turn s r refused asks stage a entries later b more number one is settles refuses taken =
     let P : Bool → Bool → Type 0 = λ s r. IsTaken s r one asks stage a entries later b more number in
     record { one = one; is = is; taken = subst (λ x. P x (is_refused refused asks)) (sym settles) (subst (P s) (sym refuses) taken) }
@@ -304,7 +304,7 @@ if_ok (Ok x) f p = f x p
 if_ok (Err e) f p = tt
 
 -- the turns so far, and those still to come, give the whole run
-pub record IsAhead (workers : ℕ) (w : Parts) (refused turns : List ℕ) (i : ℕ) (stage : Stage) (team : List Acting) (entries : List Entry) (asks : ℕ) : Type 0 where
+pub record IsAhead (workers : ℕ) (w : Parts) (refused turns : List ℕ) (i : ℕ) (stage : PlainState) (team : List Acting) (entries : List Entry) (asks : ℕ) : Type 0 where
   pub run : SoFar
   pub has : HasRun workers run stage team entries asks
   pub wiring : stage.wiring ≡ w
@@ -315,7 +315,7 @@ pub turned_on : (w : Parts) (refused turns : List ℕ) (i : ℕ) (run : SoFar) �
 turned_on w refused turns i run low = ap (turned_from w refused run) (sym (drop_here turns i low))
 
 -- one turn more
-pub ahead_on : (workers : ℕ) (w : Parts) (refused turns : List ℕ) (i : ℕ) (stage : Stage) (team : List Acting) (entries : List Entry) (asks : ℕ) (later : Stage) (after : List Acting) (more : List Entry) (number : ℕ)
+pub ahead_on : (workers : ℕ) (w : Parts) (refused turns : List ℕ) (i : ℕ) (stage : PlainState) (team : List Acting) (entries : List Entry) (asks : ℕ) (later : PlainState) (after : List Acting) (more : List Entry) (number : ℕ)
     → IsAhead workers w refused turns i stage team entries asks → i < length turns → later.wiring ≡ stage.wiring → number ≤ asks + 1
     → ((lacks : Lacks) → IsPlayed workers lacks stage team entries → HasRun workers (turned stage.wiring refused (record { lacks = lacks; asks = asks; entries = entries }) (get_or turns i 0)) later after more number)
     → IsAhead workers w refused turns (i + 1) later after more number
@@ -331,7 +331,7 @@ ahead_on workers w refused turns i stage team entries asks later after more numb
       ahead = ap (λ (r : SoFar). r.entries) (turned_on w refused turns i run low) ∙ ahead.ahead;
     }
 
-module _ (workers : ℕ) (w : Parts) (refused turns : List ℕ) (i : ℕ) (stage : Stage) (team : List Acting) (entries : List Entry) (asks : ℕ) (ahead : IsAhead workers w refused turns i stage team entries asks) where
+module _ (workers : ℕ) (w : Parts) (refused turns : List ℕ) (i : ℕ) (stage : PlainState) (team : List Acting) (entries : List Entry) (asks : ℕ) (ahead : IsAhead workers w refused turns i stage team entries asks) where
   -- the end of the turns
   pub ahead_ends : drop i turns ≡ [] → entries ≡ run_shortened w refused turns
   ahead_ends none = ahead.has.same ∙ ap (λ (ts : List ℕ). (turned_from w refused ahead.run ts).entries) (sym none) ∙ ahead.ahead

@@ -46,7 +46,7 @@ domain_arbiter w i number =
     of_kind kinds.Interleave is = refl
 
 -- a branch of the domain is one of an Interleave
-pub domain_branch : (w : Parts) → PlainFacts w → (i : ℕ) → is_interleave_number w i ≡ true → (b : ℕ) (s : Placement) → placement w b ≡ Some s → s.arbiter ≡ i → is_interleave s.kind ≡ true
+pub domain_branch : (w : Parts) → PlainFacts w → (i : ℕ) → is_interleave_number w i ≡ true → (b : ℕ) (s : Placement) → placement w b ≡ Some s → s.domain ≡ i → is_interleave s.kind ≡ true
 domain_branch w plain i number b s sits at_i =
     let its = domain_arbiter w i number in
     let kind : s.kind ≡ kinds.Interleave = sym (plain.kinds_so b s its.part sits (ap (slice_get w.arbiters) at_i ∙ its.at_i)) ∙ its.kind_so in
@@ -75,9 +75,9 @@ record Listed (w : Parts) (i k : ℕ) (ss : List Placement) : Type 0 where
   branches_so : branches_of (filter_map (member_at w i) (spots_from w k ss)) ≡ branches_from i k ss
   groups_so : groups_of (filter_map (member_at w i) (spots_from w k ss)) ≡ map group_of (filter (is_placement_in i) ss)
 
-listed : (w : Parts) (i : ℕ) → ((b : ℕ) (s : Placement) → placement w b ≡ Some s → (s.arbiter == i) ≡ true → is_interleave s.kind ≡ true) → (k : ℕ) (ss : List Placement) → ((j : ℕ) (s : Placement) → slice_get ss j ≡ Some s → placement w (k + j) ≡ Some s) → Listed w i k ss
+listed : (w : Parts) (i : ℕ) → ((b : ℕ) (s : Placement) → placement w b ≡ Some s → (s.domain == i) ≡ true → is_interleave s.kind ≡ true) → (k : ℕ) (ss : List Placement) → ((j : ℕ) (s : Placement) → slice_get ss j ≡ Some s → placement w (k + j) ≡ Some s) → Listed w i k ss
 listed w i within k [] known = record { branches_so = refl; groups_so = refl }
-listed w i within k (s ∷ ss) known = by (s.arbiter == i) refl (listed w i within (k + 1) ss (λ j r at. ap (placement w) (let same : (k + 1) + j ≡ k + suc j = omega arith in same) ∙ known (suc j) r at))
+listed w i within k (s ∷ ss) known = by (s.domain == i) refl (listed w i within (k + 1) ss (λ j r at. ap (placement w) (let same : (k + 1) + j ≡ k + suc j = omega arith in same) ∙ known (suc j) r at))
   where
     here : placement w k ≡ Some s
     here = ap (placement w) (let same : k ≡ k + 0 = omega arith in same) ∙ known 0 s refl
@@ -85,10 +85,10 @@ listed w i within k (s ∷ ss) known = by (s.arbiter == i) refl (listed w i with
     behind : filter_map (member_at w i) (sites_from k 0 (awaited (actions_of w s.branch.handler)) ++ spots_from w (k + 1) ss) ≡ filter_map (member_at w i) (spots_from w (k + 1) ss)
     behind = filter_map-append (member_at w i) (sites_from k 0 (awaited (actions_of w s.branch.handler))) (spots_from w (k + 1) ss) ∙ ap (λ xs. xs ++ filter_map (member_at w i) (spots_from w (k + 1) ss)) (no_sites w i k 0 (awaited (actions_of w s.branch.handler)))
 
-    whole : filter_map (member_at w i) (spots_from w k (s ∷ ss)) ≡ with_picked (if s.arbiter == i then Some (k, s.branch.group) else None) (filter_map (member_at w i) (spots_from w (k + 1) ss))
-    whole = picks (member_at w i) (Branch k) (sites_from k 0 (awaited (actions_of w s.branch.handler)) ++ spots_from w (k + 1) ss) (if s.arbiter == i then Some (k, s.branch.group) else None) (ap (option_and_then (member_of i k)) here) ∙ ap (with_picked (if s.arbiter == i then Some (k, s.branch.group) else None)) behind
+    whole : filter_map (member_at w i) (spots_from w k (s ∷ ss)) ≡ with_picked (if s.domain == i then Some (k, s.branch.group) else None) (filter_map (member_at w i) (spots_from w (k + 1) ss))
+    whole = picks (member_at w i) (Branch k) (sites_from k 0 (awaited (actions_of w s.branch.handler)) ++ spots_from w (k + 1) ss) (if s.domain == i then Some (k, s.branch.group) else None) (ap (option_and_then (member_of i k)) here) ∙ ap (with_picked (if s.domain == i then Some (k, s.branch.group) else None)) behind
 
-    by : (c : Bool) → (s.arbiter == i) ≡ c → Listed w i (k + 1) ss → Listed w i k (s ∷ ss)
+    by : (c : Bool) → (s.domain == i) ≡ c → Listed w i (k + 1) ss → Listed w i k (s ∷ ss)
     by true e more = record {
       branches_so = ap branches_of whole ∙ ap (λ c. branches_of (with_picked (if c then Some (k, s.branch.group) else None) (filter_map (member_at w i) (spots_from w (k + 1) ss)))) e ∙ ap (λ bs. k ∷ bs) more.branches_so ∙ sym (ap (λ c. if c then k ∷ branches_from i (k + 1) ss else branches_from i (k + 1) ss) inside);
       groups_so = ap groups_of whole ∙ ap (λ c. groups_of (with_picked (if c then Some (k, s.branch.group) else None) (filter_map (member_at w i) (spots_from w (k + 1) ss)))) e ∙ ap (λ gs. s.branch.group ∷ gs) more.groups_so ∙ sym (ap (λ c. map group_of (if c then s ∷ filter (is_placement_in i) ss else filter (is_placement_in i) ss)) inside);
@@ -116,7 +116,7 @@ domain_starts w plain i number = ap (λ kind. fresh_arbiter kind (members w i)) 
     kind = ap (λ o. option_map_or (λ (part : ArbiterPart). part.kind) o kinds.Interleave) its.at_i ∙ its.kind_so
 
     all : Listed w i 0 (placements w)
-    all = listed w i (λ b s sits at. domain_branch w plain i number b s sits (same_number s.arbiter i at)) 0 (placements w) (λ j s at. ap (placement w) (let same : 0 + j ≡ j = omega arith in same) ∙ at)
+    all = listed w i (λ b s sits at. domain_branch w plain i number b s sits (same_number s.domain i at)) 0 (placements w) (λ j s at. ap (placement w) (let same : 0 + j ≡ j = omega arith in same) ∙ at)
 
 pub domain_object : (w : Parts) → PlainFacts w → (i : ℕ) → is_interleave_number w i ≡ true → (es : List Entry) → object_of w es (places.Arbiter i) ≡ told_interleave w (visible es) (domain_at w es i)
 domain_object w plain i number es = ap (told_object w (visible es) (notes_at es (places.Arbiter i))) (domain_starts w plain i number)

@@ -20,7 +20,7 @@ use Rattle.ccr_actor.specs.Actors as actors
 use Rattle.ccr_actor.specs.Acting.{Acting, Asking, quiet, settling, going, answered, at_state, is_at_rest, kept, next, rests_by, sent, shortened, started, IsAfter}
 use Rattle.ccr_actor.proofs.Followed.{state_more, step_is, no-ask as resting}
 use Rattle.ccr_actor.proofs.Kept.{after_short, kept_after, kept_asked, kept_short}
-use Rattle.ccr_object.specs.declared.deed.Answer.TheVariants.{Replied}
+use Rattle.ccr_object.specs.declared.deed.PlaceAnswer.TheVariants.{Replied}
 use Rattle.ccr_object.specs.declared.deed.Deed.{Deed}
 use Rattle.ccr_object.specs.declared.object.Placed.{Placed}
 use Rattle.ccr_object.specs.Objects.{after_deed, reply_of}
@@ -28,7 +28,7 @@ use Rattle.ccr_runs.specs.declared.acts.Act.{Act}
 use Rattle.ccr_runs.specs.Runs.{Cast, IsGiven, IsRunFrom, cast, taught}
 use Rattle.ccr_runs.specs.Stories.{Scene, moved}
 use Rattle.ccr_runs.specs.declared.entries.Entry.{Entry}
-use Rattle.ccr_net.specs.Acted.{Stage, act_after, scene_from, scene_after, stamp_from}
+use Rattle.ccr_net.specs.Acted.{PlainState, act_after, scene_from, scene_after, stamp_from}
 use Rattle.ccr_runs.specs.Played.{entries_of, entry_of, heard, next_of, number_at, numbered, place_at, rules, scene}
 use Rattle.ccr_runs.specs.EntryRuns.{Lacks, IsRunAfter, entry_for, made_by, never, replies_of, scheduled_from, with_made}
 use Rattle.ccr_net.specs.Schedules.{AreStarted, IsActing, IsAnswered, IsMet, IsPlayed, IsShortAfter, IsStep}
@@ -237,7 +237,7 @@ started_push w n team a so_far is = (omega (arith, so_far.0, length-append team 
 
 -- ---- one turn
 
-pub played_start : (workers : ℕ) (stage : Stage) (team : List Acting) → IsValid stage.wiring → stage.acts ≡ [] → AreStarted stage.wiring (length stage.wiring.posters + workers) team → IsPlayed workers never stage team []
+pub played_start : (workers : ℕ) (stage : PlainState) (team : List Acting) → IsValid stage.wiring → stage.acts ≡ [] → AreStarted stage.wiring (length stage.wiring.posters + workers) team → IsPlayed workers never stage team []
 played_start workers stage team valid none begun = record {
   valid = valid;
   run = subst (λ acts. IsRunFrom (rules stage.wiring never) (length stage.wiring.posters + workers) (scene stage.wiring) (cast (rules stage.wiring never)) acts) (sym none) tt;
@@ -246,10 +246,10 @@ played_start workers stage team valid none begun = record {
   acting = λ k a at. subst (IsActing stage.wiring never [] k) (sym (begun.1 k a at)) (acting_started stage.wiring never k refl);
 }
 
-pub played_run : (workers : ℕ) (lacks : Lacks) (stage : Stage) (team : List Acting) (entries : List Entry) → workers ≤ 16 → IsPlayed workers lacks stage team entries → IsRunAfter stage.wiring workers lacks [] entries
+pub played_run : (workers : ℕ) (lacks : Lacks) (stage : PlainState) (team : List Acting) (entries : List Entry) → workers ≤ 16 → IsPlayed workers lacks stage team entries → IsRunAfter stage.wiring workers lacks [] entries
 played_run workers lacks stage team entries few played = subst (IsRunAfter stage.wiring workers lacks []) (sym played.same) (match_so stage.wiring workers lacks played.valid few stage.acts played.run).run
 
-module _ (workers : ℕ) (lacks : Lacks) (stage : Stage) (team : List Acting) (entries : List Entry) (few : workers ≤ 16) (played : IsPlayed workers lacks stage team entries) (k : ℕ) (low : k < length team) (a : Acting) (there : slice_get team k ≡ Some a) where
+module _ (workers : ℕ) (lacks : Lacks) (stage : PlainState) (team : List Acting) (entries : List Entry) (few : workers ≤ 16) (played : IsPlayed workers lacks stage team entries) (k : ℕ) (low : k < length team) (a : Acting) (there : slice_get team k ≡ Some a) where
   abbrev w : Parts
   w = stage.wiring
 
@@ -271,7 +271,7 @@ module _ (workers : ℕ) (lacks : Lacks) (stage : Stage) (team : List Acting) (e
   pub rest_made : next a ≡ None → entries ≡ with_made entries (made_by stage.wiring lacks entries k)
   rest_made none = ap (λ o. with_made entries (option_and_then (entry_for w entries k) o)) (sym none ∙ next_same w lacks entries k a acting_so)
 
-  module _ (later : Stage) (b : Acting) (more : List Entry) (step : IsStep stage a entries later b more) where
+  module _ (later : PlainState) (b : Acting) (more : List Entry) (step : IsStep stage a entries later b more) where
     number : a.actor ≡ k
     number = acting_number w lacks entries k a acting_so
 
@@ -320,7 +320,7 @@ module _ (workers : ℕ) (lacks : Lacks) (stage : Stage) (team : List Acting) (e
 -- ---- what was asked
 
 -- a step, once what was asked is answered
-pub step_of : (stage later : Stage) (a before b : Acting) (entries more : List Entry) (place : Place) (ask : Ask) → next a ≡ Some (record { place = place; ask = ask }) → before ≡ sent a → IsAnswered stage before entries place ask later b more → IsStep stage a entries later b more
+pub step_of : (stage later : PlainState) (a before b : Acting) (entries more : List Entry) (place : Place) (ask : Ask) → next a ≡ Some (record { place = place; ask = ask }) → before ≡ sent a → IsAnswered stage before entries place ask later b more → IsStep stage a entries later b more
 step_of stage later a before b entries more place ask asks sends made = record {
   one = record { place = place; ask = ask };
   asks = asks;
@@ -328,7 +328,7 @@ step_of stage later a before b entries more place ask asks sends made = record {
 }
 
 -- what is answered, where room was made before it
-pub answer_of : (stage mid later : Stage) (a b : Acting) (entries old more : List Entry) (seat : ℕ) (place : Place) (ask : Ask) (entry : Entry) (reply : Reply)
+pub answer_of : (stage mid later : PlainState) (a b : Acting) (entries old more : List Entry) (seat : ℕ) (place : Place) (ask : Ask) (entry : Entry) (reply : Reply)
     → mid.wiring ≡ stage.wiring → mid.acts ≡ stage.acts → seat ≡ a.actor → old ≡ entries
     → later.wiring ≡ mid.wiring → later.acts ≡ mid.acts ++ act_after mid.wiring mid.acts seat place ask ∷ [] → entry_of mid.wiring (act_after mid.wiring mid.acts seat place ask) ≡ Some entry → more ≡ old ++ entry ∷ [] → reply_of (scene_after mid.wiring mid.acts (number_at mid.wiring place)).0 ask ≡ Replied reply
     → IsAfter a (Ok reply) b → (a.state.is_short ≡ false → b.state.is_short ≡ false) → IsAnswered stage a entries place ask later b more

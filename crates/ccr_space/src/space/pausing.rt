@@ -5,10 +5,10 @@ ghost use Rattle.std.specs.Prelude.{◌≡◌, ◌≤◌, true, None};
 ghost use Rattle.ccr_base.specs.declared.names.TaskId.{TaskId};
 ghost use Rattle.ccr_claim.specs.Asks.{is_settling};
 ghost use Rattle.ccr_claim.specs.declared.asks.Reply.TheVariants as replies;
-ghost use Rattle.ccr_object.specs.declared.deed.Answer.TheVariants as answers;
+ghost use Rattle.ccr_object.specs.declared.deed.PlaceAnswer.TheVariants as answers;
 
 use ccr_claim::{Ask, Reply, settles};
-use ccr_object::Answer;
+use ccr_object::PlaceAnswer;
 use std::sync::Wait;
 use std::thread::{Parker, yield_now};
 use std::time::Duration;
@@ -53,11 +53,11 @@ impl Pausing {
 
     /// Takes note of an answer.
     #[inline(always)]
-    pub fn hear(&mut self, answer: &Answer)
+    pub fn hear(&mut self, answer: &PlaceAnswer)
         ensures claim { (rival : TaskId) → answer.now ≡ answers.Replied (replies.Busy rival) → self.new.vain ≡ Vain.Claim }
         ensures task { answer.now ≡ answers.Replied (replies.Taken None) → self.new.vain ≡ Vain.Task }
     {
-        let Answer::Replied(reply) = answer else {
+        let PlaceAnswer::Replied(reply) = answer else {
             return;
         };
         match reply {

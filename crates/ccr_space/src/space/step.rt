@@ -10,7 +10,7 @@ use super::{Pass, Space};
 use ccr_actor::Actor;
 use ccr_base::{Gate, OpenGate};
 use ccr_claim::Reply;
-use ccr_object::Answer;
+use ccr_object::PlaceAnswer;
 use std::sync::Wait;
 
 /// What a step of a pass came to.
@@ -107,15 +107,15 @@ impl Space<'_> {
 }
 
 /// Hands the answer to the actor, and tells what the step came to, and whether the pass is stopped.
-fn heard<G: Gate>(gate: &G, actor: &mut Actor<'_>, answer: Answer) -> (Step, bool)
-    requires fits { (reply : _) → answer ≡ Answer.Replied reply → fits (due_in actor.old.asking) reply ≡ true }
-    ensures made { answer ≡ Answer.Unmet → result ≡ (Step.Unmet, true) }
-    ensures replied { (reply : _) → answer ≡ Answer.Replied reply → result ≡ (Step.Made, actor.new.state.is_short) }
+fn heard<G: Gate>(gate: &G, actor: &mut Actor<'_>, answer: PlaceAnswer) -> (Step, bool)
+    requires fits { (reply : _) → answer ≡ PlaceAnswer.Replied reply → fits (due_in actor.old.asking) reply ≡ true }
+    ensures made { answer ≡ PlaceAnswer.Unmet → result ≡ (Step.Unmet, true) }
+    ensures replied { (reply : _) → answer ≡ PlaceAnswer.Replied reply → result ≡ (Step.Made, actor.new.state.is_short) }
     ensures going { result.1 ≡ false → IsHeard actor.old answer actor.new }
 {
     match answer {
-        Answer::Replied(reply) => (Step::Made, told(gate, actor, reply)),
-        Answer::Unmet => (Step::Unmet, true),
+        PlaceAnswer::Replied(reply) => (Step::Made, told(gate, actor, reply)),
+        PlaceAnswer::Unmet => (Step::Unmet, true),
     }
 }
 

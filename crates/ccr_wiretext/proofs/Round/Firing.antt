@@ -29,7 +29,8 @@ use Rattle.ccr_wiretext.specs.Spelling.{group_words, branch_words, end_words, bl
 use Rattle.ccr_wiretext.specs.Values.{IsPatternValued, IsArbiterValued}
 use Rattle.ccr_wiretext.proofs.Each.{Each}
 use Rattle.ccr_wiretext.proofs.Fit.{BranchFit, ArbiterFit}
-use Rattle.ccr_wiretext.proofs.SpotCounts.{Uncrowded, times_append}
+use Rattle.ccr_wiretext.proofs.SpotCounts.{Uncrowded}
+use Rattle.ccr_wiring.proofs.Crowds.{times_append}
 use Rattle.ccr_wiretext.proofs.Round.Leads.{inside, outside, IsStep, step_to, Leads, leads_on, leads_to, walk_lines, room_before, each_at, all_at}
 use Rattle.ccr_wiretext.proofs.Round.Namings.{Good, entries, names_of, next_names, next_new}
 use Rattle.ccr_wiretext.proofs.Round.Terms.{Again, IsWord, word_more, name_word}

@@ -19,4 +19,4 @@ overflow_cast-result c =
     let few : length w.arbiters ≤ 256 = all.small.arbiters in
     let s = placement_seen c.in-Some.placement in
     let at : placement w (branch_of c.args.spot) ≡ Some s = grind (arith, common_steps, c.placement.ensures.placement, c.in-Some.is, c.branch_of.ensures) in
-    omega (arith, few, within w.arbiters s.arbiter _ (slice_get w.arbiters s.arbiter) refl (all.domains (branch_of c.args.spot) s at))
+    omega (arith, few, within w.arbiters s.domain _ (slice_get w.arbiters s.domain) refl (all.domains (branch_of c.args.spot) s at))

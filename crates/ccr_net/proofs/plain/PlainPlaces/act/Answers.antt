@@ -4,9 +4,9 @@ use Rattle.ccr_object.specs.declared.deed.Deed.{Deed}
 use Rattle.ccr_object.specs.declared.object.PlaceObject.{PlaceObject}
 use Rattle.ccr_object.specs.Objects.{after_at}
 use Rattle.ccr_runs.specs.declared.acts.Act.{Act}
-use Rattle.ccr_net.specs.Acted.{act_after, act_at, deed_at, scene_after, stamp_of, placed_in, IsLeft, Stage}
+use Rattle.ccr_net.specs.Acted.{act_after, act_at, deed_at, scene_after, stamp_of, placed_in, seen_acts, IsLeft, PlainState}
 use Rattle.ccr_runs.specs.Played.{position_of}
-use Rattle.ccr_net.proofs.Played.Acted.{IsLeft-act, act_here, seen-push, seen_acts, written}
+use Rattle.ccr_net.proofs.Played.Acted.{IsLeft-act, act_here, seen-push, written}
 use Rattle.ccr_net.proofs.Played.Fitting.{fitting_answer}
 use Rattle.ccr_net.proofs.plain.PlainPlaces.act.Goals as goal
 
@@ -50,7 +50,7 @@ returns-clause-acts c =
     let w = c.self.inside.wiring.now in
     let acts = seen_acts c.self.inside.acts.items in
     let all = acts_are c ∙ ap (λ n. acts ++ act_at (scene_after w acts) (stamp_of c.args.actor acts) n c.args.actor c.args.ask ∷ []) number_is in
-    let P : Stage → Type 0 = λ stage. seen_acts c.push_reserved.new.self.items ≡ stage.acts ++ act_after stage.wiring stage.acts c.args.actor c.args.place c.args.ask ∷ [] in
+    let P : PlainState → Type 0 = λ stage. seen_acts c.push_reserved.new.self.items ≡ stage.acts ++ act_after stage.wiring stage.acts c.args.actor c.args.place c.args.ask ∷ [] in
     subst P c.self.view_is all
 
 pub returns-clause-fits : goal.returns-clause-fits

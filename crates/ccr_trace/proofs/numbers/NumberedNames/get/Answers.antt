@@ -2,7 +2,7 @@ use Rattle.std.proofs.Common.{◌≡◌, ◌∙◌, ap, arith}
 use Rattle.std.proofs.lemmas.Grind.{common_steps}
 use Rattle.ccr_trace.specs.Known.{number_in}
 use Rattle.ccr_trace.proofs.Numbered.{number-seen}
-use Rattle.ccr_trace.proofs.numbers.Numbers.get.Goals as goal
+use Rattle.ccr_trace.proofs.numbers.NumberedNames.get.Goals as goal
 
 pub returns-in_err-number : goal.returns-in_err-number
 returns-in_err-number c =

@@ -2,7 +2,7 @@ use Rattle.std.proofs.Common.{◌≡◌, ℕ, not, ◌&&◌, List, subst}
 use Rattle.std.specs.Prelude.{◌==◌}
 use Rattle.ccr_engine.specs.Ready.{has_number}
 use Rattle.ccr_engine.proofs.NumberSets.{left, least_first}
-use Rattle.ccr_engine.proofs.numbers.Numbers.leave.Goals as goal
+use Rattle.ccr_engine.proofs.numbers.NumberSet.leave.Goals as goal
 
 pub returns-clause-members : goal.returns-clause-members
 returns-clause-members c = subst (λ (ks : List ℕ). (q : ℕ) → has_number c.remove.new.self.keys q ≡ not (q == c.args.number) && has_number ks q) c.self.view_is (left c.self.inside.numbers c.remove.new.self c.args.number c.remove.ensures.updates)

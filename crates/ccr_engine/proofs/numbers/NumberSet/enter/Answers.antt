@@ -2,7 +2,7 @@ use Rattle.std.proofs.Common.{◌≡◌, ℕ, ◌||◌, List, subst}
 use Rattle.std.specs.Prelude.{◌==◌}
 use Rattle.ccr_engine.specs.Ready.{has_number}
 use Rattle.ccr_engine.proofs.NumberSets.{entered, least_first}
-use Rattle.ccr_engine.proofs.numbers.Numbers.enter.Goals as goal
+use Rattle.ccr_engine.proofs.numbers.NumberSet.enter.Goals as goal
 
 pub returns-clause-members : goal.returns-clause-members
 returns-clause-members c = subst (λ (ks : List ℕ). (q : ℕ) → has_number c.insert.new.self.keys q ≡ (q == c.args.number) || has_number ks q) c.self.view_is (entered c.self.inside.numbers c.insert.new.self c.args.number c.in_ok-insert.ensures.updates)

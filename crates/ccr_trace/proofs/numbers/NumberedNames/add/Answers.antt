@@ -2,7 +2,7 @@ use Rattle.std.proofs.Common.{◌≡◌, ◌++◌, ◌∷◌, [], false, refl, �
 use Rattle.std.specs.List.{list_any}
 use Rattle.std.specs.Str.{bytes_eq}
 use Rattle.ccr_trace.proofs.Numbered.{seen, seen-insert}
-use Rattle.ccr_trace.proofs.numbers.Numbers.add.Goals as goal
+use Rattle.ccr_trace.proofs.numbers.NumberedNames.add.Goals as goal
 
 pub returns : goal.returns
 returns c =
