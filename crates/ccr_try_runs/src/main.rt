@@ -1,27 +1,38 @@
-//! Makes attempts, courses and runs that standard input has, and names the rows that are answered otherwise than is due. README.md says
-//! which calls there are.
+//! Asks objects, tables and small calls what standard input has, makes its attempts, courses and runs, and names the rows that are answered
+//! otherwise than is due. README.md says which calls there are.
 #![tactic(auto)]
 
+mod answers;
+mod asks;
 mod attempts;
+mod choices;
 mod counts;
 mod courses;
 mod engines;
+mod handlers;
+mod lines;
+mod lists;
+mod making;
 mod nets;
+mod objects;
 mod replies;
 mod schedules;
 mod showing;
+mod streams;
+mod tables;
 
 use ccr_base::List;
+use ccr_io::{StdSink, StdSource, read_all, write_all};
 use ccr_try::{Line, Row, is_due, put, read_line, text_of};
 use ccr_wiretext::read_wiring;
 use ccr_wiring::Wiring;
 use std::alloc::Global;
 use std::io;
 
-/// The most bytes that a wiring text has.
+/// The most bytes that are read, and that a wiring text has.
 const LONGEST: usize = 1_048_576;
 
-/// What the call answers over the wiring.
+/// What an attempt, a course or a run answers over the wiring.
 fn tell_over(alloc: Global, wiring: &Wiring, row: &Row<'_>, out: &mut List<u8>) {
     match row.call {
         "course" => courses::course(alloc, wiring, row.input, out),
@@ -33,14 +44,14 @@ fn tell_over(alloc: Global, wiring: &Wiring, row: &Row<'_>, out: &mut List<u8>) 
         "resume" => engines::resume(alloc, wiring, out),
         "rest" => nets::rest(alloc, wiring, out),
         "steady" => counts::steady(alloc, wiring, out),
-        "number" => showing::number(alloc, wiring, row.input, out),
+        "place_number" => showing::number(alloc, wiring, row.input, out),
         "shows" => showing::shows(alloc, wiring, row.input, out),
-        "met" => showing::met(alloc, wiring, row.input, out),
+        "met_event" => showing::met(alloc, wiring, row.input, out),
         _ => put(out, b"no such call"),
     }
 }
 
-/// What the call answers over the wiring of this text.
+/// What it answers over the wiring of this text.
 fn tell_with(alloc: Global, with: &str, row: &Row<'_>, out: &mut List<u8>) {
     let text = text_of(alloc, with, "");
     if text.len() <= LONGEST {
@@ -51,40 +62,101 @@ fn tell_with(alloc: Global, with: &str, row: &Row<'_>, out: &mut List<u8>) {
     }
 }
 
-/// What the call answers.
-fn answer(alloc: Global, with: &str, row: &Row<'_>) -> List<u8> {
-    let mut out = List::new(alloc);
+/// Adds what the call answers: of objects over the wiring, of tables, of streams and handlers, or of a small call.
+fn tell_object(alloc: Global, with: &str, row: &Row<'_>, out: &mut List<u8>) {
     match row.call {
-        "gather" | "slots" | "site" => attempts::attempt(alloc, row.call, row.input, &mut out),
-        "answers" => engines::answers_of(alloc, row.input, &mut out),
-        "generated" => counts::generated(alloc, row.input, &mut out),
-        "dealt" => counts::dealt(alloc, row.input, &mut out),
-        _ => tell_with(alloc, with, row, &mut out),
+        "object" | "met" | "places" => objects::tell(alloc, with, row, out),
+        "play" => handlers::play(alloc, row.input, out),
+        "held" => tables::held(alloc, row.input, out),
+        "rows" => tables::rows(alloc, row.input, out),
+        "source" => streams::source(alloc, row.input, out),
+        "fault" => streams::fault(alloc, row.input, out),
+        "sink" => streams::sink(alloc, row.input, out),
+        "sure" => streams::sure(alloc, row.input, out),
+        "standard" => streams::standard(alloc, out),
+        "choose" => choices::choose_in(alloc, row.input, out),
+        "copy" => choices::copies(alloc, out),
+        "value" => choices::value(row.input, out),
+        "holds" => choices::holds(row.input, out),
+        "list" => lists::list(alloc, row.input, out),
+        "union" => lists::joined(alloc, row.input, out),
+        "causes" => lists::causes(alloc, row.input, out),
+        _ => lines::tell(alloc, row, out),
     }
-    out
 }
 
-fn main(rt: HostRuntime) -> io::Result<()> {
-    let alloc = rt.alloc();
-    let text = io::read_to_string(alloc, rt.stdin())?;
+/// Adds what the call answers: of attempts, courses and runs, or what `tell_object` adds.
+fn answer(alloc: Global, with: &str, row: &Row<'_>, out: &mut List<u8>) {
+    match row.call {
+        "gather" | "slots" | "site" => attempts::attempt(alloc, row.call, row.input, out),
+        "answers" => engines::answers_of(alloc, row.input, out),
+        "generated" => counts::generated(alloc, row.input, out),
+        "dealt" => counts::dealt(alloc, row.input, out),
+        "course"
+        | "steps"
+        | "schedule"
+        | "short"
+        | "finish"
+        | "engine"
+        | "resume"
+        | "rest"
+        | "steady"
+        | "place_number"
+        | "shows"
+        | "met_event" => tell_with(alloc, with, row, out),
+        _ => tell_object(alloc, with, row, out),
+    }
+}
+
+/// All of standard input.
+fn read_input(rt: &HostRuntime) -> List<u8> {
+    let mut source = StdSource::new(rt.stdin());
+    match read_all(rt.alloc(), &mut source, LONGEST) {
+        Ok(text) => text,
+        Err(_) => List::new(rt.alloc()),
+    }
+}
+
+/// Tells whether the row is answered as is due, and names it where it isn't.
+fn is_right(
+    rt: &HostRuntime,
+    case: &str,
+    with: &str,
+    row: &Row<'_>,
+    line: &str,
+) -> io::Result<bool> {
+    let mut found = List::new(rt.alloc());
+    answer(rt.alloc(), with, row, &mut found);
+    if is_due(found.as_slice(), row.due) {
+        return Ok(true);
+    }
+    let shown = str::from_utf8(found.as_slice()).unwrap_or("no text");
+    println!(rt; "{case}: {line} is answered {shown}")?;
+    Ok(false)
+}
+
+/// Tries the rows of the text.
+fn tell_rows(rt: &HostRuntime, text: &str) -> io::Result<()> {
     let (mut rows, mut wrong) = (0u64, 0u64);
     let (mut case, mut with) = ("", "");
-    for line in text.as_str().split('\n') {
+    for line in text.split('\n') {
         match read_line(line) {
             Line::Case(name) => case = name,
             Line::With(start) => with = start,
             Line::Row(row) => {
                 rows = rows.saturating_add(1);
-                let found = answer(alloc, with, &row);
-                if !is_due(found.as_slice(), row.due) {
+                if !is_right(rt, case, with, &row, line)? {
                     wrong = wrong.saturating_add(1);
-                    let shown = str::from_utf8(found.as_slice()).unwrap_or("no text");
-                    println!(rt; "{case}: {line} is answered {shown}")?;
                 }
             }
             Line::Past(_) | Line::Nothing => {}
         }
     }
-    println!(rt; "{rows} rows, {wrong} wrong")?;
-    Ok(())
+    println!(rt; "{rows} rows, {wrong} wrong")
+}
+
+fn main(rt: HostRuntime) -> io::Result<()> {
+    let text = read_input(&rt);
+    let _ = write_all(&mut StdSink::new(rt.stdout()), b"written\n");
+    tell_rows(&rt, str::from_utf8(text.as_slice()).unwrap_or(""))
 }

@@ -1,8 +1,8 @@
 //! Objects of places, asked one ask after the other.
 
+use crate::answers::put_answer;
 use crate::asks::ask_of;
 use crate::making::{at, first_part, word_and_numbers};
-use crate::replies::put_answer;
 use ccr_arbiter::ArbiterObject;
 use ccr_await::SiteObject;
 use ccr_base::{Group, List, Policy};

@@ -2,8 +2,8 @@
 
 ghost use Rattle.std.specs.Prelude.{◌≤◌};
 
+use crate::answers::put_values;
 use crate::making::{first_part, message, pred_in};
-use crate::replies::put_values;
 use ccr_base::{List, Msg, Slot, Spot, Task, TaskId, Value, can_choose, choose};
 use ccr_try::{
     first_number, numbers_of, put_message, put_number, put_numbers, put_task, put_truth, put_word,

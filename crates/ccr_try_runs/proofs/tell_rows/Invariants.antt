@@ -1,7 +1,7 @@
 use Rattle.std.proofs.Common.{◌≡◌, ℕ, ◌+◌, ◌-◌, ◌*◌, ◌<◌, ◌≤◌, length}
 use denote.Text.{Utf8}
 use denote.Shadow.{shadow}
-use Rattle.ccr_try_runs.proofs.main.Given as goal
+use Rattle.ccr_try_runs.proofs.tell_rows.Given as goal
 
 -- the name of the case is text, and so is what its rows start from
 abbrev pub invariant-loop-line : goal.invariant-loop-line
