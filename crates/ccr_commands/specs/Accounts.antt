@@ -11,7 +11,7 @@ use Rattle.ccr_wiring.specs.Valid.{IsValid}
 use Rattle.ccr_model.specs.declared.history.Event.{Event}
 use Rattle.ccr_model.specs.declared.history.Event.TheVariants.{Post, Fire}
 use Rattle.ccr_model.specs.Laws.{times_taken}
-use Rattle.ccr_laws.specs.Standing.{Stands}
+use Rattle.ccr_laws.specs.Occurring.{Occurs}
 use Rattle.ccr_laws.specs.Scripts.{posts_by, sent_of, FollowsScript}
 use Rattle.ccr_laws.specs.OneFate.{HasOneFate}
 use Rattle.ccr_laws.specs.WholePattern.{TakesWhole}
@@ -22,7 +22,7 @@ ScriptsStand wiring history = (number : ℕ) (poster : PosterPart) → slice_get
 
 -- every posted message is held by its port, or taken by one task that stands in one state
 abbrev pub MessagesHaveOneFate : Parts → List Event → Type 0
-MessagesHaveOneFate wiring history = (past : List Event) (message : Msg) → Stands history past (Post message) → HasOneFate wiring history message.id
+MessagesHaveOneFate wiring history = (past : List Event) (message : Msg) → Occurs history past (Post message) → HasOneFate wiring history message.id
 
 -- no message is taken twice
 abbrev pub MessagesAreTakenOnce : List Event → Type 0
@@ -30,7 +30,7 @@ MessagesAreTakenOnce history = (name : MsgId) → times_taken history name ≤ 1
 
 -- every firing takes its whole pattern from what its ports held
 abbrev pub FiringsTakeWholePatterns : Parts → List Event → Type 0
-FiringsTakeWholePatterns wiring history = (past : List Event) (task : TaskId) (spot : Spot) (messages : List MsgId) (cuts : List TaskId) → Stands history past (Fire task spot messages cuts) → TakesWhole wiring past spot messages
+FiringsTakeWholePatterns wiring history = (past : List Event) (task : TaskId) (spot : Spot) (messages : List MsgId) (cuts : List TaskId) → Occurs history past (Fire task spot messages cuts) → TakesWhole wiring past spot messages
 
 -- the wiring is valid, each poster posted its script, and each message that was accepted is held or taken by exactly one firing, which took its whole pattern
 pub record AccountsForAll (wiring : Parts) (history : List Event) : Type 0 where

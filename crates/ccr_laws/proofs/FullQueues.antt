@@ -26,7 +26,7 @@ use Rattle.ccr_model.proofs.LegalParts.{along_legal}
 use Rattle.ccr_model.proofs.Options.{some_of}
 use Rattle.ccr_model.proofs.SameNames.{same_task-self}
 use Rattle.ccr_model.proofs.Booleans.{same_number}
-use Rattle.ccr_laws.specs.Standing.{Stands}
+use Rattle.ccr_laws.specs.Occurring.{Occurs}
 use Rattle.ccr_laws.specs.Drops.{DropsOldest}
 use Rattle.ccr_laws.proofs.Allowed.{allowed_at, legal_past}
 use Rattle.ccr_model.proofs.TaskLists.{not_more, not_within}
@@ -108,7 +108,7 @@ few_queued w valid q n policy = along_legal w (λ g. length (queued w g q) ≤ n
     kept h (Start t a) legal allowed few = subst (λ ts. length ts ≤ n) (sym (queued-start w h q t a)) (omega (arith, few_left (λ u. not (has_task (t ∷ []) u)) (queued w h q), few))
 
 -- a put drops the oldest of as many tasks as its queue's policy says
-pub drops_oldest : (w : Parts) → IsValid w → (h : List Event) → IsLegal w h → (past : List Event) (t x : TaskId) → Stands h past (Put t (Some x)) → DropsOldest w past t x
+pub drops_oldest : (w : Parts) → IsValid w → (h : List Event) → IsLegal w h → (past : List Event) (t x : TaskId) → Occurs h past (Put t (Some x)) → DropsOldest w past t x
 drops_oldest w valid h legal past t x stands =
     let facts = drop_allowed w past t x (allowed_at w h past (Put t (Some x)) legal stands) in
     let few = few_queued w valid facts.its.branch.queue facts.most facts.policy past (legal_past w h past (Put t (Some x)) legal stands) in

@@ -21,7 +21,7 @@ use Rattle.ccr_model.specs.Choice.{names_of}
 use Rattle.ccr_model.specs.Legal.{IsLegal}
 use Rattle.ccr_model.proofs.SameNames.{same_message-is}
 use Rattle.ccr_model.proofs.Booleans.{either, or_assoc, same_number}
-use Rattle.ccr_laws.specs.Standing.{Stands}
+use Rattle.ccr_laws.specs.Occurring.{Occurs}
 use Rattle.ccr_laws.specs.WholePattern.{FillsSlot, FillsPattern, TakesWhole}
 use Rattle.ccr_laws.specs.OneFate.{IsHeld}
 use Rattle.ccr_laws.proofs.WholePatterns.{whole_pattern}
@@ -92,10 +92,10 @@ of_whole w past (Site b k) names takes name is =
     subst (IsHeld past) (sym same) (held_at past takes.port m among)
 
 -- each message that a firing names was held before it
-pub held_before : (w : Parts) → IsValid w → (h : List Event) → IsLegal w h → (past : List Event) (t : TaskId) (s : Spot) (ms : List MsgId) (cs : List TaskId) → Stands h past (Fire t s ms cs) → (name : MsgId) → has_message ms name ≡ true → IsHeld past name
+pub held_before : (w : Parts) → IsValid w → (h : List Event) → IsLegal w h → (past : List Event) (t : TaskId) (s : Spot) (ms : List MsgId) (cs : List TaskId) → Occurs h past (Fire t s ms cs) → (name : MsgId) → has_message ms name ≡ true → IsHeld past name
 held_before w valid h legal past t s ms cs stands name is = of_whole w past s ms (whole_pattern w valid h legal past t s ms cs stands) name is
 
-pub untaken_before : (w : Parts) → IsValid w → (h : List Event) → IsLegal w h → (past : List Event) (t : TaskId) (s : Spot) (ms : List MsgId) (cs : List TaskId) → Stands h past (Fire t s ms cs) → (name : MsgId) → has_message ms name ≡ true → has_message (taken past) name ≡ false
+pub untaken_before : (w : Parts) → IsValid w → (h : List Event) → IsLegal w h → (past : List Event) (t : TaskId) (s : Spot) (ms : List MsgId) (cs : List TaskId) → Occurs h past (Fire t s ms cs) → (name : MsgId) → has_message ms name ≡ true → has_message (taken past) name ≡ false
 untaken_before w valid h legal past t s ms cs stands name is =
     let there = held_before w valid h legal past t s ms cs stands name is in
     subst (λ n. has_message (taken past) n ≡ false) there.named (untaken_of_held past there.message.port there.message there.among)

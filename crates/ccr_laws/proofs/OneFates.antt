@@ -22,7 +22,7 @@ use Rattle.ccr_model.proofs.Allowing.{OneName-legal}
 use Rattle.ccr_model.proofs.Members.{Among, Among-right}
 use Rattle.ccr_model.proofs.SameNames.{same_message-self}
 use Rattle.ccr_model.proofs.Booleans.{neither, eq-self}
-use Rattle.ccr_laws.specs.Standing.{Stands}
+use Rattle.ccr_laws.specs.Occurring.{Occurs}
 use Rattle.ccr_laws.specs.OneFate.{IsHeld, IsTakenBy, HasFate, HasOneFate}
 use Rattle.ccr_model.proofs.FiringPlacements.{firing_with_placement}
 use Rattle.ccr_laws.proofs.HeldBefore.{untaken_of_held, untaken_before, has_message-append}
@@ -109,7 +109,7 @@ found_by_taken w valid h legal name t is =
 pub posts-append : (h es : List Event) → posts (h ++ es) ≡ posts h ++ posts es
 posts-append h es = grind (arith, common_steps)
 
-among_posts : (h past : List Event) (m : Msg) → Stands h past (Post m) → Among m (posts h)
+among_posts : (h past : List Event) (m : Msg) → Occurs h past (Post m) → Among m (posts h)
 among_posts h past m stands = subst (λ g. Among m (posts g)) (sym stands.whole) (subst (Among m) (sym (posts-append past (Post m ∷ stands.more))) (Among-right m (posts past) (m ∷ posts stands.more) (inl refl)))
 
 found_name : (ms : List Msg) (m : Msg) → Among m ms → (x : Msg) × (find (λ (y : Msg). same_message y.id m.id) ms ≡ Some x)
@@ -136,7 +136,7 @@ Contains-among [] m among = absurd among
 Contains-among (x ∷ ms) m (inl same) = (0, omega arith, sym same)
 Contains-among (x ∷ ms) m (inr more) = let rest = Contains-among ms m more in (suc rest.0, omega (arith, rest.1), rest.2)
 
-held_by_untaken : (h past : List Event) (m : Msg) → Stands h past (Post m) → has_message (taken h) m.id ≡ false → IsHeld h m.id
+held_by_untaken : (h past : List Event) (m : Msg) → Occurs h past (Post m) → has_message (taken h) m.id ≡ false → IsHeld h m.id
 held_by_untaken h past m stands out =
     let posted_so = Among-filter (λ (x : Msg). x.port == m.port) (posts h) m (among_posts h past m stands) (eq-self m.port) in
     let held_so = Among-filter (λ (x : Msg). not (has_message (taken h) x.id)) (posted h m.port) m posted_so (ap not out) in
@@ -164,7 +164,7 @@ taken_alone w valid h legal name f found (Taken t state) has =
     ap (Taken t) (only_in w h legal t state has.1) ∙ ap (λ u. Taken u (state_of w h u)) task
 
 -- one fate
-pub one_fate : (w : Parts) → IsValid w → (h : List Event) → IsLegal w h → (past : List Event) (m : Msg) → Stands h past (Post m) → HasOneFate w h m.id
+pub one_fate : (w : Parts) → IsValid w → (h : List Event) → IsLegal w h → (past : List Event) (m : Msg) → Occurs h past (Post m) → HasOneFate w h m.id
 one_fate w valid h legal past m stands = of_taker (find (names_it m.id) (firings h)) refl
   where
     of_taker : (o : Option Firing) → find (names_it m.id) (firings h) ≡ o → HasOneFate w h m.id

@@ -29,7 +29,7 @@ use Rattle.ccr_model.proofs.TakenOnce.{FireFacts-allowed}
 use Rattle.ccr_model.proofs.Options.{some_of}
 use Rattle.ccr_model.proofs.SameNames.{same_message-is}
 use Rattle.ccr_model.proofs.Booleans.{both}
-use Rattle.ccr_laws.specs.Standing.{Stands}
+use Rattle.ccr_laws.specs.Occurring.{Occurs}
 use Rattle.ccr_laws.specs.WholePattern.{AreFirst, FillsSlot, FillsSlots, FillsGather, FillsPattern, IsOldest, TakesWhole}
 use Rattle.ccr_laws.proofs.Allowed.{allowed_at}
 
@@ -149,7 +149,7 @@ takes_whole w valid past (Site b k) names is =
     record { port = found.0; awaited = found.1; taken = one_oldest past found.0 names (held past found.0) refl found.2 }
 
 -- whole pattern
-pub whole_pattern : (w : Parts) → IsValid w → (h : List Event) → IsLegal w h → (past : List Event) (t : TaskId) (s : Spot) (ms : List MsgId) (cs : List TaskId) → Stands h past (Fire t s ms cs) → TakesWhole w past s ms
+pub whole_pattern : (w : Parts) → IsValid w → (h : List Event) → IsLegal w h → (past : List Event) (t : TaskId) (s : Spot) (ms : List MsgId) (cs : List TaskId) → Occurs h past (Fire t s ms cs) → TakesWhole w past s ms
 whole_pattern w valid h legal past t s ms cs stands =
     let allowed = allowed_at w h past (Fire t s ms cs) legal stands in
     takes_whole w valid past s ms (FireFacts-allowed w past t s ms cs allowed).choice_made

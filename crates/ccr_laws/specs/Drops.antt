@@ -11,7 +11,7 @@ use Rattle.ccr_wiring.specs.Wirings.{Placement, policy_of}
 use Rattle.ccr_model.specs.Firings.{dropped}
 use Rattle.ccr_model.specs.TaskData.{placement_of}
 use Rattle.ccr_model.specs.Tasks.{queued}
-use Rattle.ccr_laws.specs.Standing.{Stands}
+use Rattle.ccr_laws.specs.Occurring.{Occurs}
 
 -- how often puts drop the task
 abbrev pub times_dropped : List Event → TaskId → ℕ
@@ -21,7 +21,7 @@ times_dropped history task = length (filter (same_task task) (dropped history))
 pub record IsDroppedByPut (history : List Event) (task : TaskId) : Type 0 where
   pub past : List Event
   pub by : TaskId
-  pub stands : Stands history past (Put by (Some task))
+  pub stands : Occurs history past (Put by (Some task))
 
 -- a put of the task, after this past, drops the other by policy alone: their queue is `discard most`, it held that many tasks, and the other was the oldest
 pub record DropsOldest (wiring : Parts) (past : List Event) (task other : TaskId) : Type 0 where

@@ -17,7 +17,7 @@ use Rattle.ccr_model.specs.Firings.{started}
 use Rattle.ccr_model.specs.Interleaves.{fired_in, is_of_exclusive, is_of_interleave, is_of_teardown, tears_down}
 use Rattle.ccr_model.specs.Sites.{root_of}
 use Rattle.ccr_model.specs.Tasks.{admitted, is_over}
-use Rattle.ccr_laws.specs.Standing.{Stands}
+use Rattle.ccr_laws.specs.Occurring.{Occurs}
 
 -- the law holds of each legal history of a wiring
 abbrev pub OfLegal : (Parts → List Event → Type 0) → Type 0
@@ -29,7 +29,7 @@ OfValid law = (wiring : Parts) → IsValid wiring → (history : List Event) →
 
 -- it holds of each firing of the history, which stands behind this past
 abbrev pub OfFirings : List Event → (List Event → Spot → List MsgId → Type 0) → Type 0
-OfFirings history law = (past : List Event) (task : TaskId) (spot : Spot) (messages : List MsgId) (cuts : List TaskId) → Stands history past (Fire task spot messages cuts) → law past spot messages
+OfFirings history law = (past : List Event) (task : TaskId) (spot : Spot) (messages : List MsgId) (cuts : List TaskId) → Occurs history past (Fire task spot messages cuts) → law past spot messages
 
 -- it holds of each arbiter of the wiring and its number
 abbrev pub OfArbiters : Parts → (ℕ → ArbiterPart → Type 0) → Type 0

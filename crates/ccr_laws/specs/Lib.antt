@@ -1,4 +1,4 @@
-pub mod Standing
+pub mod Occurring
 pub mod Lawful
 pub mod WholePattern
 pub mod Times

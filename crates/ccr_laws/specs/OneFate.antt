@@ -18,7 +18,7 @@ use Rattle.ccr_model.specs.Firings.{cut, dropped}
 use Rattle.ccr_model.specs.Tasks.{waiting, queued, running}
 use Rattle.ccr_model.specs.Rules.{may_put}
 use Rattle.ccr_model.specs.Fates.{fate}
-use Rattle.ccr_laws.specs.Standing.{Stands}
+use Rattle.ccr_laws.specs.Occurring.{Occurs}
 
 -- a message of this name is held at its port
 pub record IsHeld (history : List Event) (name : MsgId) : Type 0 where
@@ -32,7 +32,7 @@ pub record IsTakenBy (history : List Event) (name : MsgId) (task : TaskId) : Typ
   pub spot : Spot
   pub messages : List MsgId
   pub cuts : List TaskId
-  pub stands : Stands history past (Fire task spot messages cuts)
+  pub stands : Occurs history past (Fire task spot messages cuts)
   pub named : has_message messages name ≡ true
 
 -- the task waits for its admission in some domain of Interleaves
@@ -48,7 +48,7 @@ pub record IsQueued (wiring : Parts) (history : List Event) (task : TaskId) : Ty
 -- the task ended in this way
 pub record HasEnded (history : List Event) (task : TaskId) (how : EndHow) : Type 0 where
   pub past : List Event
-  pub stands : Stands history past (End task how)
+  pub stands : Occurs history past (End task how)
 
 -- where a task stands: it waits, was cut, may be put, is queued, was dropped, runs, or ended in this way
 abbrev pub IsIn : Parts → List Event → TaskId → TaskState → Type 0

@@ -14,7 +14,7 @@ ghost use Rattle.ccr_model.specs.Counts.{totals};
 ghost use Rattle.ccr_model.specs.Consequences.{are_distinct_tasks};
 ghost use Rattle.ccr_model.specs.Laws.{times_taken};
 ghost use Rattle.ccr_laws.specs.Lawful.{OfArbiters, OfFirings, OfLegal, OfValid};
-ghost use Rattle.ccr_laws.specs.Standing.{Stands};
+ghost use Rattle.ccr_laws.specs.Occurring.{Occurs};
 ghost use Rattle.ccr_laws.specs.WholePattern.{TakesWhole};
 ghost use Rattle.ccr_laws.specs.OneFate.{IsHeld, HasOneFate};
 ghost use Rattle.ccr_laws.specs.Times.{times_fired, times_any_fired, times_torn_down};
@@ -35,7 +35,7 @@ pub fn single_firings_come_once()
 /// Each posted message has exactly one fate, the one that `fate` tells. A name is taken at most once: at most one firing names
 /// it, and once. What a firing names was posted and held before it.
 pub fn messages_have_one_fate()
-    ensures fate { OfValid (λ wiring history. (past : List Event) (message : Msg) → Stands history past (Post message) → HasOneFate wiring history message.id) }
+    ensures fate { OfValid (λ wiring history. (past : List Event) (message : Msg) → Occurs history past (Post message) → HasOneFate wiring history message.id) }
     ensures once { OfValid (λ wiring history. (name : MsgId) → times_taken history name ≤ 1) }
     ensures held_before { OfValid (λ wiring history. OfFirings history (λ past spot messages. (name : MsgId) → has_message messages name ≡ true → IsHeld past name)) }
 {}

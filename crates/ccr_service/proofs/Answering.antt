@@ -42,7 +42,7 @@ use Rattle.ccr_model.proofs.Cutting.{cut_not_started, cut_not_put}
 use Rattle.ccr_model.proofs.Ending.{AreEnded-legal}
 use Rattle.ccr_model.proofs.TaskPlaces.{ArePlaced-legal}
 use Rattle.ccr_model.proofs.FiringPlacements.{firing_with_placement}
-use Rattle.ccr_laws.specs.Standing.{Stands}
+use Rattle.ccr_laws.specs.Occurring.{Occurs}
 use Rattle.ccr_laws.specs.OneFate.{IsHeld, IsTakenBy, HasEnded, IsIn, HasFate, HasOneFate}
 use Rattle.ccr_laws.proofs.Allowed.{allowed_at, legal_past}
 use Rattle.ccr_laws.proofs.DroppingPuts.{dropped_unstarted}
@@ -152,7 +152,7 @@ pub record EndsWhole (s : ServiceParts) (h : List Event) (t : TaskId) (how : End
   pub replied : HasReplied s h t
   pub ends_as : ends_so how (play_of (expansion s) h t).end ≡ true
 
-unshed_how : (h past : List Event) (t : TaskId) (how : EndHow) → has_shed h ≡ false → Stands h past (End t how) → is_shed how ≡ false
+unshed_how : (h past : List Event) (t : TaskId) (how : EndHow) → has_shed h ≡ false → Occurs h past (End t how) → is_shed how ≡ false
 unshed_how h past t ends.Done none stands = refl
 unshed_how h past t (ends.Failed v) none stands = refl
 unshed_how h past t ends.Yield none stands = refl

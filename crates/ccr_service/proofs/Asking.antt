@@ -10,7 +10,7 @@ use Rattle.ccr_model.specs.declared.history.Event.TheVariants.{Post, Fire, Admit
 use Rattle.ccr_model.specs.Posts.{posts, is_script_of, message_named}
 use Rattle.ccr_model.specs.Legal.{IsLegal, is_complete}
 use Rattle.ccr_model.proofs.Members.{Among, Among-at}
-use Rattle.ccr_laws.specs.Standing.{Stands}
+use Rattle.ccr_laws.specs.Occurring.{Occurs}
 use Rattle.ccr_laws.specs.Scripts.{posts_by, sent_of}
 use Rattle.ccr_laws.proofs.ScriptLines.{follow, whole}
 use Rattle.ccr_service.specs.declared.parts.AskPart.{AskPart}
@@ -43,7 +43,7 @@ of_mapped f (x ∷ xs) (suc k) y at = of_mapped f xs k y at
 -- a posted message stands somewhere
 pub record StandsPosted (h : List Event) (m : Msg) : Type 0 where
   pub past : List Event
-  pub stands : Stands h past (Post m)
+  pub stands : Occurs h past (Post m)
 
 later : (e : Event) (h : List Event) (m : Msg) → StandsPosted h m → StandsPosted (e ∷ h) m
 later e h m is = record { past = e ∷ is.past; stands = record { more = is.stands.more; whole = ap (λ g. e ∷ g) is.stands.whole } }

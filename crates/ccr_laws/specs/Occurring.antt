@@ -1,8 +1,8 @@
--- Where an event stands in a history.
+-- Where an event occurs in a history.
 use Rattle.std.specs.Prelude.{◌≡◌, List, ◌∷◌, ◌++◌}
 use Rattle.ccr_model.specs.declared.history.Event.{Event}
 
--- the event stands in the history, behind exactly this past
-pub record Stands (history past : List Event) (event : Event) : Type 0 where
+-- the event occurs in the history, behind exactly this past
+pub record Occurs (history past : List Event) (event : Event) : Type 0 where
   pub more : List Event
   pub whole : history ≡ past ++ event ∷ more
