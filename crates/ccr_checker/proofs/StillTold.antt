@@ -55,19 +55,19 @@ module _ (w : Parts) (valid : IsValid w) (h : List Event) (legal : IsLegal w h) 
 
   admission : (n : ℕ) (xs : List ArbiterPart) → n + length xs ≤ length w.arbiters → has_admission_in b n xs ≡ has_admission w h n xs
   admission n [] low = refl
-  admission n (x ∷ xs) low = rw (keeps.places.waiting n (omega (arith, low)), admits_first (waiting w h n), admission (n + 1) xs (omega (arith, low))) refl
+  admission n (x ∷ xs) low = rw (keeps.rows.waiting n (omega (arith, low)), admits_first (waiting w h n), admission (n + 1) xs (omega (arith, low))) refl
 
   ready : has_ready b ≡ list_any (may_put w h) (fired h)
   ready = any-named (is_ready b) b.tasks ∙ (ap (λ ts. list_any (is_ready b) ts) keeps.tasks.names ∙ any-same (is_ready b) (may_put w h) (fired h) (is_ready_told w valid h legal b keeps))
 
   queued_left : (n : ℕ) (qs : List QueuePart) → n + length qs ≤ length w.queues → has_queued_in b n qs ≡ has_queued w h n qs
   queued_left n [] low = refl
-  queued_left n (q ∷ qs) low = rw (keeps.places.queued n (omega (arith, low)), queued_left (n + 1) qs (omega (arith, low))) refl
+  queued_left n (q ∷ qs) low = rw (keeps.rows.queued n (omega (arith, low)), queued_left (n + 1) qs (omega (arith, low))) refl
 
   pub is_still_told : is_still_in w b ≡ is_still w h
   unfolding is_still_in is_still
   is_still_told =
-      rw (line_left 0 w.posters (omega arith), any-same (can_fire_in w b) (can_fire w h) (spots w) fires, admission 0 w.arbiters (omega arith), ready, none-run b.running, keeps.places.running, queued_left 0 w.queues (omega arith)) refl
+      rw (line_left 0 w.posters (omega arith), any-same (can_fire_in w b) (can_fire w h) (spots w) fires, admission 0 w.arbiters (omega arith), ready, none-run b.running, keeps.rows.running, queued_left 0 w.queues (omega arith)) refl
 
   whole : (n : ℕ) (ps : List PosterPart) → n + length ps ≤ length w.posters → are_whole_in b n ps ≡ are_whole_from h n ps
   whole n [] low = refl

@@ -20,11 +20,11 @@ use Rattle.ccr_ledger.specs.Asked.{has_fired, lives, are_choice, room, cuts, wai
 
 -- rule 1: it is the poster's next line
 abbrev pub is_next_line : Parts → Books → ℕ → ℕ → Msg → Bool
-is_next_line wiring books actor place message = (place == number books.script_posts actor) && option_map_or (is_post message) (option_and_then (λ (p : PosterPart). slice_get p.posts place) (slice_get wiring.posters actor)) false
+is_next_line wiring books actor index message = (index == number books.script_posts actor) && option_map_or (is_post message) (option_and_then (λ (p : PosterPart). slice_get p.posts index) (slice_get wiring.posters actor)) false
 
 -- rule 2: it is the next post of the running task's play
 abbrev pub is_next_post : Books → TaskId → ℕ → Msg → Bool
-is_next_post books task place message = runs books task && (place == made_in books task) && option_map_or (is_post message) (slice_get (play_in books task).posts place) false
+is_next_post books task index message = runs books task && (index == made_in books task) && option_map_or (is_post message) (slice_get (play_in books task).posts index) false
 
 -- rule 4: no task of this name fired, and its actor is at most 32
 abbrev pub is_unused : Books → TaskId → Bool
@@ -44,8 +44,8 @@ is_ending wiring books task how = if is_shed how then sheds wiring books task el
 
 -- a post of a script is asked by rule 1, a post of a task by rules 2 and 3
 abbrev pub refusal_of_post_in : Parts → Books → Msg → MsgId → Option Rule
-refusal_of_post_in wiring books message (Script actor place) = refused (is_next_line wiring books actor place message) rules.ScriptLine None
-refusal_of_post_in wiring books message (Task task place) = refused (is_next_post books task place message) rules.PlayPost (refused (budget_lasts wiring books) rules.Budget None)
+refusal_of_post_in wiring books message (Script actor index) = refused (is_next_line wiring books actor index message) rules.ScriptLine None
+refusal_of_post_in wiring books message (Task task index) = refused (is_next_post books task index message) rules.PlayPost (refused (budget_lasts wiring books) rules.Budget None)
 
 -- the first rule that refuses the event by the tables
 abbrev pub refusal_in : Parts → Books → Event → Option Rule

@@ -35,7 +35,7 @@ has_admission_in books domain (arbiter ∷ arbiters) = can_admit_in books domain
 
 -- whether the task that fired after so many others may be put
 abbrev pub is_ready_at : Books → ℕ → Bool
-is_ready_at books place = option_map_or (λ (entry : TaskId × Card). is_ready books entry.0) (slice_get books.tasks place) false
+is_ready_at books index = option_map_or (λ (entry : TaskId × Card). is_ready books entry.0) (slice_get books.tasks index) false
 
 -- whether some task may be put
 abbrev pub has_ready : Books → Bool

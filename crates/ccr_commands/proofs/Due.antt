@@ -14,7 +14,7 @@ use Rattle.ccr_service.specs.Expansion.{expansion}
 use Rattle.ccr_service.specs.Reading.{reading_text as reading_service}
 use Rattle.ccr_commands.specs.Answers.{AnswersText, PartsGive}
 use Rattle.ccr_commands.specs.Findings.{VerifyGives}
-use Rattle.ccr_commands.specs.Inputs.{history_place, output_part, wiring_part, wiring_of_record, wiring_of_service}
+use Rattle.ccr_commands.specs.Inputs.{history_index, output_part, wiring_part, wiring_of_record, wiring_of_service}
 use Rattle.ccr_commands.specs.Records.{ReplayGives, StepsGives}
 use Rattle.ccr_commands.specs.Services.{ServiceGives, ExpandGives}
 
@@ -32,7 +32,7 @@ found_is_given part before output wiring Refused text reads gives = absurd gives
 found_is_given part before output wiring Shed text reads gives = absurd gives
 found_is_given part before output wiring TooLong text reads gives = absurd gives
 
-parts_due : (json : Bool) (bytes : List ℕ) (status : Status) (text : List ℕ) → PartsGive (wiring_part bytes) (history_place bytes).1 (output_part bytes) status text → AnswersText Verify json bytes status text
+parts_due : (json : Bool) (bytes : List ℕ) (status : Status) (text : List ℕ) → PartsGive (wiring_part bytes) (history_index bytes).1 (output_part bytes) status text → AnswersText Verify json bytes status text
 parts_due json bytes Done text gives = gives
 parts_due json bytes Illegal text gives = gives
 parts_due json bytes Usage text gives = gives
@@ -41,7 +41,7 @@ parts_due json bytes Shed text gives = gives
 parts_due json bytes TooLong text gives = gives
 
 -- what is given for the two parts of an input is due for it
-pub parts_are_due : (json : Bool) (bytes : List ℕ) (place : ℕ × ℕ) (result : Result Outcome OutOfMemory) → place ≡ history_place bytes → IfOk result (λ due. PartsGive (take place.0 bytes) place.1 (drop place.0 bytes) due.status due.text) → IfOk result (λ due. AnswersText Verify json bytes due.status due.text)
+pub parts_are_due : (json : Bool) (bytes : List ℕ) (place : ℕ × ℕ) (result : Result Outcome OutOfMemory) → place ≡ history_index bytes → IfOk result (λ due. PartsGive (take place.0 bytes) place.1 (drop place.0 bytes) due.status due.text) → IfOk result (λ due. AnswersText Verify json bytes due.status due.text)
 parts_are_due json bytes place (Err e) is gives = tt
 parts_are_due json bytes place (Ok due) is gives = parts_due json bytes due.status due.text (subst (λ (p : ℕ × ℕ). PartsGive (take p.0 bytes) p.1 (drop p.0 bytes) due.status due.text) is gives)
 

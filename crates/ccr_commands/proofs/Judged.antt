@@ -21,24 +21,24 @@ use Rattle.ccr_commands.specs.Findings.{IsLegalOutput, difference, IsFound, Veri
 
 -- what the first refusal is, where the rule that refuses the first event is this, if any
 abbrev first_or : Option Rule → ℕ → Option (ℕ × Rule) → Option (ℕ × Rule)
-first_or answer place later = elim answer [ None ↦ later | Some rule ↦ Some (place, rule) ]
+first_or answer index later = elim answer [ None ↦ later | Some rule ↦ Some (index, rule) ]
 
 -- no event of a legal history is refused
-pub none_refused : (wiring : Parts) (past : List Event) (place : ℕ) (events : List Event) → IsLegalAfter wiring past events → first_refusal wiring past place events ≡ None
-none_refused wiring past place [] legal = refl
-none_refused wiring past place (event ∷ events) legal =
-    subst (λ (answer : Option Rule). first_or answer place (first_refusal wiring (past ++ event ∷ []) (place + 1) events) ≡ None) (sym legal.0) (none_refused wiring (past ++ event ∷ []) (place + 1) events legal.1)
+pub none_refused : (wiring : Parts) (past : List Event) (index : ℕ) (events : List Event) → IsLegalAfter wiring past events → first_refusal wiring past index events ≡ None
+none_refused wiring past index [] legal = refl
+none_refused wiring past index (event ∷ events) legal =
+    subst (λ (answer : Option Rule). first_or answer index (first_refusal wiring (past ++ event ∷ []) (index + 1) events) ≡ None) (sym legal.0) (none_refused wiring (past ++ event ∷ []) (index + 1) events legal.1)
 
-bounded : (answer : Option Rule) (later : Option (ℕ × Rule)) (place bound at : ℕ) (rule : Rule) → (later ≡ Some (at, rule) → at < bound) → place < bound → first_or answer place later ≡ Some (at, rule) → at < bound
-bounded None later place bound at rule within here is = within is
-bounded (Some found) later place bound at rule within here is = let same : place ≡ at = ap (λ (o : Option (ℕ × Rule)). option_map_or (λ (p : ℕ × Rule). p.0) o place) is in omega (arith, same, here)
+bounded : (answer : Option Rule) (later : Option (ℕ × Rule)) (index bound at : ℕ) (rule : Rule) → (later ≡ Some (at, rule) → at < bound) → index < bound → first_or answer index later ≡ Some (at, rule) → at < bound
+bounded None later index bound at rule within here is = within is
+bounded (Some found) later index bound at rule within here is = let same : index ≡ at = ap (λ (o : Option (ℕ × Rule)). option_map_or (λ (p : ℕ × Rule). p.0) o index) is in omega (arith, same, here)
 
 -- the refused event is one of the history
-pub refused_within : (wiring : Parts) (past : List Event) (place : ℕ) (events : List Event) (at : ℕ) (rule : Rule) → first_refusal wiring past place events ≡ Some (at, rule) → at < place + length events
-refused_within wiring past place [] at rule is = absurd cc
-refused_within wiring past place (event ∷ events) at rule is =
-    bounded (refusal wiring past event) (first_refusal wiring (past ++ event ∷ []) (place + 1) events) place (place + length (event ∷ events)) at rule
-    (λ later. let within : at < place + 1 + length events = refused_within wiring (past ++ event ∷ []) (place + 1) events at rule later in omega (arith, within))
+pub refused_within : (wiring : Parts) (past : List Event) (index : ℕ) (events : List Event) (at : ℕ) (rule : Rule) → first_refusal wiring past index events ≡ Some (at, rule) → at < index + length events
+refused_within wiring past index [] at rule is = absurd cc
+refused_within wiring past index (event ∷ events) at rule is =
+    bounded (refusal wiring past event) (first_refusal wiring (past ++ event ∷ []) (index + 1) events) index (index + length (event ∷ events)) at rule
+    (λ later. let within : at < index + 1 + length events = refused_within wiring (past ++ event ∷ []) (index + 1) events at rule later in omega (arith, within))
     (omega arith) is
 
 unread : (read : Result ReadHistory (ℕ × ℕ)) (one : ReadHistory) (line code : ℕ) → read ≡ Ok one → read ≡ Err (line, code) → ⊥

@@ -151,10 +151,10 @@ module _ (w : Parts) (none : is_newer w ≡ false) where
       let two = both ((m.port == sent.port) && same_value m.value sent.value) (same_lists (λ c d. c == d) m.causes sent.causes) is in
       same_single m.value sent.value (both (m.port == sent.port) (same_value m.value sent.value) two.0).1 single
 
-  script_single : (poster place : ℕ) (part : PosterPart) (sent : Sent) → slice_get w.posters poster ≡ Some part → slice_get part.posts place ≡ Some sent → IsSingle sent.value
-  script_single poster place part sent is line =
+  script_single : (poster index : ℕ) (part : PosterPart) (sent : Sent) → slice_get w.posters poster ≡ Some part → slice_get part.posts index ≡ Some sent → IsSingle sent.value
+  script_single poster index part sent is line =
       let old : poster_is_newer part ≡ false = none_at poster_is_newer w.posters poster part (neither (list_any handler_is_newer w.handlers) (list_any poster_is_newer w.posters) none).1 is in
-      not_long sent.value (none_at (λ (post : Sent). is_long post.value) part.posts place sent old line)
+      not_long sent.value (none_at (λ (post : Sent). is_long post.value) part.posts index sent old line)
 
   post_allowed : (h : List Event) (m : Msg) → ArePosted h → (name : MsgId) → refusal_of_post w h m name ≡ None → IsSingle m.value
   post_allowed h m posted (names.Script a k) allowed =

@@ -10,7 +10,7 @@ use Rattle.ccr_commands.specs.declared.findings.Finding.TheVariants as findings
 use Rattle.ccr_words.specs.declared.requests.Request.{Request}
 use Rattle.ccr_words.specs.declared.requests.Request.TheVariants.{Read, Load}
 use Rattle.ccr_words.specs.Said.{asked_for}
-use Rattle.ccr_commands.specs.Inputs.{reading_input, history_place, output_part}
+use Rattle.ccr_commands.specs.Inputs.{reading_input, history_index, output_part}
 use Rattle.ccr_commands.specs.Loads.{LoadGives}
 use Rattle.ccr_commands.specs.Findings.{IsFound, is_fault}
 use Rattle.ccr_commands.specs.Answers.{may_end, Answers, AnswersInput, AnswersRequest, IsDue, IsAccepted, IsDeclined, IsExcessive, IsVerified}
@@ -98,11 +98,11 @@ for_wiring command json (Some bytes) TooLong text due accepted = absurd (omega (
 for_wiring command json (Some bytes) Refused text due accepted = absurd (apart _ accepted.1.0 (due.1.0, due.1.1) accepted.1.1 due.1.2)
 
 -- an output in which a fault is found isn't answered as done
-no_done : (json : Bool) (bytes text : List ℕ) (one other : Parts) (finding : Finding) → reading_input Verify bytes ≡ Ok one → reading_input Verify bytes ≡ Ok other → Answers Verify json one bytes Done text → IsFound other (history_place bytes).1 (output_part bytes) finding → is_fault finding ≡ true → ⊥
+no_done : (json : Bool) (bytes text : List ℕ) (one other : Parts) (finding : Finding) → reading_input Verify bytes ≡ Ok one → reading_input Verify bytes ≡ Ok other → Answers Verify json one bytes Done text → IsFound other (history_index bytes).1 (output_part bytes) finding → is_fault finding ≡ true → ⊥
 no_done json bytes text one other finding reads again answers found fault =
     let same : one ≡ other = cc in
-    let legal : IsFound other (history_place bytes).1 (output_part bytes) (findings.Legal answers.0 answers.1) = subst (λ (w : Parts). IsFound w (history_place bytes).1 (output_part bytes) (findings.Legal answers.0 answers.1)) same answers.2 in
-    let none : is_fault finding ≡ false = no_fault_beside other (history_place bytes).1 (output_part bytes) answers.0 answers.1 finding legal found in
+    let legal : IsFound other (history_index bytes).1 (output_part bytes) (findings.Legal answers.0 answers.1) = subst (λ (w : Parts). IsFound w (history_index bytes).1 (output_part bytes) (findings.Legal answers.0 answers.1)) same answers.2 in
+    let none : is_fault finding ≡ false = no_fault_beside other (history_index bytes).1 (output_part bytes) answers.0 answers.1 finding legal found in
     cc
 
 for_fault : (json : Bool) (rest : Option (List ℕ)) (status : Status) (text : List ℕ) → AnswersInput Verify json rest status text → IsVerified true rest → status ≡ Illegal

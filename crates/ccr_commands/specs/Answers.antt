@@ -14,7 +14,7 @@ use Rattle.ccr_words.specs.declared.requests.Request.{Request}
 use Rattle.ccr_words.specs.declared.requests.Request.TheVariants.{Read, Load}
 use Rattle.ccr_words.specs.Said.{asked_for}
 use Rattle.ccr_commands.specs.declared.findings.Finding.{Finding}
-use Rattle.ccr_commands.specs.Inputs.{limit_of, history_place, output_part, reading_input, turns_of}
+use Rattle.ccr_commands.specs.Inputs.{limit_of, history_index, output_part, reading_input, turns_of}
 use Rattle.ccr_commands.specs.Runs.{RunGives}
 use Rattle.ccr_commands.specs.Loads.{LoadGives}
 use Rattle.ccr_commands.specs.Records.{RecordGives, ReplayGives, StepsGives}
@@ -56,7 +56,7 @@ CheckGives json wiring _ text = ⊥
 abbrev pub Answers : Command → Bool → Parts → List ℕ → Status → List ℕ → Type 0
 Answers Check json wiring bytes status text = CheckGives json wiring status text
 Answers (Run workers schedule) json wiring bytes status text = RunGives json wiring workers (turns_of schedule wiring workers bytes) status text
-Answers Verify json wiring bytes status text = VerifyGives wiring (history_place bytes).1 (output_part bytes) status text
+Answers Verify json wiring bytes status text = VerifyGives wiring (history_index bytes).1 (output_part bytes) status text
 Answers (Record workers) json wiring bytes status text = RecordGives wiring workers bytes status text
 Answers Replay json wiring bytes status text = (said : Recorded) × (reading_record bytes ≡ Ok said) × ReplayGives said status text
 Answers Steps json wiring bytes status text = (said : Recorded) × (reading_record bytes ≡ Ok said) × StepsGives said status text
@@ -114,7 +114,7 @@ IsExcessive command (Some bytes) = limit_of command < length bytes
 -- the source tells its bytes, and they say a wiring and an output in which there is a fault, or none
 abbrev pub IsVerified : Bool → Option (List ℕ) → Type 0
 IsVerified fault None = ⊥
-IsVerified fault (Some bytes) = (length bytes ≤ limit_of Verify) × ((wiring : Parts) × (finding : Finding) × (reading_input Verify bytes ≡ Ok wiring) × IsFound wiring (history_place bytes).1 (output_part bytes) finding × (is_fault finding ≡ fault))
+IsVerified fault (Some bytes) = (length bytes ≤ limit_of Verify) × ((wiring : Parts) × (finding : Finding) × (reading_input Verify bytes ≡ Ok wiring) × IsFound wiring (history_index bytes).1 (output_part bytes) finding × (is_fault finding ≡ fault))
 
 -- what was read to its end is exhausted: a source that told its bytes has none left
 abbrev pub IsExhausted : Status → Option (List ℕ) → Option (List ℕ) → Type 0

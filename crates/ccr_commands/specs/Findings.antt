@@ -43,7 +43,7 @@ difference wiring before output read = first_difference (before + read.lines + 1
 -- some rule; its report or last line differ; else it is legal, complete or not, and quiet or not
 abbrev pub IsFound : Parts → ℕ → List ℕ → Finding → Type 0
 IsFound wiring before output (Malformed line code) = reading_output wiring before output ≡ Err (line, code)
-IsFound wiring before output (Illegal line rule) = (read : ReadHistory) × (place : ℕ) × (reading_output wiring before output ≡ Ok read) × (first_refusal wiring [] 0 read.history ≡ Some (place, rule)) × (line ≡ before + 2 + place)
+IsFound wiring before output (Illegal line rule) = (read : ReadHistory) × (index : ℕ) × (reading_output wiring before output ≡ Ok read) × (first_refusal wiring [] 0 read.history ≡ Some (index, rule)) × (line ≡ before + 2 + index)
 IsFound wiring before output (Misreported line) = (read : ReadHistory) × IsLegalOutput wiring before output read × (difference wiring before output read ≡ Some line)
 IsFound wiring before output (Legal complete quiet) = (read : ReadHistory) × IsLegalOutput wiring before output read × (difference wiring before output read ≡ None) × (complete ≡ is_complete wiring read.history) × MeansQuiet wiring read.history quiet
 

@@ -20,32 +20,32 @@ limit_of Steps = 33554432
 limit_of _ = 1048576
 
 -- where the first line begins whose first word is `history`, and how many lines stand before it
-abbrev pub history_place : List ℕ → ℕ × ℕ
-history_place bytes = line_of bytes (codes "history")
+abbrev pub history_index : List ℕ → ℕ × ℕ
+history_index bytes = line_of bytes (codes "history")
 
 -- what stands before that line
 abbrev pub wiring_part : List ℕ → List ℕ
-wiring_part bytes = take (history_place bytes).0 bytes
+wiring_part bytes = take (history_index bytes).0 bytes
 
 -- that line and all behind it
 abbrev pub output_part : List ℕ → List ℕ
-output_part bytes = drop (history_place bytes).0 bytes
+output_part bytes = drop (history_index bytes).0 bytes
 
 -- where the first line begins whose first word is `turn`, and how many lines stand before it
-abbrev pub turn_place : List ℕ → ℕ × ℕ
-turn_place bytes = line_of bytes (codes "turn")
+abbrev pub turn_index : List ℕ → ℕ × ℕ
+turn_index bytes = line_of bytes (codes "turn")
 
 -- what stands before that line
 abbrev pub part_before_turns : List ℕ → List ℕ
-part_before_turns bytes = take (turn_place bytes).0 bytes
+part_before_turns bytes = take (turn_index bytes).0 bytes
 
 -- that line and all behind it
 abbrev pub turn_part : List ℕ → List ℕ
-turn_part bytes = drop (turn_place bytes).0 bytes
+turn_part bytes = drop (turn_index bytes).0 bytes
 
 -- the turns of the posters and so many workers, or the first offending line and its code
 abbrev pub turns_in : Parts → ℕ → List ℕ → Result (List ℕ) (ℕ × ℕ)
-turns_in wiring workers bytes = reading_turns (turn_part bytes) (turn_place bytes).1 (length wiring.posters + workers)
+turns_in wiring workers bytes = reading_turns (turn_part bytes) (turn_index bytes).1 (length wiring.posters + workers)
 
 -- the wiring, where the turns behind it are read too
 abbrev pub with_turns : ℕ → List ℕ → Result Parts (ℕ × ℕ) → Result Parts (ℕ × ℕ)

@@ -27,8 +27,8 @@ answer_words answers.Dropped = codes "dropped" ∷ []
 
 -- a line for each request of a client, of which the first has this number
 abbrev pub ask_lines : ℕ → List Answer → List (List (List ℕ))
-ask_lines place [] = []
-ask_lines place (answer ∷ answers) = (codes "ask" ∷ decimal place ∷ answer_words answer) ∷ ask_lines (place + 1) answers
+ask_lines index [] = []
+ask_lines index (answer ∷ answers) = (codes "ask" ∷ decimal index ∷ answer_words answer) ∷ ask_lines (index + 1) answers
 
 -- client by client: its name, and a line for each of its requests
 abbrev pub client_lines : List ClientPart → List Answer → List (List (List ℕ))

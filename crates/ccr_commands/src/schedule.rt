@@ -32,10 +32,10 @@ fn read_schedule(
     ensures actors { IfOk result (λ read. All (λ actor. actor < length read.0.posters + workers) read.1) }
     ensures refused { IfErr result (λ why. IsReading (Err why) (reading_run true workers text.now)) }
 {
-    let (place, before) = line_of(text, b"turn");
-    let wiring = read_wiring(alloc, &text[..place])?;
+    let (index, before) = line_of(text, b"turn");
+    let wiring = read_wiring(alloc, &text[..index])?;
     let actors = actor_count(&wiring, workers);
-    match read_turns(alloc, &text[place..], before, actors) {
+    match read_turns(alloc, &text[index..], before, actors) {
         Ok(turns) => Ok((wiring, turns)),
         Err(why) => Err(why),
     }

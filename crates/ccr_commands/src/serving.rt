@@ -46,11 +46,11 @@ fn put_answer(out: &mut List<u8>, told: &Told) -> Result<(), OutOfMemory>
 }
 
 /// The line of the client's request of this number.
-fn put_ask(out: &mut List<u8>, place: usize, told: &Told) -> Result<(), OutOfMemory>
-    ensures { OnOk result (out.new ≡ out.old ++ line_text (codes "ask" ∷ decimal place ∷ answer_words told.now)) }
+fn put_ask(out: &mut List<u8>, index: usize, told: &Told) -> Result<(), OutOfMemory>
+    ensures { OnOk result (out.new ≡ out.old ++ line_text (codes "ask" ∷ decimal index ∷ answer_words told.now)) }
 {
     put_bytes(out, b"ask")?;
-    put_number_word(out, place as u64)?;
+    put_number_word(out, index as u64)?;
     put_answer(out, told)?;
     put_bytes(out, b"\n")
 }
@@ -59,8 +59,8 @@ fn put_ask(out: &mut List<u8>, place: usize, told: &Told) -> Result<(), OutOfMem
 fn put_asks(out: &mut List<u8>, told: &[Told]) -> Result<(), OutOfMemory>
     ensures { OnOk result (out.new ≡ out.old ++ text_of (ask_lines 0 told.now)) }
 {
-    for (place, told) in told.iter().enumerate() {
-        put_ask(out, place, told)?;
+    for (index, told) in told.iter().enumerate() {
+        put_ask(out, index, told)?;
     }
     Ok(())
 }

@@ -69,6 +69,6 @@ pub fn verify(alloc: Global, text: &[u8]) -> Result<Outcome, OutOfMemory>
     requires { length text.now ≤ most_bytes }
     ensures { (json : Bool) → IfOk result (λ due. AnswersText Verify json text.now due.status due.text) }
 {
-    let (place, before) = line_of(text, b"history");
-    judge_parts(alloc, &text[..place], before, &text[place..])
+    let (index, before) = line_of(text, b"history");
+    judge_parts(alloc, &text[..index], before, &text[index..])
 }

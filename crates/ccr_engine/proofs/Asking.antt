@@ -15,7 +15,7 @@ abbrev pub first_of : {X : Type 0} → (ℕ → Option Event) → ℕ → List X
 first_of at n [] = None
 first_of at n (x ∷ xs) = option_or (at n) (first_of at (n + 1) xs)
 
--- the number at the place is the first that has one
+-- the number at the index is the first that has one
 first_at : {X : Type 0} (at : ℕ → Option Event) (n k : ℕ) (xs : List X) (e : Event) → ((j : ℕ) → j < k → at (n + j) ≡ None) → k < length xs → at (n + k) ≡ Some e → first_of at n xs ≡ Some e
 first_at at n k [] e none low is = absurd (omega (arith, low))
 first_at at n zero (x ∷ xs) e none low is =

@@ -17,7 +17,7 @@ use Rattle.ccr_engine.specs.Ready.{has_number, IsLeastFirst}
 use Rattle.ccr_engine.specs.Numbered.{passes_at}
 use Rattle.ccr_engine.specs.Blocked.{queue_at, is_on, is_blocked, AreBlocked, Blocks}
 
--- which queue a place is blocked at
+-- which queue a index is blocked at
 pub row_within : (rows : List (List ℕ)) (q k : ℕ) → has_number (row rows q) k ≡ true → q < length rows
 row_within [] q k is = absurd (cc)
 row_within (r ∷ rows) zero k is = omega arith
@@ -56,7 +56,7 @@ row_set (r ∷ rows) (suc q) items low = row_set rows q items (omega (arith, low
 -- how many are blocked, each as often as it is at a queue
 abbrev pub total : List (List ℕ) → ℕ
 total [] = 0
-total (places ∷ rows) = length places + total rows
+total (indices ∷ rows) = length indices + total rows
 
 total_set : (rows : List (List ℕ)) (q : ℕ) (items : List ℕ) → q < length rows → length items < length (row rows q) → total (with_row rows q items) < total rows
 total_set [] q items low less = absurd (omega (arith, low))
@@ -118,7 +118,7 @@ roomy_else w b (Branch n) none = of_placement (placement w n) none
     of_placement None none = refl
     of_placement (Some s) none = absurd (cc)
 
--- one queue's places change, and no other's
+-- one queue's indices change, and no other's
 module _ (old new : List (List ℕ)) (q : ℕ) (others : new ≡ with_row old q (row new q)) where
   rows_else : (n : ℕ) → (n == q) ≡ false → row new n ≡ row old n
   rows_else n differs = ap (λ rows. row rows n) others ∙ row_other old q n (row new q) differs
@@ -133,16 +133,16 @@ module _ (old new : List (List ℕ)) (q : ℕ) (others : new ≡ with_row old q 
       of_test true same = let here : n ≡ q = same_number n q same in subst (λ m. IsLeastFirst (row new m)) (sym here) least
       of_test false differs = subst IsLeastFirst (sym (rows_else n differs)) (was n)
 
-  -- a place comes in
-  module _ (place : ℕ) (members : (k : ℕ) → has_number (row new q) k ≡ (k == place) || has_number (row old q) k) where
-    came : (n k : ℕ) → has_number (row new n) k ≡ true → (C : Type 0) → (n ≡ q → k ≡ place → C) → (has_number (row old n) k ≡ true → C) → C
+  -- a index comes in
+  module _ (index : ℕ) (members : (k : ℕ) → has_number (row new q) k ≡ (k == index) || has_number (row old q) k) where
+    came : (n k : ℕ) → has_number (row new n) k ≡ true → (C : Type 0) → (n ≡ q → k ≡ index → C) → (has_number (row old n) k ≡ true → C) → C
     came n k is C one other = of_test (n == q) refl
       where
         of_test : (b : Bool) → (n == q) ≡ b → C
         of_test true same =
             let here : n ≡ q = same_number n q same in
-            let within : (k == place) || has_number (row old q) k ≡ true = sym (members k) ∙ subst (λ m. has_number (row new m) k ≡ true) here is in
-            either (k == place) (has_number (row old q) k) within C (λ at. one here (same_number k place at)) (λ was. other (subst (λ m. has_number (row old m) k ≡ true) (sym here) was))
+            let within : (k == index) || has_number (row old q) k ≡ true = sym (members k) ∙ subst (λ m. has_number (row new m) k ≡ true) here is in
+            either (k == index) (has_number (row old q) k) within C (λ at. one here (same_number k index at)) (λ was. other (subst (λ m. has_number (row old m) k ≡ true) (sym here) was))
         of_test false differs = other (subst (λ ns. has_number ns k ≡ true) (rows_else n differs) is)
 
     stays : (n k : ℕ) → has_number (row old n) k ≡ true → has_number (row new n) k ≡ true
@@ -152,16 +152,16 @@ module _ (old new : List (List ℕ)) (q : ℕ) (others : new ≡ with_row old q 
         of_test true same =
             let here : n ≡ q = same_number n q same in
             let there : has_number (row old q) k ≡ true = subst (λ m. has_number (row old m) k ≡ true) here was in
-            subst (λ m. has_number (row new m) k ≡ true) (sym here) (members k ∙ or_right (k == place) (has_number (row old q) k) there)
+            subst (λ m. has_number (row new m) k ≡ true) (sym here) (members k ∙ or_right (k == index) (has_number (row old q) k) there)
         of_test false differs = subst (λ ns. has_number ns k ≡ true) (sym (rows_else n differs)) was
 
-    pub entered_blocked : is_blocked new place ≡ true
-    entered_blocked = row_blocked new q place (members place ∙ or_left (place == place) (has_number (row old q) place) (eq-self place))
+    pub entered_blocked : is_blocked new index ≡ true
+    entered_blocked = row_blocked new q index (members index ∙ or_left (index == index) (has_number (row old q) index) (eq-self index))
 
-    pub blocks_entered : (w : Parts) (b : Books) (s : Spot) → AreBlocked w old → slice_get (spots w) place ≡ Some s → queue_at w s ≡ Some q → room w b s ≡ false → IsLeastFirst (row new q) → Blocks w b old new
+    pub blocks_entered : (w : Parts) (b : Books) (s : Spot) → AreBlocked w old → slice_get (spots w) index ≡ Some s → queue_at w s ≡ Some q → room w b s ≡ false → IsLeastFirst (row new q) → Blocks w b old new
     blocks_entered w b s are at on full least =
-        let here : passes_at (is_on w q) (spots w) place ≡ true = rw (at, on) (eq-self q) in
-        let lacks : passes_at (room w b) (spots w) place ≡ false = rw at full in
+        let here : passes_at (is_on w q) (spots w) index ≡ true = rw (at, on) (eq-self q) in
+        let lacks : passes_at (room w b) (spots w) index ≡ false = rw at full in
         record {
           blocked = record {
             size = same_size ∙ are.size;
@@ -173,7 +173,7 @@ module _ (old new : List (List ℕ)) (q : ℕ) (others : new ≡ with_row old q 
         }
 
   -- the least leaves
-  module _ (place : ℕ) (rest : row old q ≡ place ∷ row new q) where
+  module _ (index : ℕ) (rest : row old q ≡ index ∷ row new q) where
     was_there : (n k : ℕ) → has_number (row new n) k ≡ true → has_number (row old n) k ≡ true
     was_there n k is = of_test (n == q) refl
       where
@@ -181,7 +181,7 @@ module _ (old new : List (List ℕ)) (q : ℕ) (others : new ≡ with_row old q 
         of_test true same =
             let here : n ≡ q = same_number n q same in
             let there : has_number (row new q) k ≡ true = subst (λ m. has_number (row new m) k ≡ true) here is in
-            subst (λ m. has_number (row old m) k ≡ true) (sym here) (ap (λ ns. has_number ns k) rest ∙ or_right (place == k) (has_number (row new q) k) there)
+            subst (λ m. has_number (row old m) k ≡ true) (sym here) (ap (λ ns. has_number ns k) rest ∙ or_right (index == k) (has_number (row new q) k) there)
         of_test false differs = subst (λ ns. has_number ns k ≡ true) (rows_else n differs) is
 
     pub AreBlocked-left : (w : Parts) → AreBlocked w old → IsLeastFirst (row new q) → AreBlocked w new
@@ -191,15 +191,15 @@ module _ (old new : List (List ℕ)) (q : ℕ) (others : new ≡ with_row old q 
       lowest = all_lowest least are.lowest;
     }
 
-    -- no other place leaves
-    pub left_alone : (k : ℕ) → is_blocked old k ≡ true → is_blocked new k ≡ false → k ≡ place
+    -- no other index leaves
+    pub left_alone : (k : ℕ) → is_blocked old k ≡ true → is_blocked new k ≡ false → k ≡ index
     left_alone k was out = let there = blocked_row old k was in of_test there.0 there.1 (there.0 == q) refl
       where
-        of_test : (n : ℕ) → has_number (row old n) k ≡ true → (b : Bool) → (n == q) ≡ b → k ≡ place
+        of_test : (n : ℕ) → has_number (row old n) k ≡ true → (b : Bool) → (n == q) ≡ b → k ≡ index
         of_test n among true same =
             let here : n ≡ q = same_number n q same in
-            let within : (place == k) || has_number (row new q) k ≡ true = sym (ap (λ ns. has_number ns k) rest) ∙ subst (λ m. has_number (row old m) k ≡ true) here among in
-            either (place == k) (has_number (row new q) k) within (k ≡ place) (λ at. sym (same_number place k at)) (λ still. absurd (no_both (row_blocked new q k still) out))
+            let within : (index == k) || has_number (row new q) k ≡ true = sym (ap (λ ns. has_number ns k) rest) ∙ subst (λ m. has_number (row old m) k ≡ true) here among in
+            either (index == k) (has_number (row new q) k) within (k ≡ index) (λ at. sym (same_number index k at)) (λ still. absurd (no_both (row_blocked new q k still) out))
         of_test n among false differs = absurd (no_both (row_blocked new n k (subst (λ ns. has_number ns k ≡ true) (sym (rows_else n differs)) among)) out)
 
     pub total_left : q < length old → total new < total old

@@ -30,7 +30,7 @@ use Rattle.ccr_engine.proofs.Posters.{done-event}
 use Rattle.ccr_engine.proofs.ReadyNumbers.{ready-fire, ready-admit, ready-put, ready-other}
 use Rattle.ccr_engine.proofs.Told.{touched_kept, domains_kept, queues_kept}
 
--- a task stands at the place of its firing among those that fired
+-- a task stands at the index of its firing among those that fired
 pub fired_at_number : (h : List Event) (t : TaskId) (f : Firing) → firing_named h t ≡ Some f → slice_get (fired h) (length (firings (before t h))) ≡ Some t
 fired_at_number [] t f is = absurd (cc)
 fired_at_number (Fire u s ms cs ∷ h) t f is = of_test (same_task u t) refl is (fired_at_number h t f)
@@ -63,24 +63,24 @@ where_needed false true was = refl
 where_needed false false was = refl
 
 module _ (w : Parts) (h : List Event) (b : Books) (keeps : Keeps w h b) where
-  number_known : (t : TaskId) (f : Firing) (place : ℕ) → firing_named h t ≡ Some f → is_number_of b t place ≡ (place == length (firings (before t h)))
-  number_known t f place is = rw (keeps.tasks.cards t, is) refl
+  number_known : (t : TaskId) (f : Firing) (index : ℕ) → firing_named h t ≡ Some f → is_number_of b t index ≡ (index == length (firings (before t h)))
+  number_known t f index is = rw (keeps.tasks.cards t, is) refl
 
   tasks_counted : length b.tasks ≡ length (fired h)
   tasks_counted = sym (length-map b.tasks (λ (entry : TaskId × Card). entry.0)) ∙ ap length keeps.tasks.names
 
-  ready_kept : (e : Event) (old new : List ℕ) → IsLegal w h → IsAllowed w h e → AreReady w h old → ((place : ℕ) → has_number new place ≡ after_ready w b e old place) → AreReady w (h ++ e ∷ []) new
-  ready_kept (Fire t s ms cs) old new legal allowed known changed = ready-fire w h t s ms cs old new legal allowed known (λ place. subst (λ n. has_number new place ≡ ((place == n) && needs_no_admission w s) || has_number old place) tasks_counted (changed place ∙ where_needed (needs_no_admission w s) (place == length b.tasks) (has_number old place)))
+  ready_kept : (e : Event) (old new : List ℕ) → IsLegal w h → IsAllowed w h e → AreReady w h old → ((index : ℕ) → has_number new index ≡ after_ready w b e old index) → AreReady w (h ++ e ∷ []) new
+  ready_kept (Fire t s ms cs) old new legal allowed known changed = ready-fire w h t s ms cs old new legal allowed known (λ index. subst (λ n. has_number new index ≡ ((index == n) && needs_no_admission w s) || has_number old index) tasks_counted (changed index ∙ where_needed (needs_no_admission w s) (index == length b.tasks) (has_number old index)))
   ready_kept (Admit t) old new legal allowed known changed =
       let facts = AdmitFacts-allowed w h t allowed in
       let fired_so = placement_fired w h t facts.place facts.is_place in
-      ready-admit w h t (length (firings (before t h))) old new legal allowed (fired_at_number h t fired_so.0 fired_so.1) known (λ place. rw (← number_known t fired_so.0 place fired_so.1) (changed place))
+      ready-admit w h t (length (firings (before t h))) old new legal allowed (fired_at_number h t fired_so.0 fired_so.1) known (λ index. rw (← number_known t fired_so.0 index fired_so.1) (changed index))
   ready_kept (Put t d) old new legal allowed known changed =
       let facts = PutFacts-allowed w h t d allowed in
-      ready-put w h t d (length (firings (before t h))) old new legal (fired_at_number h t facts.firing facts.is_firing) known (λ place. rw (← number_known t facts.firing place facts.is_firing) (changed place))
-  ready_kept (Post m) old new legal allowed known changed = λ place. changed place ∙ ready-other w h (Post m) old refl refl refl known place
-  ready_kept (Start t a) old new legal allowed known changed = λ place. changed place ∙ ready-other w h (Start t a) old refl refl refl known place
-  ready_kept (End t how) old new legal allowed known changed = λ place. changed place ∙ ready-other w h (End t how) old refl refl refl known place
+      ready-put w h t d (length (firings (before t h))) old new legal (fired_at_number h t facts.firing facts.is_firing) known (λ index. rw (← number_known t facts.firing index facts.is_firing) (changed index))
+  ready_kept (Post m) old new legal allowed known changed = λ index. changed index ∙ ready-other w h (Post m) old refl refl refl known index
+  ready_kept (Start t a) old new legal allowed known changed = λ index. changed index ∙ ready-other w h (Start t a) old refl refl refl known index
+  ready_kept (End t how) old new legal allowed known changed = λ index. changed index ∙ ready-other w h (End t how) old refl refl refl known index
 
 -- after each allowed event the desk still says what the model says
 pub stands-event : (w : Parts) (c : ℕ) (h : List Event) (e : Event) (old new : Desk) → IsLegal w h → IsAllowed w h e → TablesTell w h old.books → Keeps w (h ++ e ∷ []) (after_event w e old.books) → Stands w c h old → Follows w c e old new → Stands w c (h ++ e ∷ []) new

@@ -74,7 +74,7 @@ popped old new (Some k) variant removal = subst (λ xs. IfSome (slice_get xs 0) 
 popped [] new None variant removal = tt
 popped (x ∷ old) new None variant removal = let some = variant.1 (omega arith) in absurd (cc)
 
--- the item at a place is read
+-- the item at a index is read
 pub read : {T : Type 0} (ss xs : List T) (i : ℕ) (d : T) → ss ≡ xs → i < length ss → slice_get xs i ≡ Some (get_or ss i d)
 read ss xs i d same lt = rw (← same) (slice_get-get_or ss i d lt)
 
@@ -100,11 +100,11 @@ passes-or p q r xs both n = of_option (slice_get xs n)
     of_option None = refl
     of_option (Some x) = both x
 
--- none of the first passes, where none does at their places
-pub none_before : {T : Type 0} (test : T → Bool) (xs : List T) (n : ℕ) → ((place : ℕ) → place < n → passes_at test xs place ≡ false) → list_any test (take n xs) ≡ false
+-- none of the first passes, where none does at their indices
+pub none_before : {T : Type 0} (test : T → Bool) (xs : List T) (n : ℕ) → ((index : ℕ) → index < n → passes_at test xs index ≡ false) → list_any test (take n xs) ≡ false
 none_before test [] zero out = refl
 none_before test [] (suc n) out = refl
 none_before test (x ∷ xs) zero out = refl
 none_before test (x ∷ xs) (suc n) out =
     let here : test x ≡ false = out 0 (omega arith) in
-    rw here (none_before test xs n (λ place low. out (suc place) (omega (arith, low))))
+    rw here (none_before test xs n (λ index low. out (suc index) (omega (arith, low))))

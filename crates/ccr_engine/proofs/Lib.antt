@@ -25,7 +25,7 @@ pub mod Blocking
 pub mod Searching
 pub mod Along
 pub mod Reading
-pub mod FirstPlaces
-pub mod NotedPlaces
-pub mod SpotPlaces
+pub mod FirstIndices
+pub mod NotedIndices
+pub mod SpotIndices
 pub mod TouchedSpots

@@ -85,14 +85,14 @@ pub post_ends : (b : Books) (xs : List PosterPart) (i : ℕ) → are_done_in b 0
 post_ends b xs i done all = sym (post_none b 0 i xs done all)
 
 -- the spot there is the first that can fire
-pub fire_at_place : (w : Parts) (t : TaskId) (b : Books) (k : ℕ) (xs : List Spot) (x : Spot) (e : Event) → list_any (fires_in w t b) (take k xs) ≡ false → slice_get xs k ≡ Some x → fire_in w t b x ≡ Some e → first_fire_in w t b xs ≡ Some e
-fire_at_place w t b k [] x e none at fires = absurd (cc)
-fire_at_place w t b zero (y ∷ xs) x e none at fires =
+pub fire_at_index : (w : Parts) (t : TaskId) (b : Books) (k : ℕ) (xs : List Spot) (x : Spot) (e : Event) → list_any (fires_in w t b) (take k xs) ≡ false → slice_get xs k ≡ Some x → fire_in w t b x ≡ Some e → first_fire_in w t b xs ≡ Some e
+fire_at_index w t b k [] x e none at fires = absurd (cc)
+fire_at_index w t b zero (y ∷ xs) x e none at fires =
     let one : y ≡ x = cc in
     rw (one, fires) refl
-fire_at_place w t b (suc k) (y ∷ xs) x e none at fires =
+fire_at_index w t b (suc k) (y ∷ xs) x e none at fires =
     let outs = neither (fires_in w t b y) (list_any (fires_in w t b) (take k xs)) none in
-    rw (not_some (fire_in w t b y) outs.0) (fire_at_place w t b k xs x e outs.1 at fires)
+    rw (not_some (fire_in w t b y) outs.0) (fire_at_index w t b k xs x e outs.1 at fires)
 
 pub fire_none : (w : Parts) (t : TaskId) (b : Books) (k : ℕ) (xs : List Spot) → list_any (fires_in w t b) (take k xs) ≡ false → length xs ≤ k → first_fire_in w t b xs ≡ None
 fire_none w t b k [] none all = refl

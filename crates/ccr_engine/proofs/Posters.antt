@@ -37,16 +37,16 @@ past (x ∷ xs) zero few = absurd (omega arith)
 past (x ∷ xs) (suc n) few = past xs n (omega arith)
 
 -- the next line is of a poster behind those that are done
-pub post_from-place : (h : List Event) (n k : ℕ) (ps : List PosterPart) → are_done h n (take k ps) ≡ true → post_from h n ps ≡ post_from h (n + k) (drop k ps)
-post_from-place h n zero [] is = refl
-post_from-place h n (suc k) [] is = refl
-post_from-place h n zero (p ∷ ps) is = let same : n + 0 ≡ n = omega arith in rw same refl
-post_from-place h n (suc k) (p ∷ ps) is =
+pub post_from-index : (h : List Event) (n k : ℕ) (ps : List PosterPart) → are_done h n (take k ps) ≡ true → post_from h n ps ≡ post_from h (n + k) (drop k ps)
+post_from-index h n zero [] is = refl
+post_from-index h n (suc k) [] is = refl
+post_from-index h n zero (p ∷ ps) is = let same : n + 0 ≡ n = omega arith in rw same refl
+post_from-index h n (suc k) (p ∷ ps) is =
     let parts = both (nat_le (length p.posts) (posts_of_poster h n)) (are_done h (n + 1) (take k ps)) is in
     let few : length p.posts ≤ posts_of_poster h n = low (length p.posts) (posts_of_poster h n) parts.0 in
     let none : slice_get p.posts (posts_of_poster h n) ≡ None = past p.posts (posts_of_poster h n) few in
     let same : n + suc k ≡ (n + 1) + k = omega arith in
-    rw (none, same) (post_from-place h (n + 1) k ps parts.1)
+    rw (none, same) (post_from-index h (n + 1) k ps parts.1)
   where
     low : (a b : ℕ) → nat_le a b ≡ true → a ≤ b
     low a b is = grind (arith, nat_tests, is)

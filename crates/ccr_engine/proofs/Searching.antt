@@ -21,10 +21,10 @@ use Rattle.ccr_engine.specs.Ready.{has_number, IsLeast, IsLeastFirst}
 use Rattle.ccr_engine.specs.Numbered.{passes_at}
 use Rattle.ccr_engine.specs.Blocked.{is_blocked, AreBlocked, is_before, IsFullBefore, Blocks}
 use Rattle.ccr_engine.specs.Parts.{choose_in, fire_in, first_fire_in, fires_in, could_fire_in, IsStillIn}
-use Rattle.ccr_engine.specs.Candidates.{AreCandidates, IsNoneBefore, IsFirstOpen, place_of}
+use Rattle.ccr_engine.specs.Candidates.{AreCandidates, IsNoneBefore, IsFirstOpen, index_of}
 use Rattle.ccr_engine.proofs.Blocking.{same_room, row_within, first_within, blocked_row, AreBlocked-left, left_alone, total, total_left}
 use Rattle.ccr_engine.proofs.Gaining.{none_before}
-use Rattle.ccr_engine.proofs.PartSteps.{fire_at_place, fire_none}
+use Rattle.ccr_engine.proofs.PartSteps.{fire_at_index, fire_none}
 
 -- before a limit
 pub before_less : (limit : Option ℕ) (j k : ℕ) → j ≤ k → is_before limit k ≡ true → is_before limit j ≡ true
@@ -62,30 +62,30 @@ module _ (w : Parts) (b : Books) (blocked : List (List ℕ)) (are : AreBlocked w
   pub open_none : slice_get (row blocked q) 0 ≡ None → IsFirstOpen w b blocked (q + 1) found
   open_none none = record {
     is_open = so_far.is_open;
-    full = one_more (place_of found) so_far.full (λ k among before. absurd (no_both among (ap (λ ns. has_number ns k) (no_head (row blocked q) none))));
+    full = one_more (index_of found) so_far.full (λ k among before. absurd (no_both among (ap (λ ns. has_number ns k) (no_head (row blocked q) none))));
   }
 
-  pub open_passed : (place : ℕ) → slice_get (row blocked q) 0 ≡ Some place → is_before (place_of found) place && passes_at (room w b) (spots w) place ≡ false → IsFirstOpen w b blocked (q + 1) found
-  open_passed place first out = record { is_open = so_far.is_open; full = one_more (place_of found) so_far.full here }
+  pub open_passed : (index : ℕ) → slice_get (row blocked q) 0 ≡ Some index → is_before (index_of found) index && passes_at (room w b) (spots w) index ≡ false → IsFirstOpen w b blocked (q + 1) found
+  open_passed index first out = record { is_open = so_far.is_open; full = one_more (index_of found) so_far.full here }
     where
-      least : IsLeast (row blocked q) place
-      least = are.lowest q place first
+      least : IsLeast (row blocked q) index
+      least = are.lowest q index first
 
-      of_tests : (t : Bool) → is_before (place_of found) place ≡ t → t && passes_at (room w b) (spots w) place ≡ false → (k : ℕ) → has_number (row blocked q) k ≡ true → is_before (place_of found) k ≡ true → passes_at (room w b) (spots w) k ≡ false
-      of_tests true near full k among before = same_room w b blocked are q k place among least.among ∙ full
-      of_tests false behind full k among before = absurd (no_both (before_less (place_of found) place k (at_least (row blocked q) k place least among) before) behind)
+      of_tests : (t : Bool) → is_before (index_of found) index ≡ t → t && passes_at (room w b) (spots w) index ≡ false → (k : ℕ) → has_number (row blocked q) k ≡ true → is_before (index_of found) k ≡ true → passes_at (room w b) (spots w) k ≡ false
+      of_tests true near full k among before = same_room w b blocked are q k index among least.among ∙ full
+      of_tests false behind full k among before = absurd (no_both (before_less (index_of found) index k (at_least (row blocked q) k index least among) before) behind)
 
-      here : (k : ℕ) → has_number (row blocked q) k ≡ true → is_before (place_of found) k ≡ true → passes_at (room w b) (spots w) k ≡ false
-      here k among before = of_tests (is_before (place_of found) place) refl out k among before
+      here : (k : ℕ) → has_number (row blocked q) k ≡ true → is_before (index_of found) k ≡ true → passes_at (room w b) (spots w) k ≡ false
+      here k among before = of_tests (is_before (index_of found) index) refl out k among before
 
-  pub open_nearer : (place : ℕ) → slice_get (row blocked q) 0 ≡ Some place → is_before (place_of found) place && passes_at (room w b) (spots w) place ≡ true → IsFirstOpen w b blocked (q + 1) (Some (record { queue = q; place = place }))
-  open_nearer place first is =
-      let parts = both (is_before (place_of found) place) (passes_at (room w b) (spots w) place) is in
-      let least = are.lowest q place first in
+  pub open_nearer : (index : ℕ) → slice_get (row blocked q) 0 ≡ Some index → is_before (index_of found) index && passes_at (room w b) (spots w) index ≡ true → IsFirstOpen w b blocked (q + 1) (Some (record { queue = q; index = index }))
+  open_nearer index first is =
+      let parts = both (is_before (index_of found) index) (passes_at (room w b) (spots w) index) is in
+      let least = are.lowest q index first in
       record {
         is_open = record { least = first; roomy = parts.1 };
-        full = one_more (Some place)
-            (λ n k low among before. so_far.full n k low among (before_less (place_of found) k place (grind (arith, nat_tests, before)) parts.0))
+        full = one_more (Some index)
+            (λ n k low among before. so_far.full n k low among (before_less (index_of found) k index (grind (arith, nat_tests, before)) parts.0))
             (λ k among before. absurd (no_both among (least.low k (grind (arith, nat_tests, before)))));
       }
 
@@ -93,7 +93,7 @@ pub open_start : (w : Parts) (b : Books) (blocked : List (List ℕ)) → IsFirst
 open_start w b blocked = record { is_open = tt; full = λ q k low among before. absurd (omega (arith, low)) }
 
 -- all queues were looked at
-pub full_before : (w : Parts) (b : Books) (blocked : List (List ℕ)) (found : Option Found) → IsFirstOpen w b blocked (length blocked) found → IsFullBefore w b blocked (place_of found)
+pub full_before : (w : Parts) (b : Books) (blocked : List (List ℕ)) (found : Option Found) → IsFirstOpen w b blocked (length blocked) found → IsFullBefore w b blocked (index_of found)
 full_before w b blocked found first = λ q k among before. first.full q k (row_within blocked q k among) among before
 
 -- what fires could fire, and has room
@@ -148,14 +148,14 @@ none_can w t b touched blocked limit still full above = λ k before. of_test k b
     of_test k before true is = let there = blocked_row blocked k is in no_room w t b k (full there.0 k there.1 before)
     of_test k before false out = could_not w t b k (still k (above k before) out)
 
--- the firing at a place before which none fires is the first
+-- the firing at a index before which none fires is the first
 pub first_at : (w : Parts) (t : TaskId) (b : Books) (k : ℕ) (e : Event) → IsNoneBefore w t b (Some k) → option_and_then (fire_in w t b) (slice_get (spots w) k) ≡ Some e → first_fire_in w t b (spots w) ≡ Some e
 first_at w t b k e none is =
     let there = some_then (fire_in w t b) (slice_get (spots w) k) e is in
-    fire_at_place w t b k (spots w) there.0 e (none_before (fires_in w t b) (spots w) k (λ place low. none place (grind (arith, nat_tests, low)))) there.1 there.2
+    fire_at_index w t b k (spots w) there.0 e (none_before (fires_in w t b) (spots w) k (λ index low. none index (grind (arith, nat_tests, low)))) there.1 there.2
 
 pub first_none : (w : Parts) (t : TaskId) (b : Books) → IsNoneBefore w t b None → first_fire_in w t b (spots w) ≡ None
-first_none w t b none = fire_none w t b (length (spots w)) (spots w) (none_before (fires_in w t b) (spots w) (length (spots w)) (λ place low. none place refl)) (omega arith)
+first_none w t b none = fire_none w t b (length (spots w)) (spots w) (none_before (fires_in w t b) (spots w) (length (spots w)) (λ index low. none index refl)) (omega arith)
 
 -- among the touched spots
 module _ (w : Parts) (t : TaskId) (b : Books) (touched : List ℕ) (blocked : List (List ℕ)) (are : AreCandidates w b touched blocked) (limit : Option ℕ) (full : IsFullBefore w b blocked limit) where
@@ -202,21 +202,21 @@ pub record IsLeft (w : Parts) (b : Books) (old now : List (List ℕ)) : Type 0 w
 pub IsLeft-start : (w : Parts) (b : Books) (old : List (List ℕ)) → AreBlocked w old → IsLeft w b old old
 IsLeft-start w b old are = record { blocked = are; left = λ k was out. absurd (no_both was out) }
 
-module _ (w : Parts) (t : TaskId) (b : Books) (old now next : List (List ℕ)) (found : Found) (left : IsLeft w b old now) (first : IsFirstOpen w b now (length now) (Some found)) (others : next ≡ with_row now found.queue (row next found.queue)) (rest : IfSome (slice_get (row now found.queue) 0) (λ place. row now found.queue ≡ place ∷ row next found.queue)) where
-  shorter : row now found.queue ≡ found.place ∷ row next found.queue
-  shorter = subst (λ o. IfSome o (λ place. row now found.queue ≡ place ∷ row next found.queue)) first.is_open.least rest
+module _ (w : Parts) (t : TaskId) (b : Books) (old now next : List (List ℕ)) (found : Found) (left : IsLeft w b old now) (first : IsFirstOpen w b now (length now) (Some found)) (others : next ≡ with_row now found.queue (row next found.queue)) (rest : IfSome (slice_get (row now found.queue) 0) (λ index. row now found.queue ≡ index ∷ row next found.queue)) where
+  shorter : row now found.queue ≡ found.index ∷ row next found.queue
+  shorter = subst (λ o. IfSome o (λ index. row now found.queue ≡ index ∷ row next found.queue)) first.is_open.least rest
 
-  pub IsLeft-next : option_and_then (fire_in w t b) (slice_get (spots w) found.place) ≡ None → IsLeastFirst (row next found.queue) → IsLeft w b old next
-  IsLeft-next none least = record { blocked = AreBlocked-left now next found.queue others found.place shorter w left.blocked least; left = λ k was out. of_test k was out (is_blocked now k) refl }
+  pub IsLeft-next : option_and_then (fire_in w t b) (slice_get (spots w) found.index) ≡ None → IsLeastFirst (row next found.queue) → IsLeft w b old next
+  IsLeft-next none least = record { blocked = AreBlocked-left now next found.queue others found.index shorter w left.blocked least; left = λ k was out. of_test k was out (is_blocked now k) refl }
     where
       of_test : (k : ℕ) → is_blocked old k ≡ true → is_blocked next k ≡ false → (c : Bool) → is_blocked now k ≡ c → passes_at (could_fire_in w b) (spots w) k ≡ false
       of_test k was out true within =
-          let one : k ≡ found.place = left_alone now next found.queue others found.place shorter k within out in
-          subst (λ m. passes_at (could_fire_in w b) (spots w) m ≡ false) (sym one) (asked_vain w t b found.place first.is_open.roomy none)
+          let one : k ≡ found.index = left_alone now next found.queue others found.index shorter k within out in
+          subst (λ m. passes_at (could_fire_in w b) (spots w) m ≡ false) (sym one) (asked_vain w t b found.index first.is_open.roomy none)
       of_test k was out false gone = left.left k was gone
 
   pub fewer_left : total next < total now
-  fewer_left = total_left now next found.queue others found.place shorter (first_within now found.queue found.place first.is_open.least)
+  fewer_left = total_left now next found.queue others found.index shorter (first_within now found.queue found.index first.is_open.least)
 
 -- by two tests
 pub two_true : (a b : Bool) → a ≡ true → b ≡ true → a && b ≡ true

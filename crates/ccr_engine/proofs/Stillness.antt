@@ -21,7 +21,7 @@ use Rattle.ccr_engine.specs.Cursor.{IsStill, could_fire}
 use Rattle.ccr_engine.proofs.Touching.{still}
 use Rattle.ccr_engine.proofs.Gaining.{none_before}
 
--- over plain lists: what passed at the place only if it is an old one passes there only if it is a new one
+-- over plain lists: what passed at the index only if it is an old one passes there only if it is a new one
 pub still-gains : {T : Type 0} (was is touched : T → Bool) (xs : List T) (old new : List ℕ) → ((x : T) → touched x ≡ false → was x ≡ false → is x ≡ false) → (n : ℕ)
     → (has_number old n ≡ false → passes_at was xs n ≡ false) → Gains (passes_at touched xs) old new → has_number new n ≡ false → passes_at is xs n ≡ false
 still-gains was is touched xs old new keeps n known gains out =
@@ -34,7 +34,7 @@ still-gains was is touched xs old new keeps n known gains out =
 
 -- each event keeps it that no spots can fire, room aside, but the touched ones and the blocked ones, where those that it touches come in
 pub still-event : (w : Parts) (h : List Event) (e : Event) (old new : List ℕ) (blocked : List (List ℕ)) → IsLegal w h → IsStill w h old blocked → Gains (passes_at (touches w h e) (spots w)) old new → IsStill w (h ++ e ∷ []) new blocked
-still-event w h e old new blocked legal known gains = λ place out unblocked. still-gains (could_fire w h) (could_fire w (h ++ e ∷ [])) (touches w h e) (spots w) old new (λ s none was. still w h e s legal none was) place (λ free. known place free unblocked) gains out
+still-event w h e old new blocked legal known gains = λ index out unblocked. still-gains (could_fire w h) (could_fire w (h ++ e ∷ [])) (touches w h e) (spots w) old new (λ s none was. still w h e s legal none was) index (λ free. known index free unblocked) gains out
 
 -- the search goes on where no touched spot stands before, and no blocked one that has room
 no_fire : (w : Parts) (c : ℕ) (h : List Event) (s : Spot) → can_fire w h s ≡ false → fire_at w c h s ≡ None
@@ -52,10 +52,10 @@ fire_from-drop w c h (s ∷ ss) (suc n) none =
     let outs = neither (can_fire w h s) (list_any (can_fire w h) (take n ss)) none in
     rw (no_fire w c h s outs.0) (fire_from-drop w c h ss n outs.1)
 
--- the first firing is at no place before which no spot is touched and no blocked one has room
-pub search_on : (w : Parts) (c : ℕ) (h : List Event) (touched : List ℕ) (blocked : List (List ℕ)) (n : ℕ) → IsStill w h touched blocked → ((place : ℕ) → place < n → has_number touched place ≡ false)
-    → ((place : ℕ) → place < n → is_blocked blocked place ≡ true → passes_at (has_room w h) (spots w) place ≡ false) → fire_from w c h (spots w) ≡ fire_from w c h (drop n (spots w))
-search_on w c h touched blocked n known above full = fire_from-drop w c h (spots w) n (none_before (can_fire w h) (spots w) n (λ place low. cannot place low (is_blocked blocked place) refl))
+-- the first firing is at no index before which no spot is touched and no blocked one has room
+pub search_on : (w : Parts) (c : ℕ) (h : List Event) (touched : List ℕ) (blocked : List (List ℕ)) (n : ℕ) → IsStill w h touched blocked → ((index : ℕ) → index < n → has_number touched index ≡ false)
+    → ((index : ℕ) → index < n → is_blocked blocked index ≡ true → passes_at (has_room w h) (spots w) index ≡ false) → fire_from w c h (spots w) ≡ fire_from w c h (drop n (spots w))
+search_on w c h touched blocked n known above full = fire_from-drop w c h (spots w) n (none_before (can_fire w h) (spots w) n (λ index low. cannot index low (is_blocked blocked index) refl))
   where
     -- at one spot: it cannot, room aside, or it has no room
     by_parts : (live room enough : Bool) → live && enough ≡ false → live && room && enough ≡ false
@@ -76,6 +76,6 @@ search_on w c h touched blocked n known above full = fire_from-drop w c h (spots
     of_room None none = refl
     of_room (Some s) none = by_room (is_live w h s) (has_room w h s) (can_take w h s) none
 
-    cannot : (place : ℕ) → place < n → (b : Bool) → is_blocked blocked place ≡ b → passes_at (can_fire w h) (spots w) place ≡ false
-    cannot place low true is = of_room (slice_get (spots w) place) (full place low is)
-    cannot place low false is = of_could (slice_get (spots w) place) (known place (above place low) is)
+    cannot : (index : ℕ) → index < n → (b : Bool) → is_blocked blocked index ≡ b → passes_at (can_fire w h) (spots w) index ≡ false
+    cannot index low true is = of_room (slice_get (spots w) index) (full index low is)
+    cannot index low false is = of_could (slice_get (spots w) index) (known index (above index low) is)

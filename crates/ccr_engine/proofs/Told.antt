@@ -118,7 +118,7 @@ module _ (w : Parts) (c : ℕ) (h : List Event) (b : Books) (told : TablesTell w
 
   -- it is enough that the spots come in that an event touches by the tables
   pub touched_kept : (e : Event) (old new : List ℕ) (blocked : List (List ℕ)) → IsLegal w h → IsStill w h old blocked → Gains (passes_at (touches_in w b e) (spots w)) old new → IsStill w (h ++ e ∷ []) new blocked
-  touched_kept e old new blocked legal known gains = λ place out unblocked. still-gains (could_fire w h) (could_fire w (h ++ e ∷ [])) (touches_in w b e) (spots w) old new (λ s none was. still w h e s legal (untouched e s none) was) place (λ free. known place free unblocked) gains out
+  touched_kept e old new blocked legal known gains = λ index out unblocked. still-gains (could_fire w h) (could_fire w (h ++ e ∷ [])) (touches_in w b e) (spots w) old new (λ s none was. still w h e s legal (untouched e s none) was) index (λ free. known index free unblocked) gains out
 
   -- the domains and the queues that the event does not touch by the tables it doesn't by the model
   pub untouched_domain : (e : Event) (domain : ℕ) → touches_domain_in w b e domain ≡ false → touches_domain w h e domain ≡ false

@@ -1,4 +1,4 @@
--- Which spots come in after an event, by the places of what it touches.
+-- Which spots come in after an event, by the indices of what it touches.
 use Rattle.std.proofs.Common.{◌≡◌, ◌∙◌, ℕ, Bool, false, ◌||◌, List, [], ◌∷◌, Option, None, Some, refl, ap, sym}
 use Rattle.std.specs.Prelude.{◌==◌}
 use Rattle.std.specs.List.{list_any}
@@ -23,10 +23,10 @@ use Rattle.ccr_ledger.specs.Books.{Books, card_at}
 use Rattle.ccr_engine.specs.Touched.{posts_to, names_any, touches_branch}
 use Rattle.ccr_engine.specs.Numbered.{Gains, ArePlaces, passes_at}
 use Rattle.ccr_engine.specs.Ready.{has_number}
-use Rattle.ccr_engine.specs.Places.{first_place, takes_from}
+use Rattle.ccr_engine.specs.Indices.{first_index, takes_from}
 use Rattle.ccr_engine.specs.Parts.{yields_in, touches_in}
 use Rattle.ccr_engine.proofs.Gaining.{gains-same, gains-none, passes-same, passes-never}
-use Rattle.ccr_engine.proofs.SpotPlaces.{site_once}
+use Rattle.ccr_engine.proofs.SpotIndices.{site_once}
 use Rattle.std.proofs.Math.Bool.{or-false}
 
 -- an event that is no post names no port
@@ -77,12 +77,12 @@ module _ (w : Parts) (b : Books) where
   spots_none p old never = gains-none (passes_at p (spots w)) old (passes-never p (spots w) never)
 
   spots_listed : (p q : Spot → Bool) (numbers old new : List ℕ) → ArePlaces p (spots w) numbers → ((s : Spot) → p s ≡ q s) → Gains (has_number numbers) old new → Gains (passes_at q (spots w)) old new
-  spots_listed p q numbers old new places same gains = spots_same p q old new same (gains-same (has_number numbers) (passes_at p (spots w)) old new places gains)
+  spots_listed p q numbers old new indices same gains = spots_same p q old new same (gains-same (has_number numbers) (passes_at p (spots w)) old new indices gains)
 
   -- after a yield of a task that fired, or of one that never did
-  pub yield_known : (t : TaskId) (c : Card) (place : Option ℕ) (old new : List ℕ) → card_at b.tasks t ≡ Some c → place ≡ first_place (same_spot (next_site c.spot)) (spots w) → Gains (λ n. option_map_or (λ one. n == one) place false) old new → Gains (passes_at (λ s. yields_in b s t) (spots w)) old new
-  yield_known t c place old new at is gains =
-      gains-same (λ n. option_map_or (λ one. n == one) place false) (passes_at (λ s. yields_in b s t) (spots w)) old new
+  pub yield_known : (t : TaskId) (c : Card) (index : Option ℕ) (old new : List ℕ) → card_at b.tasks t ≡ Some c → index ≡ first_index (same_spot (next_site c.spot)) (spots w) → Gains (λ n. option_map_or (λ one. n == one) index false) old new → Gains (passes_at (λ s. yields_in b s t) (spots w)) old new
+  yield_known t c index old new at is gains =
+      gains-same (λ n. option_map_or (λ one. n == one) index false) (passes_at (λ s. yields_in b s t) (spots w)) old new
       (λ n. ap (λ o. option_map_or (λ one. n == one) o false) is ∙ (sym (site_once w (branch_of c.spot) (segment_of c.spot) n) ∙ passes-same (same_spot (next_site c.spot)) (λ s. yields_in b s t) (spots w) (λ s. rw at refl) n))
       gains
 
@@ -91,7 +91,7 @@ module _ (w : Parts) (b : Books) where
 
   -- after each event
   pub post_touched : (m : Msg) (numbers old new : List ℕ) → ArePlaces (takes_from w m.port) (spots w) numbers → Gains (has_number numbers) old new → Gains (passes_at (touches_in w b (Post m)) (spots w)) old new
-  post_touched m numbers old new places = spots_listed (takes_from w m.port) (touches_in w b (Post m)) numbers old new places (λ s. sym (posted m s))
+  post_touched m numbers old new indices = spots_listed (takes_from w m.port) (touches_in w b (Post m)) numbers old new indices (λ s. sym (posted m s))
 
   none_touched : (e : Event) (old : List ℕ) → ((port : ℕ) → posts_to e port ≡ false) → yielded_by e ≡ [] → Gains (passes_at (touches_in w b e) (spots w)) old old
   none_touched e old silent stays = spots_none (touches_in w b e) old (untouched e silent stays)

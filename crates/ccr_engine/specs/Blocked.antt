@@ -21,27 +21,27 @@ queue_at wiring (Site branch site) = None
 abbrev pub is_on : Parts → ℕ → Spot → Bool
 is_on wiring queue spot = option_map_or (λ other. other == queue) (queue_at wiring spot) false
 
--- whether the place is blocked at some queue
+-- whether the index is blocked at some queue
 abbrev pub is_blocked : List (List ℕ) → ℕ → Bool
-is_blocked blocked place = list_any (λ places. has_number places place) blocked
+is_blocked blocked index = list_any (λ indices. has_number indices index) blocked
 
--- for each queue of the wiring places of branches on it, the least first
+-- for each queue of the wiring indices of branches on it, the least first
 pub record AreBlocked (wiring : Parts) (blocked : List (List ℕ)) : Type 0 where
   pub size : length blocked ≡ length wiring.queues
-  pub on_queue : (queue place : ℕ) → has_number (row blocked queue) place ≡ true → passes_at (is_on wiring queue) (spots wiring) place ≡ true
+  pub on_queue : (queue index : ℕ) → has_number (row blocked queue) index ≡ true → passes_at (is_on wiring queue) (spots wiring) index ≡ true
   pub lowest : (queue : ℕ) → IsLeastFirst (row blocked queue)
 
--- whether the place is before the limit; each is where there is none
+-- whether the index is before the limit; each is where there is none
 abbrev pub is_before : Option ℕ → ℕ → Bool
-is_before None place = true
-is_before (Some limit) place = nat_lt place limit
+is_before None index = true
+is_before (Some limit) index = nat_lt index limit
 
 -- no blocked branch before the limit has room
 abbrev pub IsFullBefore : Parts → Books → List (List ℕ) → Option ℕ → Type 0
-IsFullBefore wiring books blocked limit = (queue place : ℕ) → has_number (row blocked queue) place ≡ true → is_before limit place ≡ true → passes_at (room wiring books) (spots wiring) place ≡ false
+IsFullBefore wiring books blocked limit = (queue index : ℕ) → has_number (row blocked queue) index ≡ true → is_before limit index ≡ true → passes_at (room wiring books) (spots wiring) index ≡ false
 
 -- asking a spot leaves all blocked that was, and no more room to the blocked ones
 pub record Blocks (wiring : Parts) (books : Books) (old new : List (List ℕ)) : Type 0 where
   pub blocked : AreBlocked wiring new
-  pub more : (place : ℕ) → is_blocked old place ≡ true → is_blocked new place ≡ true
+  pub more : (index : ℕ) → is_blocked old index ≡ true → is_blocked new index ≡ true
   pub full : (limit : Option ℕ) → IsFullBefore wiring books old limit → IsFullBefore wiring books new limit

@@ -21,22 +21,22 @@ pub record AreCandidates (wiring : Parts) (books : Books) (touched : List ℕ) (
 
 -- no spot before the limit can fire
 abbrev pub IsNoneBefore : Parts → TaskId → Books → Option ℕ → Type 0
-IsNoneBefore wiring task books limit = (place : ℕ) → is_before limit place ≡ true → passes_at (fires_in wiring task books) (spots wiring) place ≡ false
+IsNoneBefore wiring task books limit = (index : ℕ) → is_before limit index ≡ true → passes_at (fires_in wiring task books) (spots wiring) index ≡ false
 
 -- none of the branches that were blocked and aren't any more can fire, room aside
 abbrev pub IsLeftInVain : Parts → Books → List (List ℕ) → List (List ℕ) → Type 0
-IsLeftInVain wiring books old new = (place : ℕ) → is_blocked old place ≡ true → is_blocked new place ≡ false → passes_at (could_fire_in wiring books) (spots wiring) place ≡ false
+IsLeftInVain wiring books old new = (index : ℕ) → is_blocked old index ≡ true → is_blocked new index ≡ false → passes_at (could_fire_in wiring books) (spots wiring) index ≡ false
 
--- its place, if there is one
-abbrev pub place_of : Option Found → Option ℕ
-place_of found = option_map (λ (one : Found). one.place) found
+-- its index, if there is one
+abbrev pub index_of : Option Found → Option ℕ
+index_of found = option_map (λ (one : Found). one.index) found
 
--- the place is the least that is blocked at the queue, and its branch has room
+-- the index is the least that is blocked at the queue, and its branch has room
 pub record IsOpen (wiring : Parts) (books : Books) (blocked : List (List ℕ)) (one : Found) : Type 0 where
-  pub least : slice_get (row blocked one.queue) 0 ≡ Some one.place
-  pub roomy : passes_at (room wiring books) (spots wiring) one.place ≡ true
+  pub least : slice_get (row blocked one.queue) 0 ≡ Some one.index
+  pub roomy : passes_at (room wiring books) (spots wiring) one.index ≡ true
 
 -- of the branches that are blocked at so many of the first queues, the first that has room, if any
 pub record IsFirstOpen (wiring : Parts) (books : Books) (blocked : List (List ℕ)) (count : ℕ) (found : Option Found) : Type 0 where
   pub is_open : IfSome found (IsOpen wiring books blocked)
-  pub full : (queue place : ℕ) → queue < count → has_number (row blocked queue) place ≡ true → is_before (place_of found) place ≡ true → passes_at (room wiring books) (spots wiring) place ≡ false
+  pub full : (queue index : ℕ) → queue < count → has_number (row blocked queue) index ≡ true → is_before (index_of found) index ≡ true → passes_at (room wiring books) (spots wiring) index ≡ false

@@ -20,9 +20,9 @@ use Rattle.ccr_engine.specs.Blocked.{is_blocked}
 abbrev pub could_fire : Parts → List Event → Spot → Bool
 could_fire wiring history spot = is_live wiring history spot && can_take wiring history spot
 
--- no spot can fire, room aside, but those at the touched places and those at the blocked ones
+-- no spot can fire, room aside, but those at the touched indices and those at the blocked ones
 abbrev pub IsStill : Parts → List Event → List ℕ → List (List ℕ) → Type 0
-IsStill wiring history touched blocked = (place : ℕ) → has_number touched place ≡ false → is_blocked blocked place ≡ false → passes_at (could_fire wiring history) (spots wiring) place ≡ false
+IsStill wiring history touched blocked = (index : ℕ) → has_number touched index ≡ false → is_blocked blocked index ≡ false → passes_at (could_fire wiring history) (spots wiring) index ≡ false
 
 -- of the posters, of which the first has this number, none has a line left
 abbrev pub are_done : List Event → ℕ → List PosterPart → Bool

@@ -102,7 +102,7 @@ pub record TablesTell (wiring : Parts) (history : List Event) (books : Books) : 
   pub cuts_so : (spot : Spot) → cuts wiring books spot ≡ cuts_at wiring history spot
   pub waits_so : (domain : ℕ) → domain < length wiring.arbiters → row books.waiting domain ≡ waiting wiring history domain
   pub may_admit_task_so : (task : TaskId) → may_admit_task books task ≡ may_admit wiring history task
-  pub names : (place : ℕ) → option_map (λ entry. entry.0) (slice_get books.tasks place) ≡ slice_get (fired history) place
+  pub names : (index : ℕ) → option_map (λ entry. entry.0) (slice_get books.tasks index) ≡ slice_get (fired history) index
   pub drops_so : (task : TaskId) → drops wiring books task ≡ drop_at wiring history task
   pub runs_so : runners books.running ≡ running history
   pub play_so : (task : TaskId) → play_in books task ≡ play_of wiring history task
@@ -120,14 +120,14 @@ after_attempt closer _ attempt = attempt
 
 -- whether the number is that of the task's firing
 abbrev pub is_number_of : Books → TaskId → ℕ → Bool
-is_number_of books task place = option_map_or (λ (card : Card). place == card.number) (card_at books.tasks task) false
+is_number_of books task index = option_map_or (λ (card : Card). index == card.number) (card_at books.tasks task) false
 
 -- whether the task of the firing of this number may be put after the event
 abbrev pub after_ready : Parts → Books → Event → List ℕ → ℕ → Bool
-after_ready wiring books (Fire task spot messages cuts) ready place = if needs_no_admission wiring spot then (place == length books.tasks) || has_number ready place else has_number ready place
-after_ready wiring books (Admit task) ready place = is_number_of books task place || has_number ready place
-after_ready wiring books (Put task dropped) ready place = not (is_number_of books task place) && has_number ready place
-after_ready wiring books _ ready place = has_number ready place
+after_ready wiring books (Fire task spot messages cuts) ready index = if needs_no_admission wiring spot then (index == length books.tasks) || has_number ready index else has_number ready index
+after_ready wiring books (Admit task) ready index = is_number_of books task index || has_number ready index
+after_ready wiring books (Put task dropped) ready index = not (is_number_of books task index) && has_number ready index
+after_ready wiring books _ ready index = has_number ready index
 
 -- what the event makes of the desk
 pub record Follows (wiring : Parts) (closer : ℕ) (event : Event) (old new : Desk) : Type 0 where

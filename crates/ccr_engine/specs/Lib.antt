@@ -1,6 +1,6 @@
 pub mod Engine
 pub mod Touched
-pub mod Places
+pub mod Indices
 pub mod Ready
 pub mod Numbered
 pub mod Blocked

@@ -1,17 +1,17 @@
--- Items by their places in a list, and what sets of such numbers gain.
+-- Items by their indices in a list, and what sets of such numbers gain.
 use Rattle.std.specs.Prelude.{◌≡◌, ◌<◌, ℕ, ◌||◌, Bool, false, List, Option, None}
 use Rattle.std.specs.List.{slice_get}
 use Rattle.std.specs.Option.{option_map_or}
 use Rattle.ccr_model.specs.declared.history.Event.{Event}
 use Rattle.ccr_engine.specs.Ready.{has_number, IsLeastFirst}
 
--- whether the item at the place passes the test
+-- whether the item at the index passes the test
 abbrev pub passes_at : {T : Type 0} → (T → Bool) → List T → ℕ → Bool
-passes_at test items place = option_map_or test (slice_get items place) false
+passes_at test items index = option_map_or test (slice_get items index) false
 
--- the numbers are the places of the items that pass the test
+-- the numbers are the indices of the items that pass the test
 abbrev pub ArePlaces : {T : Type 0} → (T → Bool) → List T → List ℕ → Type 0
-ArePlaces test items numbers = (place : ℕ) → has_number numbers place ≡ passes_at test items place
+ArePlaces test items numbers = (index : ℕ) → has_number numbers index ≡ passes_at test items index
 
 -- the numbers afterwards are those before and all that pass the test
 pub record Gains (test : ℕ → Bool) (old new : List ℕ) : Type 0 where

@@ -67,7 +67,7 @@ first_admit_in books domain (arbiter ∷ arbiters) = option_or (admit_in books (
 
 -- the put of the task of the firing of this number
 abbrev pub put_in : Parts → Books → ℕ → Option Event
-put_in wiring books place = option_map (λ entry. Put entry.0 (drops wiring books entry.0)) (slice_get books.tasks place)
+put_in wiring books index = option_map (λ entry. Put entry.0 (drops wiring books entry.0)) (slice_get books.tasks index)
 
 -- the next post while the budget lasts, else shed; the end of the play where no post is left
 abbrev pub run_with_in : Parts → Books → TaskId → Play → Option Sent → Event
@@ -125,6 +125,6 @@ fires_in wiring task books spot = is_some (fire_in wiring task books spot)
 abbrev pub could_fire_in : Parts → Books → Spot → Bool
 could_fire_in wiring books spot = lives wiring books spot && is_some (choice_at wiring books spot)
 
--- no spot can fire, room aside, but those at the touched places and those at the blocked ones
+-- no spot can fire, room aside, but those at the touched indices and those at the blocked ones
 abbrev pub IsStillIn : Parts → Books → List ℕ → List (List ℕ) → Type 0
-IsStillIn wiring books touched blocked = (place : ℕ) → has_number touched place ≡ false → is_blocked blocked place ≡ false → passes_at (could_fire_in wiring books) (spots wiring) place ≡ false
+IsStillIn wiring books touched blocked = (index : ℕ) → has_number touched index ≡ false → is_blocked blocked index ≡ false → passes_at (could_fire_in wiring books) (spots wiring) index ≡ false

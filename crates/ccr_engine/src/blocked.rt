@@ -10,7 +10,7 @@ use ccr_base::OutOfMemory;
 use std::alloc::Global;
 use std::marker::Model;
 
-/// The places of the blocked branches, of each queue its own.
+/// The indices of the blocked branches, of each queue its own.
 #[derive(Drop)]
 pub(crate) struct Blocked {
     queues: Vec<NumberSet>,
@@ -43,35 +43,35 @@ impl Blocked {
         self.queues.len()
     }
 
-    /// The least place at the queue, if any.
+    /// The least index at the queue, if any.
     pub(crate) fn first(&self, queue: usize) -> Option<usize>
         ensures { result ≡ slice_get (row self.now queue) 0 }
     {
         match self.queues.get(queue) {
-            Some(places) => places.first(),
+            Some(indices) => indices.first(),
             None => None,
         }
     }
 
-    /// The place is one of those at the queue.
-    pub(crate) fn enter(&mut self, queue: usize, place: usize) -> Result<(), OutOfMemory>
+    /// The index is one of those at the queue.
+    pub(crate) fn enter(&mut self, queue: usize, index: usize) -> Result<(), OutOfMemory>
         requires within { queue < length self.old }
         ensures others { OnOk result (self.new ≡ with_row self.old queue (row self.new queue)) }
-        ensures members { OnOk result ((other : ℕ) → has_number (row self.new queue) other ≡ (other == place) || has_number (row self.old queue) other) }
+        ensures members { OnOk result ((other : ℕ) → has_number (row self.new queue) other ≡ (other == index) || has_number (row self.old queue) other) }
         ensures least { OnOk result (IsLeastFirst (row self.new queue)) }
     {
-        let places = &mut self.queues[queue];
-        places.enter(place)
+        let indices = &mut self.queues[queue];
+        indices.enter(index)
     }
 
-    /// The queue without the least place.
+    /// The queue without the least index.
     pub(crate) fn leave_first(&mut self, queue: usize)
         requires within { queue < length self.old }
         ensures others { self.new ≡ with_row self.old queue (row self.new queue) }
         ensures rest { IfSome (slice_get (row self.old queue) 0) (λ place. row self.old queue ≡ place ∷ row self.new queue) }
         ensures least { IsLeastFirst (row self.new queue) }
     {
-        let places = &mut self.queues[queue];
-        places.leave_first();
+        let indices = &mut self.queues[queue];
+        indices.leave_first();
     }
 }

@@ -7,9 +7,9 @@ ghost use Rattle.ccr_engine.specs.Desk.{Follows, IsAhead, IsIdle, after_attempt,
 
 use crate::blocked::Blocked;
 use crate::domains::note_domains;
+use crate::indices::SpotIndices;
 use crate::numbers::NumberSet;
 use crate::parts::{first_admit, first_post, first_put, first_run, first_start};
-use crate::places::Places;
 use crate::queues::note_queue;
 use crate::search::first_fire;
 use crate::touched::note_touched;
@@ -29,9 +29,9 @@ pub(crate) struct Desk {
     attempt: u32,
     /// No poster before it has a line left.
     poster: usize,
-    /// The places of the spots that may fire: no other can, room aside, but the blocked ones.
+    /// The indices of the spots that may fire: no other can, room aside, but the blocked ones.
     touched: NumberSet,
-    /// The places of the branches that lacked room when they were asked, by their queues.
+    /// The indices of the branches that lacked room when they were asked, by their queues.
     blocked: Blocked,
     /// The domains that may have a task to admit: no other has one.
     domains: NumberSet,
@@ -192,16 +192,16 @@ impl Desk {
     /// Enters the event, which is allowed after those before it.
     pub(crate) fn push(
         &mut self,
-        places: &Places<'_>,
+        indices: &SpotIndices<'_>,
         closer: ActorNo,
         event: &Event,
     ) -> Result<(), OutOfMemory>
         requires { after_attempt closer event.now self.old.attempt < 2 ^ 32 }
-        ensures { OnOk result (Follows places.now closer event.now self.old self.new) }
+        ensures { OnOk result (Follows indices.now closer event.now self.old self.new) }
     {
-        let wiring = places.wiring();
+        let wiring = indices.wiring();
         let attempt = attempt_after(closer, event, self.attempt);
-        note_touched(&self.ledger, places, event, &mut self.touched)?;
+        note_touched(&self.ledger, indices, event, &mut self.touched)?;
         note_domains(&self.ledger, wiring, event, &mut self.domains)?;
         note_ready(&self.ledger, wiring, event, &mut self.ready)?;
         note_queue(&self.ledger, event, &mut self.queues)?;

@@ -10,8 +10,8 @@ ghost use Rattle.ccr_engine.specs.Desk.{empty_desk};
 ghost use Rattle.ccr_engine.specs.Engine.{IsSound, next_event, next_engine};
 
 use crate::desk::Desk;
+use crate::indices::SpotIndices;
 use crate::listener::Listener;
-use crate::places::Places;
 use crate::resuming::desk_of;
 use ccr_base::{ActorNo, OutOfMemory};
 use ccr_ledger::Ledger;
@@ -24,7 +24,7 @@ use std::marker::Model;
 /// memory each further one answers so too, since the tables can't be made anew.
 #[derive(Drop)]
 pub struct Engine<'w> {
-    places: Places<'w>,
+    indices: SpotIndices<'w>,
     closer: ActorNo,
     alloc: Global,
     /// What the next event is read from.
@@ -41,17 +41,17 @@ impl<'w> Model for Engine<'w> {
 
     ghost Value = { Seen };
 
-    ghost view = { λ e. record { wiring = e.places; closer = e.closer; history = e.told } };
+    ghost view = { λ e. record { wiring = e.indices; closer = e.closer; history = e.told } };
 
-    ghost invariant = { λ e. IsRead (record { wiring = e.places; closer = e.closer; history = e.told }) e.desk e.whole };
+    ghost invariant = { λ e. IsRead (record { wiring = e.indices; closer = e.closer; history = e.told }) e.desk e.whole };
 }
 
-/// The wiring's places, and an empty desk.
-fn begin<'w>(alloc: Global, wiring: &'w Wiring) -> Result<(Places<'w>, Desk), OutOfMemory>
-    ensures places { IfOk result (λ both. both.0 ≡ wiring.now) }
+/// The wiring's indices, and an empty desk.
+fn begin<'w>(alloc: Global, wiring: &'w Wiring) -> Result<(SpotIndices<'w>, Desk), OutOfMemory>
+    ensures indices { IfOk result (λ both. both.0 ≡ wiring.now) }
     ensures desk { IfOk result (λ both. both.1 ≡ empty_desk wiring.now) }
 {
-    Ok((Places::new(alloc, wiring)?, Desk::new(alloc, wiring)?))
+    Ok((SpotIndices::new(alloc, wiring)?, Desk::new(alloc, wiring)?))
 }
 
 impl<'w> Engine<'w> {
@@ -62,9 +62,9 @@ impl<'w> Engine<'w> {
         ensures { IfOk result (λ engine. engine ≡ record { wiring = wiring.now; closer = closer; history = [] }) }
     {
         wiring.parts();
-        let (places, desk) = begin(alloc, wiring)?;
+        let (indices, desk) = begin(alloc, wiring)?;
         Ok(Engine {
-            places,
+            indices,
             closer,
             alloc,
             desk,
@@ -101,10 +101,10 @@ impl<'w> Engine<'w> {
         ensures { IfOk result (λ engine. engine ≡ record { wiring = wiring.now; closer = closer; history = events.now }) }
     {
         let told = GhostHistory::of(alloc, events)?;
-        let places = Places::new(alloc, wiring)?;
-        let desk = desk_of(alloc, &places, closer, events)?;
+        let indices = SpotIndices::new(alloc, wiring)?;
+        let desk = desk_of(alloc, &indices, closer, events)?;
         Ok(Engine {
-            places,
+            indices,
             closer,
             alloc,
             desk,
@@ -127,7 +127,7 @@ impl<'w> Engine<'w> {
         self.whole = false;
         let next = self
             .desk
-            .next_event(self.alloc, self.places.wiring(), self.closer)?;
+            .next_event(self.alloc, self.indices.wiring(), self.closer)?;
         self.whole = true;
         Ok(next)
     }
@@ -141,9 +141,9 @@ impl<'w> Engine<'w> {
         if !self.whole {
             return Err(OutOfMemory);
         }
-        let _valid = self.places.parts();
+        let _valid = self.indices.parts();
         self.whole = false;
-        self.desk.push(&self.places, self.closer, event)?;
+        self.desk.push(&self.indices, self.closer, event)?;
         self.told.push(event)?;
         self.whole = true;
         Ok(())

@@ -7,7 +7,7 @@ ghost use Rattle.ccr_model.specs.Order.{next_attempt};
 ghost use Rattle.ccr_engine.specs.Desk.{Stands};
 
 use crate::desk::Desk;
-use crate::places::Places;
+use crate::indices::SpotIndices;
 use ccr_base::{ActorNo, OutOfMemory};
 use ccr_model::Event;
 use std::alloc::Global;
@@ -15,18 +15,18 @@ use std::alloc::Global;
 /// The desk of the events, made by going through them once.
 pub(crate) fn desk_of(
     alloc: Global,
-    places: &Places<'_>,
+    indices: &SpotIndices<'_>,
     closer: ActorNo,
     events: &[Event],
 ) -> Result<Desk, OutOfMemory>
-    requires legal { IsLegal places.now events.now }
+    requires legal { IsLegal indices.now events.now }
     requires attempts { next_attempt closer (fired events.now) < 2 ^ 32 }
-    ensures { IfOk result (Stands places.now closer events.now) }
+    ensures { IfOk result (Stands indices.now closer events.now) }
 {
-    let _valid = places.parts();
-    let mut desk = Desk::new(alloc, places.wiring())?;
+    let _valid = indices.parts();
+    let mut desk = Desk::new(alloc, indices.wiring())?;
     for event in events {
-        desk.push(places, closer, event)?;
+        desk.push(indices, closer, event)?;
     }
     Ok(desk)
 }

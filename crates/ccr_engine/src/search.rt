@@ -7,7 +7,7 @@ ghost use Rattle.ccr_wiring.specs.Wirings.{spots};
 ghost use Rattle.ccr_ledger.specs.Asked.{room};
 ghost use Rattle.ccr_engine.specs.Numbered.{passes_at};
 ghost use Rattle.ccr_engine.specs.Blocked.{AreBlocked, Blocks, IsFullBefore, is_before, is_blocked, queue_at};
-ghost use Rattle.ccr_engine.specs.Candidates.{AreCandidates, IsFirstOpen, IsLeftInVain, IsNoneBefore, place_of};
+ghost use Rattle.ccr_engine.specs.Candidates.{AreCandidates, IsFirstOpen, IsLeftInVain, IsNoneBefore, index_of};
 ghost use Rattle.ccr_engine.specs.Parts.{could_fire_in, fire_in, first_fire_in};
 
 use crate::blocked::Blocked;
@@ -18,11 +18,11 @@ use ccr_ledger::Ledger;
 use ccr_model::Event;
 use ccr_wiring::Wiring;
 
-/// A blocked branch: its queue and its place.
+/// A blocked branch: its queue and its index.
 #[derive(Clone, Copy)]
 pub(crate) struct Found {
     queue: usize,
-    place: usize,
+    index: usize,
 }
 
 /// The queue of a branch; a site has none.
@@ -38,31 +38,31 @@ fn queue_at(wiring: &Wiring, spot: Spot) -> Option<QueueNo>
     }
 }
 
-/// Whether the place is before the limit; each is where there is none.
-fn is_before(limit: Option<usize>, place: usize) -> bool
-    ensures { result ≡ is_before limit place }
+/// Whether the index is before the limit; each is where there is none.
+fn is_before(limit: Option<usize>, index: usize) -> bool
+    ensures { result ≡ is_before limit index }
 {
     match limit {
-        Some(limit) => place < limit,
+        Some(limit) => index < limit,
         None => true,
     }
 }
 
-/// Its place, if there is one.
-fn place_of(found: Option<Found>) -> Option<usize>
-    ensures { result ≡ place_of found }
+/// Its index, if there is one.
+fn index_of(found: Option<Found>) -> Option<usize>
+    ensures { result ≡ index_of found }
 {
     match found {
-        Some(found) => Some(found.place),
+        Some(found) => Some(found.index),
         None => None,
     }
 }
 
-/// Whether the spot at the place has room.
-fn has_room(wiring: &Wiring, ledger: &Ledger, place: usize) -> bool
-    ensures { result ≡ passes_at (room wiring.now ledger.now) (spots wiring.now) place }
+/// Whether the spot at the index has room.
+fn has_room(wiring: &Wiring, ledger: &Ledger, index: usize) -> bool
+    ensures { result ≡ passes_at (room wiring.now ledger.now) (spots wiring.now) index }
 {
-    match wiring.spots().get(place) {
+    match wiring.spots().get(index) {
         Some(spot) => ledger.room(wiring, *spot),
         None => false,
     }
@@ -80,11 +80,11 @@ fn nearer(
     requires so_far { IsFirstOpen wiring.now ledger.now blocked.now queue found }
     ensures { IsFirstOpen wiring.now ledger.now blocked.now (queue + 1) result }
 {
-    let Some(place) = blocked.first(queue) else {
+    let Some(index) = blocked.first(queue) else {
         return found;
     };
-    if is_before(place_of(found), place) && has_room(wiring, ledger, place) {
-        Some(Found { queue, place })
+    if is_before(index_of(found), index) && has_room(wiring, ledger, index) {
+        Some(Found { queue, index })
     } else {
         found
     }
@@ -103,18 +103,18 @@ fn first_open(wiring: &Wiring, ledger: &Ledger, blocked: &Blocked) -> Option<Fou
     found
 }
 
-/// Whether the spot at the place lacks room. It is blocked from then on, where it does.
+/// Whether the spot at the index lacks room. It is blocked from then on, where it does.
 fn lacks_room(
     wiring: &Wiring,
     ledger: &Ledger,
     spot: Spot,
-    place: usize,
+    index: usize,
     blocked: &mut Blocked,
 ) -> Result<bool, OutOfMemory>
-    requires at { slice_get (spots wiring.now) place ≡ Some spot }
+    requires at { slice_get (spots wiring.now) index ≡ Some spot }
     requires blocked { AreBlocked wiring.now blocked.old }
     ensures lacks { IfOk result (λ lacks. lacks ≡ not (room wiring.now ledger.now spot)) }
-    ensures entered { IfOk result (λ lacks. lacks ≡ true → is_blocked blocked.new place ≡ true) }
+    ensures entered { IfOk result (λ lacks. lacks ≡ true → is_blocked blocked.new index ≡ true) }
     ensures blocks { OnOk result (Blocks wiring.now ledger.now blocked.old blocked.new) }
 {
     if ledger.room(wiring, spot) {
@@ -122,32 +122,32 @@ fn lacks_room(
     }
     let _valid = wiring.parts();
     if let Some(queue) = queue_at(wiring, spot) {
-        blocked.enter(queue as usize, place)?;
+        blocked.enter(queue as usize, index)?;
     }
     Ok(true)
 }
 
-/// The firing of the task at the spot of this place, where it can fire. A live branch that lacks room is blocked from then on.
+/// The firing of the task at the spot of this index, where it can fire. A live branch that lacks room is blocked from then on.
 fn ask(
     wiring: &Wiring,
     ledger: &mut Ledger,
     task: TaskId,
-    place: usize,
+    index: usize,
     blocked: &mut Blocked,
 ) -> Result<Option<Event>, OutOfMemory>
     requires blocked { AreBlocked wiring.now blocked.old }
-    ensures event { IfOk result (λ event. event ≡ option_and_then (fire_in wiring.now task ledger.old) (slice_get (spots wiring.now) place)) }
-    ensures vain { IfOk result (λ event. IfNone event (passes_at (could_fire_in wiring.now ledger.old) (spots wiring.now) place ≡ true → is_blocked blocked.new place ≡ true)) }
+    ensures event { IfOk result (λ event. event ≡ option_and_then (fire_in wiring.now task ledger.old) (slice_get (spots wiring.now) index)) }
+    ensures vain { IfOk result (λ event. IfNone event (passes_at (could_fire_in wiring.now ledger.old) (spots wiring.now) index ≡ true → is_blocked blocked.new index ≡ true)) }
     ensures kept { OnOk result (ledger.new ≡ ledger.old) }
     ensures blocks { OnOk result (Blocks wiring.now ledger.old blocked.old blocked.new) }
 {
-    let Some(spot) = wiring.spots().get(place) else {
+    let Some(spot) = wiring.spots().get(index) else {
         return Ok(None);
     };
     if !ledger.lives(wiring, *spot) {
         return Ok(None);
     }
-    if lacks_room(wiring, ledger, *spot, place, blocked)? {
+    if lacks_room(wiring, ledger, *spot, index, blocked)? {
         return Ok(None);
     }
     choose_at(wiring, ledger, task, *spot)
@@ -170,11 +170,11 @@ fn first_touched(
     ensures kept { OnOk result (ledger.new ≡ ledger.old) }
     ensures candidates { OnOk result (AreCandidates wiring.now ledger.old touched.new blocked.new) }
 {
-    'asking: while let Some(place) = touched.first() {
-        if !is_before(limit, place) {
+    'asking: while let Some(index) = touched.first() {
+        if !is_before(limit, index) {
             return Ok(None);
         }
-        if let Some(event) = ask(wiring, ledger, task, place, blocked)? {
+        if let Some(event) = ask(wiring, ledger, task, index, blocked)? {
             return Ok(Some(event));
         }
         touched.leave_first();
@@ -182,23 +182,23 @@ fn first_touched(
     Ok(None)
 }
 
-/// The firing of the task at the spot of this place, where there is one and it can fire.
-fn fire_place(
+/// The firing of the task at the spot of this index, where there is one and it can fire.
+fn fire_by_index(
     wiring: &Wiring,
     ledger: &mut Ledger,
     task: TaskId,
-    place: usize,
+    index: usize,
 ) -> Result<Option<Event>, OutOfMemory>
-    ensures event { IfOk result (λ event. event ≡ option_and_then (fire_in wiring.now task ledger.old) (slice_get (spots wiring.now) place)) }
+    ensures event { IfOk result (λ event. event ≡ option_and_then (fire_in wiring.now task ledger.old) (slice_get (spots wiring.now) index)) }
     ensures kept { OnOk result (ledger.new ≡ ledger.old) }
 {
-    match wiring.spots().get(place) {
+    match wiring.spots().get(index) {
         Some(spot) => fire_at(wiring, ledger, task, *spot),
         None => Ok(None),
     }
 }
 
-/// The first blocked branch that can fire, by its place, and its firing. Those that are asked in vain are blocked no longer.
+/// The first blocked branch that can fire, by its index, and its firing. Those that are asked in vain are blocked no longer.
 fn first_blocked(
     wiring: &Wiring,
     ledger: &mut Ledger,
@@ -213,8 +213,8 @@ fn first_blocked(
     ensures left { OnOk result (IsLeftInVain wiring.now ledger.old blocked.old blocked.new) }
 {
     'asking: while let Some(found) = first_open(wiring, ledger, blocked) {
-        if let Some(event) = fire_place(wiring, ledger, task, found.place)? {
-            return Ok(Some((found.place, event)));
+        if let Some(event) = fire_by_index(wiring, ledger, task, found.index)? {
+            return Ok(Some((found.index, event)));
         }
         blocked.leave_first(found.queue);
     }
@@ -235,10 +235,10 @@ fn first_of_both(
     ensures kept { OnOk result (ledger.new ≡ ledger.old) }
     ensures candidates { OnOk result (AreCandidates wiring.now ledger.old touched.new blocked.new) }
 {
-    let Some((place, event)) = first_blocked(wiring, ledger, task, blocked)? else {
+    let Some((index, event)) = first_blocked(wiring, ledger, task, blocked)? else {
         return first_touched(wiring, ledger, task, touched, blocked, None);
     };
-    match first_touched(wiring, ledger, task, touched, blocked, Some(place))? {
+    match first_touched(wiring, ledger, task, touched, blocked, Some(index))? {
         Some(earlier) => Ok(Some(earlier)),
         None => Ok(Some(event)),
     }
@@ -262,7 +262,7 @@ pub(crate) fn first_fire(
     let Some(found) = first_open(wiring, ledger, blocked) else {
         return first_touched(wiring, ledger, task, touched, blocked, None);
     };
-    if let Some(event) = first_touched(wiring, ledger, task, touched, blocked, Some(found.place))? {
+    if let Some(event) = first_touched(wiring, ledger, task, touched, blocked, Some(found.index))? {
         return Ok(Some(event));
     }
     first_of_both(wiring, ledger, task, touched, blocked)

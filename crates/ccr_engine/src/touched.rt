@@ -7,18 +7,18 @@ ghost use Rattle.ccr_wiring.specs.Wirings.{spots};
 ghost use Rattle.ccr_engine.specs.Numbered.{Gains, passes_at};
 ghost use Rattle.ccr_engine.specs.Parts.{touches_in, yields_in};
 
+use crate::indices::SpotIndices;
 use crate::numbers::NumberSet;
-use crate::places::Places;
 use ccr_base::{OutOfMemory, TaskId};
 use ccr_ledger::Ledger;
 use ccr_model::{EndHow, Event};
 
-/// The place comes in, if there is one.
-fn note_place(place: Option<usize>, touched: &mut NumberSet) -> Result<(), OutOfMemory>
-    ensures { OnOk result (Gains (λ number. option_map_or (λ one. number == one) place false) touched.old touched.new) }
+/// The index comes in, if there is one.
+fn note_index(index: Option<usize>, touched: &mut NumberSet) -> Result<(), OutOfMemory>
+    ensures { OnOk result (Gains (λ number. option_map_or (λ one. number == one) index false) touched.old touched.new) }
 {
-    match place {
-        Some(place) => touched.enter(place),
+    match index {
+        Some(index) => touched.enter(index),
         None => Ok(()),
     }
 }
@@ -26,14 +26,14 @@ fn note_place(place: Option<usize>, touched: &mut NumberSet) -> Result<(), OutOf
 /// The site comes in at which the task is suspended.
 fn note_yield(
     ledger: &Ledger,
-    places: &Places<'_>,
+    indices: &SpotIndices<'_>,
     task: TaskId,
     touched: &mut NumberSet,
 ) -> Result<(), OutOfMemory>
-    ensures { OnOk result (Gains (passes_at (λ (spot : SomeSpot). yields_in ledger.now spot task) (spots places.now)) touched.old touched.new) }
+    ensures { OnOk result (Gains (passes_at (λ (spot : SomeSpot). yields_in ledger.now spot task) (spots indices.now)) touched.old touched.new) }
 {
     match ledger.card(task) {
-        Some(card) => note_place(places.next_site(card.spot), touched),
+        Some(card) => note_index(indices.next_site(card.spot), touched),
         None => Ok(()),
     }
 }
@@ -41,16 +41,16 @@ fn note_yield(
 /// The spots come in that the event touches.
 pub(crate) fn note_touched(
     ledger: &Ledger,
-    places: &Places<'_>,
+    indices: &SpotIndices<'_>,
     event: &Event,
     touched: &mut NumberSet,
 ) -> Result<(), OutOfMemory>
-    ensures { OnOk result (Gains (passes_at (touches_in places.now ledger.now event.now) (spots places.now)) touched.old touched.new) }
+    ensures { OnOk result (Gains (passes_at (touches_in indices.now ledger.now event.now) (spots indices.now)) touched.old touched.new) }
 {
     match event {
-        Event::Post(message) => touched.enter_all(places.at_port(message.port)),
+        Event::Post(message) => touched.enter_all(indices.at_port(message.port)),
         Event::End { task, how } => match how {
-            EndHow::Yield => note_yield(ledger, places, *task, touched),
+            EndHow::Yield => note_yield(ledger, indices, *task, touched),
             _ => Ok(()),
         },
         _ => Ok(()),

@@ -20,9 +20,9 @@ pub fn actions_from(actions: &[Action], segment: u32) -> &[Action]
 fn after_await(actions: &[Action]) -> &[Action]
     ensures { result.now ≡ after_await actions.now }
 {
-    for (place, action) in actions.iter().enumerate() {
+    for (index, action) in actions.iter().enumerate() {
         if is_await(action) {
-            return &actions[place + 1..];
+            return &actions[index + 1..];
         }
     }
     &[]

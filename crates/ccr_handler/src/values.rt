@@ -5,11 +5,11 @@ ghost use Rattle.ccr_handler.specs.Evaluating.{value_of, number_at, longest, sum
 
 use ccr_base::{Expr, MAX_VALUE_NUMBERS, Value};
 
-/// The number at the place, from 0, and 0 where there is none.
-fn number_at(value: &Value, place: usize) -> u64
-    ensures { result ≡ number_at place value.now }
+/// The number at the index, from 0, and 0 where there is none.
+fn number_at(value: &Value, index: usize) -> u64
+    ensures { result ≡ number_at index value.now }
 {
-    match value.numbers().get(place) {
+    match value.numbers().get(index) {
         Some(number) => *number,
         None => 0,
     }
@@ -27,25 +27,25 @@ fn longest(values: &[Value]) -> usize
     most
 }
 
-/// The sum of the numbers at this place, modulo 2^64.
-fn sum_at(values: &[Value], place: usize) -> u64
-    ensures { result ≡ sum_at values.now place }
+/// The sum of the numbers at this index, modulo 2^64.
+fn sum_at(values: &[Value], index: usize) -> u64
+    ensures { result ≡ sum_at values.now index }
 {
     let mut total: u64 = 0;
     for value in values {
-        total = total.wrapping_add(number_at(value, place));
+        total = total.wrapping_add(number_at(value, index));
     }
     total
 }
 
-/// The values summed place by place.
+/// The values summed index by index.
 fn sum_of(values: &[Value]) -> Value
     ensures { result ≡ sum_of values.now }
 {
     let count = longest(values);
     let mut numbers = [0; MAX_VALUE_NUMBERS];
-    for place in 0..count {
-        numbers[place] = sum_at(values, place);
+    for index in 0..count {
+        numbers[index] = sum_at(values, index);
     }
     match Value::of(&numbers[..count]) {
         Some(sum) => sum,
@@ -54,11 +54,11 @@ fn sum_of(values: &[Value]) -> Value
 }
 
 /// One number of one of the values.
-fn part_of(values: &[Value], message: u32, place: u32) -> u64
-    ensures { result ≡ part_of values.now message place }
+fn part_of(values: &[Value], message: u32, index: u32) -> u64
+    ensures { result ≡ part_of values.now message index }
 {
     match values.get(message as usize) {
-        Some(value) => number_at(value, place as usize),
+        Some(value) => number_at(value, index as usize),
         None => 0,
     }
 }
@@ -72,7 +72,7 @@ pub fn value_of(expr: Expr, values: &[Value]) -> Value
             Some(value) => *value,
             None => Value::one(0),
         },
-        Expr::Part(k, place) => Value::one(part_of(values, k, place)),
+        Expr::Part(k, index) => Value::one(part_of(values, k, index)),
         Expr::Sum => sum_of(values),
         Expr::Count => Value::one(values.len() as u64),
     }

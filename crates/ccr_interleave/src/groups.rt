@@ -13,16 +13,16 @@ pub(crate) fn group_at(branches: &List<BranchNo>, groups: &List<Group>, spot: Sp
         return None;
     };
     match place_of(branches.as_slice(), branch) {
-        Some(place) => group_of(groups.as_slice(), place),
+        Some(index) => group_of(groups.as_slice(), index),
         None => None,
     }
 }
 
 /// The group at the place.
-fn group_of(groups: &[Group], place: usize) -> Option<Group>
-    ensures { result ≡ slice_get groups.now place }
+fn group_of(groups: &[Group], index: usize) -> Option<Group>
+    ensures { result ≡ slice_get groups.now index }
 {
-    groups.get(place).copied()
+    groups.get(index).copied()
 }
 
 /// The place of the branch.

@@ -16,12 +16,12 @@ use Rattle.ccr_report.proofs.Tallies.{taken_left}
 use Rattle.ccr_json.specs.Report.{branch_value, port_value, port_values, queue_value, queue_values, report_value}
 use Rattle.ccr_json.specs.Rows.{branch_rows, port_row, port_rows, queue_row, queue_rows, counted_value}
 
-branches_told : (branches : List (List ℕ)) (h : List Event) (fired : List ℕ) (place : ℕ) (ss : List Spot) → ((k : ℕ) → slice_index fired (place + k) ≡ slice_index (map (λ spot. length (fired_at h spot)) ss) k) → branch_rows branches fired place ss ≡ map (branch_value branches h) ss
-branches_told branches h fired place [] counted = refl
-branches_told branches h fired place (spot ∷ ss) counted =
-    let at_place : place ≡ place + 0 = omega arith in
-    let here : slice_index fired place ≡ length (fired_at h spot) = ap (λ (k : ℕ). slice_index fired k) at_place ∙ counted 0 in
-    rw (here, branches_told branches h fired (place + 1) ss (λ k. let next : place + 1 + k ≡ place + suc k = omega arith in ap (λ (j : ℕ). slice_index fired j) next ∙ counted (suc k))) refl
+branches_told : (branches : List (List ℕ)) (h : List Event) (fired : List ℕ) (index : ℕ) (ss : List Spot) → ((k : ℕ) → slice_index fired (index + k) ≡ slice_index (map (λ spot. length (fired_at h spot)) ss) k) → branch_rows branches fired index ss ≡ map (branch_value branches h) ss
+branches_told branches h fired index [] counted = refl
+branches_told branches h fired index (spot ∷ ss) counted =
+    let at_place : index ≡ index + 0 = omega arith in
+    let here : slice_index fired index ≡ length (fired_at h spot) = ap (λ (k : ℕ). slice_index fired k) at_place ∙ counted 0 in
+    rw (here, branches_told branches h fired (index + 1) ss (λ k. let next : index + 1 + k ≡ index + suc k = omega arith in ap (λ (j : ℕ). slice_index fired j) next ∙ counted (suc k))) refl
 
 port_told : (h : List Event) (posts holds : List ℕ) (port : ℕ) (name : List ℕ) → slice_index posts port ≡ length (posted h port) → slice_index holds port ≡ length (held h port) → port_row posts holds port name ≡ port_value h port name
 port_told h posts holds port name is_posted is_held = rw (is_posted, is_held, taken_left h port) refl

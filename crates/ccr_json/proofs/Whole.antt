@@ -17,9 +17,9 @@ pub mapped_whole : {X : Type 0} (f : X → Data) (xs : List X) → ((x : X) → 
 mapped_whole f [] each = refl
 mapped_whole f (x ∷ xs) each = rw (each x, mapped_whole f xs each) refl
 
-branches_whole : (branches : List (List ℕ)) (fired : List ℕ) (place : ℕ) (spots : List Spot) → items_have_float (items_of (branch_rows branches fired place spots)) ≡ false
-branches_whole branches fired place [] = refl
-branches_whole branches fired place (spot ∷ spots) = branches_whole branches fired (place + 1) spots
+branches_whole : (branches : List (List ℕ)) (fired : List ℕ) (index : ℕ) (spots : List Spot) → items_have_float (items_of (branch_rows branches fired index spots)) ≡ false
+branches_whole branches fired index [] = refl
+branches_whole branches fired index (spot ∷ spots) = branches_whole branches fired (index + 1) spots
 
 ports_whole : (posted held : List ℕ) (port : ℕ) (names : List (List ℕ)) → items_have_float (items_of (port_rows posted held port names)) ≡ false
 ports_whole posted held port [] = refl

@@ -12,12 +12,12 @@ use Rattle.ccr_json.specs.Totals.{totals_value}
 
 -- a spot's count and name
 abbrev pub branch_row : List (List ℕ) → List ℕ → ℕ → Spot → Data
-branch_row branches fired place spot = spot_object (slice_index fired place) (string (spot_word branches spot))
+branch_row branches fired index spot = spot_object (slice_index fired index) (string (spot_word branches spot))
 
--- the spots, of which the first has this place
+-- the spots, of which the first has this index
 abbrev pub branch_rows : List (List ℕ) → List ℕ → ℕ → List Spot → List Data
-branch_rows branches fired place [] = []
-branch_rows branches fired place (spot ∷ others) = branch_row branches fired place spot ∷ branch_rows branches fired (place + 1) others
+branch_rows branches fired index [] = []
+branch_rows branches fired index (spot ∷ others) = branch_row branches fired index spot ∷ branch_rows branches fired (index + 1) others
 
 -- a port's counts and name: what it doesn't hold any more was taken
 abbrev pub port_row : List ℕ → List ℕ → ℕ → List ℕ → Data

@@ -100,9 +100,9 @@ fn branch_values(
     ensures { IfOk result (λ values. map view values.items ≡ branch_rows branches.now fired.now 0 spots.now) }
 {
     let mut values = Vec::new(alloc);
-    for (place, spot) in spots.iter().enumerate() {
+    for (index, spot) in spots.iter().enumerate() {
         let name = spot_name(alloc, branches.as_slice(), *spot)?;
-        let value = spot_value(alloc, name, fired[place])?;
+        let value = spot_value(alloc, name, fired[index])?;
         values.push(value)?;
     }
     Ok(values)

@@ -62,15 +62,15 @@ joined_parts (Some front) (Some back) xs is = (front, back, refl, refl, cc)
 joined_parts None b xs is = absurd (cc)
 joined_parts (Some front) None xs is = absurd (cc)
 
-fills_parts : (past : List Event) (slots : List Slot) (xs : List Msg) → ((place : ℕ) (slot : Slot) → slice_get slots place ≡ Some slot → IsSlotFilled slot) → choice_of_slots (held past) slots ≡ Some xs → (parts : List (List Msg)) × (AllZip (FillsSlot past) slots parts) × (names_of xs ≡ flat_map names_of parts)
+fills_parts : (past : List Event) (slots : List Slot) (xs : List Msg) → ((index : ℕ) (slot : Slot) → slice_get slots index ≡ Some slot → IsSlotFilled slot) → choice_of_slots (held past) slots ≡ Some xs → (parts : List (List Msg)) × (AllZip (FillsSlot past) slots parts) × (names_of xs ≡ flat_map names_of parts)
 fills_parts past [] xs filled is = let none : xs ≡ [] = cc in ([], tt, ap names_of none)
 fills_parts past (slot ∷ slots) xs filled is =
     let split = joined_parts (choice slot (held past slot.port)) (choice_of_slots (held past) slots) xs is in
-    let rest = fills_parts past slots split.1 (λ place other at. filled (suc place) other at) split.3 in
+    let rest = fills_parts past slots split.1 (λ index other at. filled (suc index) other at) split.3 in
     let one = fills_slot past slot split.0 (filled 0 slot refl) split.2 in
     (split.0 ∷ rest.0, (one, rest.1), ap names_of split.4 ∙ names_of-append split.0 split.1 ∙ ap (λ names. names_of split.0 ++ names) rest.2)
 
-fills_slots : (past : List Event) (slots : List Slot) (names : List MsgId) → ((place : ℕ) (slot : Slot) → slice_get slots place ≡ Some slot → IsSlotFilled slot) → (o : Option (List Msg)) → choice_of_slots (held past) slots ≡ o → option_map_or (λ messages. same_lists same_message (names_of messages) names) o false ≡ true → FillsSlots past slots names
+fills_slots : (past : List Event) (slots : List Slot) (names : List MsgId) → ((index : ℕ) (slot : Slot) → slice_get slots index ≡ Some slot → IsSlotFilled slot) → (o : Option (List Msg)) → choice_of_slots (held past) slots ≡ o → option_map_or (λ messages. same_lists same_message (names_of messages) names) o false ≡ true → FillsSlots past slots names
 fills_slots past slots names filled None at is = absurd (cc)
 fills_slots past slots names filled (Some xs) at is =
     let found = fills_parts past slots xs filled at in

@@ -18,4 +18,4 @@ sent_of m = record { port = m.port; value = m.value; causes = m.causes }
 -- what the poster posted are the first lines of its script, in order, each once: a post's name has the number of its line
 pub record FollowsScript (history : List Event) (number : ℕ) (script : List Sent) : Type 0 where
   pub lines : map sent_of (posts_by history number) ≡ take (length (posts_by history number)) script
-  pub names : (place : ℕ) (m : Msg) → slice_get (posts_by history number) place ≡ Some m → m.id ≡ Script number place
+  pub names : (index : ℕ) (m : Msg) → slice_get (posts_by history number) index ≡ Some m → m.id ≡ Script number index

@@ -193,8 +193,8 @@ by_card b None f same = refl
 by_card b (Some c) f same = same c
 
 same-post : (id : MsgId) (b : Books) → roots_of (counted id b) ≡ roots_of b
-same-post (Script actor place) b = refl
-same-post (Task task place) b = refl
+same-post (Script actor index) b = refl
+same-post (Task task index) b = refl
 
 same-cuts : (ts : List TaskId) (b : Books) → roots_of (after_cuts ts b) ≡ roots_of b
 same-cuts [] b = refl

@@ -87,18 +87,18 @@ card_told w h t f b keeps is = keeps.cards t ∙ ap (option_map (card_of w h t))
 
 -- Post
 pub tasks-post : (w : Parts) (h : List Event) (m : Msg) (id : MsgId) (b : Books) → m.id ≡ id → IsLegal w h → KeepsTasks w h b → KeepsTasks w (h ++ Post m ∷ []) (counted id b)
-tasks-post w h m (Script actor place) b is legal keeps =
-    keeps-other w h (Post m) b (counted (Script actor place) b) (λ u card. card) refl keeps refl (λ u. same (card_at b.tasks u))
-    (λ u f named. card-stays w h (Post m) u f (stage_of w h u f.spot) (is_admitted h u) (posts_of_task h u) named (stage-post w h m u f.spot) (admitted-other w h legal (Post m) u refl refl) (made-post h m (Script actor place) u is))
+tasks-post w h m (Script actor index) b is legal keeps =
+    keeps-other w h (Post m) b (counted (Script actor index) b) (λ u card. card) refl keeps refl (λ u. same (card_at b.tasks u))
+    (λ u f named. card-stays w h (Post m) u f (stage_of w h u f.spot) (is_admitted h u) (posts_of_task h u) named (stage-post w h m u f.spot) (admitted-other w h legal (Post m) u refl refl) (made-post h m (Script actor index) u is))
   where
     same : (o : Option Card) → o ≡ option_map (λ (card : Card). card) o
     same None = refl
     same (Some c) = refl
-tasks-post w h m (Task t place) b is legal keeps =
-    keeps-one w h (Post m) b (counted (Task t place) b) with_post t refl keeps refl
+tasks-post w h m (Task t index) b is legal keeps =
+    keeps-one w h (Post m) b (counted (Task t index) b) with_post t refl keeps refl
     (λ u f named. (
     card-stays w h (Post m) u f (stage_of w h u f.spot) (is_admitted h u) (if same_task t u then posts_of_task h u + 1 else posts_of_task h u) named (stage-post w h m u f.spot) (admitted-other w h legal (Post m) u refl refl)
-    (made-post h m (Task t place) u is ∙ ap (λ b. if b then posts_of_task h u + 1 else posts_of_task h u) (same_task-sym u t))
+    (made-post h m (Task t index) u is ∙ ap (λ b. if b then posts_of_task h u + 1 else posts_of_task h u) (same_task-sym u t))
     ∙ of_test u f (same_task t u)
     ))
   where

@@ -37,7 +37,7 @@ tasks-event w valid h (Fire t (Branch n) ms cs) b legal allowed keeps =
 tasks-event w valid h (Fire t (Site n k) ms cs) b legal allowed keeps =
     let made = (FireFacts-allowed w h t (Site n k) ms cs allowed).choice_made in
     let facts = ResumeFacts-allowed w h t n k ms cs allowed in
-    let first : slice_get (suspended_at b.suspended n k) 0 ≡ Some facts.resumes = rw (keeps.places.suspended n k, facts.is_first) refl in
+    let first : slice_get (suspended_at b.suspended n k) 0 ≡ Some facts.resumes = rw (keeps.rows.suspended n k, facts.is_first) refl in
     let card : resumed_card b n k ≡ Some (card_of w h facts.resumes facts.firing) = ap (option_and_then (card_at b.tasks)) first ∙ card_told w h facts.resumes facts.firing b keeps.tasks facts.is_firing in
     rw card (tasks-site w h t n k ms cs legal allowed facts b (take_site (site_port w n k) b.ports) (site-takes w valid h legal b keeps.sizes keeps.ports n k ms made) keeps.tasks)
 

@@ -19,21 +19,21 @@ more_if comes n = if comes then n + 1 else n
 abbrev pub less_if : Bool → ℕ → ℕ
 less_if goes n = if goes then n - 1 else n
 
--- what stands at a place after one more, and after one less, at another
-pub number-more : (is : Bool) (numbers : List ℕ) (place k : ℕ) → k < length numbers → number (if is then more place numbers else numbers) k ≡ more_if (is && (place == k)) (number numbers k)
-number-more false numbers place k low = refl
-number-more true numbers place k low = number-set numbers place k (number numbers place + 1) low ∙ of_test (place == k) refl
+-- what stands at a index after one more, and after one less, at another
+pub number-more : (is : Bool) (numbers : List ℕ) (index k : ℕ) → k < length numbers → number (if is then more index numbers else numbers) k ≡ more_if (is && (index == k)) (number numbers k)
+number-more false numbers index k low = refl
+number-more true numbers index k low = number-set numbers index k (number numbers index + 1) low ∙ of_test (index == k) refl
   where
-    of_test : (b : Bool) → (place == k) ≡ b → (if b then number numbers place + 1 else number numbers k) ≡ more_if b (number numbers k)
-    of_test true is = ap (λ n. number numbers n + 1) (same_number place k is)
+    of_test : (b : Bool) → (index == k) ≡ b → (if b then number numbers index + 1 else number numbers k) ≡ more_if b (number numbers k)
+    of_test true is = ap (λ n. number numbers n + 1) (same_number index k is)
     of_test false is = refl
 
-pub number-less : (is : Bool) (numbers : List ℕ) (place k : ℕ) → k < length numbers → number (if is then less place numbers else numbers) k ≡ less_if (is && (place == k)) (number numbers k)
-number-less false numbers place k low = refl
-number-less true numbers place k low = number-set numbers place k (number numbers place - 1) low ∙ of_test (place == k) refl
+pub number-less : (is : Bool) (numbers : List ℕ) (index k : ℕ) → k < length numbers → number (if is then less index numbers else numbers) k ≡ less_if (is && (index == k)) (number numbers k)
+number-less false numbers index k low = refl
+number-less true numbers index k low = number-set numbers index k (number numbers index - 1) low ∙ of_test (index == k) refl
   where
-    of_test : (b : Bool) → (place == k) ≡ b → (if b then number numbers place - 1 else number numbers k) ≡ less_if b (number numbers k)
-    of_test true is = ap (λ n. number numbers n - 1) (same_number place k is)
+    of_test : (b : Bool) → (index == k) ≡ b → (if b then number numbers index - 1 else number numbers k) ≡ less_if b (number numbers k)
+    of_test true is = ap (λ n. number numbers n - 1) (same_number index k is)
     of_test false is = refl
 
 -- one more in a list

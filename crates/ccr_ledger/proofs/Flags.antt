@@ -43,8 +43,8 @@ by_card b None f same = refl
 by_card b (Some c) f same = same c
 
 same-post : (id : MsgId) (b : Books) → flags_of (counted id b) ≡ flags_of b
-same-post (Script actor place) b = refl
-same-post (Task task place) b = refl
+same-post (Script actor index) b = refl
+same-post (Task task index) b = refl
 
 same-cuts : (ts : List TaskId) (b : Books) → flags_of (after_cuts ts b) ≡ flags_of b
 same-cuts [] b = refl
@@ -102,13 +102,13 @@ module _ (h : List Event) (t : TaskId) (s : Spot) (ms : List MsgId) (cs : List T
 if_same : (b c d : Bool) → c ≡ d → (if b then true else c) ≡ (if b then true else d)
 if_same b c d same = ap (λ x. if b then true else x) same
 
-torn-set : (flags : List Bool) (place k : ℕ) (is : Bool) (was : Bool) → k < length flags → flag flags k ≡ was → flag (if is then raised place flags else flags) k ≡ (if (place == k) && is then true else was)
-torn-set flags place k true was low same = flag-set flags place k true low ∙ of_test (place == k)
+torn-set : (flags : List Bool) (index k : ℕ) (is : Bool) (was : Bool) → k < length flags → flag flags k ≡ was → flag (if is then raised index flags else flags) k ≡ (if (index == k) && is then true else was)
+torn-set flags index k true was low same = flag-set flags index k true low ∙ of_test (index == k)
   where
     of_test : (b : Bool) → (if b then true else flag flags k) ≡ (if b && true then true else was)
     of_test true = refl
     of_test false = same
-torn-set flags place k false was low same = same ∙ of_test (place == k)
+torn-set flags index k false was low same = same ∙ of_test (index == k)
   where
     of_test : (b : Bool) → was ≡ (if b && false then true else was)
     of_test true = refl

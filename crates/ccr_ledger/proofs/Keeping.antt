@@ -12,7 +12,7 @@ use Rattle.ccr_ledger.proofs.ScriptPosts.{script_posts-event}
 use Rattle.ccr_ledger.proofs.Flags.{flags-event}
 use Rattle.ccr_ledger.proofs.PortsKept.{ports-event, ports-none}
 use Rattle.ccr_ledger.proofs.CardsKept.{tasks-event, tasks-none}
-use Rattle.ccr_ledger.proofs.Places.{places-event, places-none}
+use Rattle.ccr_ledger.proofs.KeptRows.{rows-event, rows-none}
 use Rattle.ccr_ledger.proofs.Counted.{counts-event, counts-none}
 use Rattle.ccr_ledger.proofs.Empty.{sizes-none, script_posts-none, flags-none}
 
@@ -23,7 +23,7 @@ keeps-event w valid h e b legal allowed keeps = record {
   script_posts = script_posts-event w h e b keeps.sizes keeps.script_posts;
   ports = ports-event w valid h e b legal allowed keeps;
   tasks = tasks-event w valid h e b legal allowed keeps;
-  places = places-event w valid h e b legal allowed keeps;
+  rows = rows-event w valid h e b legal allowed keeps;
   flags = flags-event w h e b keeps.sizes keeps.flags;
   counts = counts-event w h e b legal allowed keeps;
 }
@@ -35,7 +35,7 @@ keeps-none w = record {
   script_posts = script_posts-none w;
   ports = ports-none w;
   tasks = tasks-none w;
-  places = places-none w;
+  rows = rows-none w;
   flags = flags-none w;
   counts = counts-none w;
 }

@@ -14,12 +14,12 @@ use Rattle.ccr_base.specs.declared.names.MsgId.{MsgId}
 use Rattle.ccr_base.specs.declared.messages.Msg.{Msg}
 use Rattle.ccr_base.specs.declared.patterns.Pred.{Pred}
 use Rattle.ccr_base.specs.Choice.{holds, fitting}
-use Rattle.ccr_ledger.specs.Lanes.{Places, present, is_here, fits, fitting_places, name_at, names_at, entered, entered_item, lost, IsLane, AreLanes, HasLane, HasFront}
+use Rattle.ccr_ledger.specs.Lanes.{Indices, present, is_here, fits, fitting_indices, name_at, names_at, entered, entered_item, lost, IsLane, AreLanes, HasLane, HasFront}
 use Rattle.ccr_ledger.specs.Taken.{without_first}
 use Rattle.std.proofs.lemmas.Bool.{and_parts as both}
 use Rattle.ccr_model.proofs.Booleans.{and_false}
 
--- ---- one place more
+-- ---- one index more
 
 is_here-below : (items : List (Option Msg)) (item : Option Msg) (k : ℕ) → k < length items → is_here (items ++ item ∷ []) k ≡ is_here items k
 is_here-below [] item k low = absurd (omega arith)
@@ -30,9 +30,9 @@ is_here-last : (items : List (Option Msg)) (item : Option Msg) → is_here (item
 is_here-last [] item = refl
 is_here-last (x ∷ items) item = is_here-last items item
 
-fitting_places-last : (n m : ℕ) (pred : Pred) (items : List (Option Msg)) (item : Option Msg) → n + length items ≡ m → fitting_places n pred (items ++ item ∷ []) ≡ fitting_places n pred items ++ (if fits pred item then m ∷ [] else [])
-fitting_places-last n m pred [] item is = let same : n ≡ m = omega arith in rw same refl
-fitting_places-last n m pred (x ∷ items) item is = grind (arith, common_steps, fitting_places-last (n + 1) m pred items item (omega arith))
+fitting_indices-last : (n m : ℕ) (pred : Pred) (items : List (Option Msg)) (item : Option Msg) → n + length items ≡ m → fitting_indices n pred (items ++ item ∷ []) ≡ fitting_indices n pred items ++ (if fits pred item then m ∷ [] else [])
+fitting_indices-last n m pred [] item is = let same : n ≡ m = omega arith in rw same refl
+fitting_indices-last n m pred (x ∷ items) item is = grind (arith, common_steps, fitting_indices-last (n + 1) m pred items item (omega arith))
 
 pub below : (k n : ℕ) → nat_lt k n ≡ true → k < n
 below k n is = grind (arith, nat_tests, is)
@@ -50,51 +50,51 @@ low-append : (n : ℕ) (ks js : List ℕ) → list_all (λ k. nat_lt k n) ks ≡
 low-append n [] js one other = other
 low-append n (k ∷ ks) js one other = let parts = both (nat_lt k n) (list_all (λ k. nat_lt k n) ks) one in rw (parts.0) (low-append n ks js parts.1 other)
 
--- a lane that the last place was put behind, where it fits
-lane-more : (items : List (Option Msg)) (item : Option Msg) (lane : Places) (more : List ℕ) (count : ℕ) → IsLane items lane
+-- a lane that the last index was put behind, where it fits
+lane-more : (items : List (Option Msg)) (item : Option Msg) (lane : Indices) (more : List ℕ) (count : ℕ) → IsLane items lane
     → list_all (λ k. nat_lt k (length items + 1)) more ≡ true
     → filter (is_here (items ++ item ∷ [])) more ≡ (if fits lane.pred item then length items ∷ [] else [])
     → count ≡ lane.count + length (if fits lane.pred item then length items ∷ [] else [])
-    → IsLane (items ++ item ∷ []) (record { pred = lane.pred; places = lane.places ++ more; count = count })
+    → IsLane (items ++ item ∷ []) (record { pred = lane.pred; indices = lane.indices ++ more; count = count })
 lane-more items item lane more count is low fit counted =
-    let last = fitting_places-last 0 (length items) lane.pred items item (omega arith) in
-    let long = length-append (fitting_places 0 lane.pred items) (if fits lane.pred item then length items ∷ [] else []) in
+    let last = fitting_indices-last 0 (length items) lane.pred items item (omega arith) in
+    let long = length-append (fitting_indices 0 lane.pred items) (if fits lane.pred item then length items ∷ [] else []) in
     record {
-      low = rw (length-append items (item ∷ [])) (low-append (length items + 1) lane.places more (low-more (length items + 1) (length items) lane.places (omega arith) is.low) low);
-      whole = filter-append (is_here (items ++ item ∷ [])) lane.places more ∙ rw (filter-below items item lane.places is.low, is.whole, fit) (sym last);
+      low = rw (length-append items (item ∷ [])) (low-append (length items + 1) lane.indices more (low-more (length items + 1) (length items) lane.indices (omega arith) is.low) low);
+      whole = filter-append (is_here (items ++ item ∷ [])) lane.indices more ∙ rw (filter-below items item lane.indices is.low, is.whole, fit) (sym last);
       counted = omega (arith, counted, is.counted, long, ap length last);
     }
 
 last_low : (n : ℕ) → list_all (λ k. nat_lt k (n + 1)) (n ∷ []) ≡ true
 last_low n = grind (arith, nat_tests)
 
-lane-posted : (items : List (Option Msg)) (m : Msg) (lane : Places) → IsLane items lane → IsLane (items ++ Some m ∷ []) (entered (length items) m.value lane)
+lane-posted : (items : List (Option Msg)) (m : Msg) (lane : Indices) → IsLane items lane → IsLane (items ++ Some m ∷ []) (entered (length items) m.value lane)
 lane-posted items m lane is = of_test (holds lane.pred m.value) refl
   where
-    of_test : (b : Bool) → holds lane.pred m.value ≡ b → IsLane (items ++ Some m ∷ []) (if b then record { pred = lane.pred; places = lane.places ++ length items ∷ []; count = lane.count + 1 } else lane)
+    of_test : (b : Bool) → holds lane.pred m.value ≡ b → IsLane (items ++ Some m ∷ []) (if b then record { pred = lane.pred; indices = lane.indices ++ length items ∷ []; count = lane.count + 1 } else lane)
     of_test true holding = lane-more items (Some m) lane (length items ∷ []) (lane.count + 1) is (last_low (length items)) (rw (holding, is_here-last items (Some m)) refl) (rw holding refl)
-    of_test false holding = rw (← append-nil lane.places) (lane-more items (Some m) lane [] lane.count is refl (rw holding refl) (rw holding (omega arith)))
+    of_test false holding = rw (← append-nil lane.indices) (lane-more items (Some m) lane [] lane.count is refl (rw holding refl) (rw holding (omega arith)))
 
-lane-gone : (items : List (Option Msg)) (lane : Places) → IsLane items lane → IsLane (items ++ None ∷ []) lane
-lane-gone items lane is = rw (← append-nil lane.places) (lane-more items None lane [] lane.count is refl refl (omega arith))
+lane-gone : (items : List (Option Msg)) (lane : Indices) → IsLane items lane → IsLane (items ++ None ∷ []) lane
+lane-gone items lane is = rw (← append-nil lane.indices) (lane-more items None lane [] lane.count is refl refl (omega arith))
 
-pub lane-item : (items : List (Option Msg)) (n : ℕ) (item : Option Msg) (lane : Places) → n ≡ length items → IsLane items lane → IsLane (items ++ item ∷ []) (entered_item n item lane)
+pub lane-item : (items : List (Option Msg)) (n : ℕ) (item : Option Msg) (lane : Indices) → n ≡ length items → IsLane items lane → IsLane (items ++ item ∷ []) (entered_item n item lane)
 lane-item items n None lane last is = lane-gone items lane is
 lane-item items n (Some m) lane last is = rw last (lane-posted items m lane is)
 
-pub pred-item : (n : ℕ) (item : Option Msg) (lane : Places) → (entered_item n item lane).pred ≡ lane.pred
+pub pred-item : (n : ℕ) (item : Option Msg) (lane : Indices) → (entered_item n item lane).pred ≡ lane.pred
 pred-item n None lane = refl
 pred-item n (Some m) lane = of_test (holds lane.pred m.value)
   where
-    of_test : (b : Bool) → (if b then record { pred = lane.pred; places = lane.places ++ n ∷ []; count = lane.count + 1 } else lane).pred ≡ lane.pred
+    of_test : (b : Bool) → (if b then record { pred = lane.pred; indices = lane.indices ++ n ∷ []; count = lane.count + 1 } else lane).pred ≡ lane.pred
     of_test true = refl
     of_test false = refl
 
-pub posted : (items : List (Option Msg)) (m : Msg) (lanes : List Places) → AreLanes items lanes → AreLanes (items ++ Some m ∷ []) (map (entered (length items) m.value) lanes)
+pub posted : (items : List (Option Msg)) (m : Msg) (lanes : List Indices) → AreLanes items lanes → AreLanes (items ++ Some m ∷ []) (map (entered (length items) m.value) lanes)
 posted items m [] are = tt
 posted items m (lane ∷ lanes) are = (lane-posted items m lane are.0, posted items m lanes are.1)
 
--- ---- a lane that is tidy up to a place
+-- ---- a lane that is tidy up to a index
 
 none-long : (ks : List ℕ) (n : ℕ) → slice_get ks n ≡ None → length ks ≤ n
 none-long [] n at = omega arith
@@ -122,38 +122,38 @@ take-of (suc most) zero ks rest less within = absurd (omega arith)
 take-of (suc most) (suc n) [] rest less within = absurd (omega arith)
 take-of (suc most) (suc n) (k ∷ ks) rest less within = ap (λ (js : List ℕ). k ∷ js) (take-of most n ks rest (omega arith) (omega arith))
 
--- the first places of a lane, up to one, are of messages that are here
-pub record IsTidy (items : List (Option Msg)) (lane : Places) (n : ℕ) : Type 0 where
-  pub here : filter (is_here items) (take n lane.places) ≡ take n lane.places
-  pub within : n ≤ length lane.places
+-- the first indices of a lane, up to one, are of messages that are here
+pub record IsTidy (items : List (Option Msg)) (lane : Indices) (n : ℕ) : Type 0 where
+  pub here : filter (is_here items) (take n lane.indices) ≡ take n lane.indices
+  pub within : n ≤ length lane.indices
 
-module _ (items : List (Option Msg)) (lane : Places) (n : ℕ) (is : IsLane items lane) (tidy : IsTidy items lane n) where
-  pub tidy-front : (most : ℕ) → most ≤ n → take most lane.places ≡ take most (fitting_places 0 lane.pred items)
+module _ (items : List (Option Msg)) (lane : Indices) (n : ℕ) (is : IsLane items lane) (tidy : IsTidy items lane n) where
+  pub tidy-front : (most : ℕ) → most ≤ n → take most lane.indices ≡ take most (fitting_indices 0 lane.pred items)
   tidy-front most less =
-      let parts = here-parts items lane.places n in
-      rw (← is.whole, parts, tidy.here) (sym (take-of most n lane.places (filter (is_here items) (drop n lane.places)) less tidy.within))
+      let parts = here-parts items lane.indices n in
+      rw (← is.whole, parts, tidy.here) (sym (take-of most n lane.indices (filter (is_here items) (drop n lane.indices)) less tidy.within))
 
-  pub tidy-all : (most : ℕ) → slice_get lane.places n ≡ None → take most lane.places ≡ take most (fitting_places 0 lane.pred items)
+  pub tidy-all : (most : ℕ) → slice_get lane.indices n ≡ None → take most lane.indices ≡ take most (fitting_indices 0 lane.pred items)
   tidy-all most at =
-      let all = take_all n lane.places (none-long lane.places n at) in
-      let here : filter (is_here items) lane.places ≡ lane.places = rw all at tidy.here in
+      let all = take_all n lane.indices (none-long lane.indices n at) in
+      let here : filter (is_here items) lane.indices ≡ lane.indices = rw all at tidy.here in
       rw (← is.whole, here) refl
 
-  pub tidy-more : (k : ℕ) → slice_get lane.places n ≡ Some k → is_here items k ≡ true → IsTidy items lane (n + 1)
+  pub tidy-more : (k : ℕ) → slice_get lane.indices n ≡ Some k → is_here items k ≡ true → IsTidy items lane (n + 1)
   tidy-more k at here =
-      let one = take-one lane.places n k at in
-      let low = slice_get_within lane.places n k at in
+      let one = take-one lane.indices n k at in
+      let low = slice_get_within lane.indices n k at in
       record {
-        here = rw (one, filter-append (is_here items) (take n lane.places) (k ∷ []), tidy.here, here) refl;
+        here = rw (one, filter-append (is_here items) (take n lane.indices) (k ∷ []), tidy.here, here) refl;
         within = omega (arith, low);
       }
 
-  -- the place of this number leaves, whose message is gone
-  module _ (k : ℕ) (at : slice_get lane.places n ≡ Some k) (gone : is_here items k ≡ false) where
-    pub lane-left : IsLane items (record { pred = lane.pred; places = remove lane.places n; count = lane.count })
+  -- the index of this number leaves, whose message is gone
+  module _ (k : ℕ) (at : slice_get lane.indices n ≡ Some k) (gone : is_here items k ≡ false) where
+    pub lane-left : IsLane items (record { pred = lane.pred; indices = remove lane.indices n; count = lane.count })
     lane-left = record {
-      low = low-removed lane.places n is.low;
-      whole = here-removed lane.places n k at gone ∙ is.whole;
+      low = low-removed lane.indices n is.low;
+      whole = here-removed lane.indices n k at gone ∙ is.whole;
       counted = is.counted;
     }
       where
@@ -168,10 +168,10 @@ module _ (items : List (Option Msg)) (lane : Places) (n : ℕ) (is : IsLane item
         here-removed (l ∷ ks) zero j at out = let same : l ≡ j = cc in rw (same, out) refl
         here-removed (l ∷ ks) (suc i) j at out = grind (arith, common_steps, here-removed ks i j at out)
 
-    pub tidy-left : IsTidy items (record { pred = lane.pred; places = remove lane.places n; count = lane.count }) n
+    pub tidy-left : IsTidy items (record { pred = lane.pred; indices = remove lane.indices n; count = lane.count }) n
     tidy-left = record {
-      here = rw (front lane.places n k at) tidy.here;
-      within = omega (arith, length-remove lane.places n (slice_get_within lane.places n k at), slice_get_within lane.places n k at);
+      here = rw (front lane.indices n k at) tidy.here;
+      within = omega (arith, length-remove lane.indices n (slice_get_within lane.indices n k at), slice_get_within lane.indices n k at);
     }
       where
         front : (ks : List ℕ) (i j : ℕ) → slice_get ks i ≡ Some j → take i (remove ks i) ≡ take i ks
@@ -191,7 +191,7 @@ front-first (k ∷ ks) (j ∷ js) is = cc
 
 -- ---- a post, whole
 
-module _ (items now : List (Option Msg)) (lanes then' : List Places) (n : ℕ) (last : n ≡ length items) (grown : now ≡ items ++ None ∷ []) (are : AreLanes items lanes) where
+module _ (items now : List (Option Msg)) (lanes then' : List Indices) (n : ℕ) (last : n ≡ length items) (grown : now ≡ items ++ None ∷ []) (are : AreLanes items lanes) where
   pub after_post : (m : Msg) → then' ≡ map (entered n m.value) lanes → AreLanes (set now n (Some m)) then'
   after_post m is = rw (grown, is, last, set_at items None [] (Some m) (length items) refl) (posted items m lanes are)
 
@@ -203,16 +203,16 @@ present-post items now n m last grown = rw (grown, last, set_at items None [] (S
 
 -- ---- a lane more, a lane changed, a lane looked up
 
-pub are-one_more : (items : List (Option Msg)) (lanes : List Places) (lane : Places) → AreLanes items lanes → IsLane items lane → AreLanes items (lanes ++ lane ∷ [])
+pub are-one_more : (items : List (Option Msg)) (lanes : List Indices) (lane : Indices) → AreLanes items lanes → IsLane items lane → AreLanes items (lanes ++ lane ∷ [])
 are-one_more items [] lane are is = (is, tt)
 are-one_more items (l ∷ lanes) lane are is = (are.0, are-one_more items lanes lane are.1 is)
 
-pub are-set : (items : List (Option Msg)) (lanes : List Places) (n : ℕ) (lane : Places) → AreLanes items lanes → IsLane items lane → AreLanes items (set lanes n lane)
+pub are-set : (items : List (Option Msg)) (lanes : List Indices) (n : ℕ) (lane : Indices) → AreLanes items lanes → IsLane items lane → AreLanes items (set lanes n lane)
 are-set items [] n lane are is = tt
 are-set items (l ∷ lanes) zero lane are is = (is, are.1)
 are-set items (l ∷ lanes) (suc n) lane are is = (are.0, are-set items lanes n lane are.1 is)
 
-pub is-at : (items : List (Option Msg)) (lanes : List Places) (n : ℕ) (lane : Places) → AreLanes items lanes → slice_get lanes n ≡ Some lane → IsLane items lane
+pub is-at : (items : List (Option Msg)) (lanes : List Indices) (n : ℕ) (lane : Indices) → AreLanes items lanes → slice_get lanes n ≡ Some lane → IsLane items lane
 is-at items [] n lane are at = absurd (cc)
 is-at items (l ∷ lanes) zero lane are at = let same : l ≡ lane = cc in rw (← same) are.0
 is-at items (l ∷ lanes) (suc n) lane are at = is-at items lanes n lane are.1 at
@@ -226,60 +226,60 @@ is_here-set (x ∷ items) zero (suc k) = grind (arith, nat_tests)
 is_here-set (x ∷ items) (suc j) zero = grind (arith, nat_tests)
 is_here-set (x ∷ items) (suc j) (suc k) = is_here-set items j k ∙ grind (arith, nat_tests)
 
--- the places but this one
+-- the indices but this one
 filter_here-set : (items : List (Option Msg)) (j : ℕ) (ks : List ℕ) → filter (is_here (set items j None)) ks ≡ filter (λ k. not (k == j)) (filter (is_here items) ks)
 filter_here-set items j [] = refl
 filter_here-set items j (k ∷ ks) = grind (arith, common_steps, is_here-set items j k, filter_here-set items j ks)
 
--- none of the places is below the first number
-fitting-above : (n j : ℕ) (pred : Pred) (items : List (Option Msg)) → j < n → filter (λ k. not (k == j)) (fitting_places n pred items) ≡ fitting_places n pred items
+-- none of the indices is below the first number
+fitting-above : (n j : ℕ) (pred : Pred) (items : List (Option Msg)) → j < n → filter (λ k. not (k == j)) (fitting_indices n pred items) ≡ fitting_indices n pred items
 fitting-above n j pred [] less = refl
 fitting-above n j pred (x ∷ items) less = grind (arith, nat_tests, common_steps, fitting-above (n + 1) j pred items (omega arith))
 
-fitting_places-set : (n i j : ℕ) (pred : Pred) (items : List (Option Msg)) → n + i ≡ j → i < length items → fitting_places n pred (set items i None) ≡ filter (λ k. not (k == j)) (fitting_places n pred items)
-fitting_places-set n i j pred [] is low = absurd (omega arith)
-fitting_places-set n zero j pred (x ∷ items) is low = grind (arith, nat_tests, common_steps, fitting-above (n + 1) j pred items (omega arith))
-fitting_places-set n (suc i) j pred (x ∷ items) is low = grind (arith, nat_tests, common_steps, fitting_places-set (n + 1) i j pred items (omega arith) (omega arith))
+fitting_indices-set : (n i j : ℕ) (pred : Pred) (items : List (Option Msg)) → n + i ≡ j → i < length items → fitting_indices n pred (set items i None) ≡ filter (λ k. not (k == j)) (fitting_indices n pred items)
+fitting_indices-set n i j pred [] is low = absurd (omega arith)
+fitting_indices-set n zero j pred (x ∷ items) is low = grind (arith, nat_tests, common_steps, fitting-above (n + 1) j pred items (omega arith))
+fitting_indices-set n (suc i) j pred (x ∷ items) is low = grind (arith, nat_tests, common_steps, fitting_indices-set (n + 1) i j pred items (omega arith) (omega arith))
 
 -- one that fits is one less
 count-set : (n i : ℕ) (pred : Pred) (m : Msg) (items : List (Option Msg)) → slice_get items i ≡ Some (Some m)
-    → length (fitting_places n pred (set items i None)) + (if holds pred m.value then 1 else 0) ≡ length (fitting_places n pred items)
+    → length (fitting_indices n pred (set items i None)) + (if holds pred m.value then 1 else 0) ≡ length (fitting_indices n pred items)
 count-set n i pred m [] at = absurd (cc)
 count-set n zero pred m (x ∷ items) at = let same : x ≡ Some m = cc in rw same (of_test (holds pred m.value))
   where
-    of_test : (b : Bool) → length (fitting_places (n + 1) pred items) + (if b then 1 else 0) ≡ length (if b then n ∷ fitting_places (n + 1) pred items else fitting_places (n + 1) pred items)
+    of_test : (b : Bool) → length (fitting_indices (n + 1) pred items) + (if b then 1 else 0) ≡ length (if b then n ∷ fitting_indices (n + 1) pred items else fitting_indices (n + 1) pred items)
     of_test true = omega arith
     of_test false = omega arith
 count-set n (suc i) pred m (x ∷ items) at = of_test (fits pred x) (count-set (n + 1) i pred m items at)
   where
-    of_test : (b : Bool) → length (fitting_places (n + 1) pred (set items i None)) + (if holds pred m.value then 1 else 0) ≡ length (fitting_places (n + 1) pred items)
-        → length (if b then n ∷ fitting_places (n + 1) pred (set items i None) else fitting_places (n + 1) pred (set items i None)) + (if holds pred m.value then 1 else 0) ≡ length (if b then n ∷ fitting_places (n + 1) pred items else fitting_places (n + 1) pred items)
+    of_test : (b : Bool) → length (fitting_indices (n + 1) pred (set items i None)) + (if holds pred m.value then 1 else 0) ≡ length (fitting_indices (n + 1) pred items)
+        → length (if b then n ∷ fitting_indices (n + 1) pred (set items i None) else fitting_indices (n + 1) pred (set items i None)) + (if holds pred m.value then 1 else 0) ≡ length (if b then n ∷ fitting_indices (n + 1) pred items else fitting_indices (n + 1) pred items)
     of_test true rest = omega (arith, rest)
     of_test false rest = rest
 
-lane-taken : (items : List (Option Msg)) (j : ℕ) (m : Msg) (lane : Places) → slice_get items j ≡ Some (Some m) → IsLane items lane → IsLane (set items j None) (lost m.value lane)
+lane-taken : (items : List (Option Msg)) (j : ℕ) (m : Msg) (lane : Indices) → slice_get items j ≡ Some (Some m) → IsLane items lane → IsLane (set items j None) (lost m.value lane)
 lane-taken items j m lane at is = of_test (holds lane.pred m.value) (count-set 0 j lane.pred m items at)
   where
     low : j < length items
     low = slice_get_within items j (Some m) at
 
-    of_count : (count : ℕ) → count ≡ length (fitting_places 0 lane.pred (set items j None)) → IsLane (set items j None) (record { pred = lane.pred; places = lane.places; count = count })
+    of_count : (count : ℕ) → count ≡ length (fitting_indices 0 lane.pred (set items j None)) → IsLane (set items j None) (record { pred = lane.pred; indices = lane.indices; count = count })
     of_count count counted = record {
       low = rw (length-set items j None) is.low;
-      whole = filter_here-set items j lane.places ∙ rw is.whole (sym (fitting_places-set 0 j j lane.pred items (omega arith) low));
+      whole = filter_here-set items j lane.indices ∙ rw is.whole (sym (fitting_indices-set 0 j j lane.pred items (omega arith) low));
       counted = counted;
     }
 
-    of_test : (b : Bool) → length (fitting_places 0 lane.pred (set items j None)) + (if b then 1 else 0) ≡ length (fitting_places 0 lane.pred items)
-        → IsLane (set items j None) (if b then record { pred = lane.pred; places = lane.places; count = lane.count - 1 } else lane)
+    of_test : (b : Bool) → length (fitting_indices 0 lane.pred (set items j None)) + (if b then 1 else 0) ≡ length (fitting_indices 0 lane.pred items)
+        → IsLane (set items j None) (if b then record { pred = lane.pred; indices = lane.indices; count = lane.count - 1 } else lane)
     of_test true fewer = of_count (lane.count - 1) (omega (arith, fewer, is.counted))
     of_test false fewer = of_count lane.count (omega (arith, fewer, is.counted))
 
-pub taken : (items : List (Option Msg)) (j : ℕ) (m : Msg) (lanes : List Places) → slice_get items j ≡ Some (Some m) → AreLanes items lanes → AreLanes (set items j None) (map (lost m.value) lanes)
+pub taken : (items : List (Option Msg)) (j : ℕ) (m : Msg) (lanes : List Indices) → slice_get items j ≡ Some (Some m) → AreLanes items lanes → AreLanes (set items j None) (map (lost m.value) lanes)
 taken items j m [] at are = tt
 taken items j m (lane ∷ lanes) at are = (lane-taken items j m lane at are.0, taken items j m lanes at are.1)
 
--- ---- what the first place is of
+-- ---- what the first index is of
 
 pub record IsFirst (pred : Pred) (items : List (Option Msg)) (j : ℕ) (m : Msg) : Type 0 where
   pub at : slice_get items j ≡ Some (Some m)
@@ -289,7 +289,7 @@ pub record IsFirst (pred : Pred) (items : List (Option Msg)) (j : ℕ) (m : Msg)
 some_same : (n k : ℕ) → Some n ≡ Some k → n ≡ k
 some_same n k is = cc
 
-first_found : (n k : ℕ) (pred : Pred) (items : List (Option Msg)) → slice_get (fitting_places n pred items) 0 ≡ Some k → (j : ℕ) × (n + j ≡ k) × (m : Msg) × IsFirst pred items j m
+first_found : (n k : ℕ) (pred : Pred) (items : List (Option Msg)) → slice_get (fitting_indices n pred items) 0 ≡ Some k → (j : ℕ) × (n + j ≡ k) × (m : Msg) × IsFirst pred items j m
 first_found n k pred [] at = absurd (cc)
 first_found n k pred (None ∷ items) at =
     let more = first_found (n + 1) k pred items at in
@@ -297,53 +297,53 @@ first_found n k pred (None ∷ items) at =
 first_found n k pred (Some m ∷ items) at = of_test (holds pred m.value) refl (λ later. first_found (n + 1) k pred items later)
   where
     of_test : (b : Bool) → holds pred m.value ≡ b
-        → (slice_get (fitting_places (n + 1) pred items) 0 ≡ Some k → (j : ℕ) × ((n + 1) + j ≡ k) × (w : Msg) × IsFirst pred items j w)
+        → (slice_get (fitting_indices (n + 1) pred items) 0 ≡ Some k → (j : ℕ) × ((n + 1) + j ≡ k) × (w : Msg) × IsFirst pred items j w)
         → (j : ℕ) × (n + j ≡ k) × (w : Msg) × IsFirst pred (Some m ∷ items) j w
     of_test true is later = let here : Some n ≡ Some k = rw is at at in (0, omega (arith, some_same n k here), m, record { at = refl; first = rw is refl; rest = rw is refl })
     of_test false is later =
         let more = later (rw is at at) in
         (suc more.0, omega (arith, more.1), more.2, record { at = more.3.at; first = rw is more.3.first; rest = rw (is, more.3.rest) refl })
 
-none_found : (n : ℕ) (pred : Pred) (items : List (Option Msg)) → slice_get (fitting_places n pred items) 0 ≡ None → (slice_get (fitting pred (present items)) 0 ≡ None) × (present items ≡ without_first pred (present items))
+none_found : (n : ℕ) (pred : Pred) (items : List (Option Msg)) → slice_get (fitting_indices n pred items) 0 ≡ None → (slice_get (fitting pred (present items)) 0 ≡ None) × (present items ≡ without_first pred (present items))
 none_found n pred [] at = (refl, refl)
 none_found n pred (None ∷ items) at = none_found (n + 1) pred items at
 none_found n pred (Some m ∷ items) at = of_test (holds pred m.value) refl (λ later. none_found (n + 1) pred items later)
   where
     of_test : (b : Bool) → holds pred m.value ≡ b
-        → (slice_get (fitting_places (n + 1) pred items) 0 ≡ None → (slice_get (fitting pred (present items)) 0 ≡ None) × (present items ≡ without_first pred (present items)))
+        → (slice_get (fitting_indices (n + 1) pred items) 0 ≡ None → (slice_get (fitting pred (present items)) 0 ≡ None) × (present items ≡ without_first pred (present items)))
         → (slice_get (fitting pred (present (Some m ∷ items))) 0 ≡ None) × (present (Some m ∷ items) ≡ without_first pred (present (Some m ∷ items)))
     of_test true is later = absurd (cc (rw is at at))
     of_test false is later = let more = later (rw is at at) in (rw is more.0, rw is (ap (λ (ms : List Msg). m ∷ ms) more.1))
 
--- as many messages fit as there are places
-pub length-fitting : (n : ℕ) (pred : Pred) (items : List (Option Msg)) → length (fitting_places n pred items) ≡ length (fitting pred (present items))
+-- as many messages fit as there are indices
+pub length-fitting : (n : ℕ) (pred : Pred) (items : List (Option Msg)) → length (fitting_indices n pred items) ≡ length (fitting pred (present items))
 length-fitting n pred [] = refl
 length-fitting n pred (None ∷ items) = length-fitting (n + 1) pred items
 length-fitting n pred (Some m ∷ items) = grind (arith, common_steps, length-fitting (n + 1) pred items)
 
-pub first_taken : (pred : Pred) (items : List (Option Msg)) (k : ℕ) → slice_get (fitting_places 0 pred items) 0 ≡ Some k → (m : Msg) × IsFirst pred items k m
+pub first_taken : (pred : Pred) (items : List (Option Msg)) (k : ℕ) → slice_get (fitting_indices 0 pred items) 0 ≡ Some k → (m : Msg) × IsFirst pred items k m
 first_taken pred items k at = of_found (first_found 0 k pred items at)
   where
     of_found : ((j : ℕ) × (0 + j ≡ k) × (m : Msg) × IsFirst pred items j m) → (m : Msg) × IsFirst pred items k m
     of_found found = let same : found.0 ≡ k = omega (arith, found.1) in (found.2, rw (← same) found.3)
 
-pub none_taken : (pred : Pred) (items : List (Option Msg)) → slice_get (fitting_places 0 pred items) 0 ≡ None → (slice_get (fitting pred (present items)) 0 ≡ None) × (present items ≡ without_first pred (present items))
+pub none_taken : (pred : Pred) (items : List (Option Msg)) → slice_get (fitting_indices 0 pred items) 0 ≡ None → (slice_get (fitting pred (present items)) 0 ≡ None) × (present items ≡ without_first pred (present items))
 none_taken pred items at = none_found 0 pred items at
 
--- the place that was found, told of the items themselves
-pub found_in : (pred : Pred) (now items : List (Option Msg)) (found o : Option ℕ) → now ≡ items → found ≡ slice_get (fitting_places 0 pred now) 0 → found ≡ o → slice_get (fitting_places 0 pred items) 0 ≡ o
-found_in pred now items found o same place is = rw (← same, ← place) is
+-- the index that was found, told of the items themselves
+pub found_in : (pred : Pred) (now items : List (Option Msg)) (found o : Option ℕ) → now ≡ items → found ≡ slice_get (fitting_indices 0 pred now) 0 → found ≡ o → slice_get (fitting_indices 0 pred items) 0 ≡ o
+found_in pred now items found o same index is = rw (← same, ← index) is
 
 -- the last of the lanes
-pub last_lane : (lanes now : List Places) (n : ℕ) (lane : Places) → n ≡ length lanes → now ≡ lanes ++ lane ∷ [] → slice_get now n ≡ Some lane
+pub last_lane : (lanes now : List Indices) (n : ℕ) (lane : Indices) → n ≡ length lanes → now ≡ lanes ++ lane ∷ [] → slice_get now n ≡ Some lane
 last_lane lanes now n lane last grown = rw (grown, last) (at_end lanes)
   where
-    at_end : (ls : List Places) → slice_get (ls ++ lane ∷ []) (length ls) ≡ Some lane
+    at_end : (ls : List Indices) → slice_get (ls ++ lane ∷ []) (length ls) ≡ Some lane
     at_end [] = refl
     at_end (l ∷ ls) = at_end ls
 
 -- the lane that was looked at isn't of the predicate, so one that is stands behind it
-pub passed_over : (lanes : List Places) (n k : ℕ) (here : Places) (pred : Pred) (b : Bool) → here ≡ get_or lanes n here → Decides b (here.pred ≡ pred) → b ≡ false → n ≤ k → HasLane lanes k pred → n + 1 ≤ k
+pub passed_over : (lanes : List Indices) (n k : ℕ) (here : Indices) (pred : Pred) (b : Bool) → here ≡ get_or lanes n here → Decides b (here.pred ≡ pred) → b ≡ false → n ≤ k → HasLane lanes k pred → n + 1 ≤ k
 passed_over lanes n k here pred b read decides other low has = of_test (n == k) refl
   where
     of_test : (same : Bool) → (n == k) ≡ same → n + 1 ≤ k
@@ -354,12 +354,12 @@ passed_over lanes n k here pred b read decides other low has = of_test (n == k) 
         absurd (cc)
     of_test false is = grind (arith, nat_tests, is, low)
 
-pub set_found : (lanes : List Places) (n : ℕ) (lane now : Places) → slice_get lanes n ≡ Some lane → slice_get (set lanes n now) n ≡ Some now
+pub set_found : (lanes : List Indices) (n : ℕ) (lane now : Indices) → slice_get lanes n ≡ Some lane → slice_get (set lanes n now) n ≡ Some now
 set_found [] n lane now at = absurd (cc)
 set_found (l ∷ lanes) zero lane now at = refl
 set_found (l ∷ lanes) (suc n) lane now at = set_found lanes n lane now at
 
--- one name more, where the place has one
+-- one name more, where the index has one
 pub names-more : (items : List (Option Msg)) (ks : List ℕ) (n k : ℕ) → slice_get ks n ≡ Some k → names_at items (take (n + 1) ks) ≡ names_at items (take n ks) ++ option_to_list (name_at items k)
 names-more items ks n k at = rw (take-one ks n k at) (of_front (take n ks))
   where
@@ -373,7 +373,7 @@ name-behind : (front items : List (Option Msg)) (x : Option Msg) → name_at (fr
 name-behind [] items x = refl
 name-behind (y ∷ front) items x = name-behind front items x
 
-names-fitting : (front items : List (Option Msg)) (pred : Pred) (n most : ℕ) → n ≡ length front → names_at (front ++ items) (take most (fitting_places n pred items)) ≡ map (λ (m : Msg). m.id) (take most (fitting pred (present items)))
+names-fitting : (front items : List (Option Msg)) (pred : Pred) (n most : ℕ) → n ≡ length front → names_at (front ++ items) (take most (fitting_indices n pred items)) ≡ map (λ (m : Msg). m.id) (take most (fitting pred (present items)))
 names-fitting front [] pred n zero is = refl
 names-fitting front [] pred n (suc most) is = refl
 names-fitting front (None ∷ items) pred n most is =
@@ -381,17 +381,17 @@ names-fitting front (None ∷ items) pred n most is =
 names-fitting front (Some m ∷ items) pred n most is = of_test (holds pred m.value) refl most (λ more. rw (← append_assoc front (Some m ∷ []) items) (names-fitting (front ++ Some m ∷ []) items pred (n + 1) more (rw length-append (omega arith))))
   where
     of_test : (b : Bool) → holds pred m.value ≡ b → (more : ℕ)
-        → ((more : ℕ) → names_at (front ++ Some m ∷ items) (take more (fitting_places (n + 1) pred items)) ≡ map (λ (m : Msg). m.id) (take more (fitting pred (present items))))
-        → names_at (front ++ Some m ∷ items) (take more (fitting_places n pred (Some m ∷ items))) ≡ map (λ (m : Msg). m.id) (take more (fitting pred (present (Some m ∷ items))))
+        → ((more : ℕ) → names_at (front ++ Some m ∷ items) (take more (fitting_indices (n + 1) pred items)) ≡ map (λ (m : Msg). m.id) (take more (fitting pred (present items))))
+        → names_at (front ++ Some m ∷ items) (take more (fitting_indices n pred (Some m ∷ items))) ≡ map (λ (m : Msg). m.id) (take more (fitting pred (present (Some m ∷ items))))
     of_test false out more rest = rw out (rest more)
     of_test true out zero rest = refl
     of_test true out (suc more) rest = rw (out, is, name-behind front items (Some m), ← is) (ap (λ (names : List MsgId). m.id ∷ names) (rest more))
 
-pub names-of : (items : List (Option Msg)) (pred : Pred) (most : ℕ) → names_at items (take most (fitting_places 0 pred items)) ≡ map (λ (m : Msg). m.id) (take most (fitting pred (present items)))
+pub names-of : (items : List (Option Msg)) (pred : Pred) (most : ℕ) → names_at items (take most (fitting_indices 0 pred items)) ≡ map (λ (m : Msg). m.id) (take most (fitting pred (present items)))
 names-of items pred most = names-fitting [] items pred 0 most refl
 
 -- the count of the lane that stands at a number
-pub count-told : (items now : List (Option Msg)) (lanes : List Places) (n : ℕ) (lane : Places) (pred : Pred) → now ≡ items → AreLanes now lanes → HasLane lanes n pred → lane ≡ get_or lanes n lane
+pub count-told : (items now : List (Option Msg)) (lanes : List Indices) (n : ℕ) (lane : Indices) (pred : Pred) → now ≡ items → AreLanes now lanes → HasLane lanes n pred → lane ≡ get_or lanes n lane
     → lane.count ≡ length (fitting pred (present items))
 count-told items now lanes n lane pred same are found read =
     let this : lane ≡ found.0 = read ∙ get_or_from_slice_get lanes n found.0 lane found.1 in
@@ -399,7 +399,7 @@ count-told items now lanes n lane pred same are found read =
     rw this (here.counted ∙ rw found.2 (length-fitting 0 pred items))
 
 -- the front of the lane that stands at a number
-pub front-told : (lanes : List Places) (n most : ℕ) (lane : Places) (front : List ℕ) → HasFront lanes n front most → lane ≡ get_or lanes n lane → take most lane.places ≡ front
+pub front-told : (lanes : List Indices) (n most : ℕ) (lane : Indices) (front : List ℕ) → HasFront lanes n front most → lane ≡ get_or lanes n lane → take most lane.indices ≡ front
 front-told lanes n most lane front found read =
     let this : lane ≡ found.0 = read ∙ get_or_from_slice_get lanes n found.0 lane found.1 in
     rw this found.2

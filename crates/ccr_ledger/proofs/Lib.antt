@@ -38,7 +38,7 @@ pub mod NewRoots
 pub mod Admitted
 pub mod Counted
 pub mod Suspended
-pub mod Places
+pub mod KeptRows
 pub mod Keeping
 pub mod Lacking
 pub mod Telling

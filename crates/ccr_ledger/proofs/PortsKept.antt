@@ -90,12 +90,12 @@ ports-branch w sound h t n ms cs b legal allowed sizes keeps =
   where
     port_left : (s : Placement) → placement w n ≡ Some s → is_choice_of (held h) s.branch.pattern ms ≡ true → (port : ℕ) → port < length w.ports → row (take_pattern s.branch.pattern ms b.ports).ports port ≡ filter (λ (m : Msg). not (has_message ms m.id)) (held h port)
     port_left s at is port low =
-        pattern_left s.branch.pattern ms b.ports (held h) (are_held w h b legal sizes keeps) (sound.apart n s at) (λ place p there. omega (arith, sizes.ports, sound.pattern_ports n s place p at there)) is port (omega (arith, low, sizes.ports))
+        pattern_left s.branch.pattern ms b.ports (held h) (are_held w h b legal sizes keeps) (sound.apart n s at) (λ index p there. omega (arith, sizes.ports, sound.pattern_ports n s index p at there)) is port (omega (arith, low, sizes.ports))
 
 -- who goes on at the site has a card
 has_resumed : (w : Parts) (h : List Event) (n k : ℕ) (b : Books) → Keeps w h b → ResumeFacts h n k → (c : Card) × (resumed_card b n k ≡ Some c)
 has_resumed w h n k b keeps facts =
-    let row_is : suspended_at b.suspended n k ≡ facts.resumes ∷ facts.others = keeps.places.suspended n k ∙ facts.is_first in
+    let row_is : suspended_at b.suspended n k ≡ facts.resumes ∷ facts.others = keeps.rows.suspended n k ∙ facts.is_first in
     let card_is : card_at b.tasks facts.resumes ≡ Some (card_of w h facts.resumes facts.firing) = keeps.tasks.cards facts.resumes ∙ ap (option_map (card_of w h facts.resumes)) facts.is_firing in
     (card_of w h facts.resumes facts.firing, ap (λ ts. option_and_then (card_at b.tasks) (slice_get ts 0)) row_is ∙ card_is)
 

@@ -126,7 +126,7 @@ gather_left first second names ports held_at are other low_first split p low =
 -- ---- what a pattern takes, and what a site takes
 
 pub pattern_left : (pattern : Pattern) (names : List MsgId) (ports : List (List Msg)) (held_at : ℕ → List Msg) → AreHeld ports held_at → names_ports_once pattern ≡ true
-    → ((place port : ℕ) → slice_get (pattern_ports pattern) place ≡ Some port → port < length ports) → is_choice_of held_at pattern names ≡ true
+    → ((index port : ℕ) → slice_get (pattern_ports pattern) index ≡ Some port → port < length ports) → is_choice_of held_at pattern names ≡ true
     → (p : ℕ) → p < length ports → row (take_pattern pattern names ports).ports p ≡ left_by names (held_at p)
 pattern_left (Slots slots) names ports held_at are once low_ports is p low =
     let made = some_of (λ (messages : List Msg). same_lists same_message (names_of messages) names) (choice_of_slots held_at slots) is in

@@ -94,7 +94,7 @@ module _ (w : Parts) (valid : IsValid w) (h : List Event) (legal : IsLegal w h) 
       of_firing None at = rw at refl
       of_firing (Some f) at =
           let place = with_placement w valid h legal b keeps t f at in
-          rw (place.1, place.2, keeps.places.waiting place.0.domain (arbiter_within w valid (branch_of f.spot) place.0 place.1)) refl
+          rw (place.1, place.2, keeps.rows.waiting place.0.domain (arbiter_within w valid (branch_of f.spot) place.0 place.1)) refl
 
   pub queued_first_told : (t : TaskId) → queued_first b t ≡ is_oldest_queued w h t
   queued_first_told t = rw (keeps.tasks.cards t) (of_firing (firing_named h t) refl)
@@ -103,7 +103,7 @@ module _ (w : Parts) (valid : IsValid w) (h : List Event) (legal : IsLegal w h) 
       of_firing None at = rw at refl
       of_firing (Some f) at =
           let place = with_placement w valid h legal b keeps t f at in
-          rw (place.1, place.2, keeps.places.queued place.0.branch.queue ((sound w valid).queues (branch_of f.spot) place.0 place.1)) refl
+          rw (place.1, place.2, keeps.rows.queued place.0.branch.queue ((sound w valid).queues (branch_of f.spot) place.0 place.1)) refl
 
   pub is_ready_told : (t : TaskId) → is_ready b t ≡ may_put w h t
   is_ready_told t = rw (keeps.tasks.cards t) (of_firing (firing_named h t) refl)
@@ -116,10 +116,10 @@ module _ (w : Parts) (valid : IsValid w) (h : List Event) (legal : IsLegal w h) 
           (λ is. placed.put_started t ((AreEnded-legal w h legal).started_ended t is)) (placed.put_started t) (placed.put_dropped t))
 
   pub is_busy_told : (a : ℕ) → is_busy b a ≡ not (is_none_of (running_by h a))
-  is_busy_told a = busy-some a b.running ∙ ap (λ ts. not (is_none_of ts)) (keeps.places.running_by a)
+  is_busy_told a = busy-some a b.running ∙ ap (λ ts. not (is_none_of ts)) (keeps.rows.running_by a)
 
   pub runs_told : (t : TaskId) → runs b t ≡ has_task (running h) t
-  runs_told t = runs-named b.running t ∙ ap (λ ts. has_task ts t) keeps.places.running
+  runs_told t = runs-named b.running t ∙ ap (λ ts. has_task ts t) keeps.rows.running
 
   pub has_more_told : (t : TaskId) → has_more b t ≡ has_post_left w h t
   has_more_told t = rw (keeps.tasks.cards t) (of_firing (firing_named h t) refl)
@@ -131,4 +131,4 @@ module _ (w : Parts) (valid : IsValid w) (h : List Event) (legal : IsLegal w h) 
   pub unfinished_told : unfinished b ≡ count_unfinished w h
   unfinished_told =
       count-named (has_more b) b.running
-      ∙ (ap (λ ts. length (filter (has_more b) ts)) keeps.places.running ∙ ap length (filter_on (has_more b) (has_post_left w h) (running h) (λ t is. has_more_told t)))
+      ∙ (ap (λ ts. length (filter (has_more b) ts)) keeps.rows.running ∙ ap length (filter_on (has_more b) (has_post_left w h) (running h) (λ t is. has_more_told t)))

@@ -35,8 +35,8 @@ by_card b None f same = refl
 by_card b (Some c) f same = same c
 
 same-post : (id : MsgId) (b : Books) → (counted id b).running ≡ b.running
-same-post (Script actor place) b = refl
-same-post (Task task place) b = refl
+same-post (Script actor index) b = refl
+same-post (Task task index) b = refl
 
 same-cuts : (ts : List TaskId) (b : Books) → (after_cuts ts b).running ≡ b.running
 same-cuts [] b = refl

@@ -90,7 +90,7 @@ counted-post h m id test is =
     ap (λ ms. length (filter (λ (o : Msg). test o.id) ms)) (posts-push h (Post m)) ∙ (count-more (λ (o : Msg). test o.id) (posts h) m ∙ ap (λ n. if test n then length (filter (λ (o : Msg). test o.id) (posts h)) + 1 else length (filter (λ (o : Msg). test o.id) (posts h))) is)
 
 script_posts-post : (w : Parts) (h : List Event) (m : Msg) (id : MsgId) (b : Books) → m.id ≡ id → HasSizes w b → KeepsScriptPosts w h b → KeepsScriptPosts w (h ++ Post m ∷ []) (counted id b)
-script_posts-post w h m (Script actor place) b is sizes keeps = record {
+script_posts-post w h m (Script actor index) b is sizes keeps = record {
   script_posts = λ p low. number-set b.script_posts actor p (number b.script_posts actor + 1) (omega (arith, low, sizes.script_posts)) ∙ (of_test p (actor == p) refl (keeps.script_posts p low) ∙ sym (counted-post h m _ (is_script_of p) is));
   task_posts = keeps.task_posts ∙ sym (counted-post h m _ is_task_message is);
 }
@@ -98,7 +98,7 @@ script_posts-post w h m (Script actor place) b is sizes keeps = record {
     of_test : (p : ℕ) (same : Bool) → (actor == p) ≡ same → number b.script_posts p ≡ posts_of_poster h p → (if same then number b.script_posts actor + 1 else number b.script_posts p) ≡ (if same then posts_of_poster h p + 1 else posts_of_poster h p)
     of_test p true same known = let one : actor ≡ p = same_number actor p same in ap (λ n. n + 1) (ap (number b.script_posts) one ∙ known)
     of_test p false same known = known
-script_posts-post w h m (Task task place) b is sizes keeps = record {
+script_posts-post w h m (Task task index) b is sizes keeps = record {
   script_posts = λ p low. keeps.script_posts p low ∙ sym (counted-post h m _ (is_script_of p) is);
   task_posts = ap (λ n. n + 1) keeps.task_posts ∙ sym (counted-post h m _ is_task_message is);
 }

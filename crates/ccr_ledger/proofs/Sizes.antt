@@ -60,21 +60,21 @@ sizes_of b = record {
 abbrev AreAlike : Books → Books → Type 0
 AreAlike b c = sizes_of c ≡ sizes_of b
 
-numbers_if : (b : Bool) (place : ℕ) (numbers : List ℕ) → length (if b then less place numbers else numbers) ≡ length numbers
-numbers_if true place numbers = length-set numbers place _
-numbers_if false place numbers = refl
+numbers_if : (b : Bool) (index : ℕ) (numbers : List ℕ) → length (if b then less index numbers else numbers) ≡ length numbers
+numbers_if true index numbers = length-set numbers index _
+numbers_if false index numbers = refl
 
-numbers_unless : (b : Bool) (place : ℕ) (numbers : List ℕ) → length (if b then numbers else less place numbers) ≡ length numbers
-numbers_unless true place numbers = refl
-numbers_unless false place numbers = length-set numbers place _
+numbers_unless : (b : Bool) (index : ℕ) (numbers : List ℕ) → length (if b then numbers else less index numbers) ≡ length numbers
+numbers_unless true index numbers = refl
+numbers_unless false index numbers = length-set numbers index _
 
-more_unless : (b : Bool) (place : ℕ) (numbers : List ℕ) → length (if b then numbers else more place numbers) ≡ length numbers
-more_unless true place numbers = refl
-more_unless false place numbers = length-set numbers place _
+more_unless : (b : Bool) (index : ℕ) (numbers : List ℕ) → length (if b then numbers else more index numbers) ≡ length numbers
+more_unless true index numbers = refl
+more_unless false index numbers = length-set numbers index _
 
-flags_if : (b : Bool) (place : ℕ) (flags : List Bool) → length (if b then raised place flags else flags) ≡ length flags
-flags_if true place flags = length-set flags place true
-flags_if false place flags = refl
+flags_if : (b : Bool) (index : ℕ) (flags : List Bool) → length (if b then raised index flags else flags) ≡ length flags
+flags_if true index flags = length-set flags index true
+flags_if false index flags = refl
 
 length-suspended : (rows : List (List TaskId)) (n k : ℕ) (ts : List TaskId) → length (with_suspended rows n k ts) ≡ length rows
 length-suspended rows n k ts = of_test (nat_lt k sites_each)
@@ -112,8 +112,8 @@ alike-post : (m : Msg) (b : Books) → AreAlike b (after_post m b)
 alike-post m b = of_name m.id
   where
     of_name : (name : MsgId) → AreAlike b (record (counted name b) { ports = with_row b.ports m.port (row b.ports m.port ++ m ∷ []) })
-    of_name (Script actor place) i = record (sizes_of b) { ports = length-with_row b.ports m.port (row b.ports m.port ++ m ∷ []) i; script_posts = length-set b.script_posts actor (number b.script_posts actor + 1) i }
-    of_name (Task task place) i = record (sizes_of b) { ports = length-with_row b.ports m.port (row b.ports m.port ++ m ∷ []) i }
+    of_name (Script actor index) i = record (sizes_of b) { ports = length-with_row b.ports m.port (row b.ports m.port ++ m ∷ []) i; script_posts = length-set b.script_posts actor (number b.script_posts actor + 1) i }
+    of_name (Task task index) i = record (sizes_of b) { ports = length-with_row b.ports m.port (row b.ports m.port ++ m ∷ []) i }
 
 alike-cut : (t : TaskId) (b : Books) → AreAlike b (after_cut t b)
 alike-cut t b = by_card b (card_at b.tasks t) _ (λ c i. record (sizes_of b) { coming = numbers_if (is_branch c.spot) c.queue b.coming i })

@@ -75,13 +75,13 @@ row-other (r ∷ rows) (suc n) zero items other = refl
 row-other (r ∷ rows) (suc n) (suc k) items other = row-other rows n k items (grind (arith, nat_tests, other))
 
 -- a port that stands there isn't one that doesn't
-apart_at : (ports : List ℕ) (place port other : ℕ) → slice_get ports place ≡ Some port → has_port ports other ≡ false → (other == port) ≡ false
-apart_at [] place port other is out = absurd (cc)
+apart_at : (ports : List ℕ) (index port other : ℕ) → slice_get ports index ≡ Some port → has_port ports other ≡ false → (other == port) ≡ false
+apart_at [] index port other is out = absurd (cc)
 apart_at (p ∷ ports) zero port other is out = let same : p ≡ port = cc in let parts = neither (p == other) (has_port ports other) out in grind (arith, nat_tests, same, parts.0)
-apart_at (p ∷ ports) (suc place) port other is out = apart_at ports place port other is (neither (p == other) (has_port ports other) out).1
+apart_at (p ∷ ports) (suc index) port other is out = apart_at ports index port other is (neither (p == other) (has_port ports other) out).1
 
 -- slots of different ports take their choice
-slots-take : (slots : List Slot) (ports : List (List Msg)) (held_at : ℕ → List Msg) (xs : List Msg) → ((place port : ℕ) → slice_get (slot_ports slots) place ≡ Some port → row ports port ≡ held_at port)
+slots-take : (slots : List Slot) (ports : List (List Msg)) (held_at : ℕ → List Msg) (xs : List Msg) → ((index port : ℕ) → slice_get (slot_ports slots) index ≡ Some port → row ports port ≡ held_at port)
     → are_apart (slot_ports slots) ≡ true → choice_of_slots held_at slots ≡ Some xs → (take_slots slots ports).messages ≡ xs
 slots-take [] ports held_at xs told once is = cc
 slots-take (slot ∷ slots) ports held_at xs told once is =
@@ -89,7 +89,7 @@ slots-take (slot ∷ slots) ports held_at xs told once is =
     let apart = both (not (has_port (slot_ports slots) slot.port)) (are_apart (slot_ports slots)) once in
     let out = not_true (has_port (slot_ports slots) slot.port) apart.0 in
     let front : take slot.most (fitting slot.pred (row ports slot.port)) ≡ parts.0 = ap (λ ms. take slot.most (fitting slot.pred ms)) (told 0 slot.port refl) ∙ sym (choice_some slot (held_at slot.port) parts.0 parts.2) in
-    let back = slots-take slots (take_slot slot ports).ports held_at parts.1 (λ place port at. row-other ports slot.port port _ (apart_at (slot_ports slots) place port slot.port at out) ∙ told (suc place) port at) apart.1 parts.3 in
+    let back = slots-take slots (take_slot slot ports).ports held_at parts.1 (λ index port at. row-other ports slot.port port _ (apart_at (slot_ports slots) index port slot.port at out) ∙ told (suc index) port at) apart.1 parts.3 in
     ap (λ ms. ms ++ (take_slots slots (take_slot slot ports).ports).messages) front ∙ (ap (λ ms. parts.0 ++ ms) back ∙ parts.4)
 
 -- what they choose is held
@@ -158,11 +158,11 @@ module _ (w : Parts) (valid : IsValid w) (h : List Event) (legal : IsLegal w h) 
   found : (ms : List Msg) (names : List MsgId) → names_of ms ≡ names → ((m : Msg) → Among m ms → Among m (posts h)) → ms ≡ messages_named h names
   found ms names same within = sym (named-found (posts h) ms (posted_once w h legal) within) ∙ ap (messages_named h) same
 
-  of_slots : (slots : List Slot) (names : List MsgId) → ((place port : ℕ) → slice_get (slot_ports slots) place ≡ Some port → port < length w.ports) → are_apart (slot_ports slots) ≡ true → is_choice_of (held h) (Slots slots) names ≡ true
+  of_slots : (slots : List Slot) (names : List MsgId) → ((index port : ℕ) → slice_get (slot_ports slots) index ≡ Some port → port < length w.ports) → are_apart (slot_ports slots) ≡ true → is_choice_of (held h) (Slots slots) names ≡ true
       → (take_slots slots b.ports).messages ≡ messages_named h names
   of_slots slots names low once is =
       let made = some_of (λ (ms : List Msg). same_lists same_message (names_of ms) names) (choice_of_slots (held h) slots) is in
-      slots-take slots b.ports (held h) made.0 (λ place port at. ports.ports port (low place port at)) once made.1
+      slots-take slots b.ports (held h) made.0 (λ index port at. ports.ports port (low index port at)) once made.1
       ∙ found made.0 names (same_messages-is (names_of made.0) names made.2) (choice-within slots (held h) (posts h) made.0 held-posted made.1)
 
   of_gather : (total first second : ℕ) (names : List MsgId) → first < length w.ports → second < length w.ports → not (first == second) ≡ true → is_choice_of (held h) (Gather total first second) names ≡ true
@@ -185,7 +185,7 @@ module _ (w : Parts) (valid : IsValid w) (h : List Event) (legal : IsLegal w h) 
       ]
 
   of_pattern : (p : Pattern) (n : ℕ) (s : Placement) (names : List MsgId) → placement w n ≡ Some s → s.branch.pattern ≡ p → is_choice_of (held h) p names ≡ true → (take_pattern p names b.ports).messages ≡ messages_named h names
-  of_pattern (Slots slots) n s names at one is = of_slots slots names (λ place port there. (sound w valid).pattern_ports n s place port at (rw one there)) (rw one at ((sound w valid).apart n s at)) is
+  of_pattern (Slots slots) n s names at one is = of_slots slots names (λ index port there. (sound w valid).pattern_ports n s index port at (rw one there)) (rw one at ((sound w valid).apart n s at)) is
   of_pattern (Gather total first second) n s names at one is =
       of_gather total first second names ((sound w valid).pattern_ports n s 0 first at (rw one refl)) ((sound w valid).pattern_ports n s 1 second at (rw one refl)) (rw one at ((sound w valid).apart n s at)) is
 

@@ -83,7 +83,7 @@ one_fewer pred items j m first left now was is = is ∙ (ap (λ n. n - 1) was �
 pub one_more : (ms : List Msg) (left : ℕ) (m : Msg) → left ≡ length ms → left + 1 ≡ length (ms ++ m ∷ [])
 one_more ms left m is = omega (arith, is, length-append ms (m ∷ []))
 
--- no more are there than places
+-- no more are there than indices
 pub few-present : (items : List (Option Msg)) → length (present items) ≤ length items
 few-present [] = omega arith
 few-present (None ∷ items) = omega (arith, few-present items)

@@ -53,8 +53,8 @@ pub rows-post : (m : Msg) (b : Books) → rows_of (after_post m b) ≡ rows_of b
 rows-post m b = of_name m.id
   where
     of_name : (name : MsgId) → rows_of (counted name b) ≡ rows_of b
-    of_name (Script actor place) = refl
-    of_name (Task task place) = refl
+    of_name (Script actor index) = refl
+    of_name (Task task index) = refl
 
 -- a branch's task may wait
 pub rows-branch : (w : Parts) (t : TaskId) (n : ℕ) (ms : List MsgId) (cs : List TaskId) (b : Books) (s : Placement) → placement w n ≡ Some s → rows_of (after_event w (Fire t (Branch n) ms cs) b) ≡ record (rows_of b) { waiting = after_wait s t b.waiting }

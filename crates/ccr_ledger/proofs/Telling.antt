@@ -119,7 +119,7 @@ module _ (w : Parts) (valid : IsValid w) (h : List Event) (legal : IsLegal w h) 
   group_told n s at groups.Teardown = rw (keeps.flags.torn s.domain (arbiter_within w valid n s at)) (not_not _)
 
   pub lives_told : (s : Spot) → lives w b s ≡ is_live w h s
-  lives_told (Site n k) = rw (keeps.places.suspended n k) refl
+  lives_told (Site n k) = rw (keeps.rows.suspended n k) refl
   lives_told (Branch n) = of_placement (placement w n) refl
     where
       of_placement : (o : Option Placement) → placement w n ≡ o → option_map_or (λ (s : Placement). group_lives b n s.domain s.branch.group) o false ≡ option_map_or (λ (s : Placement). is_live_in w h n s.domain s.branch.group) o false
@@ -188,7 +188,7 @@ module _ (w : Parts) (valid : IsValid w) (h : List Event) (legal : IsLegal w h) 
     where
       of_placement : (o : Option Placement) → placement w n ≡ o → option_map_or (λ (s : Placement). if is_teardown s.branch.group then row b.waiting s.domain else []) o [] ≡ option_map_or (λ (s : Placement). if is_teardown s.branch.group then waiting w h s.domain else []) o []
       of_placement None at = refl
-      of_placement (Some s) at = rw (keeps.places.waiting s.domain (arbiter_within w valid n s at)) refl
+      of_placement (Some s) at = rw (keeps.rows.waiting s.domain (arbiter_within w valid n s at)) refl
 
   -- the placement of a task that fired
   pub with_placement : (t : TaskId) (f : Firing) → firing_named h t ≡ Some f → (s : Placement) × (placement w (branch_of f.spot) ≡ Some s) × (placement_of w h t ≡ Some s)
@@ -219,7 +219,7 @@ module _ (w : Parts) (valid : IsValid w) (h : List Event) (legal : IsLegal w h) 
       of_firing None at = rw at refl
       of_firing (Some f) at =
           let place = with_placement t f at in
-          rw (place.1, place.2, keeps.places.queued place.0.branch.queue ((sound w valid).queues (branch_of f.spot) place.0 place.1)) refl
+          rw (place.1, place.2, keeps.rows.queued place.0.branch.queue ((sound w valid).queues (branch_of f.spot) place.0 place.1)) refl
 
   pub play_told : (t : TaskId) → play_in b t ≡ play_of w h t
   play_told t = rw (keeps.tasks.cards t) (of_firing (firing_named h t) refl)

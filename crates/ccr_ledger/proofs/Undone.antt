@@ -40,8 +40,8 @@ posts-back (e ∷ cards) t = of_test (same_task t e.0) refl (posts-back cards t)
     of_test false is rest = rw is (ap (λ (es : List (TaskId × Card)). e ∷ es) rest)
 
 pub uncounted_counted : (name : MsgId) (books : Books) → uncounted name (counted name books) ≡ books
-uncounted_counted (Script actor place) books = ap (λ posts. record books { script_posts = posts }) (less_more actor books.script_posts)
-uncounted_counted (Task task place) books =
+uncounted_counted (Script actor index) books = ap (λ posts. record books { script_posts = posts }) (less_more actor books.script_posts)
+uncounted_counted (Task task index) books =
     ap (λ cards. record books { tasks = cards; task_posts = books.task_posts + 1 - 1 }) (posts-back books.tasks task)
     ∙ ap (λ posts. record books { task_posts = posts }) (one-back books.task_posts)
 

@@ -42,25 +42,25 @@ pub record Books : Type 0 where
   -- of each queue how many tasks of branches are on their way to it or queued
   pub coming : List ℕ
 
--- the number at this place; 0 past the last
+-- the number at this index; 0 past the last
 abbrev pub number : List ℕ → ℕ → ℕ
-number numbers place = option_map_or (λ n. n) (slice_get numbers place) 0
+number numbers index = option_map_or (λ n. n) (slice_get numbers index) 0
 
--- the numbers with one more, and one less, at this place
+-- the numbers with one more, and one less, at this index
 abbrev pub more : ℕ → List ℕ → List ℕ
-more place numbers = slice_set numbers place (number numbers place + 1)
+more index numbers = slice_set numbers index (number numbers index + 1)
 
--- one less at this place
+-- one less at this index
 abbrev pub less : ℕ → List ℕ → List ℕ
-less place numbers = slice_set numbers place (number numbers place - 1)
+less index numbers = slice_set numbers index (number numbers index - 1)
 
--- the flag at this place; down past the last
+-- the flag at this index; down past the last
 abbrev pub flag : List Bool → ℕ → Bool
-flag flags place = option_map_or (λ b. b) (slice_get flags place) false
+flag flags index = option_map_or (λ b. b) (slice_get flags index) false
 
--- the flags with the one at this place up
+-- the flags with the one at this index up
 abbrev pub raised : ℕ → List Bool → List Bool
-raised place flags = slice_set flags place true
+raised index flags = slice_set flags index true
 
 -- each branch has this many rows for its sites, as no handler has more actions
 abbrev pub sites_each : ℕ

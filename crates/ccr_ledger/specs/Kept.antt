@@ -91,8 +91,8 @@ pub record KeepsTasks (wiring : Parts) (history : List Event) (books : Books) : 
   pub names : map (λ entry. entry.0) books.tasks ≡ fired history
   pub cards : (task : TaskId) → card_at books.tasks task ≡ option_map (card_of wiring history task) (firing_named history task)
 
--- tasks by their places
-pub record KeepsPlaces (wiring : Parts) (history : List Event) (books : Books) : Type 0 where
+-- tasks by their indices
+pub record KeepsRows (wiring : Parts) (history : List Event) (books : Books) : Type 0 where
   pub queued : (queue : ℕ) → queue < length wiring.queues → row books.queued queue ≡ queued wiring history queue
   pub waiting : (domain : ℕ) → domain < length wiring.arbiters → row books.waiting domain ≡ waiting wiring history domain
   pub suspended : (branch site : ℕ) → suspended_at books.suspended branch site ≡ suspended history (Site branch site)
@@ -117,6 +117,6 @@ pub record Keeps (wiring : Parts) (history : List Event) (books : Books) : Type 
   pub script_posts : KeepsScriptPosts wiring history books
   pub ports : KeepsPorts wiring history books
   pub tasks : KeepsTasks wiring history books
-  pub places : KeepsPlaces wiring history books
+  pub rows : KeepsRows wiring history books
   pub flags : KeepsFlags wiring history books
   pub counts : KeepsCounts wiring history books

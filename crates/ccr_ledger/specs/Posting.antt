@@ -17,8 +17,8 @@ with_post card = record card { made = card.made + 1 }
 
 -- one more post of the poster, or of the task
 abbrev pub counted : MsgId → Books → Books
-counted (Script actor place) books = record books { script_posts = more actor books.script_posts }
-counted (Task task place) books = record books { tasks = changed with_post task books.tasks; task_posts = books.task_posts + 1 }
+counted (Script actor index) books = record books { script_posts = more actor books.script_posts }
+counted (Task task index) books = record books { tasks = changed with_post task books.tasks; task_posts = books.task_posts + 1 }
 
 -- the card with one post less
 abbrev pub without_post : Card → Card
@@ -26,8 +26,8 @@ without_post card = record card { made = card.made - 1 }
 
 -- one post less of the poster, or of the task
 abbrev pub uncounted : MsgId → Books → Books
-uncounted (Script actor place) books = record books { script_posts = less actor books.script_posts }
-uncounted (Task task place) books = record books { tasks = changed without_post task books.tasks; task_posts = books.task_posts - 1 }
+uncounted (Script actor index) books = record books { script_posts = less actor books.script_posts }
+uncounted (Task task index) books = record books { tasks = changed without_post task books.tasks; task_posts = books.task_posts - 1 }
 
 -- after a post
 abbrev pub after_post : Msg → Books → Books

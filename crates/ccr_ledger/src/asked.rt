@@ -38,8 +38,8 @@ fn row_of(alloc: Global, rows: &Rows<TaskId>, number: usize) -> Result<Vec<TaskI
     ensures { IfOk result (λ tasks. tasks.items ≡ row rows.now number) }
 {
     let mut tasks = Vec::new(alloc);
-    for place in 0..rows.len(number) {
-        if let Some(task) = rows.at(number, place) {
+    for index in 0..rows.len(number) {
+        if let Some(task) = rows.at(number, index) {
             tasks.push(*task)?;
         }
     }
@@ -47,7 +47,7 @@ fn row_of(alloc: Global, rows: &Rows<TaskId>, number: usize) -> Result<Vec<TaskI
 }
 
 impl Ledger {
-    /// The card at the guessed place, where it is that of the task.
+    /// The card at the guessed index, where it is that of the task.
     fn guessed(&self, task: TaskId) -> Option<&Card>
         ensures { IfSome result (λ card. card_at self.now.tasks task ≡ Some card.now) }
     {
@@ -72,8 +72,8 @@ impl Ledger {
         if self.guessed(task).is_some() {
             return;
         }
-        if let Some(place) = self.tasks.get_index_of(&task) {
-            self.guess = place;
+        if let Some(index) = self.tasks.get_index_of(&task) {
+            self.guess = index;
         }
     }
 

@@ -195,7 +195,7 @@ impl Ledger {
         ensures err { OnErr result (self.new ≡ self.old) }
     {
         let queue = placement.branch.queue as usize;
-        let place = self.tasks.len();
+        let index = self.tasks.len();
         self.tasks.reserve(1)?;
         add_one(&mut self.coming, queue)?;
         if let Err(refused) = wait(&mut self.waiting, placement, task) {
@@ -205,7 +205,7 @@ impl Ledger {
         let Ok(_) = self.tasks.insert(task, card) else {
             unreachable!()
         };
-        self.guess = place;
+        self.guess = index;
         Ok(())
     }
 

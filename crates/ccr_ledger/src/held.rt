@@ -4,7 +4,7 @@ ghost use Rattle.std.specs.Prelude.{◌≡◌, ◌<◌, ◌≤◌, ℕ, [], ◌�
 ghost use Rattle.std.specs.List.{slice_get};
 ghost use Rattle.ccr_base.specs.declared.messages.Msg.{Msg};
 ghost use Rattle.ccr_base.specs.Choice.{fitting};
-ghost use Rattle.ccr_ledger.specs.Lanes.{AreLanes, HasFront, HasLane, IsLane, entered, entered_item, fitting_places, is_here, lost, name_at, names_at};
+ghost use Rattle.ccr_ledger.specs.Lanes.{AreLanes, HasFront, HasLane, IsLane, entered, entered_item, fitting_indices, is_here, lost, name_at, names_at};
 ghost use Rattle.ccr_ledger.specs.Taken.{IsLeftOf, same_front, shared, without_first, without_some};
 
 use crate::item::Item;
@@ -13,7 +13,7 @@ use ccr_base::{Msg, MsgId, OutOfMemory, Pred, Value};
 use std::alloc::Global;
 use std::marker::Model;
 
-/// What a port holds, oldest first. Each place is of one message that was posted; it is empty once that was taken.
+/// What a port holds, oldest first. Each item is of one message that was posted, and is empty once that was taken.
 #[derive(Drop)]
 pub struct HeldMessages {
     alloc: Global,
@@ -36,13 +36,13 @@ impl Model for HeldMessages {
     ghost invariant = { λ port. AreLanes port.items.items port.lanes.items × (port.left ≡ length (present port.items.items)) };
 }
 
-/// Enters the place into each lane whose predicate the value satisfies.
-fn enter_all(lanes: &mut Vec<Lane>, place: usize, value: Value) -> Result<(), OutOfMemory>
-    ensures { OnOk result (lanes.new.items ≡ map (entered place value) lanes.old.items) }
+/// Enters the index into each lane whose predicate the value satisfies.
+fn enter_all(lanes: &mut Vec<Lane>, index: usize, value: Value) -> Result<(), OutOfMemory>
+    ensures { OnOk result (lanes.new.items ≡ map (entered index value) lanes.old.items) }
 {
     for number in 0..lanes.len() {
         let lane = &mut lanes[number];
-        lane.enter(place, value)?;
+        lane.enter(index, value)?;
     }
     Ok(())
 }
@@ -57,29 +57,29 @@ fn lose_all(lanes: &mut Vec<Lane>, value: Value)
     }
 }
 
-/// Whether the message of the place is still there.
-fn is_here(items: &[Item], place: usize) -> bool
-    ensures { result ≡ is_here items.now place }
+/// Whether the message of the index is still there.
+fn is_here(items: &[Item], index: usize) -> bool
+    ensures { result ≡ is_here items.now index }
 {
-    match items.get(place) {
+    match items.get(index) {
         Some(item) => item.is_here(),
         None => false,
     }
 }
 
-/// Places of messages that are gone leave the lane, until so many at its front, or all, are of messages that are there.
+/// Indices of messages that are gone leave the lane, until so many at its front, or all, are of messages that are there.
 fn tidy(items: &[Item], lane: &mut Lane, most: usize)
     requires { IsLane items.now lane.old }
     ensures lane { IsLane items.now lane.new }
     ensures pred { lane.new.pred ≡ lane.old.pred }
-    ensures front { take most lane.new.places ≡ take most (fitting_places 0 lane.old.pred items.now) }
+    ensures front { take most lane.new.indices ≡ take most (fitting_indices 0 lane.old.pred items.now) }
 {
     let mut number = 0;
-    'place: while number < most {
-        let Some(place) = lane.at(number) else {
+    'index: while number < most {
+        let Some(index) = lane.at(number) else {
             return;
         };
-        if is_here(items, place) {
+        if is_here(items, index) {
             number += 1;
         } else {
             lane.remove(number);
@@ -87,24 +87,24 @@ fn tidy(items: &[Item], lane: &mut Lane, most: usize)
     }
 }
 
-/// Enters the place, where a message is there that satisfies the lane's predicate.
-fn enter_item(lane: &mut Lane, place: usize, item: &Item) -> Result<(), OutOfMemory>
-    ensures { OnOk result (lane.new ≡ entered_item place item.now lane.old) }
+/// Enters the index, where a message is there that satisfies the lane's predicate.
+fn enter_item(lane: &mut Lane, index: usize, item: &Item) -> Result<(), OutOfMemory>
+    ensures { OnOk result (lane.new ≡ entered_item index item.now lane.old) }
 {
     match item.value() {
-        Some(value) => lane.enter(place, value),
+        Some(value) => lane.enter(index, value),
         None => Ok(()),
     }
 }
 
-/// A lane of the predicate with the places of all messages that satisfy it.
+/// A lane of the predicate with the indices of all messages that satisfy it.
 fn lane_of(alloc: Global, items: &[Item], pred: Pred) -> Result<Lane, OutOfMemory>
     ensures lane { IfOk result (IsLane items.now) }
     ensures pred { IfOk result (λ lane. lane.pred ≡ pred) }
 {
     let mut lane = Lane::new(alloc, pred);
-    for place in 0..items.len() {
-        enter_item(&mut lane, place, &items[place])?;
+    for index in 0..items.len() {
+        enter_item(&mut lane, index, &items[index])?;
     }
     Ok(lane)
 }
@@ -131,7 +131,7 @@ fn lane_for(
     Ok(number)
 }
 
-/// The number of the lane of the predicate, which is tidy up to so many places.
+/// The number of the lane of the predicate, which is tidy up to so many indices.
 fn tidy_lane(
     alloc: Global,
     items: &[Item],
@@ -141,38 +141,38 @@ fn tidy_lane(
 ) -> Result<usize, OutOfMemory>
     requires { AreLanes items.now lanes.old.items }
     ensures lanes { AreLanes items.now lanes.new.items }
-    ensures found { IfOk result (λ number. HasFront lanes.new.items number (take most (fitting_places 0 pred items.now)) most) }
+    ensures found { IfOk result (λ number. HasFront lanes.new.items number (take most (fitting_indices 0 pred items.now)) most) }
 {
     let number = lane_for(alloc, items, lanes, pred)?;
     tidy(items, &mut lanes[number], most);
     Ok(number)
 }
 
-/// The names of the messages of the lane's first places, at most so many, come behind those that are there.
+/// The names of the messages of the lane's first indices, at most so many, come behind those that are there.
 fn add_first_names(
     items: &[Item],
     lane: &Lane,
     most: usize,
     names: &mut Vec<MsgId>,
 ) -> Result<(), OutOfMemory>
-    ensures { OnOk result (names.new.items ≡ names.old.items ++ names_at items.now (take most lane.now.places)) }
+    ensures { OnOk result (names.new.items ≡ names.old.items ++ names_at items.now (take most lane.now.indices)) }
 {
     for number in 0..most {
-        let Some(place) = lane.at(number) else {
+        let Some(index) = lane.at(number) else {
             return Ok(());
         };
-        if let Some(name) = name_at(items, place) {
+        if let Some(name) = name_at(items, index) {
             names.push(name)?;
         }
     }
     Ok(())
 }
 
-/// The name of the message of the place, while it is there.
-fn name_at(items: &[Item], place: usize) -> Option<MsgId>
-    ensures { result ≡ name_at items.now place }
+/// The name of the message of the index, while it is there.
+fn name_at(items: &[Item], index: usize) -> Option<MsgId>
+    ensures { result ≡ name_at items.now index }
 {
-    items.get(place)?.id()
+    items.get(index)?.id()
 }
 
 /// How many of the names, from the first on, are the same.
@@ -193,7 +193,7 @@ fn count_shared(oldest: &[MsgId], names: &[MsgId]) -> usize
     }
 }
 
-/// The place of the oldest message that satisfies the predicate.
+/// The index of the oldest message that satisfies the predicate.
 fn first_fitting(
     alloc: Global,
     items: &[Item],
@@ -202,7 +202,7 @@ fn first_fitting(
 ) -> Result<Option<usize>, OutOfMemory>
     requires { AreLanes items.now lanes.old.items }
     ensures lanes { AreLanes items.now lanes.new.items }
-    ensures place { IfOk result (λ place. place ≡ slice_get (fitting_places 0 pred items.now) 0) }
+    ensures index { IfOk result (λ place. place ≡ slice_get (fitting_indices 0 pred items.now) 0) }
 {
     let number = tidy_lane(alloc, items, lanes, pred, 1)?;
     Ok(lanes[number].at(0))
@@ -226,14 +226,14 @@ impl HeldMessages {
         ensures ok { OnOk result (self.new ≡ self.old ++ message ∷ []) }
         ensures err { OnErr result (self.new ≡ self.old) }
     {
-        let (place, value) = (self.items.len(), message.value);
+        let (index, value) = (self.items.len(), message.value);
         let item = Item::of(self.alloc, message)?;
         self.items.push(Item::gone())?;
-        if let Err(refused) = enter_all(&mut self.lanes, place, value) {
+        if let Err(refused) = enter_all(&mut self.lanes, index, value) {
             self.lanes.clear();
             return Err(refused);
         }
-        self.items[place] = item;
+        self.items[index] = item;
         self.left += 1;
         Ok(())
     }
@@ -277,10 +277,10 @@ impl HeldMessages {
         ensures rest { OnOk result (self.new ≡ without_first pred self.old) }
         ensures err { OnErr result (self.new ≡ self.old) }
     {
-        let Some(place) = first_fitting(self.alloc, &self.items, &mut self.lanes, pred)? else {
+        let Some(index) = first_fitting(self.alloc, &self.items, &mut self.lanes, pred)? else {
             return Ok(None);
         };
-        let Some(message) = self.items[place].take(self.alloc) else {
+        let Some(message) = self.items[index].take(self.alloc) else {
             return Ok(None);
         };
         lose_all(&mut self.lanes, message.value);

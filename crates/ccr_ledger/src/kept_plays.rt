@@ -107,14 +107,14 @@ impl KeptPlay {
         }
     }
 
-    /// The post at the place, from 0.
-    pub fn post(&self, place: usize) -> Option<PostOf<'_>>
-        ensures { option_map sent_of result ≡ slice_get self.now.posts place }
+    /// The post at the index, from 0.
+    pub fn post(&self, index: usize) -> Option<PostOf<'_>>
+        ensures { option_map sent_of result ≡ slice_get self.now.posts index }
     {
         match &self.form {
             Form::Idle => None,
             Form::One { number, port } => {
-                if place != 0 {
+                if index != 0 {
                     return None;
                 }
                 Some(PostOf {
@@ -124,7 +124,7 @@ impl KeptPlay {
                 })
             }
             Form::Full(play) => {
-                let sent = play.posts.as_slice().get(place)?;
+                let sent = play.posts.as_slice().get(index)?;
                 Some(PostOf {
                     port: sent.port,
                     value: sent.value,

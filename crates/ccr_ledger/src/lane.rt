@@ -1,4 +1,4 @@
-//! The places of the messages that satisfy one predicate, and how many of these are there.
+//! The indices of the messages that satisfy one predicate, and how many of these are there.
 
 ghost use Rattle.std.specs.Prelude.{◌≡◌, ◌<◌, [], ◌∷◌, ◌++◌, OnOk, length};
 ghost use Rattle.std.specs.Bool.{Decides};
@@ -10,30 +10,30 @@ use std::alloc::Global;
 use std::collections::VecDeque;
 use std::marker::Model;
 
-/// Places of messages that satisfy a predicate, rising. A place whose message was taken may still stand here.
+/// Indices of messages that satisfy a predicate, rising. An index whose message was taken may still stand here.
 #[derive(Drop)]
 pub(crate) struct Lane {
     pred: Pred,
-    places: VecDeque<usize>,
+    indices: VecDeque<usize>,
     /// How many messages that satisfy the predicate are there.
     count: usize,
 }
 
 impl Model for Lane {
-    ghost use Rattle.ccr_ledger.specs.Lanes.{Places};
+    ghost use Rattle.ccr_ledger.specs.Lanes.{Indices};
 
-    ghost Value = { Places };
+    ghost Value = { Indices };
 
-    ghost view = { λ lane. record { pred = lane.pred; places = lane.places.items; count = lane.count } };
+    ghost view = { λ lane. record { pred = lane.pred; indices = lane.indices.items; count = lane.count } };
 }
 
 impl Lane {
     pub fn new(alloc: Global, pred: Pred) -> Lane
-        ensures { result ≡ record { pred = pred; places = []; count = 0 } }
+        ensures { result ≡ record { pred = pred; indices = []; count = 0 } }
     {
         Lane {
             pred,
-            places: VecDeque::new(alloc),
+            indices: VecDeque::new(alloc),
             count: 0,
         }
     }
@@ -50,9 +50,9 @@ impl Lane {
         self.count
     }
 
-    /// The message of the place comes, which becomes the last where the value satisfies the predicate.
-    pub fn enter(&mut self, place: usize, value: Value) -> Result<(), OutOfMemory>
-        ensures { OnOk result (self.new ≡ entered place value self.old) }
+    /// The message of the index comes, which becomes the last where the value satisfies the predicate.
+    pub fn enter(&mut self, index: usize, value: Value) -> Result<(), OutOfMemory>
+        ensures { OnOk result (self.new ≡ entered index value self.old) }
     {
         if !self.pred.holds(&value) {
             return Ok(());
@@ -60,12 +60,12 @@ impl Lane {
         let Some(count) = self.count.checked_add(1) else {
             return Err(OutOfMemory);
         };
-        self.places.push_back(place)?;
+        self.indices.push_back(index)?;
         self.count = count;
         Ok(())
     }
 
-    /// A message of this value was taken. Its place stays.
+    /// A message of this value was taken. Its index stays.
     pub fn lose(&mut self, value: Value)
         ensures { self.new ≡ lost value self.old }
     {
@@ -75,16 +75,16 @@ impl Lane {
     }
 
     pub fn at(&self, number: usize) -> Option<usize>
-        ensures { result ≡ slice_get self.now.places number }
+        ensures { result ≡ slice_get self.now.indices number }
     {
-        self.places.get(number).copied()
+        self.indices.get(number).copied()
     }
 
-    /// The place of this number leaves. The places on its shorter side move.
+    /// The index of this number leaves. The indices on its shorter side move.
     pub fn remove(&mut self, number: usize)
-        requires { number < length self.old.places }
-        ensures { self.new ≡ record self.old { places = remove self.old.places number } }
+        requires { number < length self.old.indices }
+        ensures { self.new ≡ record self.old { indices = remove self.old.indices number } }
     {
-        self.places.remove(number);
+        self.indices.remove(number);
     }
 }

@@ -31,7 +31,7 @@ pub struct Ledger {
     pub(crate) ports: Vec<HeldMessages>,
     /// By the names of the tasks that fired, in the order of their firings.
     pub(crate) tasks: IndexMap<TaskId, Card>,
-    /// The place among them of the one that is most likely asked for next: a guess, which is tested.
+    /// The index among them of the one that is most likely asked for next: a guess, which is tested.
     pub(crate) guess: usize,
     /// The queued tasks of each queue.
     pub(crate) queued: Rows<TaskId>,

@@ -43,11 +43,11 @@ impl<T: Drop> Rows<T> {
         self.rows.get(number)?.front()
     }
 
-    /// The item at this place of the row, if any.
-    pub fn at(&self, number: usize, place: usize) -> Option<&T>
-        ensures { option_map (λ item. item.now) result ≡ slice_get (row self.now number) place }
+    /// The item at this index of the row, if any.
+    pub fn at(&self, number: usize, index: usize) -> Option<&T>
+        ensures { option_map (λ item. item.now) result ≡ slice_get (row self.now number) index }
     {
-        self.rows.get(number)?.get(place)
+        self.rows.get(number)?.get(index)
     }
 
     /// How many stand in the row.

@@ -64,17 +64,17 @@ sent_own ms m (Script a k) is = grind (arith, nat_tests, common_steps)
 sent_own ms m (Task t k) is = grind (arith, nat_tests, common_steps)
 
 AreNamed-push : (ms : List Msg) (m : Msg) → AreNamed ms → place_of m.id ≡ sent_by m.id ms → AreNamed (ms ++ m ∷ [])
-AreNamed-push ms m named place = record {
+AreNamed-push ms m named index = record {
   below = λ name. λ some. below_push name (same_message m.id name) refl some;
   once = λ name. once_push name (same_message m.id name) refl;
 }
   where
     below_push : (name : MsgId) (b : Bool) → same_message m.id name ≡ b → 0 < times name (ms ++ m ∷ []) → place_of name < sent_by name (ms ++ m ∷ [])
-    below_push name true is some = let e : m.id ≡ name = same_message-is m.id name is in subst (λ n. place_of n < sent_by n (ms ++ m ∷ [])) e (omega (arith, sent_own ms m m.id refl, place))
+    below_push name true is some = let e : m.id ≡ name = same_message-is m.id name is in subst (λ n. place_of n < sent_by n (ms ++ m ∷ [])) e (omega (arith, sent_own ms m m.id refl, index))
     below_push name false is some = grind (arith, times_more name ms m, sent_more name ms m, named.below name)
 
     once_push : (name : MsgId) (b : Bool) → same_message m.id name ≡ b → times name (ms ++ m ∷ []) ≤ 1
-    once_push name true is = let e : m.id ≡ name = same_message-is m.id name is in subst (λ n. times n (ms ++ m ∷ []) ≤ 1) e (grind (arith, times_more m.id ms m, named.below m.id, named.once m.id, place))
+    once_push name true is = let e : m.id ≡ name = same_message-is m.id name is in subst (λ n. times n (ms ++ m ∷ []) ≤ 1) e (grind (arith, times_more m.id ms m, named.below m.id, named.once m.id, index))
     once_push name false is = grind (arith, times_more name ms m, named.once name)
 
 pub named_kept : (w : Parts) (h : List Event) (e : Event) → AreNamed (posts h) → IsAllowed w h e → AreNamed (posts (h ++ e ∷ []))

@@ -30,8 +30,8 @@ IsQuiet wiring history = (event : Event) → IsAllowed wiring history event → 
 
 -- the place, from this one on, and the rule of the first event that isn't allowed
 abbrev pub first_refusal : Parts → List Event → ℕ → List Event → Option (ℕ × Rule)
-first_refusal wiring past place [] = None
-first_refusal wiring past place (event ∷ events) = elim (refusal wiring past event) [ None ↦ first_refusal wiring (past ++ event ∷ []) (place + 1) events | Some rule ↦ Some (place, rule) ]
+first_refusal wiring past index [] = None
+first_refusal wiring past index (event ∷ events) = elim (refusal wiring past event) [ None ↦ first_refusal wiring (past ++ event ∷ []) (index + 1) events | Some rule ↦ Some (index, rule) ]
 
 -- the place, and the number of the rule
 abbrev pub numbered : ℕ × Rule → ℕ × ℕ

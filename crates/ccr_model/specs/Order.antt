@@ -28,7 +28,7 @@ use Rattle.ccr_model.specs.Rules.{cuts_at, may_admit, may_put, drop_at, has_budg
 
 -- the post of this place of the poster's script
 abbrev pub script_post : ℕ → ℕ → Sent → Event
-script_post actor place sent = Post (record { id = Script actor place; port = sent.port; value = sent.value; causes = sent.causes })
+script_post actor index sent = Post (record { id = Script actor index; port = sent.port; value = sent.value; causes = sent.causes })
 
 -- of the posters, of which the first has this number, the next line of the first that has one left
 abbrev pub post_from : List Event → ℕ → List PosterPart → Option Event
@@ -74,7 +74,7 @@ how_of (plays.Yield site) = ends.Yield
 
 -- the post of this place of the task's play
 abbrev pub task_post : TaskId → ℕ → Sent → Event
-task_post task place sent = Post (record { id = Task task place; port = sent.port; value = sent.value; causes = sent.causes })
+task_post task index sent = Post (record { id = Task task index; port = sent.port; value = sent.value; causes = sent.causes })
 
 -- the next post while the budget lasts, else shed; the end of the play where no post is left
 abbrev pub run_with : Parts → List Event → TaskId → Play → Option Sent → Event

@@ -36,18 +36,18 @@ held history port = filter (λ message. not (has_message (taken history) message
 
 -- whether the name is of the poster's script
 abbrev pub is_script_of : ℕ → MsgId → Bool
-is_script_of poster (Script actor place) = actor == poster
-is_script_of poster (Task task place) = false
+is_script_of poster (Script actor index) = actor == poster
+is_script_of poster (Task task index) = false
 
 -- whether the name is of a post of a task
 abbrev pub is_task_message : MsgId → Bool
-is_task_message (Script actor place) = false
-is_task_message (Task task place) = true
+is_task_message (Script actor index) = false
+is_task_message (Task task index) = true
 
 -- whether the name is of a post of this task
 abbrev pub is_message_of : TaskId → MsgId → Bool
-is_message_of task (Script actor place) = false
-is_message_of task (Task other place) = same_task task other
+is_message_of task (Script actor index) = false
+is_message_of task (Task other index) = same_task task other
 
 -- how many posts of its script the poster has made
 abbrev pub posts_of_poster : List Event → ℕ → ℕ

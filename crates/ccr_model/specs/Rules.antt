@@ -37,11 +37,11 @@ is_post message sent = (message.port == sent.port) && same_value message.value s
 
 -- rule 1: it is the poster's next line
 abbrev pub is_script_line : Parts → List Event → ℕ → ℕ → Msg → Bool
-is_script_line wiring history actor place message = (place == posts_of_poster history actor) && option_map_or (is_post message) (option_and_then (λ (p : PosterPart). slice_get p.posts place) (slice_get wiring.posters actor)) false
+is_script_line wiring history actor index message = (index == posts_of_poster history actor) && option_map_or (is_post message) (option_and_then (λ (p : PosterPart). slice_get p.posts index) (slice_get wiring.posters actor)) false
 
 -- rule 2: it is the next post of the running task's play
 abbrev pub is_play_post : Parts → List Event → TaskId → ℕ → Msg → Bool
-is_play_post wiring history task place message = has_task (running history) task && (place == posts_of_task history task) && option_map_or (is_post message) (slice_get (play_of wiring history task).posts place) false
+is_play_post wiring history task index message = has_task (running history) task && (index == posts_of_task history task) && option_map_or (is_post message) (slice_get (play_of wiring history task).posts index) false
 
 -- rule 3: tasks have made fewer posts than the budget
 abbrev pub has_budget : Parts → List Event → Bool
@@ -144,8 +144,8 @@ refused false rule others = Some rule
 
 -- a post of a script is asked by rule 1, a post of a task by rules 2 and 3
 abbrev pub refusal_of_post : Parts → List Event → Msg → MsgId → Option Rule
-refusal_of_post wiring history message (Script actor place) = refused (is_script_line wiring history actor place message) rules.ScriptLine None
-refusal_of_post wiring history message (Task task place) = refused (is_play_post wiring history task place message) rules.PlayPost (refused (has_budget wiring history) rules.Budget None)
+refusal_of_post wiring history message (Script actor index) = refused (is_script_line wiring history actor index message) rules.ScriptLine None
+refusal_of_post wiring history message (Task task index) = refused (is_play_post wiring history task index message) rules.PlayPost (refused (has_budget wiring history) rules.Budget None)
 
 -- the first rule that refuses the event after the history
 abbrev pub refusal : Parts → List Event → Event → Option Rule

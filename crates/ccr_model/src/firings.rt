@@ -236,9 +236,9 @@ fn is_firing_of(task: TaskId, event: &Event) -> bool
 pub(crate) fn before(task: TaskId, events: &[Event]) -> &[Event]
     ensures { result.now ≡ before task events.now }
 {
-    for (place, event) in events.iter().enumerate() {
+    for (index, event) in events.iter().enumerate() {
         if is_firing_of(task, event) {
-            return &events[..place];
+            return &events[..index];
         }
     }
     events

@@ -5,7 +5,7 @@ use Rattle.std.specs.Str.{bytes_eq}
 use Rattle.std.proofs.lemmas.Bool.Decides.{nat_tests}
 use Rattle.std.proofs.lemmas.Slice.Eq.{bytes_eq-Decides}
 use Rattle.ccr_text.specs.Lines.{begin_from, begins_with, cut, is_first_word, numbered, numbered_line, place_or_end}
-use Rattle.ccr_text.specs.Places.{Words, ◌>>=◌, no_more, or_code, unless, word}
+use Rattle.ccr_text.specs.Fields.{Words, ◌>>=◌, no_more, or_code, unless, word}
 use Rattle.ccr_text.specs.Words.{is_clean, number_of, words_of}
 use Rattle.ccr_wiring.specs.declared.parts.Parts.{Parts}
 use Rattle.ccr_wiretext.specs.Lines.{IsText}

@@ -4,7 +4,7 @@ use Rattle.std.specs.Prelude.{◌&&◌, not, if◌then◌else◌}
 use Rattle.std.specs.Str.{bytes_eq}
 use Rattle.std.proofs.lemmas.Slice.Eq.{bytes_eq-Decides}
 use Rattle.ccr_text.specs.Lines.{begins_with, cut, is_first_word, numbered, numbered_line}
-use Rattle.ccr_text.specs.Places.{Words, ◌>>=◌, or_code}
+use Rattle.ccr_text.specs.Fields.{Words, ◌>>=◌, or_code}
 use Rattle.ccr_text.specs.Words.{is_clean, words_of}
 use Rattle.ccr_wiring.specs.declared.parts.Kind.{Kind}
 use Rattle.ccr_wiring.specs.declared.parts.Kind.TheVariants as arbiters

@@ -3,7 +3,7 @@ use Rattle.std.proofs.Common.{◌≡◌, ◌<◌, ℕ, ◌==◌, Bool, true, fal
 use Rattle.std.specs.Str.{bytes_eq}
 use Rattle.std.proofs.lemmas.Bool.Decides.{nat_tests}
 use Rattle.std.proofs.lemmas.Slice.Eq.{bytes_eq-Decides}
-use Rattle.ccr_text.specs.Places.{Words, ◌>>=◌, no_more, unless, or_code}
+use Rattle.ccr_text.specs.Fields.{Words, ◌>>=◌, no_more, unless, or_code}
 use Rattle.ccr_text.specs.Words.{number_of}
 use Rattle.ccr_replay.specs.Turns.{actor_in, turn_in, turn_of}
 use Rattle.ccr_replay.specs.TurnGrammar.{IsSkipped, IsTurn}

@@ -3,7 +3,7 @@ use Rattle.std.specs.Prelude.{ℕ, ◌+◌, ◌-◌, ◌==◌, max, nat_le, nat_
 use Rattle.std.specs.Str.{bytes_eq}
 use Rattle.ccr_text.specs.declared.lines.Line.{Line}
 use Rattle.ccr_text.specs.Lines.{cut, line_of, numbered, numbered_line}
-use Rattle.ccr_text.specs.Places.{Words, ◌>>=◌, word, no_more, unless, or_code}
+use Rattle.ccr_text.specs.Fields.{Words, ◌>>=◌, word, no_more, unless, or_code}
 use Rattle.ccr_text.specs.Words.{is_comment, number_of}
 use Rattle.ccr_wiring.specs.declared.parts.Parts.{Parts}
 use Rattle.ccr_wiretext.specs.Reading.{reading_text}

@@ -1,7 +1,7 @@
 -- What turn lines say, apart from reading: no codes, and no order of looking.
 use Rattle.std.specs.Prelude.{◌≡◌, ◌<◌, ◌⊎◌, ℕ, true, List, [], ◌∷◌, Some, codes}
 use Rattle.ccr_text.specs.Lines.{cut}
-use Rattle.ccr_text.specs.Places.{Words}
+use Rattle.ccr_text.specs.Fields.{Words}
 use Rattle.ccr_text.specs.Words.{is_clean, number_of, words_of}
 
 -- the line has no words, or its first word begins with #

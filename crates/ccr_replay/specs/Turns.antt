@@ -3,7 +3,7 @@ use Rattle.std.specs.Prelude.{ℕ, ◌+◌, List, [], ◌∷◌, ◌++◌, Optio
 use Rattle.std.specs.Str.{bytes_eq}
 use Rattle.ccr_text.specs.declared.lines.Line.{Line}
 use Rattle.ccr_text.specs.Lines.{cut, numbered}
-use Rattle.ccr_text.specs.Places.{Words, ◌>>=◌, word, no_more, unless, or_code}
+use Rattle.ccr_text.specs.Fields.{Words, ◌>>=◌, word, no_more, unless, or_code}
 use Rattle.ccr_text.specs.Words.{is_comment, number_of}
 
 -- the words behind `turn` are the number of one of so many actors

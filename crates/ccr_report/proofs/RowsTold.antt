@@ -52,12 +52,12 @@ first_of_rest ns k n rest e =
     (cc, cc)
 
 -- the lines of the spots from this one on
-pub spots_told : (branches : List (List ℕ)) (history : List Event) (ns : List ℕ) (place : ℕ) (spots : List Spot) → drop place ns ≡ map (λ (spot : Spot). length (fired_at history spot)) spots → spot_rows branches ns place spots ≡ map (spot_words branches history) spots
-spots_told branches history ns place [] are = refl
-spots_told branches history ns place (spot ∷ spots) are =
-    let first : (slice_index ns place ≡ length (fired_at history spot)) × (drop (place + 1) ns ≡ map (λ (spot : Spot). length (fired_at history spot)) spots) = first_of_rest ns place (length (fired_at history spot)) (map (λ (spot : Spot). length (fired_at history spot)) spots) are in
-    ap (λ (n : ℕ). spot_row branches spot n ∷ spot_rows branches ns (place + 1) spots) first.0
-    ∙ ap (λ (rows : List (List (List ℕ))). spot_words branches history spot ∷ rows) (spots_told branches history ns (place + 1) spots first.1)
+pub spots_told : (branches : List (List ℕ)) (history : List Event) (ns : List ℕ) (index : ℕ) (spots : List Spot) → drop index ns ≡ map (λ (spot : Spot). length (fired_at history spot)) spots → spot_rows branches ns index spots ≡ map (spot_words branches history) spots
+spots_told branches history ns index [] are = refl
+spots_told branches history ns index (spot ∷ spots) are =
+    let first : (slice_index ns index ≡ length (fired_at history spot)) × (drop (index + 1) ns ≡ map (λ (spot : Spot). length (fired_at history spot)) spots) = first_of_rest ns index (length (fired_at history spot)) (map (λ (spot : Spot). length (fired_at history spot)) spots) are in
+    ap (λ (n : ℕ). spot_row branches spot n ∷ spot_rows branches ns (index + 1) spots) first.0
+    ∙ ap (λ (rows : List (List (List ℕ))). spot_words branches history spot ∷ rows) (spots_told branches history ns (index + 1) spots first.1)
 
 -- the whole text
 pub text_told : (w : Parts) (counts : Counts) (history : List Event) → IsCounted w history counts → counted_text w counts ≡ report_text w history

@@ -28,8 +28,8 @@ spot_row branches spot fired = codes "branch" ∷ spot_word branches spot ∷ co
 
 -- the lines of the spots, of which the first has this number
 abbrev pub spot_rows : List (List ℕ) → List ℕ → ℕ → List Spot → List (List (List ℕ))
-spot_rows branches fired place [] = []
-spot_rows branches fired place (spot ∷ spots) = spot_row branches spot (slice_index fired place) ∷ spot_rows branches fired (place + 1) spots
+spot_rows branches fired index [] = []
+spot_rows branches fired index (spot ∷ spots) = spot_row branches spot (slice_index fired index) ∷ spot_rows branches fired (index + 1) spots
 
 -- the line of a queue
 abbrev pub queue_row : QueuePart → ℕ → ℕ → List (List ℕ)

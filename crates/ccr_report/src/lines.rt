@@ -128,9 +128,9 @@ fn put_spots(
     requires { length counts.now ≡ length spots.now }
     ensures { OnOk result (out.new ≡ out.old ++ text_of (spot_rows branches.now counts.now 0 spots.now)) }
 {
-    for (place, spot) in spots.iter().enumerate() {
+    for (index, spot) in spots.iter().enumerate() {
         let word = spot_text(alloc, branches.as_slice(), *spot)?;
-        let fired = counts[place].to_string(alloc)?;
+        let fired = counts[index].to_string(alloc)?;
         put_line(
             out,
             &[b"branch", word.as_slice(), b"fired", fired.as_bytes()],

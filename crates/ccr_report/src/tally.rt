@@ -18,11 +18,11 @@ pub fn tally(alloc: Global, size: usize, numbers: &[u32]) -> Result<Vec<u64>, Ou
     Ok(counts)
 }
 
-fn count_one(counts: &mut [u64], place: usize)
+fn count_one(counts: &mut [u64], index: usize)
     requires { (k : ℕ) → k < length counts.old → slice_index counts.old k < 2 ^ 64 - 1 }
-    ensures { (k : ℕ) → k < length counts.old → slice_index counts.new k ≡ slice_index counts.old k + (if place == k then 1 else 0) }
+    ensures { (k : ℕ) → k < length counts.old → slice_index counts.new k ≡ slice_index counts.old k + (if index == k then 1 else 0) }
 {
-    if place < counts.len() {
-        counts[place] += 1;
+    if index < counts.len() {
+        counts[index] += 1;
     }
 }

@@ -75,12 +75,12 @@ use Rattle.ccr_service.proofs.Asking.{asked, ask_posted, ask_named, posted_stand
 -- ---- who took the request
 
 -- a firing of a task that names the message
-pub record TakesIt (s : ServiceParts) (h : List Event) (client place : ℕ) (t : TaskId) : Type 0 where
+pub record TakesIt (s : ServiceParts) (h : List Event) (client index : ℕ) (t : TaskId) : Type 0 where
   pub firing : Firing
   pub is_firing : firing_named h t ≡ Some firing
   pub asks : TakesAsk s h t firing
   pub client_so : asks.client ≡ client
-  pub place_so : asks.place ≡ place
+  pub place_so : asks.place ≡ index
 
 taken_firing : (h : List Event) (name : MsgId) (t : TaskId) → IsTakenBy h name t → (f : Firing) × Among f (firings h) × (f.task ≡ t) × (has_message f.messages name ≡ true)
 taken_firing h name t is =
@@ -88,14 +88,14 @@ taken_firing h name t is =
     let all : firings h ≡ firings is.past ++ f ∷ firings is.stands.more = ap firings is.stands.whole ∙ firings-append is.past (Fire t is.spot is.messages is.cuts ∷ is.stands.more) in
     (f, subst (Among f) (sym all) (Among-right f (firings is.past) (f ∷ firings is.stands.more) (inl refl)), refl, is.named)
 
-takes_it : (s : ServiceParts) (h : List Event) → IsLegal (expansion s) h → (client place : ℕ) (t : TaskId) → IsTakenBy h (Script client place) t → TakesIt s h client place t
-takes_it s h legal client place t is =
-    let found = taken_firing h (Script client place) t is in
+takes_it : (s : ServiceParts) (h : List Event) → IsLegal (expansion s) h → (client index : ℕ) (t : TaskId) → IsTakenBy h (Script client index) t → TakesIt s h client index t
+takes_it s h legal client index t is =
+    let found = taken_firing h (Script client index) t is in
     let f = found.0 in
     let named : firing_named h t ≡ Some f = subst (λ u. firing_named h u ≡ Some f) found.2 (OneName-legal (expansion s) h legal f found.1) in
     let asks = TakesAsk-legal s h legal t f named in
-    let has : has_message (Script asks.client asks.place ∷ []) (Script client place) ≡ true = subst (λ n. has_message (n ∷ []) (Script client place) ≡ true) asks.id (subst (λ ns. has_message ns (Script client place) ≡ true) asks.takes.named found.3) in
-    let same : Script client place ≡ Script asks.client asks.place = only (Script client place) (Script asks.client asks.place) has in
+    let has : has_message (Script asks.client asks.place ∷ []) (Script client index) ≡ true = subst (λ n. has_message (n ∷ []) (Script client index) ≡ true) asks.id (subst (λ ns. has_message ns (Script client index) ≡ true) asks.takes.named found.3) in
+    let same : Script client index ≡ Script asks.client asks.place = only (Script client index) (Script asks.client asks.place) has in
     record { firing = f; is_firing = named; asks = asks; client_so = cc; place_so = cc }
   where
     only : (m n : MsgId) → has_message (n ∷ []) m ≡ true → m ≡ n
@@ -106,12 +106,12 @@ takes_it s h legal client place t is =
         front false is = absurd (cc)
 
 -- what the task of a request plays
-pub its_play : (s : ServiceParts) (h : List Event) → IsLegal (expansion s) h → (client place : ℕ) (part : ClientPart) (ask : AskPart) (op : OpPart) → slice_get s.clients client ≡ Some part → slice_get part.asks place ≡ Some ask → slice_get s.ops ask.op ≡ Some op → (t : TaskId) → TakesIt s h client place t → play_of (expansion s) h t ≡ reply s ask.op op client ask.value
-its_play s h legal client place part ask op is_client is_ask is_op t its =
+pub its_play : (s : ServiceParts) (h : List Event) → IsLegal (expansion s) h → (client index : ℕ) (part : ClientPart) (ask : AskPart) (op : OpPart) → slice_get s.clients client ≡ Some part → slice_get part.asks index ≡ Some ask → slice_get s.ops ask.op ≡ Some op → (t : TaskId) → TakesIt s h client index t → play_of (expansion s) h t ≡ reply s ask.op op client ask.value
+its_play s h legal client index part ask op is_client is_ask is_op t its =
     let asks = its.asks in
     let played = play_is s h t its.firing its.is_firing asks in
     let one_part : asks.asked.part ≡ part = both_some (slice_get s.clients client) (subst (λ i. slice_get s.clients i ≡ Some asks.asked.part) its.client_so asks.asked.is_part) is_client in
-    let one_ask : asks.asked.ask ≡ ask = both_some (slice_get part.asks place) (subst (λ (p : ClientPart). slice_get p.asks place ≡ Some asks.asked.ask) one_part (subst (λ i. slice_get asks.asked.part.asks i ≡ Some asks.asked.ask) its.place_so asks.asked.is_ask)) is_ask in
+    let one_ask : asks.asked.ask ≡ ask = both_some (slice_get part.asks index) (subst (λ (p : ClientPart). slice_get p.asks index ≡ Some asks.asked.ask) one_part (subst (λ i. slice_get asks.asked.part.asks i ≡ Some asks.asked.ask) its.place_so asks.asked.is_ask)) is_ask in
     let port : request_port asks.takes.facts.op ≡ request_port ask.op = sym asks.takes.port ∙ asks.asked.port ∙ ap (λ (a : AskPart). request_port a.op) one_ask in
     let one_op : asks.takes.facts.op ≡ ask.op = omega (arith, port) in
     let one_op_part : asks.takes.facts.part ≡ op = both_some (slice_get s.ops ask.op) (subst (λ i. slice_get s.ops i ≡ Some asks.takes.facts.part) one_op asks.takes.facts.at) is_op in
@@ -208,10 +208,10 @@ ends_whole s h legal unshed t how has =
 -- ---- the one answer
 
 -- what is known of a request when all is still
-pub record Request (s : ServiceParts) (h : List Event) (client place : ℕ) (ask : AskPart) (op : OpPart) : Type 0 where
+pub record Request (s : ServiceParts) (h : List Event) (client index : ℕ) (ask : AskPart) (op : OpPart) : Type 0 where
   pub part : ClientPart
   pub is_client : slice_get s.clients client ≡ Some part
-  pub is_ask : slice_get part.asks place ≡ Some ask
+  pub is_ask : slice_get part.asks index ≡ Some ask
   pub is_op : slice_get s.ops ask.op ≡ Some op
   pub served : IsService s
   pub valid : IsValid (expansion s)
@@ -219,8 +219,8 @@ pub record Request (s : ServiceParts) (h : List Event) (client place : ℕ) (ask
   pub still_so : IsStill (expansion s) h
   pub end : AtEnd (expansion s) h
   pub unshed : has_shed h ≡ false
-  pub posted : Among (asked client place ask) (posts h)
-  pub fate_so : HasOneFate (expansion s) h (Script client place)
+  pub posted : Among (asked client index ask) (posts h)
+  pub fate_so : HasOneFate (expansion s) h (Script client index)
 
 -- the taker that is told
 taker_some : (w : Parts) (h : List Event) (t : TaskId) (state : TaskState) (o : Option TaskId) → option_map_or (λ task. Taken task (state_of w h task)) o Held ≡ Taken t state → o ≡ Some t
@@ -239,36 +239,36 @@ told_fate w h name its is = by_named (message_named h name) is
     by_named (Some m) e = cc
 
 -- a taken request's taker
-taken_taker : (s : ServiceParts) (h : List Event) (client place : ℕ) → IsLegal (expansion s) h → HasOneFate (expansion s) h (Script client place) → (t : TaskId) → IsTakenBy h (Script client place) t → taker h (Script client place) ≡ Some t
-taken_taker s h client place legal one t is =
+taken_taker : (s : ServiceParts) (h : List Event) (client index : ℕ) → IsLegal (expansion s) h → HasOneFate (expansion s) h (Script client index) → (t : TaskId) → IsTakenBy h (Script client index) t → taker h (Script client index) ≡ Some t
+taken_taker s h client index legal one t is =
     let w = expansion s in
-    let found = taken_firing h (Script client place) t is in
+    let found = taken_firing h (Script client index) t is in
     let named : firing_named h t ≡ Some found.0 = subst (λ u. firing_named h u ≡ Some found.0) found.2 (OneName-legal w h legal found.0 found.1) in
     let placed = firing_with_placement w h legal found.0 found.1 in
     let stands = is_in w h t found.0 placed.0 named placed.1 in
     let same : Taken t (state_of w h t) ≡ one.its = one.alone (Taken t (state_of w h t)) (is, stands) in
-    taker_some w h t (state_of w h t) (taker h (Script client place)) (told_fate w h (Script client place) one.its one.told ∙ sym same)
+    taker_some w h t (state_of w h t) (taker h (Script client index)) (told_fate w h (Script client index) one.its one.told ∙ sym same)
 
-held_taker : (s : ServiceParts) (h : List Event) (client place : ℕ) → HasOneFate (expansion s) h (Script client place) → IsHeld h (Script client place) → taker h (Script client place) ≡ None
-held_taker s h client place one is =
+held_taker : (s : ServiceParts) (h : List Event) (client index : ℕ) → HasOneFate (expansion s) h (Script client index) → IsHeld h (Script client index) → taker h (Script client index) ≡ None
+held_taker s h client index one is =
     let same : Held ≡ one.its = one.alone Held is in
-    taker_none (expansion s) h (taker h (Script client place)) (told_fate (expansion s) h (Script client place) one.its one.told ∙ sym same)
+    taker_none (expansion s) h (taker h (Script client index)) (told_fate (expansion s) h (Script client index) one.its one.told ∙ sym same)
 
 -- the responses where the taker is known
-responses_taken : (s : ServiceParts) (h : List Event) (client place : ℕ) (ask : AskPart) (op : OpPart) → Request s h client place ask op → (t : TaskId) → IsTakenBy h (Script client place) t → responses s h client place ask.op ≡ posted_by h t
-responses_taken s h client place ask op its t is =
-    let played = its_play s h its.legal client place its.part ask op its.is_client its.is_ask its.is_op t (takes_it s h its.legal client place t is) in
-    ap (λ o. option_map_or (responses_of s h client ask.op) o []) (taken_taker s h client place its.legal its.fate_so t is) ∙ responses_are s h its.legal ask.op client ask.value op t played
+responses_taken : (s : ServiceParts) (h : List Event) (client index : ℕ) (ask : AskPart) (op : OpPart) → Request s h client index ask op → (t : TaskId) → IsTakenBy h (Script client index) t → responses s h client index ask.op ≡ posted_by h t
+responses_taken s h client index ask op its t is =
+    let played = its_play s h its.legal client index its.part ask op its.is_client its.is_ask its.is_op t (takes_it s h its.legal client index t is) in
+    ap (λ o. option_map_or (responses_of s h client ask.op) o []) (taken_taker s h client index its.legal its.fate_so t is) ∙ responses_are s h its.legal ask.op client ask.value op t played
 
 -- how a task ends by its play
-ended_so : (s : ServiceParts) (h : List Event) (client place : ℕ) (ask : AskPart) (op : OpPart) → Request s h client place ask op → (t : TaskId) → IsTakenBy h (Script client place) t → (how : EndHow) → HasEnded h t how → (a : Answer) × IsAnswer s h client place ask op a
-ended_so s h client place ask op its t is how has = by_test (is_past op.below ask.value) refl
+ended_so : (s : ServiceParts) (h : List Event) (client index : ℕ) (ask : AskPart) (op : OpPart) → Request s h client index ask op → (t : TaskId) → IsTakenBy h (Script client index) t → (how : EndHow) → HasEnded h t how → (a : Answer) × IsAnswer s h client index ask op a
+ended_so s h client index ask op its t is how has = by_test (is_past op.below ask.value) refl
   where
     w : Parts
     w = expansion s
 
     played : play_of w h t ≡ reply s ask.op op client ask.value
-    played = its_play s h its.legal client place its.part ask op its.is_client its.is_ask its.is_op t (takes_it s h its.legal client place t is)
+    played = its_play s h its.legal client index its.part ask op its.is_client its.is_ask its.is_op t (takes_it s h its.legal client index t is)
 
     whole_so : EndsWhole s h t how
     whole_so = ends_whole s h its.legal its.unshed t how has
@@ -276,8 +276,8 @@ ended_so s h client place ask op its t is how has = by_test (is_past op.below as
     replied : HasReplied s h t
     replied = whole_so.replied
 
-    alone : responses s h client place ask.op ≡ replied.message ∷ []
-    alone = responses_taken s h client place ask op its t is ∙ replied.all
+    alone : responses s h client index ask.op ≡ replied.message ∷ []
+    alone = responses_taken s h client index ask op its t is ∙ replied.all
 
     message_is : (x : Sent) → (play_of w h t).posts ≡ x ∷ [] → replied.message ≡ message_of (Task t 0) x
     message_is x all =
@@ -292,7 +292,7 @@ ended_so s h client place ask op its t is how has = by_test (is_past op.below as
         made : (m : Msg) (n : MsgId) (x : Sent) → m.id ≡ n → m.port ≡ x.port → m.value ≡ x.value → m.causes ≡ x.causes → m ≡ message_of n x
         made m n x a b c d = rw (sym a, sym b, sym c, sym d) refl
 
-    by_test : (b : Bool) → is_past op.below ask.value ≡ b → (a : Answer) × IsAnswer s h client place ask op a
+    by_test : (b : Bool) → is_past op.below ask.value ≡ b → (a : Answer) × IsAnswer s h client index ask op a
     by_test false e =
         let plays_so : play_of w h t ≡ reply_by false s ask.op op client ask.value = played ∙ ap (λ b. reply_by b s ask.op op client ask.value) e in
         let how_so : how ≡ ends.Done = done how (subst (λ (p : Play). ends_so how p.end ≡ true) plays_so whole_so.ends_as) in
@@ -315,28 +315,28 @@ ended_so s h client place ask op its t is how has = by_test (is_past op.below as
         failed ends.Shed e = absurd (cc)
 
 -- a task that never started leaves no response
-none_so : (s : ServiceParts) (h : List Event) (client place : ℕ) (ask : AskPart) (op : OpPart) → Request s h client place ask op → (t : TaskId) → IsTakenBy h (Script client place) t → has_task (started h) t ≡ false → responses s h client place ask.op ≡ []
-none_so s h client place ask op its t is out = responses_taken s h client place ask op its t is ∙ unstarted_nothing s h its.legal t out
+none_so : (s : ServiceParts) (h : List Event) (client index : ℕ) (ask : AskPart) (op : OpPart) → Request s h client index ask op → (t : TaskId) → IsTakenBy h (Script client index) t → has_task (started h) t ≡ false → responses s h client index ask.op ≡ []
+none_so s h client index ask op its t is out = responses_taken s h client index ask op its t is ∙ unstarted_nothing s h its.legal t out
 
-by_state : (s : ServiceParts) (h : List Event) (client place : ℕ) (ask : AskPart) (op : OpPart) → Request s h client place ask op → (t : TaskId) → IsTakenBy h (Script client place) t → (state : TaskState) → IsIn (expansion s) h t state → (a : Answer) × IsAnswer s h client place ask op a
-by_state s h client place ask op its t is states.Waiting at = let none = its.still_so.waits at.interleave in let out : has_task (waiting (expansion s) h at.interleave) t ≡ false = rw none refl in absurd (no_both at.among out)
-by_state s h client place ask op its t is states.Cut at = (told.Cut, (record { task = t; taken = is; among = at; none = none_so s h client place ask op its t is (cut_not_started (expansion s) h its.legal t at) }, cut_torn s h its.legal t at))
-by_state s h client place ask op its t is states.Ready at = absurd (no_both at (its.still_so.ready t))
-by_state s h client place ask op its t is states.Queued at = absurd (no_both at.among (its.still_so.in_queues at.queue t))
-by_state s h client place ask op its t is states.Dropped at = (told.Dropped, (record { task = t; taken = is; among = at; none = none_so s h client place ask op its t is (dropped_unstarted (expansion s) h its.legal t at) }, dropped_discards s h its.legal t at))
-by_state s h client place ask op its t is states.Running at = let none = its.still_so.runs in let out : has_task (running h) t ≡ false = rw none refl in absurd (no_both at out)
-by_state s h client place ask op its t is (states.Ended how) at = ended_so s h client place ask op its t is how at
+by_state : (s : ServiceParts) (h : List Event) (client index : ℕ) (ask : AskPart) (op : OpPart) → Request s h client index ask op → (t : TaskId) → IsTakenBy h (Script client index) t → (state : TaskState) → IsIn (expansion s) h t state → (a : Answer) × IsAnswer s h client index ask op a
+by_state s h client index ask op its t is states.Waiting at = let none = its.still_so.waits at.interleave in let out : has_task (waiting (expansion s) h at.interleave) t ≡ false = rw none refl in absurd (no_both at.among out)
+by_state s h client index ask op its t is states.Cut at = (told.Cut, (record { task = t; taken = is; among = at; none = none_so s h client index ask op its t is (cut_not_started (expansion s) h its.legal t at) }, cut_torn s h its.legal t at))
+by_state s h client index ask op its t is states.Ready at = absurd (no_both at (its.still_so.ready t))
+by_state s h client index ask op its t is states.Queued at = absurd (no_both at.among (its.still_so.in_queues at.queue t))
+by_state s h client index ask op its t is states.Dropped at = (told.Dropped, (record { task = t; taken = is; among = at; none = none_so s h client index ask op its t is (dropped_unstarted (expansion s) h its.legal t at) }, dropped_discards s h its.legal t at))
+by_state s h client index ask op its t is states.Running at = let none = its.still_so.runs in let out : has_task (running h) t ≡ false = rw none refl in absurd (no_both at out)
+by_state s h client index ask op its t is (states.Ended how) at = ended_so s h client index ask op its t is how at
 
 -- a held request
-by_held : (s : ServiceParts) (h : List Event) (client place : ℕ) (ask : AskPart) (op : OpPart) → Request s h client place ask op → IsHeld h (Script client place) → (a : Answer) × IsAnswer s h client place ask op a
-by_held s h client place ask op its is =
-    let none = held_taker s h client place its.fate_so is in
+by_held : (s : ServiceParts) (h : List Event) (client index : ℕ) (ask : AskPart) (op : OpPart) → Request s h client index ask op → IsHeld h (Script client index) → (a : Answer) × IsAnswer s h client index ask op a
+by_held s h client index ask op its is =
+    let none = held_taker s h client index its.fate_so is in
     let among = contained (held h is.message.port) is.message is.among in
     let posted_so = (of_kept (λ (m : Msg). m.port == is.message.port) (posts h) is.message (of_kept _ _ is.message among).0).0 in
-    let named : message_named h (Script client place) ≡ Some is.message = subst (λ n. message_named h n ≡ Some is.message) is.named (named_so (expansion s) h its.legal is.message posted_so) in
-    let same : asked client place ask ≡ is.message = both_some (message_named h (Script client place)) (named_so (expansion s) h its.legal (asked client place ask) its.posted) named in
-    let here : Among (asked client place ask) (held h (request_port ask.op)) = subst (λ (m : Msg). Among m (held h m.port)) (sym same) among in
-    (told.Held, (is, ap (λ o. option_map_or (responses_of s h client ask.op) o []) none, held_torn s its.served (sound (expansion s) its.valid).groups h its.legal its.still_so its.end ask.op op its.is_op ask.value (asked client place ask) refl here))
+    let named : message_named h (Script client index) ≡ Some is.message = subst (λ n. message_named h n ≡ Some is.message) is.named (named_so (expansion s) h its.legal is.message posted_so) in
+    let same : asked client index ask ≡ is.message = both_some (message_named h (Script client index)) (named_so (expansion s) h its.legal (asked client index ask) its.posted) named in
+    let here : Among (asked client index ask) (held h (request_port ask.op)) = subst (λ (m : Msg). Among m (held h m.port)) (sym same) among in
+    (told.Held, (is, ap (λ o. option_map_or (responses_of s h client ask.op) o []) none, held_torn s its.served (sound (expansion s) its.valid).groups h its.legal its.still_so its.end ask.op op its.is_op ask.value (asked client index ask) refl here))
   where
     both_some : {X : Type 0} (o : Option X) {x y : X} → o ≡ Some x → o ≡ Some y → x ≡ y
     both_some o a b = cc
@@ -352,11 +352,11 @@ by_held s h client place ask op its is =
 -- ---- no other answer
 
 -- a response is told
-responded : (s : ServiceParts) (h : List Event) (client place : ℕ) (ask : AskPart) (op : OpPart) → Request s h client place ask op → (sent : Sent) (how : EndHow) (m : Msg) → HasResponse s h client place ask.op sent how m → answer_of s h client place ask.op ≡ (if m.port == fault_port s client then told.Fault m else told.Success m)
-responded s h client place ask op its sent how m has =
+responded : (s : ServiceParts) (h : List Event) (client index : ℕ) (ask : AskPart) (op : OpPart) → Request s h client index ask op → (sent : Sent) (how : EndHow) (m : Msg) → HasResponse s h client index ask.op sent how m → answer_of s h client index ask.op ≡ (if m.port == fault_port s client then told.Fault m else told.Success m)
+responded s h client index ask op its sent how m has =
     let w = expansion s in
     let t = has.task in
-    let took = taken_taker s h client place its.legal its.fate_so t has.taken in
+    let took = taken_taker s h client index its.legal its.fate_so t has.taken in
     let ran = (AreEnded-legal w h its.legal).started_ended t (has_ended h t how has.ended) in
     let uncut : has_task (cut h) t ≡ false = refuted (has_task (cut h) t) (λ is. no_both ran (cut_not_started w h its.legal t is)) in
     let undropped : has_task (dropped h) t ≡ false = refuted (has_task (dropped h) t) (λ is. no_both ran (dropped_unstarted w h its.legal t is)) in
@@ -364,56 +364,56 @@ responded s h client place ask op its sent how m has =
     let stands : answer_by s client (has_task (cut h) t) (has_task (dropped h) t) (responses_of s h client ask.op t) ≡ (if m.port == fault_port s client then told.Fault m else told.Success m) = rw (uncut, undropped, found) refl in
     by_taker took ∙ stands
   where
-    by_taker : {t : TaskId} → taker h (Script client place) ≡ Some t → answer_of s h client place ask.op ≡ answer_by s client (has_task (cut h) t) (has_task (dropped h) t) (responses_of s h client ask.op t)
+    by_taker : {t : TaskId} → taker h (Script client index) ≡ Some t → answer_of s h client index ask.op ≡ answer_by s client (has_task (cut h) t) (has_task (dropped h) t) (responses_of s h client ask.op t)
     by_taker took = ap (λ o. option_map_or (λ task. answer_by s client (has_task (cut h) task) (has_task (dropped h) task) (responses_of s h client ask.op task)) o told.Held) took
 
 apart_ports : (s : ServiceParts) (k client : ℕ) (op : OpPart) → slice_get s.ops k ≡ Some op → (response_port k == fault_port s client) ≡ false
 apart_ports s k client op at = refuted (response_port k == fault_port s client) (λ is. let same = same_number (response_port k) (fault_port s client) is in let below = some-below s.ops k op at in omega (arith, same, below))
 
 -- what is told of a request is what is true of it
-told_so : (s : ServiceParts) (h : List Event) (client place : ℕ) (ask : AskPart) (op : OpPart) → Request s h client place ask op → (a : Answer) → IsAnswer s h client place ask op a → answer_of s h client place ask.op ≡ a
-told_so s h client place ask op its (told.Success m) has =
+told_so : (s : ServiceParts) (h : List Event) (client index : ℕ) (ask : AskPart) (op : OpPart) → Request s h client index ask op → (a : Answer) → IsAnswer s h client index ask op a → answer_of s h client index ask.op ≡ a
+told_so s h client index ask op its (told.Success m) has =
     let port : (m.port == fault_port s client) ≡ false = ap (λ (x : Msg). x.port == fault_port s client) has.0.is ∙ apart_ports s ask.op client op its.is_op in
-    responded s h client place ask op its (success ask.op op client ask.value) ends.Done m has.0 ∙ rw port refl
-told_so s h client place ask op its (told.Fault m) has =
+    responded s h client index ask op its (success ask.op op client ask.value) ends.Done m has.0 ∙ rw port refl
+told_so s h client index ask op its (told.Fault m) has =
     let port : (m.port == fault_port s client) ≡ true = ap (λ (x : Msg). x.port == fault_port s client) has.0.is ∙ eq-self (fault_port s client) in
-    responded s h client place ask op its (fault s client ask.value) (ends.Failed (ask.value ∷ [])) m has.0 ∙ rw port refl
-told_so s h client place ask op its told.Held has = ap (λ o. option_map_or (λ task. answer_by s client (has_task (cut h) task) (has_task (dropped h) task) (responses_of s h client ask.op task)) o told.Held) (held_taker s h client place its.fate_so has.0)
-told_so s h client place ask op its told.Cut has =
-    ap (λ o. option_map_or (λ task. answer_by s client (has_task (cut h) task) (has_task (dropped h) task) (responses_of s h client ask.op task)) o told.Held) (taken_taker s h client place its.legal its.fate_so has.0.task has.0.taken) ∙ rw has.0.among refl
-told_so s h client place ask op its told.Dropped has =
+    responded s h client index ask op its (fault s client ask.value) (ends.Failed (ask.value ∷ [])) m has.0 ∙ rw port refl
+told_so s h client index ask op its told.Held has = ap (λ o. option_map_or (λ task. answer_by s client (has_task (cut h) task) (has_task (dropped h) task) (responses_of s h client ask.op task)) o told.Held) (held_taker s h client index its.fate_so has.0)
+told_so s h client index ask op its told.Cut has =
+    ap (λ o. option_map_or (λ task. answer_by s client (has_task (cut h) task) (has_task (dropped h) task) (responses_of s h client ask.op task)) o told.Held) (taken_taker s h client index its.legal its.fate_so has.0.task has.0.taken) ∙ rw has.0.among refl
+told_so s h client index ask op its told.Dropped has =
     let uncut : has_task (cut h) has.0.task ≡ false = refuted (has_task (cut h) has.0.task) (λ is. no_both (put_dropped has.0.task has.0.among) (cut_not_put (expansion s) h its.legal has.0.task is)) in
-    ap (λ o. option_map_or (λ task. answer_by s client (has_task (cut h) task) (has_task (dropped h) task) (responses_of s h client ask.op task)) o told.Held) (taken_taker s h client place its.legal its.fate_so has.0.task has.0.taken) ∙ rw (uncut, has.0.among) refl
+    ap (λ o. option_map_or (λ task. answer_by s client (has_task (cut h) task) (has_task (dropped h) task) (responses_of s h client ask.op task)) o told.Held) (taken_taker s h client index its.legal its.fate_so has.0.task has.0.taken) ∙ rw (uncut, has.0.among) refl
   where
     put_dropped : (t : TaskId) → has_task (dropped h) t ≡ true → has_task (put h) t ≡ true
     put_dropped t is = (ArePlaced-legal (expansion s) h its.legal).lists.put_dropped t is
 
 -- ---- the law
 
-one_answer : (s : ServiceParts) (h : List Event) (client place : ℕ) (ask : AskPart) (op : OpPart) → (its : Request s h client place ask op) → is_complete (expansion s) h ≡ true → HasOneAnswer s h client place ask op
-one_answer s h client place ask op its complete =
+one_answer : (s : ServiceParts) (h : List Event) (client index : ℕ) (ask : AskPart) (op : OpPart) → (its : Request s h client index ask op) → is_complete (expansion s) h ≡ true → HasOneAnswer s h client index ask op
+one_answer s h client index ask op its complete =
     let found = by_fate its.fate_so.its its.fate_so.has in
-    let tells = told_so s h client place ask op its found.0 found.1 in
+    let tells = told_so s h client index ask op its found.0 found.1 in
     record {
-      posted = ask_named s h its.legal complete client place its.part ask its.is_client its.is_ask;
+      posted = ask_named s h its.legal complete client index its.part ask its.is_client its.is_ask;
       its = found.0;
       has = found.1;
-      alone = λ other is. sym (told_so s h client place ask op its other is) ∙ tells;
+      alone = λ other is. sym (told_so s h client index ask op its other is) ∙ tells;
       told = tells;
     }
   where
-    by_fate : (f : Fate) → HasFate (expansion s) h (Script client place) f → (a : Answer) × IsAnswer s h client place ask op a
-    by_fate Held is = by_held s h client place ask op its is
-    by_fate (Taken t state) is = by_state s h client place ask op its t is.0 state is.1
+    by_fate : (f : Fate) → HasFate (expansion s) h (Script client index) f → (a : Answer) × IsAnswer s h client index ask op a
+    by_fate Held is = by_held s h client index ask op its is
+    by_fate (Taken t state) is = by_state s h client index ask op its t is.0 state is.1
 
 -- what is known of each request
-pub request_of : (s : ServiceParts) → IsService s → (h : List Event) → IsLegal (expansion s) h → is_complete (expansion s) h ≡ true → IsQuiet (expansion s) h → (client place : ℕ) (part : ClientPart) (ask : AskPart) (op : OpPart) → slice_get s.clients client ≡ Some part → slice_get part.asks place ≡ Some ask → slice_get s.ops ask.op ≡ Some op → Request s h client place ask op
-request_of s served h legal complete quiet client place part ask op is_client is_ask is_op =
+pub request_of : (s : ServiceParts) → IsService s → (h : List Event) → IsLegal (expansion s) h → is_complete (expansion s) h ≡ true → IsQuiet (expansion s) h → (client index : ℕ) (part : ClientPart) (ask : AskPart) (op : OpPart) → slice_get s.clients client ≡ Some part → slice_get part.asks index ≡ Some ask → slice_get s.ops ask.op ≡ Some op → Request s h client index ask op
+request_of s served h legal complete quiet client index part ask op is_client is_ask is_op =
     let sound_so = sound (expansion s) (valid s served) in
     let small = sound_so.small.posters in
     let few : length (expansion s).posters ≤ 32 = omega (arith, small) in
-    let posted = ask_posted s h legal complete client place part ask is_client is_ask in
-    let stands = posted_stands h (asked client place ask) posted in
+    let posted = ask_posted s h legal complete client index part ask is_client is_ask in
+    let stands = posted_stands h (asked client index ask) posted in
     record {
       part = part;
       is_client = is_client;
@@ -426,7 +426,7 @@ request_of s served h legal complete quiet client place part ask op is_client is
       end = AtEnd-quiet (expansion s) few h legal quiet;
       unshed = none_shed s sound_so.apart served.few_asks h legal complete;
       posted = posted;
-      fate_so = one_fate (expansion s) (valid s served) h legal stands.past (asked client place ask) stands.stands;
+      fate_so = one_fate (expansion s) (valid s served) h legal stands.past (asked client index ask) stands.stands;
     }
 
 pub served_whole : (s : ServiceParts) → IsService s → (h : List Event) → IsLegal (expansion s) h → is_complete (expansion s) h ≡ true → IsQuiet (expansion s) h → IsServedWhole s h
@@ -437,7 +437,7 @@ served_whole s served h legal complete quiet =
     record {
       unshed = none_shed s sound_so.apart served.few_asks h legal complete;
       still = still (expansion s) (one_queue s) (awaits_none s) few h legal quiet;
-      answered = λ client place part ask op is_client is_ask is_op. one_answer s h client place ask op (request_of s served h legal complete quiet client place part ask op is_client is_ask is_op) complete;
+      answered = λ client index part ask op is_client is_ask is_op. one_answer s h client index ask op (request_of s served h legal complete quiet client index part ask op is_client is_ask is_op) complete;
     }
 
 -- ---- by the first post alone
@@ -452,23 +452,23 @@ first_of t (m ∷ ms) = by_test (is_message_of t m.id) (first_of t ms)
     by_test false rest = rest
 
 -- what the taker posted are the responses
-taker_responses : (s : ServiceParts) (h : List Event) (client place : ℕ) (ask : AskPart) (op : OpPart) → Request s h client place ask op → (t : TaskId) → taker h (Script client place) ≡ Some t → responses_of s h client ask.op t ≡ posted_by h t
-taker_responses s h client place ask op its t is = by_fate its.fate_so.its its.fate_so.has
+taker_responses : (s : ServiceParts) (h : List Event) (client index : ℕ) (ask : AskPart) (op : OpPart) → Request s h client index ask op → (t : TaskId) → taker h (Script client index) ≡ Some t → responses_of s h client ask.op t ≡ posted_by h t
+taker_responses s h client index ask op its t is = by_fate its.fate_so.its its.fate_so.has
   where
-    by_fate : (f : Fate) → HasFate (expansion s) h (Script client place) f → responses_of s h client ask.op t ≡ posted_by h t
-    by_fate Held held_so = let none = held_taker s h client place its.fate_so held_so in absurd (cc (none, is))
+    by_fate : (f : Fate) → HasFate (expansion s) h (Script client index) f → responses_of s h client ask.op t ≡ posted_by h t
+    by_fate Held held_so = let none = held_taker s h client index its.fate_so held_so in absurd (cc (none, is))
     by_fate (Taken u state) taken_so =
-        let taker_so = taken_taker s h client place its.legal its.fate_so u taken_so.0 in
+        let taker_so = taken_taker s h client index its.legal its.fate_so u taken_so.0 in
         let same : u ≡ t = cc in
-        let took : IsTakenBy h (Script client place) t = subst (IsTakenBy h (Script client place)) same taken_so.0 in
-        responses_are s h its.legal ask.op client ask.value op t (its_play s h its.legal client place its.part ask op its.is_client its.is_ask its.is_op t (takes_it s h its.legal client place t took))
+        let took : IsTakenBy h (Script client index) t = subst (IsTakenBy h (Script client index)) same taken_so.0 in
+        responses_are s h its.legal ask.op client ask.value op t (its_play s h its.legal client index its.part ask op its.is_client its.is_ask its.is_op t (takes_it s h its.legal client index t took))
 
 -- what is told by the taker's first post
 abbrev pub told_quickly : ServiceParts → List Event → ℕ → ℕ → Answer
-told_quickly s h client place = option_map_or (λ task. told_by (fault_port s client) (has_task (cut h) task) (has_task (dropped h) task) (first_post h task)) (taker h (Script client place)) told.Held
+told_quickly s h client index = option_map_or (λ task. told_by (fault_port s client) (has_task (cut h) task) (has_task (dropped h) task) (first_post h task)) (taker h (Script client index)) told.Held
 
-pub told_quickly_so : (s : ServiceParts) (h : List Event) (client place : ℕ) (ask : AskPart) (op : OpPart) → Request s h client place ask op → told_quickly s h client place ≡ answer_of s h client place ask.op
-told_quickly_so s h client place ask op its = by_taker (taker h (Script client place)) refl
+pub told_quickly_so : (s : ServiceParts) (h : List Event) (client index : ℕ) (ask : AskPart) (op : OpPart) → Request s h client index ask op → told_quickly s h client index ≡ answer_of s h client index ask.op
+told_quickly_so s h client index ask op its = by_taker (taker h (Script client index)) refl
   where
     by_posts : (t : TaskId) (a b : Bool) (ms : List Msg) → told_by (fault_port s client) a b (slice_get ms 0) ≡ answer_by s client a b ms
     by_posts t true b ms = refl
@@ -476,8 +476,8 @@ told_quickly_so s h client place ask op its = by_taker (taker h (Script client p
     by_posts t false false [] = refl
     by_posts t false false (m ∷ ms) = refl
 
-    by_taker : (o : Option TaskId) → taker h (Script client place) ≡ o → option_map_or (λ task. told_by (fault_port s client) (has_task (cut h) task) (has_task (dropped h) task) (first_post h task)) o told.Held ≡ option_map_or (λ task. answer_by s client (has_task (cut h) task) (has_task (dropped h) task) (responses_of s h client ask.op task)) o told.Held
+    by_taker : (o : Option TaskId) → taker h (Script client index) ≡ o → option_map_or (λ task. told_by (fault_port s client) (has_task (cut h) task) (has_task (dropped h) task) (first_post h task)) o told.Held ≡ option_map_or (λ task. answer_by s client (has_task (cut h) task) (has_task (dropped h) task) (responses_of s h client ask.op task)) o told.Held
     by_taker None is = refl
     by_taker (Some t) is =
-        let posted = taker_responses s h client place ask op its t is in
+        let posted = taker_responses s h client index ask op its t is in
         ap (told_by (fault_port s client) (has_task (cut h) t) (has_task (dropped h) t)) (first_of t (posts h) ∙ ap (λ (ms : List Msg). slice_get ms 0) (sym posted)) ∙ by_posts t (has_task (cut h) t) (has_task (dropped h) t) (responses_of s h client ask.op t)

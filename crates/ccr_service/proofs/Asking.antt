@@ -60,21 +60,21 @@ posted_stands (End x how ∷ h) m is = later (End x how) h m (posted_stands h m 
 
 -- the request as a message
 abbrev pub asked : ℕ → ℕ → AskPart → Msg
-asked client place ask = message_of (Script client place) (request client ask)
+asked client index ask = message_of (Script client index) (request client ask)
 
-pub ask_posted : (s : ServiceParts) (h : List Event) → IsLegal (expansion s) h → is_complete (expansion s) h ≡ true → (client place : ℕ) (part : ClientPart) (ask : AskPart) → slice_get s.clients client ≡ Some part → slice_get part.asks place ≡ Some ask → Among (asked client place ask) (posts h)
-ask_posted s h legal complete client place part ask is_client is_ask =
+pub ask_posted : (s : ServiceParts) (h : List Event) → IsLegal (expansion s) h → is_complete (expansion s) h ≡ true → (client index : ℕ) (part : ClientPart) (ask : AskPart) → slice_get s.clients client ≡ Some part → slice_get part.asks index ≡ Some ask → Among (asked client index ask) (posts h)
+ask_posted s h legal complete client index part ask is_client is_ask =
     let e : 0 + client ≡ client = omega arith in
     let poster : slice_get (expansion s).posters client ≡ Some (poster_of client part) = poster_here 0 client s.clients part is_client ∙ ap (λ i. Some (poster_of i part)) e in
     let all = whole (expansion s) h legal complete client (poster_of client part) poster in
-    let line : slice_get (map sent_of (posts_by h client)) place ≡ Some (request client ask) = ap (λ (xs : List Sent). slice_get xs place) all ∙ mapped_at (request client) part.asks place ask is_ask in
-    let found = of_mapped sent_of (posts_by h client) place (request client ask) line in
-    let name = (follow (expansion s) h legal client (poster_of client part) poster).names place found.0 found.1 in
-    let among = (of_kept (λ (m : Msg). is_script_of client m.id) (posts h) found.0 (Among-at (posts_by h client) place found.0 found.1)).0 in
+    let line : slice_get (map sent_of (posts_by h client)) index ≡ Some (request client ask) = ap (λ (xs : List Sent). slice_get xs index) all ∙ mapped_at (request client) part.asks index ask is_ask in
+    let found = of_mapped sent_of (posts_by h client) index (request client ask) line in
+    let name = (follow (expansion s) h legal client (poster_of client part) poster).names index found.0 found.1 in
+    let among = (of_kept (λ (m : Msg). is_script_of client m.id) (posts h) found.0 (Among-at (posts_by h client) index found.0 found.1)).0 in
     let sent : found.0 ≡ message_of found.0.id (sent_of found.0) = refl in
-    let named : message_of found.0.id (sent_of found.0) ≡ message_of (Script client place) (sent_of found.0) = ap (λ n. message_of n (sent_of found.0)) name in
-    let same : found.0 ≡ asked client place ask = sent ∙ named ∙ ap (message_of (Script client place)) found.2 in
+    let named : message_of found.0.id (sent_of found.0) ≡ message_of (Script client index) (sent_of found.0) = ap (λ n. message_of n (sent_of found.0)) name in
+    let same : found.0 ≡ asked client index ask = sent ∙ named ∙ ap (message_of (Script client index)) found.2 in
     subst (λ m. Among m (posts h)) same among
 
-pub ask_named : (s : ServiceParts) (h : List Event) → IsLegal (expansion s) h → is_complete (expansion s) h ≡ true → (client place : ℕ) (part : ClientPart) (ask : AskPart) → slice_get s.clients client ≡ Some part → slice_get part.asks place ≡ Some ask → message_named h (Script client place) ≡ Some (asked client place ask)
-ask_named s h legal complete client place part ask is_client is_ask = named_so (expansion s) h legal (asked client place ask) (ask_posted s h legal complete client place part ask is_client is_ask)
+pub ask_named : (s : ServiceParts) (h : List Event) → IsLegal (expansion s) h → is_complete (expansion s) h ≡ true → (client index : ℕ) (part : ClientPart) (ask : AskPart) → slice_get s.clients client ≡ Some part → slice_get part.asks index ≡ Some ask → message_named h (Script client index) ≡ Some (asked client index ask)
+ask_named s h legal complete client index part ask is_client is_ask = named_so (expansion s) h legal (asked client index ask) (ask_posted s h legal complete client index part ask is_client is_ask)

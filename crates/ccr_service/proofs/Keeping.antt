@@ -15,7 +15,7 @@ use Rattle.ccr_base.specs.declared.handlers.Expr.{Expr}
 use Rattle.ccr_base.specs.declared.handlers.Expr.TheVariants as exprs
 use Rattle.ccr_text.specs.declared.lines.Line.{Line}
 use Rattle.ccr_text.specs.Names.{meaning_of}
-use Rattle.ccr_text.specs.Places.{Words, ◌>>=◌, unless, or_code, limited, word, no_more, number, number_within, policy}
+use Rattle.ccr_text.specs.Fields.{Words, ◌>>=◌, unless, or_code, limited, word, no_more, number, number_within, policy}
 use Rattle.ccr_text.specs.Words.{number_of, is_comment}
 use Rattle.ccr_wiring.specs.declared.parts.Kind.TheVariants as kinds
 use Rattle.ccr_wiring.specs.Groups.{may_have}
@@ -30,7 +30,7 @@ use Rattle.ccr_service.specs.declared.parts.ClientPart.{ClientPart}
 use Rattle.ccr_service.specs.declared.parts.OpPart.{OpPart}
 use Rattle.ccr_service.specs.declared.parts.ServiceParts.{ServiceParts}
 use Rattle.ccr_service.specs.Naming.{Naming, as_op}
-use Rattle.ccr_service.specs.Places.{new_name, op_name, group, expr, bound}
+use Rattle.ccr_service.specs.Fields.{new_name, op_name, group, expr, bound}
 use Rattle.ccr_service.specs.Drafts.{Drafted, nothing, with_policy, with_op, with_client, with_ask, end_client, policy_form, op_form, client_form, ask_form, outside_line, client_line, apart, line_in}
 use Rattle.ccr_service.specs.Reading.{So, is_version, after_words, after_all, after_line, closed, at_end, reading_after, reading_text}
 use Rattle.ccr_service.specs.Served.{asks_in_all}

@@ -16,5 +16,5 @@ pub mod Fitting
 pub mod Tellings
 pub mod TellingAll
 pub mod Keeping
-pub mod PlacesSaid
+pub mod FieldsSaid
 pub mod Said

@@ -13,7 +13,7 @@ use Rattle.ccr_base.specs.declared.handlers.Expr.TheVariants as exprs
 use Rattle.ccr_text.specs.declared.lines.Line.{Line}
 use Rattle.ccr_text.specs.Lines.{cut, numbered}
 use Rattle.ccr_text.specs.Names.{meaning_of}
-use Rattle.ccr_text.specs.Places.{Words, ◌>>=◌, unless, or_code, limited, word, no_more, number, number_within, policy}
+use Rattle.ccr_text.specs.Fields.{Words, ◌>>=◌, unless, or_code, limited, word, no_more, number, number_within, policy}
 use Rattle.ccr_text.specs.Words.{number_of, is_clean, is_comment, words_of}
 use Rattle.ccr_wiretext.specs.declared.refused.ReadRefused.{ReadRefused}
 use Rattle.ccr_wiretext.specs.declared.refused.ReadRefused.TheVariants as refusals
@@ -27,13 +27,13 @@ use Rattle.ccr_service.specs.declared.parts.ClientPart.{ClientPart}
 use Rattle.ccr_service.specs.declared.parts.OpPart.{OpPart}
 use Rattle.ccr_service.specs.declared.parts.ServiceParts.{ServiceParts}
 use Rattle.ccr_service.specs.Naming.{Naming, as_op}
-use Rattle.ccr_service.specs.Places.{new_name, op_name, group, expr, bound}
+use Rattle.ccr_service.specs.Fields.{new_name, op_name, group, expr, bound}
 use Rattle.ccr_service.specs.Drafts.{Drafted, with_policy, with_op, with_client, with_ask, end_client, policy_form, op_form, client_form, ask_form, outside_line, client_line, apart, line_in}
 use Rattle.ccr_service.specs.Reading.{So, is_version, after_words, after_all, after_line, closed, at_end, reading_after, reading_text}
 use Rattle.ccr_wiretext.specs.Answers.{IsReading}
 use Rattle.ccr_service.specs.Services.{is_service_name}
 use Rattle.ccr_service.specs.Grammar.{IsNew, IsGroup, IsExpr, IsBound, IsOp, IsAsk, IsPolicyLine, IsClient, IsLine, IsSkipped, Declares, IsWhole, Says, IsText, IsNoText}
-use Rattle.ccr_service.proofs.PlacesSaid.{number_said, number_read, within_said, within_read, policy_said, policy_read}
+use Rattle.ccr_service.proofs.FieldsSaid.{number_said, number_read, within_said, within_read, policy_said, policy_read}
 use Rattle.ccr_service.proofs.Keeping.{then_ok, unless_ok, or_ok, limited_ok, same_ok, reading_on}
 
 -- ---- what is read is said: places

@@ -47,11 +47,11 @@ use Rattle.ccr_laws.proofs.ScriptLines.{same_causes as same_numbers}
 -- ---- requests
 
 -- the message is what the client asks, but for its name
-pub record IsAsked (s : ServiceParts) (m : Msg) (client place : ℕ) : Type 0 where
+pub record IsAsked (s : ServiceParts) (m : Msg) (client index : ℕ) : Type 0 where
   pub part : ClientPart
   pub is_part : slice_get s.clients client ≡ Some part
   pub ask : AskPart
-  pub is_ask : slice_get part.asks place ≡ Some ask
+  pub is_ask : slice_get part.asks index ≡ Some ask
   pub port : m.port ≡ request_port ask.op
   pub value : m.value ≡ ask.value ∷ []
   pub causes : m.causes ≡ client ∷ []
@@ -90,17 +90,17 @@ IsPost-test m x is =
     let first = both (m.port == x.port) (same_value m.value x.value) parts.0 in
     record { port = same_number m.port x.port first.0; value = same_values m.value x.value first.1; causes = same_numbers m.causes x.causes parts.1 }
 
-asked_now : (s : ServiceParts) (h : List Event) (m : Msg) (client place : ℕ) → refusal_of_post (expansion s) h m (Script client place) ≡ None → IsAsked s m client place
-asked_now s h m client place allowed =
-    let line = (refused_not (is_script_line (expansion s) h client place m) _ None allowed).0 in
-    let parts = both (place == posts_of_poster h client) (option_map_or (is_post m) (option_and_then (λ (p : PosterPart). slice_get p.posts place) (slice_get (expansion s).posters client)) false) line in
-    let its = some_of (is_post m) (option_and_then (λ (p : PosterPart). slice_get p.posts place) (slice_get (expansion s).posters client)) parts.1 in
-    let poster = some_then (λ (p : PosterPart). slice_get p.posts place) (slice_get (expansion s).posters client) its.0 its.1 in
+asked_now : (s : ServiceParts) (h : List Event) (m : Msg) (client index : ℕ) → refusal_of_post (expansion s) h m (Script client index) ≡ None → IsAsked s m client index
+asked_now s h m client index allowed =
+    let line = (refused_not (is_script_line (expansion s) h client index m) _ None allowed).0 in
+    let parts = both (index == posts_of_poster h client) (option_map_or (is_post m) (option_and_then (λ (p : PosterPart). slice_get p.posts index) (slice_get (expansion s).posters client)) false) line in
+    let its = some_of (is_post m) (option_and_then (λ (p : PosterPart). slice_get p.posts index) (slice_get (expansion s).posters client)) parts.1 in
+    let poster = some_then (λ (p : PosterPart). slice_get p.posts index) (slice_get (expansion s).posters client) its.0 its.1 in
     let found = poster_at 0 client s.clients poster.0 poster.1 in
     let e : 0 + client ≡ client = omega arith in
     let all : poster.0.posts ≡ map (request client) found.0.asks = subst (λ i. poster.0.posts ≡ map (request i) found.0.asks) e found.2 in
-    let line_at : slice_get (map (request client) found.0.asks) place ≡ Some its.0 = ap (λ (xs : List Sent). slice_get xs place) (sym all) ∙ poster.2 in
-    let ask = ask_at client place found.0.asks its.0 line_at in
+    let line_at : slice_get (map (request client) found.0.asks) index ≡ Some its.0 = ap (λ (xs : List Sent). slice_get xs index) (sym all) ∙ poster.2 in
+    let ask = ask_at client index found.0.asks its.0 line_at in
     let post = IsPost-test m its.0 its.2 in
     record { part = found.0; is_part = found.1; ask = ask.0; is_ask = ask.1; port = post.port ∙ ap (λ (x : Sent). x.port) ask.2; value = post.value ∙ ap (λ (x : Sent). x.value) ask.2; causes = post.causes ∙ ap (λ (x : Sent). x.causes) ask.2 }
 
@@ -115,12 +115,12 @@ exception_at n cause port [] is = absurd (cc)
 exception_at n zero port (c ∷ cs) is = let same : n ≡ port = cc in omega (arith, same)
 exception_at n (suc cause) port (c ∷ cs) is = let rest = exception_at (n + 1) cause port cs is in omega (arith, rest)
 
-fault_elsewhere : (s : ServiceParts) (v : List ℕ) (causes : List ℕ) (place : ℕ) (x : Sent) → slice_get (exceptions (exception_port (expansion s)) v causes) place ≡ Some x → NoRequests s x.port
-fault_elsewhere s v [] place x is op few at = absurd (cc)
-fault_elsewhere s v (cause ∷ causes) place x is op few at = by_port (exception_port (expansion s) cause) refl place is (λ k got. fault_elsewhere s v causes k x got op few at)
+fault_elsewhere : (s : ServiceParts) (v : List ℕ) (causes : List ℕ) (index : ℕ) (x : Sent) → slice_get (exceptions (exception_port (expansion s)) v causes) index ≡ Some x → NoRequests s x.port
+fault_elsewhere s v [] index x is op few at = absurd (cc)
+fault_elsewhere s v (cause ∷ causes) index x is op few at = by_port (exception_port (expansion s) cause) refl index is (λ k got. fault_elsewhere s v causes k x got op few at)
   where
-    by_port : (o : Option ℕ) → exception_port (expansion s) cause ≡ o → (place : ℕ) → slice_get (option_to_list (option_map (λ port. let y : Sent = record { port = port; value = v; causes = [] } in y) o) ++ exceptions (exception_port (expansion s)) v causes) place ≡ Some x → ((k : ℕ) → slice_get (exceptions (exception_port (expansion s)) v causes) k ≡ Some x → ⊥) → ⊥
-    by_port None e place got rest = rest place got
+    by_port : (o : Option ℕ) → exception_port (expansion s) cause ≡ o → (index : ℕ) → slice_get (option_to_list (option_map (λ port. let y : Sent = record { port = port; value = v; causes = [] } in y) o) ++ exceptions (exception_port (expansion s)) v causes) index ≡ Some x → ((k : ℕ) → slice_get (exceptions (exception_port (expansion s)) v causes) k ≡ Some x → ⊥) → ⊥
+    by_port None e index got rest = rest index got
     by_port (Some port) e zero got rest =
         let same : port ≡ x.port = cc in
         let far = exception_at (length s.ops + length s.ops) cause port s.clients e in
@@ -128,8 +128,8 @@ fault_elsewhere s v (cause ∷ causes) place x is op few at = by_port (exception
     by_port (Some port) e (suc k) got rest = rest k got
 
 -- the play of a branch of an expansion
-play_elsewhere : (s : ServiceParts) (b : ℕ) (r : Placement) → placement (expansion s) b ≡ Some r → (load : Load) (place : ℕ) (x : Sent) → slice_get (play (exception_port (expansion s)) load.values 0 load.causes (actions_of (expansion s) r.branch.handler)).posts place ≡ Some x → NoRequests s x.port
-play_elsewhere s b r is load place x got op few at = by_role facts.serves.role
+play_elsewhere : (s : ServiceParts) (b : ℕ) (r : Placement) → placement (expansion s) b ≡ Some r → (load : Load) (index : ℕ) (x : Sent) → slice_get (play (exception_port (expansion s)) load.values 0 load.causes (actions_of (expansion s) r.branch.handler)).posts index ≡ Some x → NoRequests s x.port
+play_elsewhere s b r is load index x got op few at = by_role facts.serves.role
   where
     facts : PlacementFacts s r
     facts = PlacementFacts-placement s b r is
@@ -137,49 +137,49 @@ play_elsewhere s b r is load place x got op few at = by_role facts.serves.role
     by_role : Role (length s.ops) facts.op facts.part r.branch.handler facts.pred → ⊥
     by_role (inl own) =
         let acts : actions_of (expansion s) r.branch.handler ≡ actions.Post (response_port facts.op) facts.part.expr ∷ [] = ap (actions_of (expansion s)) own.0 ∙ op_actions s facts.op facts.part facts.at in
-        let one = subst (λ (as' : List Action). slice_get (play (exception_port (expansion s)) load.values 0 load.causes as').posts place ≡ Some x) acts got in
-        odd place one
+        let one = subst (λ (as' : List Action). slice_get (play (exception_port (expansion s)) load.values 0 load.causes as').posts index ≡ Some x) acts got in
+        odd index one
       where
-        odd : (place : ℕ) → slice_get (record { port = response_port facts.op; value = value_of facts.part.expr load.values; causes = load.causes } ∷ []) place ≡ Some x → ⊥
+        odd : (index : ℕ) → slice_get (record { port = response_port facts.op; value = value_of facts.part.expr load.values; causes = load.causes } ∷ []) index ≡ Some x → ⊥
         odd zero is = let same : response_port facts.op ≡ x.port = cc in omega (arith, same, at)
         odd (suc k) is = absurd (cc)
     by_role (inr fault) =
         let acts : actions_of (expansion s) r.branch.handler ≡ actions.Fail (Arg 0) ∷ [] = ap (actions_of (expansion s)) fault.0 ∙ fault_actions s facts.op fault.1.0 facts.part facts.at fault.1.1 in
-        let some = subst (λ (as' : List Action). slice_get (play (exception_port (expansion s)) load.values 0 load.causes as').posts place ≡ Some x) acts got in
-        fault_elsewhere s (value_of (Arg 0) load.values) load.causes place x some op few at
+        let some = subst (λ (as' : List Action). slice_get (play (exception_port (expansion s)) load.values 0 load.causes as').posts index ≡ Some x) acts got in
+        fault_elsewhere s (value_of (Arg 0) load.values) load.causes index x some op few at
 
-elsewhere_now : (s : ServiceParts) (h : List Event) → IsLegal (expansion s) h → (m : Msg) (t : TaskId) (place : ℕ) → refusal_of_post (expansion s) h m (Task t place) ≡ None → NoRequests s m.port
-elsewhere_now s h legal m t place allowed op few at =
-    let line = (refused_not (is_play_post (expansion s) h t place m) _ _ allowed).0 in
-    let parts = both (has_task (running h) t && (place == posts_of_task h t)) (option_map_or (is_post m) (slice_get (play_of (expansion s) h t).posts place) false) line in
-    let its = some_of (is_post m) (slice_get (play_of (expansion s) h t).posts place) parts.1 in
+elsewhere_now : (s : ServiceParts) (h : List Event) → IsLegal (expansion s) h → (m : Msg) (t : TaskId) (index : ℕ) → refusal_of_post (expansion s) h m (Task t index) ≡ None → NoRequests s m.port
+elsewhere_now s h legal m t index allowed op few at =
+    let line = (refused_not (is_play_post (expansion s) h t index m) _ _ allowed).0 in
+    let parts = both (has_task (running h) t && (index == posts_of_task h t)) (option_map_or (is_post m) (slice_get (play_of (expansion s) h t).posts index) false) line in
+    let its = some_of (is_post m) (slice_get (play_of (expansion s) h t).posts index) parts.1 in
     let post = IsPost-test m its.0 its.2 in
     by_firing its.0 (firing_named h t) refl its.1 (sym post.port ∙ at)
   where
     w : Parts
     w = expansion s
 
-    by_placement : (x : Sent) (b : ℕ) (load : Load) (o : Option Placement) → placement w b ≡ o → slice_get (play (exception_port w) load.values 0 load.causes (option_map_or (λ (r : Placement). actions_of w r.branch.handler) o [])).posts place ≡ Some x → x.port ≡ request_port op → ⊥
+    by_placement : (x : Sent) (b : ℕ) (load : Load) (o : Option Placement) → placement w b ≡ o → slice_get (play (exception_port w) load.values 0 load.causes (option_map_or (λ (r : Placement). actions_of w r.branch.handler) o [])).posts index ≡ Some x → x.port ≡ request_port op → ⊥
     by_placement x b load None e got there = absurd (cc)
-    by_placement x b load (Some r) e got there = play_elsewhere s b r e load place x got op few there
+    by_placement x b load (Some r) e got there = play_elsewhere s b r e load index x got op few there
 
-    by_firing : (x : Sent) (o : Option Firing) → firing_named h t ≡ o → slice_get (option_map_or (λ spot. play_at w (branch_of spot) (segment_of spot) (load_at w h (branch_of spot) (segment_of spot) t)) (option_map (λ (f : Firing). f.spot) o) no_play).posts place ≡ Some x → x.port ≡ request_port op → ⊥
+    by_firing : (x : Sent) (o : Option Firing) → firing_named h t ≡ o → slice_get (option_map_or (λ spot. play_at w (branch_of spot) (segment_of spot) (load_at w h (branch_of spot) (segment_of spot) t)) (option_map (λ (f : Firing). f.spot) o) no_play).posts index ≡ Some x → x.port ≡ request_port op → ⊥
     by_firing x None e got there = absurd (cc)
     by_firing x (Some f) e got there =
         let place_of_it = at_branches w (awaits_none s) h legal t f e in
-        let got_there = subst (λ (spot : Spot). slice_get (play_at w (branch_of spot) (segment_of spot) (load_at w h (branch_of spot) (segment_of spot) t)).posts place ≡ Some x) place_of_it.1 got in
+        let got_there = subst (λ (spot : Spot). slice_get (play_at w (branch_of spot) (segment_of spot) (load_at w h (branch_of spot) (segment_of spot) t)).posts index ≡ Some x) place_of_it.1 got in
         by_placement x place_of_it.0 (load_at w h place_of_it.0 0 t) (placement w place_of_it.0) refl got_there there
 
 -- ---- all messages
 
 -- a request as asked, or a post of a task that is no request
 abbrev pub IsKnown : ServiceParts → Msg → MsgId → Type 0
-IsKnown s m (Script client place) = IsAsked s m client place
-IsKnown s m (Task t place) = NoRequests s m.port
+IsKnown s m (Script client index) = IsAsked s m client index
+IsKnown s m (Task t index) = NoRequests s m.port
 
 known_by : (s : ServiceParts) (h : List Event) → IsLegal (expansion s) h → (m : Msg) (name : MsgId) → refusal_of_post (expansion s) h m name ≡ None → IsKnown s m name
-known_by s h legal m (Script client place) allowed = asked_now s h m client place allowed
-known_by s h legal m (Task t place) allowed = elsewhere_now s h legal m t place allowed
+known_by s h legal m (Script client index) allowed = asked_now s h m client index allowed
+known_by s h legal m (Task t index) allowed = elsewhere_now s h legal m t index allowed
 
 abbrev pub AreKnown : ServiceParts → List Event → Type 0
 AreKnown s h = (m : Msg) → Among m (posts h) → IsKnown s m m.id

@@ -224,22 +224,22 @@ all_length n (c ∷ cs) =
     let all = length-append (asks_of n 0 c.asks) (all_asks (n + 1) cs) in
     omega (arith, here, rest, all)
 
-ask_among : (client k place : ℕ) (asks : List AskPart) (a : AskPart) → slice_get asks place ≡ Some a → Among (Script client (k + place)) (asks_of client k asks)
-ask_among client k place [] a at = absurd (cc)
+ask_among : (client k index : ℕ) (asks : List AskPart) (a : AskPart) → slice_get asks index ≡ Some a → Among (Script client (k + index)) (asks_of client k asks)
+ask_among client k index [] a at = absurd (cc)
 ask_among client k zero (b ∷ asks) a at = let e : k + 0 ≡ k = omega arith in inl (ap (Script client) e)
-ask_among client k (suc place) (b ∷ asks) a at = let e : (k + 1) + place ≡ k + suc place = omega arith in inr (subst (λ i. Among (Script client i) (asks_of client (k + 1) asks)) e (ask_among client (k + 1) place asks a at))
+ask_among client k (suc index) (b ∷ asks) a at = let e : (k + 1) + index ≡ k + suc index = omega arith in inr (subst (λ i. Among (Script client i) (asks_of client (k + 1) asks)) e (ask_among client (k + 1) index asks a at))
 
-all_among : (n client place : ℕ) (cs : List ClientPart) (c : ClientPart) (a : AskPart) → slice_get cs client ≡ Some c → slice_get c.asks place ≡ Some a → Among (Script (n + client) place) (all_asks n cs)
-all_among n client place [] c a is at = absurd (cc)
-all_among n zero place (x ∷ cs) c a is at =
+all_among : (n client index : ℕ) (cs : List ClientPart) (c : ClientPart) (a : AskPart) → slice_get cs client ≡ Some c → slice_get c.asks index ≡ Some a → Among (Script (n + client) index) (all_asks n cs)
+all_among n client index [] c a is at = absurd (cc)
+all_among n zero index (x ∷ cs) c a is at =
     let e : n ≡ n + 0 = omega arith in
     let same : c ≡ x = cc in
-    let here = ask_among n 0 place x.asks a (subst (λ (y : ClientPart). slice_get y.asks place ≡ Some a) same at) in
-    let p : 0 + place ≡ place = omega arith in
-    Among-left (Script (n + 0) place) (asks_of n 0 x.asks) (all_asks (n + 1) cs) (subst (λ i. Among (Script i place) (asks_of n 0 x.asks)) e (subst (λ i. Among (Script n i) (asks_of n 0 x.asks)) p here))
-all_among n (suc client) place (x ∷ cs) c a is at =
+    let here = ask_among n 0 index x.asks a (subst (λ (y : ClientPart). slice_get y.asks index ≡ Some a) same at) in
+    let p : 0 + index ≡ index = omega arith in
+    Among-left (Script (n + 0) index) (asks_of n 0 x.asks) (all_asks (n + 1) cs) (subst (λ i. Among (Script i index) (asks_of n 0 x.asks)) e (subst (λ i. Among (Script n i) (asks_of n 0 x.asks)) p here))
+all_among n (suc client) index (x ∷ cs) c a is at =
     let e : (n + 1) + client ≡ n + suc client = omega arith in
-    Among-right (Script (n + suc client) place) (asks_of n 0 x.asks) (all_asks (n + 1) cs) (subst (λ i. Among (Script i place) (all_asks (n + 1) cs)) e (all_among (n + 1) client place cs c a is at))
+    Among-right (Script (n + suc client) index) (asks_of n 0 x.asks) (all_asks (n + 1) cs) (subst (λ i. Among (Script i index) (all_asks (n + 1) cs)) e (all_among (n + 1) client index cs c a is at))
 
 -- ---- the firings
 

@@ -42,31 +42,31 @@ responses_of service history client op task = filter (λ (m : Msg). is_message_o
 
 -- the responses of a request: what the task whose firing names it posted there
 abbrev pub responses : ServiceParts → List Event → ℕ → ℕ → ℕ → List Msg
-responses service history client place op = option_map_or (responses_of service history client op) (taker history (Script client place)) []
+responses service history client index op = option_map_or (responses_of service history client op) (taker history (Script client index)) []
 
 -- a task took the request and ended so, and its one post is the one response
-pub record HasResponse (service : ServiceParts) (history : List Event) (client place op : ℕ) (sent : Sent) (how : EndHow) (response : Msg) : Type 0 where
+pub record HasResponse (service : ServiceParts) (history : List Event) (client index op : ℕ) (sent : Sent) (how : EndHow) (response : Msg) : Type 0 where
   pub task : TaskId
-  pub taken : IsTakenBy history (Script client place) task
+  pub taken : IsTakenBy history (Script client index) task
   pub ended : HasEnded history task how
-  pub alone : responses service history client place op ≡ response ∷ []
+  pub alone : responses service history client index op ≡ response ∷ []
   pub is : response ≡ message_of (Task task 0) sent
 
 -- a task took the request and stands in this list, and there is no response
-pub record HasNone (service : ServiceParts) (history : List Event) (client place op : ℕ) (tasks : List TaskId) : Type 0 where
+pub record HasNone (service : ServiceParts) (history : List Event) (client index op : ℕ) (tasks : List TaskId) : Type 0 where
   pub task : TaskId
-  pub taken : IsTakenBy history (Script client place) task
+  pub taken : IsTakenBy history (Script client index) task
   pub among : has_task tasks task ≡ true
-  pub none : responses service history client place op ≡ []
+  pub none : responses service history client index op ≡ []
 
 -- what each answer says. A success comes where the value isn't past the bound of the operation, a fault where it is; a request is held or its task cut
 -- only where a teardown operation has fired, and the task is dropped only where the policy is discard
 abbrev pub IsAnswer : ServiceParts → List Event → ℕ → ℕ → AskPart → OpPart → Answer → Type 0
-IsAnswer service history client place ask op (told.Success m) = HasResponse service history client place ask.op (success ask.op op client ask.value) Done m × (is_past op.below ask.value ≡ false)
-IsAnswer service history client place ask op (told.Fault m) = HasResponse service history client place ask.op (fault service client ask.value) (Failed (ask.value ∷ [])) m × (is_past op.below ask.value ≡ true)
-IsAnswer service history client place ask op told.Held = IsHeld history (Script client place) × (responses service history client place ask.op ≡ []) × (is_torn_down service history ≡ true)
-IsAnswer service history client place ask op told.Cut = HasNone service history client place ask.op (cut history) × (is_torn_down service history ≡ true)
-IsAnswer service history client place ask op told.Dropped = HasNone service history client place ask.op (dropped history) × ((most : ℕ) × (service.policy ≡ Discard most))
+IsAnswer service history client index ask op (told.Success m) = HasResponse service history client index ask.op (success ask.op op client ask.value) Done m × (is_past op.below ask.value ≡ false)
+IsAnswer service history client index ask op (told.Fault m) = HasResponse service history client index ask.op (fault service client ask.value) (Failed (ask.value ∷ [])) m × (is_past op.below ask.value ≡ true)
+IsAnswer service history client index ask op told.Held = IsHeld history (Script client index) × (responses service history client index ask.op ≡ []) × (is_torn_down service history ≡ true)
+IsAnswer service history client index ask op told.Cut = HasNone service history client index ask.op (cut history) × (is_torn_down service history ≡ true)
+IsAnswer service history client index ask op told.Dropped = HasNone service history client index ask.op (dropped history) × ((most : ℕ) × (service.policy ≡ Discard most))
 
 -- the answer by where the task stands that took the request, and its first response
 abbrev pub answer_by : ServiceParts → ℕ → Bool → Bool → List Msg → Answer
@@ -77,21 +77,21 @@ answer_by service client false false (m ∷ more) = if m.port == fault_port serv
 
 -- the answer that is told of the request
 abbrev pub answer_of : ServiceParts → List Event → ℕ → ℕ → ℕ → Answer
-answer_of service history client place op = option_map_or (λ task. answer_by service client (has_task (cut history) task) (has_task (dropped history) task) (responses_of service history client op task)) (taker history (Script client place)) told.Held
+answer_of service history client index op = option_map_or (λ task. answer_by service client (has_task (cut history) task) (has_task (dropped history) task) (responses_of service history client op task)) (taker history (Script client index)) told.Held
 
 -- the request was posted, and one answer is true of it and no other: the one that is told
-pub record HasOneAnswer (service : ServiceParts) (history : List Event) (client place : ℕ) (ask : AskPart) (op : OpPart) : Type 0 where
-  pub posted : message_named history (Script client place) ≡ Some (message_of (Script client place) (request client ask))
+pub record HasOneAnswer (service : ServiceParts) (history : List Event) (client index : ℕ) (ask : AskPart) (op : OpPart) : Type 0 where
+  pub posted : message_named history (Script client index) ≡ Some (message_of (Script client index) (request client ask))
   pub its : Answer
-  pub has : IsAnswer service history client place ask op its
-  pub alone : (other : Answer) → IsAnswer service history client place ask op other → other ≡ its
-  pub told : answer_of service history client place ask.op ≡ its
+  pub has : IsAnswer service history client index ask op its
+  pub alone : (other : Answer) → IsAnswer service history client index ask op other → other ≡ its
+  pub told : answer_of service history client index ask.op ≡ its
 
 -- nobody was shed, all is still, and each request has one answer
 pub record IsServedWhole (service : ServiceParts) (history : List Event) : Type 0 where
   pub unshed : has_shed history ≡ false
   pub still : IsStill (expansion service) history
-  pub answered : (client place : ℕ) (part : ClientPart) (ask : AskPart) (op : OpPart) → slice_get service.clients client ≡ Some part → slice_get part.asks place ≡ Some ask → slice_get service.ops ask.op ≡ Some op → HasOneAnswer service history client place ask op
+  pub answered : (client index : ℕ) (part : ClientPart) (ask : AskPart) (op : OpPart) → slice_get service.clients client ≡ Some part → slice_get part.asks index ≡ Some ask → slice_get service.ops ask.op ≡ Some op → HasOneAnswer service history client index ask op
 
 -- the law holds of each whole run of the service: a legal history in which its script is posted and behind which nothing more is allowed
 abbrev pub OfWholeRuns : ServiceParts → (List Event → Type 0) → Type 0

@@ -3,14 +3,14 @@ use Rattle.std.specs.Prelude.{ℕ, ◌+◌, Bool, true, false, not, List, [], �
 use Rattle.std.specs.Str.{bytes_eq}
 use Rattle.ccr_base.specs.declared.policies.Policy.{Policy}
 use Rattle.ccr_base.specs.declared.policies.Policy.TheVariants as policies
-use Rattle.ccr_text.specs.Places.{Words, ◌>>=◌, unless, limited, no_more, number, policy}
+use Rattle.ccr_text.specs.Fields.{Words, ◌>>=◌, unless, limited, no_more, number, policy}
 use Rattle.ccr_service.specs.declared.names.Named.TheVariants as kinds
 use Rattle.ccr_service.specs.declared.parts.AskPart.{AskPart}
 use Rattle.ccr_service.specs.declared.parts.ClientPart.{ClientPart}
 use Rattle.ccr_service.specs.declared.parts.OpPart.{OpPart}
 use Rattle.ccr_service.specs.declared.parts.ServiceParts.{ServiceParts}
 use Rattle.ccr_service.specs.Naming.{Naming}
-use Rattle.ccr_service.specs.Places.{new_name, op_name, group, expr, bound}
+use Rattle.ccr_service.specs.Fields.{new_name, op_name, group, expr, bound}
 
 -- the parts so far, whether a line gave the policy, the declared names, how many requests there are, and the client whose block is open
 pub record Drafted : Type 0 where

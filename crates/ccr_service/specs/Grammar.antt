@@ -7,7 +7,7 @@ use Rattle.ccr_base.specs.declared.handlers.Expr.{Expr}
 use Rattle.ccr_base.specs.declared.handlers.Expr.TheVariants as exprs
 use Rattle.ccr_text.specs.Lines.{cut}
 use Rattle.ccr_text.specs.Names.{meaning_of}
-use Rattle.ccr_text.specs.Places.{Words}
+use Rattle.ccr_text.specs.Fields.{Words}
 use Rattle.ccr_text.specs.Words.{is_clean, words_of}
 use Rattle.ccr_wiretext.specs.Grammar.{IsNumber, IsWithin, IsPolicy}
 use Rattle.ccr_wiretext.specs.declared.refused.ReadRefused.{ReadRefused}
@@ -40,7 +40,7 @@ IsExpr words (exprs.Number value) = (digits : List ℕ) × (n : ℕ) × (words �
 IsExpr words (exprs.Arg k) = (digits : List ℕ) × (words ≡ codes "arg" ∷ digits ∷ []) × IsWithin 0 65535 digits k
 IsExpr words exprs.Sum = words ≡ codes "sum" ∷ []
 IsExpr words exprs.Count = words ≡ codes "count" ∷ []
-IsExpr words (exprs.Part message place) = ⊥
+IsExpr words (exprs.Part message index) = ⊥
 
 -- nothing, or below N
 abbrev pub IsBound : Words → Option ℕ → Type 0

@@ -6,7 +6,7 @@ pub mod Answered
 pub mod Services
 pub mod Telling
 pub mod Naming
-pub mod Places
+pub mod Fields
 pub mod Drafts
 pub mod Reading
 pub mod Taking

@@ -3,7 +3,7 @@ use Rattle.std.specs.Prelude.{ℕ, Bool, false, not, List, [], ◌∷◌, length
 use Rattle.std.specs.Str.{bytes_eq}
 use Rattle.ccr_text.specs.declared.lines.Line.{Line}
 use Rattle.ccr_text.specs.Lines.{lines_of}
-use Rattle.ccr_text.specs.Places.{Words, ◌>>=◌, unless}
+use Rattle.ccr_text.specs.Fields.{Words, ◌>>=◌, unless}
 use Rattle.ccr_text.specs.Words.{is_comment}
 use Rattle.ccr_wiretext.specs.Reading.{at_line}
 use Rattle.ccr_service.specs.declared.parts.ClientPart.{ClientPart}

@@ -6,8 +6,8 @@ ghost use Rattle.ccr_text.specs.Answers.{Gives, GivesBy, GivesState};
 ghost use Rattle.ccr_text.specs.Names.{meaning_of};
 ghost use Rattle.ccr_service.specs.Drafts.{nothing, with_policy, with_op, with_client, with_ask, end_client, policy_form, op_form, client_form, ask_form, outside_line, client_line, line_in};
 
+use crate::fields::{bound, expr, group, new_name, op_name};
 use crate::names::Named;
-use crate::places::{bound, expr, group, new_name, op_name};
 use crate::{AskPart, ClientPart, OpPart, ServiceParts};
 use ccr_base::{List, Name, OutOfMemory, Policy};
 use ccr_text::{Code, Cursor, Names, Stop, is_text};

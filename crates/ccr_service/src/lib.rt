@@ -3,10 +3,10 @@
 
 mod draft;
 mod expanding;
+mod fields;
 mod laws;
 mod names;
 mod parts;
-mod places;
 mod reading;
 mod replies;
 mod service;

@@ -3,7 +3,7 @@
 ghost use Rattle.std.specs.Prelude.{◌≡◌, ◌≢◌, ◌≤◌, [], length, None, IfOk, IfErr};
 ghost use Rattle.ccr_base.specs.Bounds.{most_wiring_bytes};
 ghost use Rattle.ccr_text.specs.Answers.{Gives, GivesState};
-ghost use Rattle.ccr_text.specs.Places.{seen};
+ghost use Rattle.ccr_text.specs.Fields.{seen};
 ghost use Rattle.ccr_wiretext.specs.Answers.{IsReading};
 ghost use Rattle.ccr_service.specs.Grammar.{IsText, IsNoText};
 ghost use Rattle.ccr_service.specs.Reading.{is_version, after_all, after_clean, at_end, reading_text};

@@ -25,10 +25,10 @@ fn add_client(
     requires { length asks.now < 2 ^ 32 }
     ensures { OnOk result (answers.new.items ≡ answers.old.items ++ told_asks tables.now faults client 0 asks.now) }
 {
-    for (place, _) in asks.iter().enumerate() {
+    for (index, _) in asks.iter().enumerate() {
         let request = RequestId {
             client,
-            place: place as u32,
+            place: index as u32,
         };
         answers.push(tell(alloc, tables, faults, request)?)?;
     }

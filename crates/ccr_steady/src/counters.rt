@@ -16,19 +16,19 @@ use std::alloc::Global;
 
 /// Counts one post to the port.
 fn count_post(got: &mut [u64], port: PortNo)
-    requires { (place : ℕ) → place < length got.old → slice_index got.old place < 1000000 }
-    ensures { (place : ℕ) → place < length got.old → slice_index got.new place ≡ slice_index got.old place + at_port place port }
+    requires { (index : ℕ) → index < length got.old → slice_index got.old index < 1000000 }
+    ensures { (index : ℕ) → index < length got.old → slice_index got.new index ≡ slice_index got.old index + at_port index port }
 {
-    let place = port as usize;
-    if place < got.len() {
-        got[place] += 1;
+    let index = port as usize;
+    if index < got.len() {
+        got[index] += 1;
     }
 }
 
 /// Counts the posts of a script.
 fn count_script(got: &mut [u64], posts: &[ScriptPost])
-    requires { (place : ℕ) → place < length got.old → slice_index got.old place + length posts.now < 1000000 }
-    ensures { (place : ℕ) → place < length got.old → slice_index got.new place ≡ slice_index got.old place + lines (at_port place) posts.now }
+    requires { (index : ℕ) → index < length got.old → slice_index got.old index + length posts.now < 1000000 }
+    ensures { (index : ℕ) → index < length got.old → slice_index got.new index ≡ slice_index got.old index + lines (at_port index) posts.now }
 {
     for post in posts {
         count_post(got, post.port());
@@ -38,8 +38,8 @@ fn count_script(got: &mut [u64], posts: &[ScriptPost])
 /// Counts the posts of all scripts.
 fn count_scripts(got: &mut [u64], posters: &[PosterPart])
     requires few { posts_in_all posters.now ≤ most_script_posts }
-    requires none { (place : ℕ) → place < length got.old → slice_index got.old place ≡ 0 }
-    ensures { (place : ℕ) → place < length got.old → slice_index got.new place ≡ scripts (at_port place) posters.now }
+    requires none { (index : ℕ) → index < length got.old → slice_index got.old index ≡ 0 }
+    ensures { (index : ℕ) → index < length got.old → slice_index got.new index ≡ scripts (at_port index) posters.now }
 {
     for poster in posters {
         count_script(got, poster.posts.as_slice());
@@ -48,8 +48,8 @@ fn count_scripts(got: &mut [u64], posters: &[PosterPart])
 
 /// Counts the posts of a firing, and says how many they are.
 fn count_firing(got: &mut [u64], actions: &[Action]) -> u64
-    requires { (place : ℕ) → place < length got.old → slice_index got.old place + length actions.now < 1000000 }
-    ensures got { (place : ℕ) → place < length got.old → slice_index got.new place ≡ slice_index got.old place + weigh (at_port place) (sends actions.now) }
+    requires { (index : ℕ) → index < length got.old → slice_index got.old index + length actions.now < 1000000 }
+    ensures got { (index : ℕ) → index < length got.old → slice_index got.new index ≡ slice_index got.old index + weigh (at_port index) (sends actions.now) }
     ensures posts { result ≡ weigh each (sends actions.now) }
     ensures few { result ≤ length actions.now }
 {
@@ -117,11 +117,11 @@ impl Counters {
     pub fn fire(&mut self, branch: usize, actions: &[Action])
         requires branch { branch < length self.old.fired.items }
         requires few { slice_index self.old.fired.items branch < 20000 }
-        requires got { (place : ℕ) → place < length self.old.got.items → slice_index self.old.got.items place + length actions.now < 1000000 }
+        requires got { (index : ℕ) → index < length self.old.got.items → slice_index self.old.got.items index + length actions.now < 1000000 }
         requires spent { self.old.spent + length actions.now < 1000000 }
         ensures fired { self.new.fired.items ≡ slice_set self.old.fired.items branch (slice_index self.old.fired.items branch + 1) }
         ensures ports { length self.new.got.items ≡ length self.old.got.items }
-        ensures got { (place : ℕ) → place < length self.old.got.items → slice_index self.new.got.items place ≡ slice_index self.old.got.items place + weigh (at_port place) (sends actions.now) }
+        ensures got { (index : ℕ) → index < length self.old.got.items → slice_index self.new.got.items index ≡ slice_index self.old.got.items index + weigh (at_port index) (sends actions.now) }
         ensures spent { self.new.spent ≡ self.old.spent + weigh each (sends actions.now) }
     {
         self.fired[branch] += 1;

@@ -22,18 +22,18 @@ use Rattle.ccr_ledger.specs.declared.cards.Card.{Card}
 use Rattle.ccr_ledger.specs.Books.{Books, card_at, more, number}
 use Rattle.ccr_ledger.proofs.Counting.{more_if, number-more, length-more as length-filtered}
 use Rattle.ccr_ledger.proofs.Empty.{number-none}
-use Rattle.ccr_telling.specs.Tallies.{AreTallies, Tallies, after_event, is_on, more_at, more_for, more_if_some, no_tallies, place_of}
+use Rattle.ccr_telling.specs.Tallies.{AreTallies, Tallies, after_event, is_on, more_at, more_for, more_if_some, no_tallies, index_of}
 use Rattle.ccr_telling.proofs.Numbers.{length-more, length-more_at, length-more_for, length-more_if_some}
-use Rattle.ccr_telling.proofs.Places.{own_place}
+use Rattle.ccr_telling.proofs.Indices.{own_index}
 
-pub tallies-none : (ports places queues : ℕ) (b : Books) → AreTallies ports places queues b [] (no_tallies ports places queues)
-tallies-none ports places queues b = record {
+pub tallies-none : (ports indices queues : ℕ) (b : Books) → AreTallies ports indices queues b [] (no_tallies ports indices queues)
+tallies-none ports indices queues b = record {
   posted_len = length-replicate {A = ℕ} ports 0;
-  fired_len = length-replicate {A = ℕ} places 0;
+  fired_len = length-replicate {A = ℕ} indices 0;
   put_len = length-replicate {A = ℕ} queues 0;
   dropped_len = length-replicate {A = ℕ} queues 0;
   posted = λ k low. number-none ports k;
-  fired = λ spot place at low. number-none places place;
+  fired = λ spot index at low. number-none indices index;
   put = λ k low. number-none queues k;
   drops = refl;
   dropped = λ k low. number-none queues k;
@@ -47,9 +47,9 @@ tallies-none ports places queues b = record {
   yielded = refl;
 }
 
--- one more at the place of a spot
-fired_more : (numbers : List ℕ) (h : List Event) (t : TaskId) (s q : Spot) (ms : List MsgId) (cs : List TaskId) (p : ℕ) → place_of q ≡ Some p → p < length numbers → number numbers p ≡ length (fired_at h q) → number (more_at (place_of s) numbers) p ≡ length (fired_at (h ++ events.Fire t s ms cs ∷ []) q)
-fired_more numbers h t s q ms cs p at low so = by (place_of s) (own_place s q p at)
+-- one more at the index of a spot
+fired_more : (numbers : List ℕ) (h : List Event) (t : TaskId) (s q : Spot) (ms : List MsgId) (cs : List TaskId) (p : ℕ) → index_of q ≡ Some p → p < length numbers → number numbers p ≡ length (fired_at h q) → number (more_at (index_of s) numbers) p ≡ length (fired_at (h ++ events.Fire t s ms cs ∷ []) q)
+fired_more numbers h t s q ms cs p at low so = by (index_of s) (own_index s q p at)
   where
     counted : length (fired_at (h ++ events.Fire t s ms cs ∷ []) q) ≡ more_if (same_spot s q) (length (fired_at h q))
     counted = of_test (same_spot s q) refl
@@ -89,17 +89,17 @@ no_more : (p : Event → Bool) (h : List Event) (e : Event) (n : ℕ) → p e �
 no_more p h e n is so = grind (arith, common_steps, is, so)
 
 -- an event that posts nothing, fires nothing and puts nothing changes the ends alone
-ends_alone : (ports places queues : ℕ) (b : Books) (h : List Event) (e : Event) (t : Tallies) (done failed shed yielded : ℕ)
+ends_alone : (ports indices queues : ℕ) (b : Books) (h : List Event) (e : Event) (t : Tallies) (done failed shed yielded : ℕ)
     → posts (h ++ e ∷ []) ≡ posts h → taken (h ++ e ∷ []) ≡ taken h → firings (h ++ e ∷ []) ≡ firings h → cut (h ++ e ∷ []) ≡ cut h → put (h ++ e ∷ []) ≡ put h → dropped (h ++ e ∷ []) ≡ dropped h
     → done ≡ length (filter is_done (h ++ e ∷ [])) → failed ≡ length (filter is_failed (h ++ e ∷ [])) → shed ≡ length (filter is_shed (h ++ e ∷ [])) → yielded ≡ length (filter is_yield (h ++ e ∷ []))
-    → AreTallies ports places queues b h t → AreTallies ports places queues b (h ++ e ∷ []) (record t { done = done; failed = failed; shed = shed; yielded = yielded })
-ends_alone ports places queues b h e t done failed shed yielded posts_so taken_so firings_so cut_so put_so dropped_so done_so failed_so shed_so yielded_so old = record {
+    → AreTallies ports indices queues b h t → AreTallies ports indices queues b (h ++ e ∷ []) (record t { done = done; failed = failed; shed = shed; yielded = yielded })
+ends_alone ports indices queues b h e t done failed shed yielded posts_so taken_so firings_so cut_so put_so dropped_so done_so failed_so shed_so yielded_so old = record {
   posted_len = old.posted_len;
   fired_len = old.fired_len;
   put_len = old.put_len;
   dropped_len = old.dropped_len;
   posted = λ k low. rw posts_so (old.posted k low);
-  fired = λ spot place at low. rw firings_so (old.fired spot place at low);
+  fired = λ spot index at low. rw firings_so (old.fired spot index at low);
   put = λ k low. rw put_so (old.put k low);
   drops = rw dropped_so old.drops;
   dropped = λ k low. rw dropped_so (old.dropped k low);
@@ -114,22 +114,22 @@ ends_alone ports places queues b h e t done failed shed yielded posts_so taken_s
 }
 
 -- the same of an end
-of_end : (ports places queues : ℕ) (b : Books) (h : List Event) (task : TaskId) (how : EndHow) (t : Tallies) (done failed shed yielded : ℕ)
+of_end : (ports indices queues : ℕ) (b : Books) (h : List Event) (task : TaskId) (how : EndHow) (t : Tallies) (done failed shed yielded : ℕ)
     → done ≡ length (filter is_done (h ++ events.End task how ∷ [])) → failed ≡ length (filter is_failed (h ++ events.End task how ∷ [])) → shed ≡ length (filter is_shed (h ++ events.End task how ∷ [])) → yielded ≡ length (filter is_yield (h ++ events.End task how ∷ []))
-    → AreTallies ports places queues b h t → AreTallies ports places queues b (h ++ events.End task how ∷ []) (record t { done = done; failed = failed; shed = shed; yielded = yielded })
-of_end ports places queues b h task how t done failed shed yielded done_so failed_so shed_so yielded_so old =
+    → AreTallies ports indices queues b h t → AreTallies ports indices queues b (h ++ events.End task how ∷ []) (record t { done = done; failed = failed; shed = shed; yielded = yielded })
+of_end ports indices queues b h task how t done failed shed yielded done_so failed_so shed_so yielded_so old =
     let e = events.End task how in
-    ends_alone ports places queues b h e t done failed shed yielded (posts-push h e ∙ append-nil (posts h)) (taken-push h e ∙ append-nil (taken h)) (firings-push h e ∙ append-nil (firings h)) (cut-push h e ∙ append-nil (cut h)) (put-push h e ∙ append-nil (put h)) (dropped-push h e ∙ append-nil (dropped h))
+    ends_alone ports indices queues b h e t done failed shed yielded (posts-push h e ∙ append-nil (posts h)) (taken-push h e ∙ append-nil (taken h)) (firings-push h e ∙ append-nil (firings h)) (cut-push h e ∙ append-nil (cut h)) (put-push h e ∙ append-nil (put h)) (dropped-push h e ∙ append-nil (dropped h))
     done_so failed_so shed_so yielded_so old
 
-pub tallies-event : (ports places queues : ℕ) (b : Books) (h : List Event) (e : Event) (t : Tallies) → AreTallies ports places queues b h t → AreTallies ports places queues b (h ++ e ∷ []) (after_event b e t)
-tallies-event ports places queues b h (events.Post m) t old = record {
+pub tallies-event : (ports indices queues : ℕ) (b : Books) (h : List Event) (e : Event) (t : Tallies) → AreTallies ports indices queues b h t → AreTallies ports indices queues b (h ++ e ∷ []) (after_event b e t)
+tallies-event ports indices queues b h (events.Post m) t old = record {
   posted_len = length-more m.port t.posted ∙ old.posted_len;
   fired_len = old.fired_len;
   put_len = old.put_len;
   dropped_len = old.dropped_len;
   posted = λ k low. posted_more t.posted h m k (omega (arith, low, old.posted_len)) (old.posted k low);
-  fired = λ spot place at low. rw (firings-push, append-nil) (old.fired spot place at low);
+  fired = λ spot index at low. rw (firings-push, append-nil) (old.fired spot index at low);
   put = λ k low. rw (put-push, append-nil) (old.put k low);
   drops = rw (dropped-push, append-nil) old.drops;
   dropped = λ k low. rw (dropped-push, append-nil) (old.dropped k low);
@@ -142,13 +142,13 @@ tallies-event ports places queues b h (events.Post m) t old = record {
   shed = no_more is_shed h (events.Post m) t.shed refl old.shed;
   yielded = no_more is_yield h (events.Post m) t.yielded refl old.yielded;
 }
-tallies-event ports places queues b h (events.Fire task spot messages cuts) t old = record {
+tallies-event ports indices queues b h (events.Fire task spot messages cuts) t old = record {
   posted_len = old.posted_len;
-  fired_len = length-more_at (place_of spot) t.fired ∙ old.fired_len;
+  fired_len = length-more_at (index_of spot) t.fired ∙ old.fired_len;
   put_len = old.put_len;
   dropped_len = old.dropped_len;
   posted = λ k low. rw (posts-push, append-nil) (old.posted k low);
-  fired = λ other place at low. fired_more t.fired h task spot other messages cuts place at (omega (arith, low, old.fired_len)) (old.fired other place at low);
+  fired = λ other index at low. fired_more t.fired h task spot other messages cuts index at (omega (arith, low, old.fired_len)) (old.fired other index at low);
   put = λ k low. rw (put-push, append-nil) (old.put k low);
   drops = rw (dropped-push, append-nil) old.drops;
   dropped = λ k low. rw (dropped-push, append-nil) (old.dropped k low);
@@ -161,13 +161,13 @@ tallies-event ports places queues b h (events.Fire task spot messages cuts) t ol
   shed = no_more is_shed h (events.Fire task spot messages cuts) t.shed refl old.shed;
   yielded = no_more is_yield h (events.Fire task spot messages cuts) t.yielded refl old.yielded;
 }
-tallies-event ports places queues b h (events.Put task gone) t old = record {
+tallies-event ports indices queues b h (events.Put task gone) t old = record {
   posted_len = old.posted_len;
   fired_len = old.fired_len;
   put_len = length-more_for b task t.put ∙ old.put_len;
   dropped_len = length-more_if_some b gone t.dropped ∙ old.dropped_len;
   posted = λ k low. rw (posts-push, append-nil) (old.posted k low);
-  fired = λ spot place at low. rw (firings-push, append-nil) (old.fired spot place at low);
+  fired = λ spot index at low. rw (firings-push, append-nil) (old.fired spot index at low);
   put = λ k low. rw put-push (for_more b t.put (put h) task k (omega (arith, low, old.put_len)) (old.put k low));
   drops = rw (dropped-push, length-append) (omega (arith, old.drops));
   dropped = λ k low. rw dropped-push (if_some_more b t.dropped (dropped h) gone k (omega (arith, low, old.dropped_len)) (old.dropped k low));
@@ -180,9 +180,9 @@ tallies-event ports places queues b h (events.Put task gone) t old = record {
   shed = no_more is_shed h (events.Put task gone) t.shed refl old.shed;
   yielded = no_more is_yield h (events.Put task gone) t.yielded refl old.yielded;
 }
-tallies-event ports places queues b h (events.End task ends.Done) t old = of_end ports places queues b h task ends.Done t (t.done + 1) t.failed t.shed t.yielded (one_more is_done h (events.End task ends.Done) t.done refl old.done) (no_more is_failed h (events.End task ends.Done) t.failed refl old.failed) (no_more is_shed h (events.End task ends.Done) t.shed refl old.shed) (no_more is_yield h (events.End task ends.Done) t.yielded refl old.yielded) old
-tallies-event ports places queues b h (events.End task (ends.Failed value)) t old = of_end ports places queues b h task (ends.Failed value) t t.done (t.failed + 1) t.shed t.yielded (no_more is_done h (events.End task (ends.Failed value)) t.done refl old.done) (one_more is_failed h (events.End task (ends.Failed value)) t.failed refl old.failed) (no_more is_shed h (events.End task (ends.Failed value)) t.shed refl old.shed) (no_more is_yield h (events.End task (ends.Failed value)) t.yielded refl old.yielded) old
-tallies-event ports places queues b h (events.End task ends.Shed) t old = of_end ports places queues b h task ends.Shed t t.done t.failed (t.shed + 1) t.yielded (no_more is_done h (events.End task ends.Shed) t.done refl old.done) (no_more is_failed h (events.End task ends.Shed) t.failed refl old.failed) (one_more is_shed h (events.End task ends.Shed) t.shed refl old.shed) (no_more is_yield h (events.End task ends.Shed) t.yielded refl old.yielded) old
-tallies-event ports places queues b h (events.End task ends.Yield) t old = of_end ports places queues b h task ends.Yield t t.done t.failed t.shed (t.yielded + 1) (no_more is_done h (events.End task ends.Yield) t.done refl old.done) (no_more is_failed h (events.End task ends.Yield) t.failed refl old.failed) (no_more is_shed h (events.End task ends.Yield) t.shed refl old.shed) (one_more is_yield h (events.End task ends.Yield) t.yielded refl old.yielded) old
-tallies-event ports places queues b h (events.Admit task) t old = ends_alone ports places queues b h (events.Admit task) t t.done t.failed t.shed t.yielded (posts-push h (events.Admit task) ∙ append-nil (posts h)) (taken-push h (events.Admit task) ∙ append-nil (taken h)) (firings-push h (events.Admit task) ∙ append-nil (firings h)) (cut-push h (events.Admit task) ∙ append-nil (cut h)) (put-push h (events.Admit task) ∙ append-nil (put h)) (dropped-push h (events.Admit task) ∙ append-nil (dropped h)) (no_more is_done h (events.Admit task) t.done refl old.done) (no_more is_failed h (events.Admit task) t.failed refl old.failed) (no_more is_shed h (events.Admit task) t.shed refl old.shed) (no_more is_yield h (events.Admit task) t.yielded refl old.yielded) old
-tallies-event ports places queues b h (events.Start task actor) t old = ends_alone ports places queues b h (events.Start task actor) t t.done t.failed t.shed t.yielded (posts-push h (events.Start task actor) ∙ append-nil (posts h)) (taken-push h (events.Start task actor) ∙ append-nil (taken h)) (firings-push h (events.Start task actor) ∙ append-nil (firings h)) (cut-push h (events.Start task actor) ∙ append-nil (cut h)) (put-push h (events.Start task actor) ∙ append-nil (put h)) (dropped-push h (events.Start task actor) ∙ append-nil (dropped h)) (no_more is_done h (events.Start task actor) t.done refl old.done) (no_more is_failed h (events.Start task actor) t.failed refl old.failed) (no_more is_shed h (events.Start task actor) t.shed refl old.shed) (no_more is_yield h (events.Start task actor) t.yielded refl old.yielded) old
+tallies-event ports indices queues b h (events.End task ends.Done) t old = of_end ports indices queues b h task ends.Done t (t.done + 1) t.failed t.shed t.yielded (one_more is_done h (events.End task ends.Done) t.done refl old.done) (no_more is_failed h (events.End task ends.Done) t.failed refl old.failed) (no_more is_shed h (events.End task ends.Done) t.shed refl old.shed) (no_more is_yield h (events.End task ends.Done) t.yielded refl old.yielded) old
+tallies-event ports indices queues b h (events.End task (ends.Failed value)) t old = of_end ports indices queues b h task (ends.Failed value) t t.done (t.failed + 1) t.shed t.yielded (no_more is_done h (events.End task (ends.Failed value)) t.done refl old.done) (one_more is_failed h (events.End task (ends.Failed value)) t.failed refl old.failed) (no_more is_shed h (events.End task (ends.Failed value)) t.shed refl old.shed) (no_more is_yield h (events.End task (ends.Failed value)) t.yielded refl old.yielded) old
+tallies-event ports indices queues b h (events.End task ends.Shed) t old = of_end ports indices queues b h task ends.Shed t t.done t.failed (t.shed + 1) t.yielded (no_more is_done h (events.End task ends.Shed) t.done refl old.done) (no_more is_failed h (events.End task ends.Shed) t.failed refl old.failed) (one_more is_shed h (events.End task ends.Shed) t.shed refl old.shed) (no_more is_yield h (events.End task ends.Shed) t.yielded refl old.yielded) old
+tallies-event ports indices queues b h (events.End task ends.Yield) t old = of_end ports indices queues b h task ends.Yield t t.done t.failed t.shed (t.yielded + 1) (no_more is_done h (events.End task ends.Yield) t.done refl old.done) (no_more is_failed h (events.End task ends.Yield) t.failed refl old.failed) (no_more is_shed h (events.End task ends.Yield) t.shed refl old.shed) (one_more is_yield h (events.End task ends.Yield) t.yielded refl old.yielded) old
+tallies-event ports indices queues b h (events.Admit task) t old = ends_alone ports indices queues b h (events.Admit task) t t.done t.failed t.shed t.yielded (posts-push h (events.Admit task) ∙ append-nil (posts h)) (taken-push h (events.Admit task) ∙ append-nil (taken h)) (firings-push h (events.Admit task) ∙ append-nil (firings h)) (cut-push h (events.Admit task) ∙ append-nil (cut h)) (put-push h (events.Admit task) ∙ append-nil (put h)) (dropped-push h (events.Admit task) ∙ append-nil (dropped h)) (no_more is_done h (events.Admit task) t.done refl old.done) (no_more is_failed h (events.Admit task) t.failed refl old.failed) (no_more is_shed h (events.Admit task) t.shed refl old.shed) (no_more is_yield h (events.Admit task) t.yielded refl old.yielded) old
+tallies-event ports indices queues b h (events.Start task actor) t old = ends_alone ports indices queues b h (events.Start task actor) t t.done t.failed t.shed t.yielded (posts-push h (events.Start task actor) ∙ append-nil (posts h)) (taken-push h (events.Start task actor) ∙ append-nil (taken h)) (firings-push h (events.Start task actor) ∙ append-nil (firings h)) (cut-push h (events.Start task actor) ∙ append-nil (cut h)) (put-push h (events.Start task actor) ∙ append-nil (put h)) (dropped-push h (events.Start task actor) ∙ append-nil (dropped h)) (no_more is_done h (events.Start task actor) t.done refl old.done) (no_more is_failed h (events.Start task actor) t.failed refl old.failed) (no_more is_shed h (events.Start task actor) t.shed refl old.shed) (no_more is_yield h (events.Start task actor) t.yielded refl old.yielded) old

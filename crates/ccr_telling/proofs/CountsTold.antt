@@ -25,7 +25,7 @@ use Rattle.ccr_laws.proofs.FewCut.{few_cut}
 use Rattle.ccr_laws.proofs.HeldTaken.{held_or_taken}
 use Rattle.ccr_report.specs.declared.counted.Counts.{Counts}
 use Rattle.ccr_report.specs.Counted.{IsCounted}
-use Rattle.ccr_telling.specs.Tallies.{AreTallies, Tallies, all_places, is_on, place_of}
+use Rattle.ccr_telling.specs.Tallies.{AreTallies, Tallies, all_indices, is_on, index_of}
 use Rattle.ccr_telling.specs.Totals.{totals_by}
 use Rattle.ccr_telling.proofs.Numbers.{number_read}
 use Rattle.ccr_telling.proofs.Spots.{spots_same}
@@ -79,17 +79,17 @@ same_filter p q same [] = refl
 same_filter p q same (t ∷ ts) = rw (same t, same_filter p q same ts) refl
 
 -- how often spots fired
-fired_told : (w : Parts) → IsValid w → (h : List Event) (b : Books) (t : Tallies) → AreTallies (length w.ports) all_places (length w.queues) b h t → map (λ (spot : Spot). option_map_or (number t.fired) (place_of spot) 0) (spots w) ≡ map (λ spot. length (fired_at h spot)) (spots w)
-fired_told w valid h b t so = spots_same w valid (λ (spot : Spot). option_map_or (number t.fired) (place_of spot) 0) (λ spot. length (fired_at h spot)) (λ spot place at low. ap (λ o. option_map_or (number t.fired) o 0) at ∙ so.fired spot place at low)
+fired_told : (w : Parts) → IsValid w → (h : List Event) (b : Books) (t : Tallies) → AreTallies (length w.ports) all_indices (length w.queues) b h t → map (λ (spot : Spot). option_map_or (number t.fired) (index_of spot) 0) (spots w) ≡ map (λ spot. length (fired_at h spot)) (spots w)
+fired_told w valid h b t so = spots_same w valid (λ (spot : Spot). option_map_or (number t.fired) (index_of spot) 0) (λ spot. length (fired_at h spot)) (λ spot index at low. ap (λ o. option_map_or (number t.fired) o 0) at ∙ so.fired spot index at low)
 
-totals_told : (w : Parts) → IsValid w → (h : List Event) → IsLegal w h → (b : Books) (t : Tallies) → AreTallies (length w.ports) all_places (length w.queues) b h t → totals_by t ≡ totals h
+totals_told : (w : Parts) → IsValid w → (h : List Event) → IsLegal w h → (b : Books) (t : Tallies) → AreTallies (length w.ports) all_indices (length w.queues) b h t → totals_by t ≡ totals h
 totals_told w valid h legal b t so =
     let held_so : length (posts h) - length (taken h) ≡ length (untaken h) = omega (arith, held_or_taken w valid h legal) in
     rw (so.posts, so.taken, so.firings, so.cut, so.drops, so.done, so.failed, so.shed, so.yielded, held_so) refl
 
-pub counted_told : (w : Parts) → IsValid w → (h : List Event) → IsLegal w h → (b : Books) → Keeps w h b → (t : Tallies) → AreTallies (length w.ports) all_places (length w.queues) b h t → (counts : Counts)
+pub counted_told : (w : Parts) → IsValid w → (h : List Event) → IsLegal w h → (b : Books) → Keeps w h b → (t : Tallies) → AreTallies (length w.ports) all_indices (length w.queues) b h t → (counts : Counts)
     → counts.posted.items ≡ t.posted → length counts.held.items ≡ length w.ports → ((k : ℕ) → k < length w.ports → slice_index counts.held.items k ≡ length (row b.ports k))
-    → counts.fired.items ≡ map (λ (spot : Spot). option_map_or (number t.fired) (place_of spot) 0) (spots w) → counts.put.items ≡ t.put → counts.dropped.items ≡ t.dropped → counts.totals ≡ totals_by t → IsCounted w h counts
+    → counts.fired.items ≡ map (λ (spot : Spot). option_map_or (number t.fired) (index_of spot) 0) (spots w) → counts.put.items ≡ t.put → counts.dropped.items ≡ t.dropped → counts.totals ≡ totals_by t → IsCounted w h counts
 counted_told w valid h legal b keeps t so counts posted_is held_len held_is fired_is put_is dropped_is totals_is = record {
   posted_len = ap length posted_is ∙ so.posted_len;
   held_len = held_len;

@@ -11,13 +11,13 @@ use Rattle.ccr_model.specs.Posts.{taken}
 use Rattle.ccr_model.specs.Firings.{cut}
 use Rattle.ccr_ledger.specs.Books.{Books, number}
 use Rattle.ccr_ledger.proofs.Empty.{number-none}
-use Rattle.ccr_telling.specs.Tallies.{AreFew, AreTallies, HasRoom, Tallies, after_event, no_tallies, place_of}
+use Rattle.ccr_telling.specs.Tallies.{AreFew, AreTallies, HasRoom, Tallies, after_event, no_tallies, index_of}
 use Rattle.ccr_telling.proofs.Numbers.{more-few, more_at-few, more_for-few, more_if_some-few}
 
-pub few-none : (ports places queues : ℕ) → AreFew 0 (no_tallies ports places queues)
-few-none ports places queues = record {
+pub few-none : (ports indices queues : ℕ) → AreFew 0 (no_tallies ports indices queues)
+few-none ports indices queues = record {
   posted = λ k. omega (arith, number-none ports k);
-  fired = λ k. omega (arith, number-none places k);
+  fired = λ k. omega (arith, number-none indices k);
   put = λ k. omega (arith, number-none queues k);
   dropped = λ k. omega (arith, number-none queues k);
   posts = omega arith;
@@ -60,7 +60,7 @@ one_dropped (Some t) = omega arith
 
 pub few-event : (n : ℕ) (b : Books) (e : Event) (t : Tallies) → AreFew n t → AreFew (n + 1) (after_event b e t)
 few-event n b (events.Post m) t few = within n t (after_event b (events.Post m) t) few (more-few m.port t.posted) (kept t.fired) (kept t.put) (kept t.dropped) (one t.posts) (same t.firings) (same t.drops) (same t.done) (same t.failed) (same t.shed) (same t.yielded)
-few-event n b (events.Fire task spot messages cuts) t few = within n t (after_event b (events.Fire task spot messages cuts) t) few (kept t.posted) (more_at-few (place_of spot) t.fired) (kept t.put) (kept t.dropped) (same t.posts) (one t.firings) (same t.drops) (same t.done) (same t.failed) (same t.shed) (same t.yielded)
+few-event n b (events.Fire task spot messages cuts) t few = within n t (after_event b (events.Fire task spot messages cuts) t) few (kept t.posted) (more_at-few (index_of spot) t.fired) (kept t.put) (kept t.dropped) (same t.posts) (one t.firings) (same t.drops) (same t.done) (same t.failed) (same t.shed) (same t.yielded)
 few-event n b (events.Put task gone) t few = within n t (after_event b (events.Put task gone) t) few (kept t.posted) (kept t.fired) (more_for-few b task t.put) (more_if_some-few b gone t.dropped) (same t.posts) (same t.firings) (omega (arith, one_dropped gone)) (same t.done) (same t.failed) (same t.shed) (same t.yielded)
 few-event n b (events.End task ends.Done) t few = within n t (after_event b (events.End task ends.Done) t) few (kept t.posted) (kept t.fired) (kept t.put) (kept t.dropped) (same t.posts) (same t.firings) (same t.drops) (one t.done) (same t.failed) (same t.shed) (same t.yielded)
 few-event n b (events.End task (ends.Failed value)) t few = within n t (after_event b (events.End task (ends.Failed value)) t) few (kept t.posted) (kept t.fired) (kept t.put) (kept t.dropped) (same t.posts) (same t.firings) (same t.drops) (same t.done) (one t.failed) (same t.shed) (same t.yielded)
@@ -82,8 +82,8 @@ cut_within (x ∷ es) zero e at = let one : x ≡ e = cc in grind (arith, common
 cut_within (x ∷ es) (suc i) e at = let rest = cut_within es i e at in grind (arith, common_steps, rest)
 
 -- the next event of a list has room
-pub room_for : (ports places queues : ℕ) (b : Books) (es : List Event) (i : ℕ) (e : Event) (t : Tallies) → slice_get es i ≡ Some e → i < 2 ^ 64 - 1 → length es < 2 ^ 64 → length (taken es) ≤ length es → length (cut es) ≤ length es → AreTallies ports places queues b (take i es) t → AreFew i t → HasRoom e t
-room_for ports places queues b es i e t at low short takes cuts so few = record {
+pub room_for : (ports indices queues : ℕ) (b : Books) (es : List Event) (i : ℕ) (e : Event) (t : Tallies) → slice_get es i ≡ Some e → i < 2 ^ 64 - 1 → length es < 2 ^ 64 → length (taken es) ≤ length es → length (cut es) ≤ length es → AreTallies ports indices queues b (take i es) t → AreFew i t → HasRoom e t
+room_for ports indices queues b es i e t at low short takes cuts so few = record {
   posted = λ k. omega (arith, few.posted k, low);
   fired = λ k. omega (arith, few.fired k, low);
   put = λ k. omega (arith, few.put k, low);

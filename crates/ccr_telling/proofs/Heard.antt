@@ -15,14 +15,14 @@ use Rattle.ccr_model.proofs.TaskPlaces.{ArePlaced, ArePlaced-legal, put_fired}
 use Rattle.ccr_model.proofs.TasksLeft.{filter_on}
 use Rattle.ccr_ledger.specs.Books.{Books}
 use Rattle.ccr_ledger.specs.Kept.{Keeps, KeepsTasks}
-use Rattle.ccr_telling.specs.Tallies.{AreFew, AreTallies, HasRoom, IsCounting, Tallies, after_event, all_places, is_on}
+use Rattle.ccr_telling.specs.Tallies.{AreFew, AreTallies, HasRoom, IsCounting, Tallies, after_event, all_indices, is_on}
 use Rattle.ccr_telling.proofs.Counting.{tallies-event}
 use Rattle.ccr_telling.proofs.Few.{few-event, room_for}
 use Rattle.ccr_telling.proofs.CountsTold.{few_cuts, few_taken, on_queue, same_filter}
 
 -- other tables that tell the same queue of each task that was put or dropped
-tallies_by : (ports places queues : ℕ) (a b : Books) (h : List Event) (t : Tallies) → ((q : ℕ) → filter (is_on a q) (put h) ≡ filter (is_on b q) (put h)) → ((q : ℕ) → filter (is_on a q) (dropped h) ≡ filter (is_on b q) (dropped h)) → AreTallies ports places queues a h t → AreTallies ports places queues b h t
-tallies_by ports places queues a b h t puts drops so = record {
+tallies_by : (ports indices queues : ℕ) (a b : Books) (h : List Event) (t : Tallies) → ((q : ℕ) → filter (is_on a q) (put h) ≡ filter (is_on b q) (put h)) → ((q : ℕ) → filter (is_on a q) (dropped h) ≡ filter (is_on b q) (dropped h)) → AreTallies ports indices queues a h t → AreTallies ports indices queues b h t
+tallies_by ports indices queues a b h t puts drops so = record {
   posted_len = so.posted_len;
   fired_len = so.fired_len;
   put_len = so.put_len;
@@ -43,9 +43,9 @@ tallies_by ports places queues a b h t puts drops so = record {
 }
 
 -- numbers by some tables of the history
-pub counting_of : (w : Parts) (h : List Event) (b : Books) (t : Tallies) → IsLegal w h → Keeps w h b → AreTallies (length w.ports) all_places (length w.queues) b h t → AreFew (length h) t → IsCounting w h t
+pub counting_of : (w : Parts) (h : List Event) (b : Books) (t : Tallies) → IsLegal w h → Keeps w h b → AreTallies (length w.ports) all_indices (length w.queues) b h t → AreFew (length h) t → IsCounting w h t
 counting_of w h b t legal keeps so few = record {
-  counted = λ other others. tallies_by (length w.ports) all_places (length w.queues) b other h t (λ q. same_filter (is_on b q) (is_on other q) (same other others q) (put h)) (λ q. same_filter (is_on b q) (is_on other q) (same other others q) (dropped h)) so;
+  counted = λ other others. tallies_by (length w.ports) all_indices (length w.queues) b other h t (λ q. same_filter (is_on b q) (is_on other q) (same other others q) (put h)) (λ q. same_filter (is_on b q) (is_on other q) (same other others q) (dropped h)) so;
   few = few;
 }
   where
@@ -62,10 +62,10 @@ one_queue w h e a b legal more was is q u fired = on_queue w h a legal was q u �
 -- one event more
 pub counting_next : (w : Parts) (h : List Event) (e : Event) (b : Books) (old new : Tallies) → Keeps w h b → IsLegal w (h ++ e ∷ []) → new ≡ after_event b e old → IsCounting w h old → IsCounting w (h ++ e ∷ []) new
 counting_next w h e b old new keeps legal is counting = record {
-  counted = λ other others. tallies_by (length w.ports) all_places (length w.queues) b other (h ++ e ∷ []) new
+  counted = λ other others. tallies_by (length w.ports) all_indices (length w.queues) b other (h ++ e ∷ []) new
       (λ q. filter_on (is_on b q) (is_on other q) (put (h ++ e ∷ [])) (λ u among. same other others q u (was_put u among)))
       (λ q. filter_on (is_on b q) (is_on other q) (dropped (h ++ e ∷ [])) (λ u among. same other others q u (was_put u (placed.lists.put_dropped u among))))
-      (subst (AreTallies (length w.ports) all_places (length w.queues) b (h ++ e ∷ [])) (sym is) (tallies-event (length w.ports) all_places (length w.queues) b h e old (counting.counted b keeps)));
+      (subst (AreTallies (length w.ports) all_indices (length w.queues) b (h ++ e ∷ [])) (sym is) (tallies-event (length w.ports) all_indices (length w.queues) b h e old (counting.counted b keeps)));
   few = subst (λ n. AreFew n new) (sym (length-append h (e ∷ []))) (subst (AreFew (length h + 1)) (sym is) (few-event (length h) b e old counting.few));
 }
   where
@@ -94,5 +94,5 @@ pub counting_room : (w : Parts) (h : List Event) (e : Event) (b : Books) (t : Ta
 counting_room w h e b t valid keeps legal short counting =
     let all = h ++ e ∷ [] in
     let longer : length all ≡ length h + 1 = length-append h (e ∷ []) in
-    room_for (length w.ports) all_places (length w.queues) b all (length h) e t (at_end h e) (omega (arith, longer, short)) (omega (arith, short)) (few_taken w valid all legal) (few_cuts w all legal)
-    (subst (λ g. AreTallies (length w.ports) all_places (length w.queues) b g t) (sym (take_before h e)) (counting.counted b keeps)) counting.few
+    room_for (length w.ports) all_indices (length w.queues) b all (length h) e t (at_end h e) (omega (arith, longer, short)) (omega (arith, short)) (few_taken w valid all legal) (few_cuts w all legal)
+    (subst (λ g. AreTallies (length w.ports) all_indices (length w.queues) b g t) (sym (take_before h e)) (counting.counted b keeps)) counting.few

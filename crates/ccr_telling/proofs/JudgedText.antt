@@ -42,9 +42,9 @@ first_so : (old now next : Reader) (judged : Judged) (tallies : Tallies) (e : Ev
     → first_refusal old.wiring [] 0 next.so_far.history ≡ at_last (length now.so_far.history) rule
 first_so old now next judged tallies e rule so_far read asked =
     let agrees = (so_far.agrees refl).accepted in
-    let place : 0 + length now.so_far.history ≡ length now.so_far.history = omega arith in
+    let index : 0 + length now.so_far.history ≡ length now.so_far.history = omega arith in
     let same = ap (λ (j : Judged). refusal j.wiring j.history e) agrees ∙ ap (λ (w : Parts). refusal w now.so_far.history e) so_far.wiring in
-    ap (first_refusal old.wiring [] 0) read.history ∙ (refusal_next old.wiring [] 0 now.so_far.history e (sym so_far.first) ∙ (ap (λ (n : ℕ). at_last n (refusal old.wiring now.so_far.history e)) place ∙ ap (at_last (length now.so_far.history)) (sym (asked ∙ same))))
+    ap (first_refusal old.wiring [] 0) read.history ∙ (refusal_next old.wiring [] 0 now.so_far.history e (sym so_far.first) ∙ (ap (λ (n : ℕ). at_last n (refusal old.wiring now.so_far.history e)) index ∙ ap (at_last (length now.so_far.history)) (sym (asked ∙ same))))
 
 -- the event is refused
 pub judged_refused : (old now next : Reader) (judged new : Judged) (tallies counted : Tallies) (e : Event) (at : ℕ) (rule : Rule) → IsJudgedSoFar old now judged tallies None → HasRead now e next → Some rule ≡ refusal judged.wiring judged.history e

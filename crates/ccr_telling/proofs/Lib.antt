@@ -1,5 +1,5 @@
 pub mod Numbers
-pub mod Places
+pub mod Indices
 pub mod Few
 pub mod Counting
 pub mod Along

@@ -1,4 +1,4 @@
--- The spots of a valid wiring have places.
+-- The spots of a valid wiring have indices.
 use Rattle.std.proofs.Common.{◌≡◌, ℕ, ◌+◌, ◌*◌, ◌≤◌, ◌<◌, true, List, [], ◌∷◌, length, map, Some, refl, ap, arith}
 use Rattle.std.specs.Prelude.{nat_lt}
 use Rattle.std.proofs.lemmas.Bool.Decides.{nat_tests}
@@ -9,12 +9,12 @@ use Rattle.ccr_wiring.specs.declared.parts.Parts.{Parts}
 use Rattle.ccr_wiring.specs.Wirings.{Placement, actions_of, awaited, placements, sites_from, spots, spots_from}
 use Rattle.ccr_wiring.specs.Valid.{IsValid, HasFewActions}
 use Rattle.ccr_wiring.proofs.Soundness.{sound}
-use Rattle.ccr_telling.specs.Tallies.{all_places, place_of}
-use Rattle.ccr_engine.proofs.SpotPlaces.{few_awaited}
+use Rattle.ccr_telling.specs.Tallies.{all_indices, index_of}
+use Rattle.ccr_engine.proofs.SpotIndices.{few_awaited}
 
--- two counts of spots are the same where a spot has a place
+-- two counts of spots are the same where a spot has a index
 abbrev pub AreSame : (Spot → ℕ) → (Spot → ℕ) → Type 0
-AreSame f g = (spot : Spot) (place : ℕ) → place_of spot ≡ Some place → place < all_places → f spot ≡ g spot
+AreSame f g = (spot : Spot) (index : ℕ) → index_of spot ≡ Some index → index < all_indices → f spot ≡ g spot
 
 branch_same : (f g : Spot → ℕ) → AreSame f g → (b : ℕ) → b < 256 → f (Branch b) ≡ g (Branch b)
 branch_same f g same b low = same (Branch b) (b * 17) refl (omega (arith, low))
@@ -22,7 +22,7 @@ branch_same f g same b low = same (Branch b) (b * 17) refl (omega (arith, low))
 site_same : (f g : Spot → ℕ) → AreSame f g → (b k : ℕ) → b < 256 → k < 16 → f (Site b k) ≡ g (Site b k)
 site_same f g same b k low less = same (Site b k) (b * 17 + (k + 1)) at (omega (arith, low, less))
   where
-    at : place_of (Site b k) ≡ Some (b * 17 + (k + 1))
+    at : index_of (Site b k) ≡ Some (b * 17 + (k + 1))
     at = let is : nat_lt k 16 ≡ true = grind (arith, nat_tests, less) in rw is refl
 
 sites_same : (f g : Spot → ℕ) → AreSame f g → (b k : ℕ) (ports : List ℕ) → b < 256 → k + length ports ≤ 16 → map f (sites_from b k ports) ≡ map g (sites_from b k ports)

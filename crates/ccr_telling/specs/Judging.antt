@@ -47,7 +47,7 @@ pub record IsJudgedSoFar (old now : Reader) (judged : Judged) (tallies : Tallies
   pub first : refused ≡ first_refusal old.wiring [] 0 now.so_far.history
   pub agrees : refused ≡ None → AgreesSoFar now judged tallies
 
--- where the event at this place was read next, what was judged and counted so far became what is
+-- where the event at this index was read next, what was judged and counted so far became what is
 abbrev pub HasJudged : ℕ → Event → Judged → Tallies → Option (ℕ × Rule) → Judged → Tallies → Option (ℕ × Rule) → Type 0
 HasJudged at event judged_before tallied_before refused_before judged tallied refused =
     (old now next : Reader) →

@@ -25,7 +25,7 @@ use Rattle.ccr_report.specs.Counted.{IsCounted}
 pub record Tallies : Type 0 where
   -- at each port how many messages were posted
   pub posted : List ℕ
-  -- at the place of each spot how many tasks fired
+  -- at the index of each spot how many tasks fired
   pub fired : List ℕ
   -- of each queue how many tasks were put, and how many it dropped
   pub put : List ℕ
@@ -41,24 +41,24 @@ pub record Tallies : Type 0 where
   pub shed : ℕ
   pub yielded : ℕ
 
--- each branch has this many places: its own, and one for each site that it can have
-abbrev pub places_each : ℕ
-places_each = 17
+-- each branch has this many indices: its own, and one for each site that it can have
+abbrev pub indices_each : ℕ
+indices_each = 17
 
--- as many places as 256 branches have
-abbrev pub all_places : ℕ
-all_places = 4352
+-- as many indices as 256 branches have
+abbrev pub all_indices : ℕ
+all_indices = 4352
 
--- the place of a spot; none for a site past the sixteenth
-abbrev pub place_of : Spot → Option ℕ
-place_of (Branch branch) = Some (branch * places_each)
-place_of (Site branch site) = if nat_lt site 16 then Some (branch * places_each + (site + 1)) else None
+-- the index of a spot; none for a site past the sixteenth
+abbrev pub index_of : Spot → Option ℕ
+index_of (Branch branch) = Some (branch * indices_each)
+index_of (Site branch site) = if nat_lt site 16 then Some (branch * indices_each + (site + 1)) else None
 
 -- nothing was counted yet
 abbrev pub no_tallies : ℕ → ℕ → ℕ → Tallies
-no_tallies ports places queues = record {
+no_tallies ports indices queues = record {
   posted = replicate ports 0;
-  fired = replicate places 0;
+  fired = replicate indices 0;
   put = replicate queues 0;
   dropped = replicate queues 0;
   posts = 0;
@@ -72,10 +72,10 @@ no_tallies ports places queues = record {
   yielded = 0;
 }
 
--- one more at the place, if there is one
+-- one more at the index, if there is one
 abbrev pub more_at : Option ℕ → List ℕ → List ℕ
 more_at None numbers = numbers
-more_at (Some place) numbers = more place numbers
+more_at (Some index) numbers = more index numbers
 
 -- one more for the queue of the task, by its card
 abbrev pub more_for : Books → TaskId → List ℕ → List ℕ
@@ -92,7 +92,7 @@ after_post port tallies = record tallies { posted = more port tallies.posted; po
 
 -- one firing more at the spot, with the messages that it took and the tasks that it cut
 abbrev pub after_fire : Spot → List MsgId → List TaskId → Tallies → Tallies
-after_fire spot messages cuts tallies = record tallies { fired = more_at (place_of spot) tallies.fired; taken = tallies.taken + length messages; firings = tallies.firings + 1; cut = tallies.cut + length cuts }
+after_fire spot messages cuts tallies = record tallies { fired = more_at (index_of spot) tallies.fired; taken = tallies.taken + length messages; firings = tallies.firings + 1; cut = tallies.cut + length cuts }
 
 -- one task more at its queue, and one task more that its queue dropped, where it dropped one
 abbrev pub after_put : Books → TaskId → Option TaskId → Tallies → Tallies
@@ -147,13 +147,13 @@ abbrev pub is_on : Books → ℕ → TaskId → Bool
 is_on books queue task = option_map_or (λ (card : Card). card.queue == queue) (card_at books.tasks task) false
 
 -- the numbers are those of the history, where the tables tell the queues of its tasks
-pub record AreTallies (ports places queues : ℕ) (books : Books) (history : List Event) (tallies : Tallies) : Type 0 where
+pub record AreTallies (ports indices queues : ℕ) (books : Books) (history : List Event) (tallies : Tallies) : Type 0 where
   pub posted_len : length tallies.posted ≡ ports
-  pub fired_len : length tallies.fired ≡ places
+  pub fired_len : length tallies.fired ≡ indices
   pub put_len : length tallies.put ≡ queues
   pub dropped_len : length tallies.dropped ≡ queues
   pub posted : (k : ℕ) → k < ports → number tallies.posted k ≡ length (posted history k)
-  pub fired : (spot : Spot) (place : ℕ) → place_of spot ≡ Some place → place < places → number tallies.fired place ≡ length (fired_at history spot)
+  pub fired : (spot : Spot) (index : ℕ) → index_of spot ≡ Some index → index < indices → number tallies.fired index ≡ length (fired_at history spot)
   pub put : (k : ℕ) → k < queues → number tallies.put k ≡ length (filter (is_on books k) (put history))
   pub drops : tallies.drops ≡ length (dropped history)
   pub dropped : (k : ℕ) → k < queues → number tallies.dropped k ≡ length (filter (is_on books k) (dropped history))
@@ -182,7 +182,7 @@ pub record AreFew (most : ℕ) (tallies : Tallies) : Type 0 where
 
 -- the numbers are those of the history, whichever tables of it tell the queues of its tasks, and none but two is greater than it is long
 pub record IsCounting (wiring : Parts) (history : List Event) (tallies : Tallies) : Type 0 where
-  pub counted : (books : Books) → Keeps wiring history books → AreTallies (length wiring.ports) all_places (length wiring.queues) books history tallies
+  pub counted : (books : Books) → Keeps wiring history books → AreTallies (length wiring.ports) all_indices (length wiring.queues) books history tallies
   pub few : AreFew (length history) tallies
 
 -- where the tables and the old numbers are those of a history of a valid wiring, and the event may come behind it, the new numbers are those of the history with the event

@@ -10,7 +10,7 @@ ghost use Rattle.ccr_model.specs.Legal.{IsLegal};
 ghost use Rattle.ccr_model.specs.Posts.{taken};
 ghost use Rattle.ccr_ledger.specs.Books.{number};
 ghost use Rattle.ccr_ledger.specs.Kept.{Keeps};
-ghost use Rattle.ccr_telling.specs.Tallies.{AreCountsBy, AreFew, AreTallies, IsCounting, place_of};
+ghost use Rattle.ccr_telling.specs.Tallies.{AreCountsBy, AreFew, AreTallies, IsCounting, index_of};
 ghost use Rattle.ccr_telling.specs.Totals.{totals_by};
 
 use crate::tally::{ALL_PLACES, Tally};
@@ -27,15 +27,15 @@ fn tally_of(
     ledger: &Ledger,
     events: &[Event],
     ports: usize,
-    places: usize,
+    indices: usize,
     queues: usize,
 ) -> Result<Tally, OutOfMemory>
     requires taken { length (taken events.now) ≤ length events.now }
     requires cut { length (cut events.now) ≤ length events.now }
-    ensures counted { IfOk result (AreTallies ports places queues ledger.now events.now) }
+    ensures counted { IfOk result (AreTallies ports indices queues ledger.now events.now) }
     ensures few { IfOk result (AreFew (length events.now)) }
 {
-    let mut tally = Tally::new(alloc, ports, places, queues)?;
+    let mut tally = Tally::new(alloc, ports, indices, queues)?;
     for event in events {
         tally.enter(ledger, event);
     }
@@ -57,7 +57,7 @@ fn held_of(alloc: Global, ledger: &Ledger, ports: usize) -> Result<Vec<u64>, Out
 
 /// How often each spot fired, in their order.
 fn fired_of(alloc: Global, tally: &Tally, spots: &[Spot]) -> Result<Vec<u64>, OutOfMemory>
-    ensures { IfOk result (λ counts. counts.items ≡ map (λ spot. option_map_or (number tally.now.fired) (place_of spot) 0) spots.now) }
+    ensures { IfOk result (λ counts. counts.items ≡ map (λ spot. option_map_or (number tally.now.fired) (index_of spot) 0) spots.now) }
 {
     let mut counts = Vec::new(alloc);
     for spot in spots {

@@ -31,7 +31,7 @@ pub struct LegalText {
 /// What is found of the history that a text begins with.
 #[derive(Drop)]
 pub enum Judgement {
-    /// The event at this place is refused after those before it, first by this rule.
+    /// The event at this index is refused after those before it, first by this rule.
     Illegal { at: u32, rule: Rule },
     Legal(LegalText),
 }
@@ -55,7 +55,7 @@ fn judge_event(
     Ok(None)
 }
 
-/// Judges the event at this place, where none was refused before it.
+/// Judges the event at this index, where none was refused before it.
 fn judge_next(
     checker: &mut Checker<'_>,
     tally: &mut Tally,
@@ -74,7 +74,7 @@ fn judge_next(
     Ok(())
 }
 
-/// Judges each event until one is refused, whose place and rule it answers. The text is read to its end, since a line that can't be read
+/// Judges each event until one is refused, whose index and rule it answers. The text is read to its end, since a line that can't be read
 /// says more than an event that isn't allowed.
 fn judge_events(
     reader: &mut EventReader<'_>,

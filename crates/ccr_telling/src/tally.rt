@@ -5,7 +5,7 @@ ghost use Rattle.std.specs.Option.{option_map_or};
 ghost use Rattle.ccr_wiring.specs.declared.parts.Parts.{Parts};
 ghost use Rattle.ccr_model.specs.declared.history.Event.{Event as SomeEvent};
 ghost use Rattle.ccr_ledger.specs.Books.{more, number};
-ghost use Rattle.ccr_telling.specs.Tallies.{CountsNext, FitOneMore, HasRoom, WhereFireFits, after_end, after_event, after_fire, after_post, after_put, more_at, more_for, more_if_some, no_tallies, place_of};
+ghost use Rattle.ccr_telling.specs.Tallies.{CountsNext, FitOneMore, HasRoom, WhereFireFits, after_end, after_event, after_fire, after_post, after_put, more_at, more_for, more_if_some, no_tallies, index_of};
 
 use ccr_base::{MsgId, OutOfMemory, PortNo, Spot, TaskId};
 use ccr_laws::valid_histories_are_short;
@@ -14,7 +14,7 @@ use ccr_model::{EndHow, Event};
 use std::alloc::Global;
 use std::marker::Model;
 
-/// The places of a branch: its own, and one for each site that it can have.
+/// The indices of a branch: its own, and one for each site that it can have.
 const PLACES_EACH: usize = 17;
 /// As many as the branches of a wiring have, of which there are at most 256.
 pub(crate) const ALL_PLACES: usize = 4352;
@@ -24,7 +24,7 @@ pub(crate) const ALL_PLACES: usize = 4352;
 pub struct Tally {
     /// How many messages were posted at each port.
     pub(crate) posted: Vec<u64>,
-    /// How many tasks fired at the place of each spot.
+    /// How many tasks fired at the index of each spot.
     fired: Vec<u64>,
     /// How many tasks were put into each queue, and how many it dropped.
     pub(crate) put: Vec<u64>,
@@ -49,9 +49,9 @@ impl Model for Tally {
     ghost view = { λ t. record { posted = t.posted.items; fired = t.fired.items; put = t.put.items; dropped = t.dropped.items; posts = t.posts; taken = t.taken; firings = t.firings; cut = t.cut; drops = t.drops; done = t.done; failed = t.failed; shed = t.shed; yielded = t.yielded } };
 }
 
-/// The place of the spot; none for a site past the sixteenth, which no wiring has.
-fn place_of(spot: Spot) -> Option<usize>
-    ensures { result ≡ place_of spot }
+/// The index of the spot; none for a site past the sixteenth, which no wiring has.
+fn index_of(spot: Spot) -> Option<usize>
+    ensures { result ≡ index_of spot }
 {
     match spot {
         Spot::Branch(branch) => Some(branch as usize * PLACES_EACH),
@@ -65,21 +65,21 @@ fn place_of(spot: Spot) -> Option<usize>
     }
 }
 
-/// One more at the place, where it fits. There is none past the last.
-fn add_one(numbers: &mut Vec<u64>, place: usize)
-    ensures { number numbers.old.items place < 2 ^ 64 - 1 → numbers.new.items ≡ more place numbers.old.items }
+/// One more at the index, where it fits. There is none past the last.
+fn add_one(numbers: &mut Vec<u64>, index: usize)
+    ensures { number numbers.old.items index < 2 ^ 64 - 1 → numbers.new.items ≡ more index numbers.old.items }
 {
-    if place < numbers.len() {
-        numbers[place] = numbers[place].saturating_add(1);
+    if index < numbers.len() {
+        numbers[index] = numbers[index].saturating_add(1);
     }
 }
 
-/// One more at the place of the spot.
+/// One more at the index of the spot.
 fn add_spot(numbers: &mut Vec<u64>, spot: Spot)
-    ensures { FitOneMore numbers.old.items → numbers.new.items ≡ more_at (place_of spot) numbers.old.items }
+    ensures { FitOneMore numbers.old.items → numbers.new.items ≡ more_at (index_of spot) numbers.old.items }
 {
-    if let Some(place) = place_of(spot) {
-        add_one(numbers, place);
+    if let Some(index) = index_of(spot) {
+        add_one(numbers, index);
     }
 }
 
@@ -97,14 +97,14 @@ impl Tally {
     pub(crate) fn new(
         alloc: Global,
         ports: usize,
-        places: usize,
+        indices: usize,
         queues: usize,
     ) -> Result<Self, OutOfMemory>
-        ensures { IfOk result (λ tally. tally ≡ no_tallies ports places queues) }
+        ensures { IfOk result (λ tally. tally ≡ no_tallies ports indices queues) }
     {
         Ok(Tally {
             posted: Vec::from_elem(alloc, 0, ports)?,
-            fired: Vec::from_elem(alloc, 0, places)?,
+            fired: Vec::from_elem(alloc, 0, indices)?,
             put: Vec::from_elem(alloc, 0, queues)?,
             dropped: Vec::from_elem(alloc, 0, queues)?,
             posts: 0,
@@ -136,10 +136,10 @@ impl Tally {
 
     /// How many tasks fired at the spot.
     pub(crate) fn fired_at(&self, spot: Spot) -> u64
-        ensures { result ≡ option_map_or (number self.now.fired) (place_of spot) 0 }
+        ensures { result ≡ option_map_or (number self.now.fired) (index_of spot) 0 }
     {
-        match place_of(spot) {
-            Some(place) => match self.fired.get(place) {
+        match index_of(spot) {
+            Some(index) => match self.fired.get(index) {
                 Some(count) => *count,
                 None => 0,
             },

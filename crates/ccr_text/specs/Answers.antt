@@ -3,7 +3,7 @@ use Rattle.std.specs.Prelude.{◌≡◌, ℕ, Result, Ok, Err}
 use Rattle.ccr_text.specs.declared.stop.Stop.{Stop}
 use Rattle.ccr_text.specs.declared.stop.Stop.TheVariants as stops
 use Rattle.ccr_text.specs.Codes.{code_number}
-use Rattle.ccr_text.specs.Places.{Words}
+use Rattle.ccr_text.specs.Fields.{Words}
 
 -- running out of memory promises nothing; a refusal is the reader's, with this code's number
 abbrev pub Fails : {Y : Type 0} → Stop → Result Y ℕ → Type 0

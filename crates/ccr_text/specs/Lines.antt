@@ -47,10 +47,10 @@ begin_from word byte number [] = None
 begin_from word byte number (line ∷ lines) = if begins_with word line then Some (byte, number) else begin_from word (byte + (length line + 1)) (number + 1) lines
 
 -- these, or the text's length and number of lines
-abbrev pub place_or_end : List ℕ → Option (ℕ × ℕ) → ℕ × ℕ
-place_or_end text None = (length text, length (cut text))
-place_or_end text (Some place) = place
+abbrev pub index_or_end : List ℕ → Option (ℕ × ℕ) → ℕ × ℕ
+index_or_end text None = (length text, length (cut text))
+index_or_end text (Some index) = index
 
 -- the first line that opens with this word: the byte it begins at, and the lines before it
 abbrev pub line_of : List ℕ → List ℕ → ℕ × ℕ
-line_of text word = place_or_end text (begin_from word 0 0 (cut text))
+line_of text word = index_or_end text (begin_from word 0 0 (cut text))

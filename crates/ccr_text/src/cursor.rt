@@ -1,7 +1,7 @@
 //! The words of a line, read from left to right.
 
 ghost use Rattle.std.specs.Prelude.{◌≡◌, ◌==◌, length};
-ghost use Rattle.ccr_text.specs.Places.{seen, word, no_more, number, number_within, policy};
+ghost use Rattle.ccr_text.specs.Fields.{seen, word, no_more, number, number_within, policy};
 ghost use Rattle.ccr_text.specs.Answers.{Gives, Leaves, LeavesBy};
 
 use crate::numbers::read_number;
@@ -20,7 +20,7 @@ pub struct Cursor<'a> {
 
 impl<'a> Model for Cursor<'a> {
     ghost use Rattle.std.specs.Prelude.{List as Listed, ℕ, drop};
-    ghost use Rattle.ccr_text.specs.Places.{seen};
+    ghost use Rattle.ccr_text.specs.Fields.{seen};
 
     ghost Value = { Listed (Listed ℕ) };
 
@@ -61,7 +61,7 @@ impl<'a> Cursor<'a> {
         Ok(())
     }
 
-    #[tactic(auto, unfolding(crate::specs::Places::number))]
+    #[tactic(auto, unfolding(crate::specs::Fields::number))]
     pub fn number(&mut self) -> Result<u64, Stop>
         ensures { Leaves self.new result (number self.old) }
     {
@@ -73,7 +73,7 @@ impl<'a> Cursor<'a> {
     }
 
     /// A number between two bounds, which are within them.
-    #[tactic(auto, unfolding(crate::specs::Places::number_within))]
+    #[tactic(auto, unfolding(crate::specs::Fields::number_within))]
     pub fn number_within(&mut self, low: u32, high: u32) -> Result<u32, Stop>
         ensures { Leaves self.new result (number_within low high self.old) }
     {
@@ -85,7 +85,7 @@ impl<'a> Cursor<'a> {
     }
 
     /// unbounded, discard N or throttle N, with N from 1 to `most`.
-    #[tactic(auto, unfolding(crate::specs::Places::policy))]
+    #[tactic(auto, unfolding(crate::specs::Fields::policy))]
     pub fn policy(&mut self, most: u32) -> Result<Policy, Stop>
         ensures { Leaves self.new result (policy most self.old) }
     {

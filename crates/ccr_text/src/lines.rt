@@ -28,9 +28,9 @@ pub fn cut_line(text: &[u8]) -> (&[u8], Option<&[u8]>)
     ensures lines { cut text.now ≡ result.0.now ∷ option_map_or (λ rest. cut rest.now) result.1 [] }
     ensures shorter { IfSome result.1 (λ rest. length rest.now < length text.now) }
 {
-    for (place, byte) in text.iter().enumerate() {
+    for (index, byte) in text.iter().enumerate() {
         if *byte == b'\n' {
-            return (&text[..place], Some(&text[place + 1..]));
+            return (&text[..index], Some(&text[index + 1..]));
         }
     }
     (text, None)

@@ -38,9 +38,9 @@ pub fn cut_word(line: &[u8]) -> (&[u8], Option<&[u8]>)
     ensures cut { IfSome result.1 (λ after. pieces line.now ≡ result.0.now ∷ pieces after.now) }
     ensures shorter { IfSome result.1 (λ after. length after.now < length line.now) }
 {
-    for (place, byte) in line.iter().enumerate() {
+    for (index, byte) in line.iter().enumerate() {
         if !is_mark_byte(*byte) {
-            return (&line[..place], Some(&line[place + 1..]));
+            return (&line[..index], Some(&line[index + 1..]));
         }
     }
     (line, None)
@@ -53,9 +53,9 @@ pub fn cut_run(bytes: &[u8]) -> (&[u8], Option<(u8, &[u8])>)
     ensures parts { IfSome result.1 (λ behind. bytes.now ≡ result.0.now ++ behind.0 ∷ behind.1.now) }
     ensures other { IfSome result.1 (λ behind. is_mark behind.0 ≡ false) }
 {
-    for (place, byte) in bytes.iter().enumerate() {
+    for (index, byte) in bytes.iter().enumerate() {
         if !is_mark_byte(*byte) {
-            return (&bytes[..place], Some((*byte, &bytes[place + 1..])));
+            return (&bytes[..index], Some((*byte, &bytes[index + 1..])));
         }
     }
     (bytes, None)

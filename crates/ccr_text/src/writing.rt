@@ -6,7 +6,7 @@ ghost use Rattle.ccr_text.specs.Spelling.{Grew, spaced, line_text};
 use ccr_base::{List, OutOfMemory};
 
 /// Takes off the end what stands behind this length.
-fn shorten(out: &mut List<u8>, len: usize)
+pub fn shorten(out: &mut List<u8>, len: usize)
     requires { len ≤ length out.old }
     ensures { out.new ≡ take len out.old }
 {

@@ -12,28 +12,28 @@ use Rattle.ccr_trace.specs.Known.{number_in}
 use Rattle.ccr_trace.proofs.Steps.{some_is, same_word, same_text}
 use Rattle.std.proofs.lemmas.Bool.{or_parts as neither}
 
-abbrev place_of : List (List ℕ) → List ℕ → ℕ
-place_of names word = position_or_len (λ name. bytes_eq word name) names
+abbrev index_of : List (List ℕ) → List ℕ → ℕ
+index_of names word = position_or_len (λ name. bytes_eq word name) names
 
-here : (name : List ℕ) (names : List (List ℕ)) (word : List ℕ) → bytes_eq word name ≡ true → place_of (name ∷ names) word ≡ 0
+here : (name : List ℕ) (names : List (List ℕ)) (word : List ℕ) → bytes_eq word name ≡ true → index_of (name ∷ names) word ≡ 0
 here name names word e = rw e refl
 
-later : (name : List ℕ) (names : List (List ℕ)) (word : List ℕ) → bytes_eq word name ≡ false → place_of (name ∷ names) word ≡ suc (place_of names word)
+later : (name : List ℕ) (names : List (List ℕ)) (word : List ℕ) → bytes_eq word name ≡ false → index_of (name ∷ names) word ≡ suc (index_of names word)
 later name names word e = rw e (omega arith)
 
--- the name at the place where it is found
-found_at : (names : List (List ℕ)) (word : List ℕ) → place_of names word < length names → name_at names (place_of names word) ≡ word
+-- the name at the index where it is found
+found_at : (names : List (List ℕ)) (word : List ℕ) → index_of names word < length names → name_at names (index_of names word) ≡ word
 found_at [] word below = absurd (omega arith)
 found_at (name ∷ names) word below = by (bytes_eq word name) refl (found_at names word)
   where
-    by : (t : Bool) → bytes_eq word name ≡ t → (place_of names word < length names → name_at names (place_of names word) ≡ word) → name_at (name ∷ names) (place_of (name ∷ names) word) ≡ word
+    by : (t : Bool) → bytes_eq word name ≡ t → (index_of names word < length names → name_at names (index_of names word) ≡ word) → name_at (name ∷ names) (index_of (name ∷ names) word) ≡ word
     by true is next = ap (name_at (name ∷ names)) (here name names word is) ∙ sym (same_word word name is)
     by false is next =
-        let place = later name names word is in
-        ap (name_at (name ∷ names)) place ∙ next (omega arith)
+        let index = later name names word is in
+        ap (name_at (name ∷ names)) index ∙ next (omega arith)
 
-number_of_place : (p count n : ℕ) → cond (nat_lt p count) (Some p) None ≡ Some n → (p ≡ n) × (p < count)
-number_of_place p count n e = by (nat_lt p count) refl e
+number_of_index : (p count n : ℕ) → cond (nat_lt p count) (Some p) None ≡ Some n → (p ≡ n) × (p < count)
+number_of_index p count n e = by (nat_lt p count) refl e
   where
     by : (t : Bool) → nat_lt p count ≡ t → cond t (Some p) None ≡ Some n → (p ≡ n) × (p < count)
     by false is e' = absurd cc
@@ -42,26 +42,26 @@ number_of_place p count n e = by (nat_lt p count) refl e
 -- a number that is found is that of the name
 pub name_at-number : (names : List (List ℕ)) (word : List ℕ) (n : ℕ) → number_in names word ≡ Some n → name_at names n ≡ word
 name_at-number names word n e =
-    let place = number_of_place (place_of names word) (length names) n e in
-    ap (name_at names) (sym place.0) ∙ found_at names word place.1
+    let index = number_of_index (index_of names word) (length names) n e in
+    ap (name_at names) (sym index.0) ∙ found_at names word index.1
 
 other_at : (names : List (List ℕ)) (n : ℕ) (name : List ℕ) → n < length names → has_name names name ≡ false → bytes_eq (name_at names n) name ≡ false
 other_at [] n name below none = absurd (omega arith)
 other_at (x ∷ names) zero name below none = (neither (bytes_eq x name) (has_name names name) none).0
 other_at (x ∷ names) (suc n) name below none = other_at names n name (omega arith) (neither (bytes_eq x name) (has_name names name) none).1
 
-place_again : (names : List (List ℕ)) (n : ℕ) → has_repeated names ≡ false → n < length names → place_of names (name_at names n) ≡ n
-place_again [] n apart below = absurd (omega arith)
-place_again (x ∷ names) zero apart below = here x names x (same_text x)
-place_again (x ∷ names) (suc n) apart below =
+index_again : (names : List (List ℕ)) (n : ℕ) → has_repeated names ≡ false → n < length names → index_of names (name_at names n) ≡ n
+index_again [] n apart below = absurd (omega arith)
+index_again (x ∷ names) zero apart below = here x names x (same_text x)
+index_again (x ∷ names) (suc n) apart below =
     let parts = neither (has_name names x) (has_repeated names) apart in
-    later x names (name_at names n) (other_at names n x (omega arith) parts.0) ∙ ap suc (place_again names n parts.1 (omega arith))
+    later x names (name_at names n) (other_at names n x (omega arith) parts.0) ∙ ap suc (index_again names n parts.1 (omega arith))
 
 -- where the names differ, the number is found by its name
 pub number_in-name : (names : List (List ℕ)) (n : ℕ) → has_repeated names ≡ false → n < length names → number_in names (name_at names n) ≡ Some n
 number_in-name names n apart below =
     let within : nat_lt n (length names) ≡ true = grind (arith, nat_tests, below) in
-    rw (place_again names n apart below, within) refl
+    rw (index_again names n apart below, within) refl
 
 -- the name is of the form of a name
 pub name_formed : (names : List (List ℕ)) (n : ℕ) → list_any (λ name. not (is_name_of name)) names ≡ false → n < length names → IsName (name_at names n)

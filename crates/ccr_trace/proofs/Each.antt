@@ -8,9 +8,9 @@ use Rattle.std.specs.Option.{option_map}
 use Rattle.std.specs.Str.{bytes_eq}
 use Rattle.ccr_base.specs.declared.names.TaskId.{TaskId}
 use Rattle.ccr_base.specs.declared.names.MsgId.{MsgId}
-use Rattle.ccr_trace.specs.Places.{◌>>=◌, each, message_of}
-use Rattle.ccr_trace.specs.Forms.{Words, place, cuts, fired}
-use Rattle.ccr_trace.proofs.Steps.{place_some, same_word}
+use Rattle.ccr_trace.specs.Fields.{◌>>=◌, each, message_of}
+use Rattle.ccr_trace.specs.Forms.{Words, field, cuts, fired}
+use Rattle.ccr_trace.proofs.Steps.{field_some, same_word}
 
 -- what holds of those so far and of the next
 pub All-more : {X : Type 0} (P : X → Type 0) (xs : List X) (i : ℕ) (d : X) → i < length xs → All P (take i xs) → P (get_or xs i d) → All P (take (i + 1) xs)
@@ -86,14 +86,14 @@ not_cut word message is = by (bytes_eq word (codes "cut")) refl
     by true e = absurd (let clash : message_of (codes "cut") ≡ Some message = subst (λ (w : List ℕ). message_of w ≡ Some message) (same_word word (codes "cut") e) is in cc)
 
 -- a message that one scan found
-pub fired_plain : (found : List MsgId) (words rest : Words) (message : MsgId) → place message_of words ≡ Some (message, rest) → with_found found (fired words) ≡ with_found (found ++ message ∷ []) (fired rest)
+pub fired_plain : (found : List MsgId) (words rest : Words) (message : MsgId) → field message_of words ≡ Some (message, rest) → with_found found (fired words) ≡ with_found (found ++ message ∷ []) (fired rest)
 fired_plain found words rest message e =
-    let first = place_some message_of words (message, rest) e in
+    let first = field_some message_of words (message, rest) e in
     ap (λ (ws : Words). with_found found (fired ws)) first.1 ∙ fired_more found first.0 rest message (not_cut first.0 message first.2) first.2
 
-pub fewer_left : {A : Type 0} (read : List ℕ → Option A) (words rest : Words) (x : A) → place read words ≡ Some (x, rest) → length rest < length words
+pub fewer_left : {A : Type 0} (read : List ℕ → Option A) (words rest : Words) (x : A) → field read words ≡ Some (x, rest) → length rest < length words
 fewer_left read words rest x e =
-    let first = place_some read words (x, rest) e in
+    let first = field_some read words (x, rest) e in
     rw first.1 (omega arith)
 
 pub ruleset each_steps = (each_more, each_fails, each_none)

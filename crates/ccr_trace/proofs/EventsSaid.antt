@@ -18,7 +18,7 @@ use Rattle.ccr_model.specs.declared.history.EndHow.TheVariants as ends
 use Rattle.ccr_trace.specs.Words.{name_at, cause_names, branch_names, spot_word}
 use Rattle.ccr_trace.specs.HistoryText.{event_words}
 use Rattle.ccr_trace.specs.Said.{SpotName, Said, Post, Fire, Admit, Put, Start, End, said_words, spot_name_word, IsSaid, IsName, IsSite, IsEnd}
-use Rattle.ccr_trace.specs.Places.{◌>>=◌, each}
+use Rattle.ccr_trace.specs.Fields.{◌>>=◌, each}
 use Rattle.ccr_trace.specs.Forms.{Words}
 use Rattle.ccr_trace.specs.Known.{number_in, spot_at, spot_known, known, IsKnownSpot, IsKnownEnd, IsKnown, HasMessages, IsShortSpot, IsShortEnd, IsShort}
 use Rattle.ccr_trace.proofs.Steps.{bind_some, some_is, chosen, only_one}

@@ -15,9 +15,9 @@ use Rattle.ccr_trace.specs.Words.{task_word, message_word, value_word}
 use Rattle.ccr_trace.specs.HistoryText.{cut_words, dropped_words, end_words}
 use Rattle.ccr_trace.specs.Pieces.{pieces}
 use Rattle.ccr_trace.specs.Said.{SpotName, Said, Post, Fire, Admit, Put, Start, End, said_words, spelled, spot_name_word, IsSaid, IsTask, IsMessage, IsName, IsDropped, IsEnd}
-use Rattle.ccr_trace.specs.Places.{◌>>=◌, each, exact_number, short_number, value_of, name_of, task_of, message_of, spot_of}
-use Rattle.ccr_trace.specs.Forms.{Words, word, no_more, only, place, is_some_of, cuts, fired, post_said, fire_said, admit_said, dropped_said, put_said, start_said, plain_end, failed, how_said, end_said, form_said, said_on}
-use Rattle.ccr_trace.proofs.Steps.{bind_some, some_is, only_one, only_some, word_some, no_more_some, place_some, chosen, same_word, some_of}
+use Rattle.ccr_trace.specs.Fields.{◌>>=◌, each, exact_number, short_number, value_of, name_of, task_of, message_of, spot_of}
+use Rattle.ccr_trace.specs.Forms.{Words, word, no_more, only, field, is_some_of, cuts, fired, post_said, fire_said, admit_said, dropped_said, put_said, start_said, plain_end, failed, how_said, end_said, form_said, said_on}
+use Rattle.ccr_trace.proofs.Steps.{bind_some, some_is, only_one, only_some, word_some, no_more_some, field_some, chosen, same_word, some_of}
 use Rattle.ccr_trace.proofs.WordsSaid.{value_said, short_said, task_said, message_said, name_said, spot_said, each_said}
 use Rattle.std.proofs.lemmas.Bool.{and_parts as both}
 
@@ -34,14 +34,14 @@ Tells version first words said = IsSaid version said × (said_words said ≡ fir
 pub post_told : (version : ℕ) (words : Words) (said : Said) → post_said version words ≡ Some said → Tells version (codes "post") words said
 unfolding post_said
 post_told version words said e =
-    let message = bind_some (place message_of words) _ said e in
-    let message_word_is = place_some message_of words message.0 message.1 in
+    let message = bind_some (field message_of words) _ said e in
+    let message_word_is = field_some message_of words message.0 message.1 in
     let message_good = message_said message_word_is.0 message.0.0 message_word_is.2 in
-    let port = bind_some (place name_of message.0.1) _ said message.2 in
-    let port_word_is = place_some name_of message.0.1 port.0 port.1 in
+    let port = bind_some (field name_of message.0.1) _ said message.2 in
+    let port_word_is = field_some name_of message.0.1 port.0 port.1 in
     let port_good = name_said port_word_is.0 port.0.0 port_word_is.2 in
-    let value = bind_some (place (value_of version) port.0.1) _ said port.2 in
-    let value_word_is = place_some (value_of version) port.0.1 value.0 value.1 in
+    let value = bind_some (field (value_of version) port.0.1) _ said port.2 in
+    let value_word_is = field_some (value_of version) port.0.1 value.0 value.1 in
     let value_good = value_said version value_word_is.0 value.0.0 value_word_is.2 in
     let named = bind_some (only (list_all is_name_of value.0.1)) _ said value.2 in
     let names = names_said value.0.1 (only_some (list_all is_name_of value.0.1) named.0 named.1) in
@@ -98,11 +98,11 @@ fired_told (first ∷ words) rest e =
 pub fire_told : (version : ℕ) (words : Words) (said : Said) → fire_said words ≡ Some said → Tells version (codes "fire") words said
 unfolding fire_said
 fire_told version words said e =
-    let task = bind_some (place task_of words) _ said e in
-    let task_word_is = place_some task_of words task.0 task.1 in
+    let task = bind_some (field task_of words) _ said e in
+    let task_word_is = field_some task_of words task.0 task.1 in
     let task_good = task_said task_word_is.0 task.0.0 task_word_is.2 in
-    let spot = bind_some (place spot_of task.0.1) _ said task.2 in
-    let spot_word_is = place_some spot_of task.0.1 spot.0 spot.1 in
+    let spot = bind_some (field spot_of task.0.1) _ said task.2 in
+    let spot_word_is = field_some spot_of task.0.1 spot.0 spot.1 in
     let spot_good = spot_said spot_word_is.0 spot.0.0 spot_word_is.2 in
     let rest = bind_some (fired spot.0.1) _ said spot.2 in
     let rest_good = fired_told spot.0.1 rest.0 rest.1 in
@@ -115,8 +115,8 @@ fire_told version words said e =
 pub admit_told : (version : ℕ) (words : Words) (said : Said) → admit_said words ≡ Some said → Tells version (codes "admit") words said
 unfolding admit_said
 admit_told version words said e =
-    let task = bind_some (place task_of words) _ said e in
-    let task_word_is = place_some task_of words task.0 task.1 in
+    let task = bind_some (field task_of words) _ said e in
+    let task_word_is = field_some task_of words task.0 task.1 in
     let task_good = task_said task_word_is.0 task.0.0 task_word_is.2 in
     let done = bind_some (no_more task.0.1) _ said task.2 in
     let no_more_is = no_more_some task.0.1 done.0 done.1 in
@@ -130,8 +130,8 @@ dropped_told [] dropped e = subst (λ (d : Option TaskId). IsDropped d × (dropp
 dropped_told (first ∷ words) dropped e =
     let drop = bind_some (only (bytes_eq first (codes "drop"))) _ dropped e in
     let drop_is = same_word first (codes "drop") (only_some (bytes_eq first (codes "drop")) drop.0 drop.1) in
-    let task = bind_some (place task_of words) _ dropped drop.2 in
-    let task_word_is = place_some task_of words task.0 task.1 in
+    let task = bind_some (field task_of words) _ dropped drop.2 in
+    let task_word_is = field_some task_of words task.0 task.1 in
     let task_good = task_said task_word_is.0 task.0.0 task_word_is.2 in
     let done = bind_some (no_more task.0.1) _ dropped task.2 in
     let no_more_is = no_more_some task.0.1 done.0 done.1 in
@@ -142,8 +142,8 @@ dropped_told (first ∷ words) dropped e =
 pub put_told : (version : ℕ) (words : Words) (said : Said) → put_said words ≡ Some said → Tells version (codes "put") words said
 unfolding put_said
 put_told version words said e =
-    let task = bind_some (place task_of words) _ said e in
-    let task_word_is = place_some task_of words task.0 task.1 in
+    let task = bind_some (field task_of words) _ said e in
+    let task_word_is = field_some task_of words task.0 task.1 in
     let task_good = task_said task_word_is.0 task.0.0 task_word_is.2 in
     let dropped = bind_some (dropped_said task.0.1) _ said task.2 in
     let dropped_good = dropped_told task.0.1 dropped.0 dropped.1 in
@@ -154,11 +154,11 @@ put_told version words said e =
 pub start_told : (version : ℕ) (words : Words) (said : Said) → start_said words ≡ Some said → Tells version (codes "start") words said
 unfolding start_said
 start_told version words said e =
-    let task = bind_some (place task_of words) _ said e in
-    let task_word_is = place_some task_of words task.0 task.1 in
+    let task = bind_some (field task_of words) _ said e in
+    let task_word_is = field_some task_of words task.0 task.1 in
     let task_good = task_said task_word_is.0 task.0.0 task_word_is.2 in
-    let actor = bind_some (place short_number task.0.1) _ said task.2 in
-    let actor_word_is = place_some short_number task.0.1 actor.0 actor.1 in
+    let actor = bind_some (field short_number task.0.1) _ said task.2 in
+    let actor_word_is = field_some short_number task.0.1 actor.0 actor.1 in
     let actor_good = short_said actor_word_is.0 actor.0.0 actor_word_is.2 in
     let done = bind_some (no_more actor.0.1) _ said actor.2 in
     let no_more_is = no_more_some actor.0.1 done.0 done.1 in
@@ -190,8 +190,8 @@ IsHow version words how = IsEnd version how.0 × (end_words how.0 ++ how.1 ≡ w
 
 failed_told : (version : ℕ) (first : List ℕ) (words : Words) (how : EndHow × Words) → bytes_eq first (codes "failed") ≡ true → failed version words ≡ Some how → IsHow version (first ∷ words) how
 failed_told version first words how is e =
-    let value = bind_some (place (value_of version) words) _ how e in
-    let value_word_is = place_some (value_of version) words value.0 value.1 in
+    let value = bind_some (field (value_of version) words) _ how e in
+    let value_word_is = field_some (value_of version) words value.0 value.1 in
     let value_good = value_said version value_word_is.0 value.0.0 value_word_is.2 in
     let first_is = same_word first (codes "failed") is in
     let words_are : codes "failed" ∷ value_word value.0.0 ∷ value.0.1 ≡ first ∷ words = cc in
@@ -215,8 +215,8 @@ how_told version (first ∷ words) how e =
 pub end_told : (version : ℕ) (words : Words) (said : Said) → end_said version words ≡ Some said → Tells version (codes "end") words said
 unfolding end_said
 end_told version words said e =
-    let task = bind_some (place task_of words) _ said e in
-    let task_word_is = place_some task_of words task.0 task.1 in
+    let task = bind_some (field task_of words) _ said e in
+    let task_word_is = field_some task_of words task.0 task.1 in
     let task_good = task_said task_word_is.0 task.0.0 task_word_is.2 in
     let how = bind_some (how_said version task.0.1) _ said task.2 in
     let how_good = how_told version task.0.1 how.0 how.1 in

@@ -18,7 +18,7 @@ use Rattle.ccr_model.specs.declared.history.EndHow.{EndHow}
 use Rattle.ccr_model.specs.declared.history.EndHow.TheVariants as ends
 use Rattle.ccr_trace.specs.Words.{cause_names, branch_names}
 use Rattle.ccr_trace.specs.Said.{SpotName, Said, Post, Fire, Admit, Put, Start, End, IsSaid, IsEnd}
-use Rattle.ccr_trace.specs.Places.{◌>>=◌, each}
+use Rattle.ccr_trace.specs.Fields.{◌>>=◌, each}
 use Rattle.ccr_trace.specs.Forms.{Words, said_on}
 use Rattle.ccr_trace.specs.Known.{number_in, spot_at, spot_known, known, IsKnownSpot, IsKnownEnd, IsKnown, HasMessages}
 use Rattle.ccr_trace.specs.Reading.{or_code, event_of, event_on}

@@ -7,11 +7,11 @@ use Rattle.std.proofs.lemmas.List.Splits.{join_with_byte-slice_split}
 use Rattle.ccr_base.specs.declared.names.MsgId.TheVariants as ids
 use Rattle.ccr_text.specs.Words.{is_digits, value_after, number_of}
 use Rattle.ccr_trace.specs.Pieces.{pieces}
-use Rattle.ccr_trace.specs.Places.{◌>>=◌, where_spelled, where_short, exact_number, short_number, task_in, task_of, script_in, answer_in, message_of}
-use Rattle.ccr_trace.specs.Forms.{Words, place}
+use Rattle.ccr_trace.specs.Fields.{◌>>=◌, where_spelled, where_short, exact_number, short_number, task_in, task_of, script_in, answer_in, message_of}
+use Rattle.ccr_trace.specs.Forms.{Words, field}
 use Rattle.ccr_trace.proofs.Cutting.{pieces_some}
 use Rattle.ccr_trace.proofs.Parting.{lacks, other, lacks-append, lacks_tested, pieces_first, pieces_only}
-use Rattle.ccr_trace.proofs.Steps.{bind_some, place_some}
+use Rattle.ccr_trace.proofs.Steps.{bind_some, field_some}
 use Rattle.std.proofs.lemmas.Bool.{and_parts as both}
 
 -- what stands before the first separator, and what behind it
@@ -52,31 +52,31 @@ letter_number letter numbers rest word next n behind other e bytes are =
     let same : pieces 32 numbers ≡ (word ++ 46 ∷ next) ∷ behind = ap (pieces 32) (bytes ∙ sym (append_assoc word (46 ∷ []) rest)) ∙ (words ∙ ap (λ (w : List ℕ). w ∷ behind) (append_assoc word (46 ∷ []) next)) in
     rw (other, same) refl
 
-pub task_scanned : (numbers rest : List ℕ) (a k : ℕ) (behind : Words) → place short_number (pieces 46 numbers) ≡ Some (a, pieces 46 rest) → place short_number (pieces 32 rest) ≡ Some (k, behind)
-    → place task_of (pieces 32 (116 ∷ numbers)) ≡ Some (record { actor = a; attempt = k }, behind)
+pub task_scanned : (numbers rest : List ℕ) (a k : ℕ) (behind : Words) → field short_number (pieces 46 numbers) ≡ Some (a, pieces 46 rest) → field short_number (pieces 32 rest) ≡ Some (k, behind)
+    → field task_of (pieces 32 (116 ∷ numbers)) ≡ Some (record { actor = a; attempt = k }, behind)
 unfolding task_of
 task_scanned numbers rest a k behind e f =
-    let first = place_some short_number (pieces 46 numbers) (a, pieces 46 rest) e in
-    let next = place_some short_number (pieces 32 rest) (k, behind) f in
+    let first = field_some short_number (pieces 46 numbers) (a, pieces 46 rest) e in
+    let next = field_some short_number (pieces 32 rest) (k, behind) f in
     let words = letter_number 116 numbers rest first.0 next.0 a behind refl first.2 (cut_at 46 numbers first.0 rest first.1) next.1 in
     rw (words, pieces_first 46 first.0 next.0 (number_lacks 46 first.0 a refl first.2), pieces_only 46 next.0 (number_lacks 46 next.0 k refl next.2), first.2, next.2) refl
 
-pub script_scanned : (numbers rest : List ℕ) (a k : ℕ) (behind : Words) → place short_number (pieces 46 numbers) ≡ Some (a, pieces 46 rest) → place short_number (pieces 32 rest) ≡ Some (k, behind)
-    → place message_of (pieces 32 (115 ∷ numbers)) ≡ Some (ids.Script a k, behind)
+pub script_scanned : (numbers rest : List ℕ) (a k : ℕ) (behind : Words) → field short_number (pieces 46 numbers) ≡ Some (a, pieces 46 rest) → field short_number (pieces 32 rest) ≡ Some (k, behind)
+    → field message_of (pieces 32 (115 ∷ numbers)) ≡ Some (ids.Script a k, behind)
 unfolding message_of
 script_scanned numbers rest a k behind e f =
-    let first = place_some short_number (pieces 46 numbers) (a, pieces 46 rest) e in
-    let next = place_some short_number (pieces 32 rest) (k, behind) f in
+    let first = field_some short_number (pieces 46 numbers) (a, pieces 46 rest) e in
+    let next = field_some short_number (pieces 32 rest) (k, behind) f in
     let words = letter_number 115 numbers rest first.0 next.0 a behind refl first.2 (cut_at 46 numbers first.0 rest first.1) next.1 in
     rw (words, pieces_first 46 first.0 next.0 (number_lacks 46 first.0 a refl first.2), pieces_only 46 next.0 (number_lacks 46 next.0 k refl next.2), first.2, next.2) refl
 
-pub answer_scanned : (numbers second third : List ℕ) (a k i : ℕ) (behind : Words) → place short_number (pieces 46 numbers) ≡ Some (a, pieces 46 second) → place short_number (pieces 46 second) ≡ Some (k, pieces 46 third)
-    → place short_number (pieces 32 third) ≡ Some (i, behind) → place message_of (pieces 32 (116 ∷ numbers)) ≡ Some (ids.Task (record { actor = a; attempt = k }) i, behind)
+pub answer_scanned : (numbers second third : List ℕ) (a k i : ℕ) (behind : Words) → field short_number (pieces 46 numbers) ≡ Some (a, pieces 46 second) → field short_number (pieces 46 second) ≡ Some (k, pieces 46 third)
+    → field short_number (pieces 32 third) ≡ Some (i, behind) → field message_of (pieces 32 (116 ∷ numbers)) ≡ Some (ids.Task (record { actor = a; attempt = k }) i, behind)
 unfolding message_of
 answer_scanned numbers second third a k i behind e f g =
-    let first = place_some short_number (pieces 46 numbers) (a, pieces 46 second) e in
-    let next = place_some short_number (pieces 46 second) (k, pieces 46 third) f in
-    let last = place_some short_number (pieces 32 third) (i, behind) g in
+    let first = field_some short_number (pieces 46 numbers) (a, pieces 46 second) e in
+    let next = field_some short_number (pieces 46 second) (k, pieces 46 third) f in
+    let last = field_some short_number (pieces 32 third) (i, behind) g in
     let inner : pieces 32 second ≡ (next.0 ++ 46 ∷ last.0) ∷ behind =
     ap (pieces 32) (cut_at 46 second next.0 third next.1 ∙ sym (append_assoc next.0 (46 ∷ []) third))
     ∙ (pieces_behind 32 (next.0 ++ 46 ∷ []) third last.0 behind (lacks-append 32 next.0 (46 ∷ []) (number_lacks 32 next.0 k refl next.2) refl) last.1 ∙ ap (λ (w : List ℕ). w ∷ behind) (append_assoc next.0 (46 ∷ []) last.0)) in

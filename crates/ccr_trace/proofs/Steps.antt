@@ -5,10 +5,10 @@ use Rattle.std.specs.Str.{bytes_eq}
 use Rattle.std.proofs.lemmas.Bool.Decides.{nat_tests}
 use Rattle.std.proofs.lemmas.List.{length-map}
 use Rattle.std.proofs.lemmas.Slice.Eq.{bytes_eq-Decides}
-use Rattle.ccr_trace.specs.Places.{◌>>=◌, where_spelled, where_short, where_few}
+use Rattle.ccr_trace.specs.Fields.{◌>>=◌, where_spelled, where_short, where_few}
 use Rattle.ccr_trace.specs.Pieces.{pieces}
 use Rattle.ccr_trace.proofs.Cutting.{pieces_some}
-use Rattle.ccr_trace.specs.Forms.{Words, word, no_more, only, place, is_some_of}
+use Rattle.ccr_trace.specs.Forms.{Words, word, no_more, only, field, is_some_of}
 pub use Rattle.ccr_text.proofs.Exact.{same_text}
 
 -- the value of a step that found something
@@ -35,9 +35,9 @@ no_more_some [] u e = refl
 no_more_some (w ∷ words) u e = absurd cc
 
 -- the word of a place
-pub place_some : {A : Type 0} (read : List ℕ → Option A) (words : Words) (x : A × Words) → place read words ≡ Some x → (w : List ℕ) × (words ≡ w ∷ x.1) × (read w ≡ Some x.0)
-place_some read [] x e = absurd cc
-place_some read (w ∷ words) x e =
+pub field_some : {A : Type 0} (read : List ℕ → Option A) (words : Words) (x : A × Words) → field read words ≡ Some x → (w : List ℕ) × (words ≡ w ∷ x.1) × (read w ≡ Some x.0)
+field_some read [] x e = absurd cc
+field_some read (w ∷ words) x e =
     let found = bind_some (read w) _ x e in
     let same = some_is (found.0, words) x found.2 in
     (w, ap (λ (p : _ × Words). w ∷ p.1) same, found.1 ∙ ap (λ (p : _ × Words). Some p.0) same)

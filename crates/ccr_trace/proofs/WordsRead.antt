@@ -13,7 +13,7 @@ use Rattle.ccr_text.specs.Words.{is_digits, is_mark, value_after, number_of, may
 use Rattle.ccr_trace.specs.Words.{task_word, message_word, value_word}
 use Rattle.ccr_trace.specs.Pieces.{pieces}
 use Rattle.ccr_trace.specs.Said.{SpotName, spot_name_word, site_word, most_numbers, IsTask, IsMessage, IsName, IsSite, IsValue}
-use Rattle.ccr_trace.specs.Places.{◌>>=◌, each, where_spelled, where_short, where_few, exact_number, short_number, value_of, name_of, task_in, task_of, script_in, answer_in, message_of, spot_with, spot_in, spot_of}
+use Rattle.ccr_trace.specs.Fields.{◌>>=◌, each, where_spelled, where_short, where_few, exact_number, short_number, value_of, name_of, task_in, task_of, script_in, answer_in, message_of, spot_with, spot_in, spot_of}
 use Rattle.ccr_trace.specs.Forms.{Words}
 use Rattle.ccr_trace.proofs.Steps.{same_text}
 use Rattle.ccr_trace.proofs.Parting.{lacks, AreLacking, pieces_first, pieces_only, pieces_join, lacks_tested, tested_by, marked, marked-append}

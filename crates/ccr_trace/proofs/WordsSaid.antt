@@ -13,7 +13,7 @@ use Rattle.ccr_text.specs.Words.{is_digits, value_after, number_of, is_name_of}
 use Rattle.ccr_trace.specs.Words.{task_word, message_word, value_word}
 use Rattle.ccr_trace.specs.Pieces.{pieces}
 use Rattle.ccr_trace.specs.Said.{SpotName, spot_name_word, site_word, most_numbers, IsTask, IsMessage, IsName, IsSite, IsValue}
-use Rattle.ccr_trace.specs.Places.{◌>>=◌, each, where_spelled, where_short, where_few, exact_number, short_number, value_of, name_of, task_in, task_of, script_in, answer_in, message_of, spot_with, spot_in, spot_of}
+use Rattle.ccr_trace.specs.Fields.{◌>>=◌, each, where_spelled, where_short, where_few, exact_number, short_number, value_of, name_of, task_in, task_of, script_in, answer_in, message_of, spot_with, spot_in, spot_of}
 use Rattle.ccr_trace.specs.Forms.{Words}
 use Rattle.ccr_trace.proofs.Steps.{bind_some, some_is, only_one, chosen, spelled_is, short_is, few_is, some_pieces}
 

@@ -9,7 +9,7 @@ use Rattle.ccr_model.specs.declared.history.EndHow.TheVariants as ends
 use Rattle.ccr_text.specs.Words.{is_name_of}
 use Rattle.ccr_trace.specs.Pieces.{pieces}
 use Rattle.ccr_trace.specs.Said.{Said, Post, Fire, Admit, Put, Start, End}
-use Rattle.ccr_trace.specs.Places.{◌>>=◌, each, short_number, value_of, name_of, task_of, message_of, spot_of}
+use Rattle.ccr_trace.specs.Fields.{◌>>=◌, each, short_number, value_of, name_of, task_of, message_of, spot_of}
 
 -- the words that are left
 abbrev pub Words : Type 0
@@ -30,8 +30,8 @@ no_more [] = Some tt
 no_more (first ∷ words) = None
 
 -- the place of one word, and the words behind it
-abbrev pub place : {A : Type 0} → (List ℕ → Option A) → Words → Option (A × Words)
-place read words = do
+abbrev pub field : {A : Type 0} → (List ℕ → Option A) → Words → Option (A × Words)
+field read words = do
   first ← word words
   value ← read first.0
   Some (value, first.1)
@@ -57,17 +57,17 @@ fired (first ∷ words) =
 -- post MSG PORT VALUE CAUSE ..
 unfoldable pub post_said : ℕ → Words → Option Said
 post_said version words = do
-  message ← place message_of words
-  port ← place name_of message.1
-  value ← place (value_of version) port.1
+  message ← field message_of words
+  port ← field name_of message.1
+  value ← field (value_of version) port.1
   named ← only (list_all is_name_of value.1)
   Some (Post message.0 port.0 value.0 value.1)
 
 -- fire TASK SPOT MSG .., with cut TASK .. behind it where there are cuts
 unfoldable pub fire_said : Words → Option Said
 fire_said words = do
-  task ← place task_of words
-  spot ← place spot_of task.1
+  task ← field task_of words
+  spot ← field spot_of task.1
   rest ← fired spot.1
   some ← only (is_some_of rest.0)
   Some (Fire task.0 spot.0 rest.0 rest.1)
@@ -75,7 +75,7 @@ fire_said words = do
 -- admit TASK
 unfoldable pub admit_said : Words → Option Said
 admit_said words = do
-  task ← place task_of words
+  task ← field task_of words
   done ← no_more task.1
   Some (Admit task.0)
 
@@ -84,22 +84,22 @@ unfoldable pub dropped_said : Words → Option (Option TaskId)
 dropped_said [] = Some None
 dropped_said (first ∷ words) = do
   drop ← only (bytes_eq first (codes "drop"))
-  task ← place task_of words
+  task ← field task_of words
   done ← no_more task.1
   Some (Some task.0)
 
 -- put TASK, or put TASK drop TASK
 unfoldable pub put_said : Words → Option Said
 put_said words = do
-  task ← place task_of words
+  task ← field task_of words
   dropped ← dropped_said task.1
   Some (Put task.0 dropped)
 
 -- start TASK ACTOR
 unfoldable pub start_said : Words → Option Said
 start_said words = do
-  task ← place task_of words
-  actor ← place short_number task.1
+  task ← field task_of words
+  actor ← field short_number task.1
   done ← no_more actor.1
   Some (Start task.0 actor.0)
 
@@ -113,7 +113,7 @@ plain_end first =
 
 -- failed VALUE
 abbrev pub failed : ℕ → Words → Option (EndHow × Words)
-failed version words = place (value_of version) words >>= λ value. Some (ends.Failed value.0, value.1)
+failed version words = field (value_of version) words >>= λ value. Some (ends.Failed value.0, value.1)
 
 -- how a segment ends, and the words behind it
 unfoldable pub how_said : ℕ → Words → Option (EndHow × Words)
@@ -124,7 +124,7 @@ how_said version words = do
 -- end TASK done, end TASK failed VALUE, end TASK yield, end TASK shed
 unfoldable pub end_said : ℕ → Words → Option Said
 end_said version words = do
-  task ← place task_of words
+  task ← field task_of words
   how ← how_said version task.1
   done ← no_more how.1
   Some (End task.0 how.0)

@@ -13,9 +13,9 @@ use Rattle.ccr_model.specs.declared.history.EndHow.{EndHow}
 use Rattle.ccr_model.specs.declared.history.EndHow.TheVariants as ends
 use Rattle.ccr_trace.specs.Words.{cause_names, branch_names}
 use Rattle.ccr_trace.specs.Said.{SpotName, Said, Post, Fire, Admit, Put, Start, End, IsTask, IsMessage, IsDropped, HasNumbers, most_numbers}
-use Rattle.ccr_trace.specs.Places.{◌>>=◌, each}
+use Rattle.ccr_trace.specs.Fields.{◌>>=◌, each}
 
--- the number of the name: its place among the names
+-- the number of the name: its index among the names
 abbrev pub number_in : List (List ℕ) → List ℕ → Option ℕ
 number_in names word = position (λ name. bytes_eq word name) names
 
@@ -33,7 +33,7 @@ known parts (Post id port value causes) = do
   number ← number_in parts.ports port
   numbers ← each (number_in (cause_names parts)) causes
   Some (events.Post (record { id = id; port = number; value = value; causes = numbers }))
-known parts (Fire task spot messages cuts) = spot_known parts spot >>= λ place. Some (events.Fire task place messages cuts)
+known parts (Fire task spot messages cuts) = spot_known parts spot >>= λ index. Some (events.Fire task index messages cuts)
 known parts (Admit task) = Some (events.Admit task)
 known parts (Put task dropped) = Some (events.Put task dropped)
 known parts (Start task actor) = Some (events.Start task actor)

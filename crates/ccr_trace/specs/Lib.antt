@@ -2,7 +2,7 @@ pub mod Words
 pub mod HistoryText
 pub mod Pieces
 pub mod Said
-pub mod Places
+pub mod Fields
 pub mod Forms
 pub mod Known
 pub mod Values

@@ -5,12 +5,12 @@ ghost use Rattle.std.specs.List.{list_all};
 ghost use Rattle.ccr_text.specs.Words.{is_name_of};
 ghost use Rattle.ccr_trace.specs.Pieces.{pieces};
 ghost use Rattle.ccr_trace.specs.Said.{SpotName};
-ghost use Rattle.ccr_trace.specs.Places.{short_number, value_of, name_of, task_of, message_of, spot_of};
-ghost use Rattle.ccr_trace.specs.Forms.{word, no_more, only, place};
+ghost use Rattle.ccr_trace.specs.Fields.{short_number, value_of, name_of, task_of, message_of, spot_of};
+ghost use Rattle.ccr_trace.specs.Forms.{word, no_more, only, field};
 ghost use Rattle.ccr_trace.specs.Answers.{Says, Leaves, LeavesBy};
 
+use crate::fields::{message_of, short_in, spot_of, task_of, value_of};
 use crate::pieces::Pieces;
-use crate::places::{message_of, short_in, spot_of, task_of, value_of};
 use crate::stop::Stop;
 use ccr_base::{ActorNo, MsgId, TaskId, Value};
 use ccr_text::is_name;
@@ -64,7 +64,7 @@ impl<'a> Cursor<'a> {
     }
 
     pub fn task(&mut self) -> Result<TaskId, Stop>
-        ensures { Leaves self.new result (place task_of self.old) }
+        ensures { Leaves self.new result (field task_of self.old) }
     {
         if let Some(task) = self.words.plain_task() {
             return Ok(task);
@@ -74,7 +74,7 @@ impl<'a> Cursor<'a> {
     }
 
     pub fn message(&mut self) -> Result<MsgId, Stop>
-        ensures { Leaves self.new result (place message_of self.old) }
+        ensures { Leaves self.new result (field message_of self.old) }
     {
         if let Some(message) = self.words.plain_message() {
             return Ok(message);
@@ -85,7 +85,7 @@ impl<'a> Cursor<'a> {
 
     /// Takes the first word where one scan finds a message's name; else nothing is taken.
     pub fn plain_message(&mut self) -> Option<MsgId>
-        ensures some { IfSome result (λ message. place message_of self.old ≡ Some (message, self.new)) }
+        ensures some { IfSome result (λ message. field message_of self.old ≡ Some (message, self.new)) }
         ensures none { IfNone result (self.new ≡ self.old) }
     {
         self.words.plain_message()
@@ -93,7 +93,7 @@ impl<'a> Cursor<'a> {
 
     /// A word of the form of a name.
     pub fn name(&mut self) -> Result<&'a [u8], Stop>
-        ensures { LeavesBy (λ name. name.now) self.new result (place name_of self.old) }
+        ensures { LeavesBy (λ name. name.now) self.new result (field name_of self.old) }
     {
         let word = self.word()?;
         if !is_name(word) {
@@ -104,21 +104,21 @@ impl<'a> Cursor<'a> {
 
     /// A value in a wiring of this version.
     pub fn value(&mut self, version: u32) -> Result<Value, Stop>
-        ensures { Leaves self.new result (place (value_of version) self.old) }
+        ensures { Leaves self.new result (field (value_of version) self.old) }
     {
         let word = self.word()?;
         value_of(version, word).ok_or(Stop::Malformed)
     }
 
     pub fn actor(&mut self) -> Result<ActorNo, Stop>
-        ensures { Leaves self.new result (place short_number self.old) }
+        ensures { Leaves self.new result (field short_number self.old) }
     {
         short_in(&mut self.words).ok_or(Stop::Malformed)
     }
 
     /// A branch's name, and its site where there is one.
     pub fn spot(&mut self) -> Result<(&'a [u8], Option<u32>), Stop>
-        ensures { LeavesBy (λ spot. record { name = spot.0.now; site = spot.1 }) self.new result (place spot_of self.old) }
+        ensures { LeavesBy (λ spot. record { name = spot.0.now; site = spot.1 }) self.new result (field spot_of self.old) }
     {
         let word = self.word()?;
         spot_of(word).ok_or(Stop::Malformed)

@@ -9,11 +9,11 @@ ghost use Rattle.ccr_trace.specs.Answers.{IsReading, IsRefusal, refused};
 ghost use Rattle.ccr_trace.specs.EventReaders.{HasRead, HasReadAll, IsBefore, reading_of};
 ghost use Rattle.ccr_trace.specs.Reading.{ended, head, reading, reading_from, reading_lines};
 
+use crate::fields::is_text;
 use crate::first::is_first_line;
 use crate::forms::event_on;
 use crate::known::Known;
 use crate::pieces::Pieces;
-use crate::places::is_text;
 use crate::refused::{Code, HistoryRefused};
 use crate::stop::Stop;
 use ccr_model::{Event, GhostHistory};

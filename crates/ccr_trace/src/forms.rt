@@ -2,14 +2,14 @@
 
 ghost use Rattle.std.specs.Prelude.{◌≡◌, not, ◌==◌, length};
 ghost use Rattle.std.specs.Option.{option_map};
-ghost use Rattle.ccr_trace.specs.Places.{each, task_of};
+ghost use Rattle.ccr_trace.specs.Fields.{each, task_of};
 ghost use Rattle.ccr_trace.specs.Forms.{cuts, fired, post_said, fire_said, admit_said, dropped_said, put_said, start_said, how_said, plain_end, end_said, form_said};
 ghost use Rattle.ccr_trace.specs.Reading.{event_of, event_on};
 ghost use Rattle.ccr_trace.specs.Answers.{Says, Leaves, Gives};
 
 use crate::cursor::Cursor;
+use crate::fields::{is_text, message_of, task_of};
 use crate::known::Known;
-use crate::places::{is_text, message_of, task_of};
 use crate::stop::Stop;
 use ccr_base::{List, Msg, MsgId, TaskId};
 use ccr_model::{EndHow, Event};

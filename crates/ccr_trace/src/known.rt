@@ -3,7 +3,7 @@
 ghost use Rattle.std.specs.Prelude.{◌≡◌, ◌++◌, IfOk, OnOk, map};
 ghost use Rattle.ccr_trace.specs.Words.{branch_names, branch_names_of, cause_names};
 ghost use Rattle.ccr_trace.specs.Said.{SpotName};
-ghost use Rattle.ccr_trace.specs.Places.{each};
+ghost use Rattle.ccr_trace.specs.Fields.{each};
 ghost use Rattle.ccr_trace.specs.Known.{number_in, spot_known};
 ghost use Rattle.ccr_trace.specs.Answers.{Finds};
 

@@ -4,6 +4,7 @@
 mod cursor;
 mod event_reader;
 mod events;
+mod fields;
 mod first;
 mod forms;
 mod known;
@@ -11,7 +12,6 @@ mod laws;
 mod names;
 mod numbers;
 mod pieces;
-mod places;
 mod plain;
 mod prepending;
 mod reading;

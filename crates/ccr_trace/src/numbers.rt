@@ -20,12 +20,13 @@ pub struct NumberedNames<'w> {
 
 impl<'w> Model for NumberedNames<'w> {
     ghost use Rattle.std.specs.Prelude.{List as Listed, ℕ, ◌≤◌, length, map};
+    ghost use Rattle.ccr_base.specs.Bounds.{most_branches};
 
     ghost Value = { Listed (Listed ℕ) };
 
     ghost view = { λ numbers. map (λ name. name.now) numbers.names.keys };
 
-    ghost invariant = { λ numbers. length numbers.names.keys ≤ 256 };
+    ghost invariant = { λ numbers. length numbers.names.keys ≤ most_branches };
 }
 
 impl<'w> NumberedNames<'w> {

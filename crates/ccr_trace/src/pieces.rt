@@ -2,8 +2,8 @@
 
 ghost use Rattle.std.specs.Prelude.{◌≡◌, ◌==◌, [], ◌∷◌, Some, None, IfSome, IfNone, length};
 ghost use Rattle.ccr_trace.specs.Pieces.{pieces};
-ghost use Rattle.ccr_trace.specs.Places.{exact_number, message_of, task_of};
-ghost use Rattle.ccr_trace.specs.Forms.{place};
+ghost use Rattle.ccr_trace.specs.Fields.{exact_number, message_of, task_of};
+ghost use Rattle.ccr_trace.specs.Forms.{field};
 
 use crate::scanning::{message_before, task_before};
 use ccr_base::{MsgId, TaskId};
@@ -17,7 +17,7 @@ fn cut(separator: u8, bytes: &[u8]) -> (&[u8], Option<&[u8]>)
     ensures parts { IfSome result.1 (λ rest. pieces separator bytes.now ≡ result.0.now ∷ pieces separator rest.now) }
 {
     match memchr(separator, bytes) {
-        Some(place) => (&bytes[..place], Some(&bytes[place + 1..])),
+        Some(index) => (&bytes[..index], Some(&bytes[index + 1..])),
         None => (bytes, None),
     }
 }
@@ -77,10 +77,10 @@ impl<'a> Pieces<'a> {
     }
 
     /// Takes the first piece, where it is a number in its one spelling.
-    #[tactic(auto, using(crate::proofs::Firsts::number_place))]
+    #[tactic(auto, using(crate::proofs::Firsts::number_field))]
     pub fn number(&mut self) -> Option<u64>
-        ensures some { IfSome result (λ n. place exact_number self.old ≡ Some (n, self.new)) }
-        ensures none { IfNone result (place exact_number self.old ≡ None) }
+        ensures some { IfSome result (λ n. field exact_number self.old ≡ Some (n, self.new)) }
+        ensures none { IfNone result (field exact_number self.old ≡ None) }
     {
         let (number, rest) = number_before(self.separator, self.rest?)?;
         self.rest = rest;
@@ -89,7 +89,7 @@ impl<'a> Pieces<'a> {
 
     /// Takes the first word of a line where one scan finds tA.K; else nothing is taken, and `task_of` says what the word is.
     pub fn plain_task(&mut self) -> Option<TaskId>
-        ensures some { IfSome result (λ task. place task_of self.old ≡ Some (task, self.new)) }
+        ensures some { IfSome result (λ task. field task_of self.old ≡ Some (task, self.new)) }
         ensures none { IfNone result (self.new ≡ self.old) }
     {
         if self.separator != b' ' {
@@ -102,7 +102,7 @@ impl<'a> Pieces<'a> {
 
     /// The same of sA.K and tA.K.I, and of `message_of`.
     pub fn plain_message(&mut self) -> Option<MsgId>
-        ensures some { IfSome result (λ message. place message_of self.old ≡ Some (message, self.new)) }
+        ensures some { IfSome result (λ message. field message_of self.old ≡ Some (message, self.new)) }
         ensures none { IfNone result (self.new ≡ self.old) }
     {
         if self.separator != b' ' {

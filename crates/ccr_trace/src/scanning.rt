@@ -4,15 +4,15 @@
 ghost use Rattle.std.specs.Prelude.{◌≡◌, [], Some, IfSome};
 ghost use Rattle.std.specs.Option.{option_map_or};
 ghost use Rattle.ccr_trace.specs.Pieces.{pieces};
-ghost use Rattle.ccr_trace.specs.Places.{message_of, short_number, task_of};
-ghost use Rattle.ccr_trace.specs.Forms.{place};
+ghost use Rattle.ccr_trace.specs.Fields.{message_of, short_number, task_of};
+ghost use Rattle.ccr_trace.specs.Forms.{field};
 
 use ccr_base::{MsgId, TaskId};
 use ccr_text::number_before;
 
 /// The number below 2^32 before the first separator, and what stands behind that.
 fn short_before(separator: u8, bytes: &[u8]) -> Option<(u32, Option<&[u8]>)>
-    ensures { IfSome result (λ found. place short_number (pieces separator bytes.now) ≡ Some (found.0, option_map_or (λ rest. pieces separator rest.now) found.1 [])) }
+    ensures { IfSome result (λ found. field short_number (pieces separator bytes.now) ≡ Some (found.0, option_map_or (λ rest. pieces separator rest.now) found.1 [])) }
 {
     let (number, rest) = number_before(separator, bytes)?;
     if number > u64::from(u32::MAX) {
@@ -23,7 +23,7 @@ fn short_before(separator: u8, bytes: &[u8]) -> Option<(u32, Option<&[u8]>)>
 
 /// tA.K before a space or at the end, and what stands behind the space.
 pub fn task_before(bytes: &[u8]) -> Option<(TaskId, Option<&[u8]>)>
-    ensures { IfSome result (λ found. place task_of (pieces 32 bytes.now) ≡ Some (found.0, option_map_or (λ rest. pieces 32 rest.now) found.1 [])) }
+    ensures { IfSome result (λ found. field task_of (pieces 32 bytes.now) ≡ Some (found.0, option_map_or (λ rest. pieces 32 rest.now) found.1 [])) }
 {
     let (first, numbers) = bytes.split_first()?;
     if *first != b't' {
@@ -36,7 +36,7 @@ pub fn task_before(bytes: &[u8]) -> Option<(TaskId, Option<&[u8]>)>
 
 /// sA.K
 fn script_before(bytes: &[u8]) -> Option<(MsgId, Option<&[u8]>)>
-    ensures { IfSome result (λ found. place message_of (pieces 32 bytes.now) ≡ Some (found.0, option_map_or (λ rest. pieces 32 rest.now) found.1 [])) }
+    ensures { IfSome result (λ found. field message_of (pieces 32 bytes.now) ≡ Some (found.0, option_map_or (λ rest. pieces 32 rest.now) found.1 [])) }
 {
     let (first, numbers) = bytes.split_first()?;
     if *first != b's' {
@@ -49,7 +49,7 @@ fn script_before(bytes: &[u8]) -> Option<(MsgId, Option<&[u8]>)>
 
 /// tA.K.I
 fn answer_before(bytes: &[u8]) -> Option<(MsgId, Option<&[u8]>)>
-    ensures { IfSome result (λ found. place message_of (pieces 32 bytes.now) ≡ Some (found.0, option_map_or (λ rest. pieces 32 rest.now) found.1 [])) }
+    ensures { IfSome result (λ found. field message_of (pieces 32 bytes.now) ≡ Some (found.0, option_map_or (λ rest. pieces 32 rest.now) found.1 [])) }
 {
     let (first, numbers) = bytes.split_first()?;
     if *first != b't' {
@@ -64,7 +64,7 @@ fn answer_before(bytes: &[u8]) -> Option<(MsgId, Option<&[u8]>)>
 
 /// sA.K or tA.K.I before a space or at the end, and what stands behind the space.
 pub fn message_before(bytes: &[u8]) -> Option<(MsgId, Option<&[u8]>)>
-    ensures { IfSome result (λ found. place message_of (pieces 32 bytes.now) ≡ Some (found.0, option_map_or (λ rest. pieces 32 rest.now) found.1 [])) }
+    ensures { IfSome result (λ found. field message_of (pieces 32 bytes.now) ≡ Some (found.0, option_map_or (λ rest. pieces 32 rest.now) found.1 [])) }
 {
     if let Some(found) = script_before(bytes) {
         return Some(found);

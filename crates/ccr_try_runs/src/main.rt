@@ -32,7 +32,7 @@ use std::io;
 /// The most bytes that are read, and that a wiring text has.
 const LONGEST: usize = 1_048_576;
 
-/// What an attempt, a course or a run answers over the wiring.
+/// What a course, a run or objects answer over the wiring.
 fn tell_over(alloc: Global, wiring: &Wiring, row: &Row<'_>, out: &mut List<u8>) {
     match row.call {
         "course" => courses::course(alloc, wiring, row.input, out),
@@ -47,6 +47,7 @@ fn tell_over(alloc: Global, wiring: &Wiring, row: &Row<'_>, out: &mut List<u8>) 
         "place_number" => showing::number(alloc, wiring, row.input, out),
         "shows" => showing::shows(alloc, wiring, row.input, out),
         "met_event" => showing::met(alloc, wiring, row.input, out),
+        "object" | "met" | "places" => objects::tell(alloc, wiring, row, out),
         _ => put(out, b"no such call"),
     }
 }
@@ -62,10 +63,9 @@ fn tell_with(alloc: Global, with: &str, row: &Row<'_>, out: &mut List<u8>) {
     }
 }
 
-/// Adds what the call answers: of objects over the wiring, of tables, of streams and handlers, or of a small call.
-fn tell_object(alloc: Global, with: &str, row: &Row<'_>, out: &mut List<u8>) {
+/// Adds what the call answers: of tables, of streams and handlers, or of a small call.
+fn tell_small(alloc: Global, row: &Row<'_>, out: &mut List<u8>) {
     match row.call {
-        "object" | "met" | "places" => objects::tell(alloc, with, row, out),
         "play" => handlers::play(alloc, row.input, out),
         "held" => tables::held(alloc, row.input, out),
         "rows" => tables::rows(alloc, row.input, out),
@@ -85,7 +85,7 @@ fn tell_object(alloc: Global, with: &str, row: &Row<'_>, out: &mut List<u8>) {
     }
 }
 
-/// Adds what the call answers: of attempts, courses and runs, or what `tell_object` adds.
+/// Adds what the call answers: of attempts, courses and runs, of objects, or what `tell_small` adds.
 fn answer(alloc: Global, with: &str, row: &Row<'_>, out: &mut List<u8>) {
     match row.call {
         "gather" | "slots" | "site" => attempts::attempt(alloc, row.call, row.input, out),
@@ -103,8 +103,11 @@ fn answer(alloc: Global, with: &str, row: &Row<'_>, out: &mut List<u8>) {
         | "steady"
         | "place_number"
         | "shows"
-        | "met_event" => tell_with(alloc, with, row, out),
-        _ => tell_object(alloc, with, row, out),
+        | "met_event"
+        | "object"
+        | "met"
+        | "places" => tell_with(alloc, with, row, out),
+        _ => tell_small(alloc, row, out),
     }
 }
 

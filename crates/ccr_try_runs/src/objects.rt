@@ -10,14 +10,10 @@ use ccr_interleave::InterleaveObject;
 use ccr_object::{Deed, Numbers, Object, PlaceAnswer, PlaceObject, place_objects};
 use ccr_port::PortObject;
 use ccr_queue::{Meter, QueueObject};
-use ccr_try::{Row, put, put_number, put_task, put_word, text_of};
-use ccr_wiretext::read_wiring;
+use ccr_try::{Row, put, put_number, put_task, put_word};
 use ccr_wiring::Wiring;
 use std::alloc::Global;
 use std::sync::Arc;
-
-/// The most bytes that a wiring text has.
-const LONGEST: usize = 1_048_576;
 
 /// The branches of a domain, where 6 and 7 aren't.
 const DOMAIN_BRANCHES: [u32; 3] = [4, 5, 8];
@@ -212,7 +208,7 @@ fn put_places(alloc: Global, wiring: &Wiring, out: &mut List<u8>) {
 }
 
 /// For `KIND NUMBER .. : ASK, ..` what a new object answers.
-fn tell_over(alloc: Global, wiring: &Wiring, row: &Row<'_>, out: &mut List<u8>) {
+pub fn tell(alloc: Global, wiring: &Wiring, row: &Row<'_>, out: &mut List<u8>) {
     if row.call == "places" {
         put_places(alloc, wiring, out);
         return;
@@ -223,17 +219,6 @@ fn tell_over(alloc: Global, wiring: &Wiring, row: &Row<'_>, out: &mut List<u8>) 
             ask_met(alloc, &mut place, asks, out);
         } else {
             ask_all(alloc, &mut place, asks, out);
-        }
-    }
-}
-
-/// What objects answer over the wiring of this text.
-pub fn tell(alloc: Global, with: &str, row: &Row<'_>, out: &mut List<u8>) {
-    let text = text_of(alloc, with, "");
-    if text.len() <= LONGEST {
-        match read_wiring(alloc, text.as_slice()) {
-            Ok(wiring) => tell_over(alloc, &wiring, row, out),
-            Err(_) => put(out, b"no wiring"),
         }
     }
 }

@@ -2,7 +2,7 @@
 use Rattle.std.proofs.Common.{◌≡◌, length, Option, Some, None, Ok, inl, inr, refl, sym}
 use Rattle.ccr_base.specs.declared.handlers.Action.TheVariants as actions
 use Rattle.ccr_base.specs.declared.policies.Group.{Group}
-use Rattle.ccr_text.specs.Places.{Words, no_more}
+use Rattle.ccr_text.specs.Fields.{Words, no_more}
 use Rattle.ccr_wiring.specs.declared.parts.BranchPart.{BranchPart}
 use Rattle.ccr_wiring.specs.declared.parts.ArbiterPart.{ArbiterPart}
 use Rattle.ccr_wiring.specs.declared.parts.HandlerPart.{HandlerPart}

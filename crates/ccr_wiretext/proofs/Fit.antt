@@ -35,7 +35,7 @@ OldFit version newer = (not (version == 2) && newer) ≡ false
 
 abbrev pub ExprFit : ℕ → Expr → Type 0
 ExprFit version (exprs.Number value) = OldFit version (is_long value)
-ExprFit version (exprs.Part message place) = OldFit version true × (message ≤ 65535) × (place ≤ 7)
+ExprFit version (exprs.Part message index) = OldFit version true × (message ≤ 65535) × (index ≤ 7)
 ExprFit version (exprs.Arg k) = k ≤ 65535
 ExprFit version _ = Unit {0}
 

@@ -4,7 +4,7 @@ pub mod Written
 pub mod Steps
 pub mod Each
 pub mod ValuesRead
-pub mod PlacesRead
+pub mod FieldsRead
 pub mod PortsRead
 pub mod PatternsRead
 pub mod FormsRead

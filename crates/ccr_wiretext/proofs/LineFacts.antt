@@ -15,7 +15,7 @@ use Rattle.ccr_base.specs.declared.patterns.Slot.{Slot}
 use Rattle.ccr_base.specs.declared.patterns.Pattern.{Pattern}
 use Rattle.ccr_base.specs.declared.patterns.Pattern.TheVariants as patterns
 use Rattle.ccr_text.specs.Names.{meaning_of}
-use Rattle.ccr_text.specs.Places.{Words}
+use Rattle.ccr_text.specs.Fields.{Words}
 use Rattle.ccr_wiring.specs.declared.parts.Parts.{Parts}
 use Rattle.ccr_wiring.specs.declared.parts.BranchPart.{BranchPart}
 use Rattle.ccr_wiring.specs.declared.parts.DomainPart.{DomainPart}
@@ -113,7 +113,7 @@ value_fit version word value (inr (newer, said)) = rw newer refl
 
 expr_fit : (version : ℕ) (words : Words) (value : Expr) → IsExpr version words value → ExprFit version value
 expr_fit version words (exprs.Number value) said = value_fit version said.0 value said.2
-expr_fit version words (exprs.Part message place) said = (rw said.newer refl, said.counted.below, said.within.below)
+expr_fit version words (exprs.Part message index) said = (rw said.newer refl, said.counted.below, said.within.below)
 expr_fit version words (exprs.Arg k) said = said.2.below
 expr_fit version words exprs.Sum said = tt
 expr_fit version words exprs.Count said = tt

@@ -29,7 +29,7 @@ use Rattle.ccr_wiring.specs.Codes.{code_of}
 use Rattle.ccr_text.specs.Words.{is_name_of}
 use Rattle.ccr_text.specs.declared.lines.Line.{Line}
 use Rattle.ccr_text.specs.Lines.{lines_of}
-use Rattle.ccr_text.specs.Places.{Words}
+use Rattle.ccr_text.specs.Fields.{Words}
 use Rattle.ccr_wiretext.specs.declared.draft.Block.TheVariants as blocks
 use Rattle.ccr_wiretext.specs.Names.{Naming}
 use Rattle.ccr_wiretext.specs.Keywords.{keyword}
@@ -113,7 +113,7 @@ policy_within (policies.Throttle n) fit = rw (above 1 n fit.0, within 1000 n fit
 
 expr_within : (version : ℕ) (value : Expr) → ExprFit version value → expr_is_outside value ≡ false
 expr_within version (exprs.Number value) fit = refl
-expr_within version (exprs.Part message place) fit = rw (above 0 message (omega arith), within 65535 message fit.1, above 0 place (omega arith), within 7 place fit.2) refl
+expr_within version (exprs.Part message index) fit = rw (above 0 message (omega arith), within 65535 message fit.1, above 0 index (omega arith), within 7 index fit.2) refl
 expr_within version (exprs.Arg k) fit = rw (above 0 k (omega arith), within 65535 k fit) refl
 expr_within version exprs.Sum fit = refl
 expr_within version exprs.Count fit = refl
@@ -159,7 +159,7 @@ in_first version newer first fit = let other : (version == 2) ≡ false = grind 
 
 old_expr : (version : ℕ) (value : Expr) → (version == 1) ≡ true → ExprFit version value → expr_is_newer value ≡ false
 old_expr version (exprs.Number value) first fit = in_first version (is_long value) first fit
-old_expr version (exprs.Part message place) first fit = in_first version true first fit.0
+old_expr version (exprs.Part message index) first fit = in_first version true first fit.0
 old_expr version (exprs.Arg k) first fit = refl
 old_expr version exprs.Sum first fit = refl
 old_expr version exprs.Count first fit = refl

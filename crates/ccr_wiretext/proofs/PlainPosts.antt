@@ -15,7 +15,7 @@ use Rattle.ccr_wiretext.specs.declared.draft.Block.TheVariants as blocks
 use Rattle.ccr_wiretext.specs.declared.keyword.Keyword.TheVariants as keywords
 use Rattle.ccr_wiretext.specs.Keywords.{keyword}
 use Rattle.ccr_wiretext.specs.Drafts.{Declared, script_count, with_post}
-use Rattle.ccr_wiretext.specs.Places.{value_in, value, port, port_of}
+use Rattle.ccr_wiretext.specs.Fields.{value_in, value, port, port_of}
 use Rattle.ccr_wiretext.specs.Grammar.{IsValueWord}
 use Rattle.ccr_wiretext.specs.Patterns.{causes}
 use Rattle.ccr_wiretext.specs.Forms.{script_form}

@@ -5,11 +5,11 @@ use Rattle.std.specs.Option.{option_and_then}
 use Rattle.std.specs.List.{list_any, position_or_len}
 use Rattle.std.proofs.lemmas.Bool.Decides.{nat_tests}
 use Rattle.ccr_text.specs.Names.{meaning_of}
-use Rattle.ccr_text.specs.Places.{Words, or_code, word}
+use Rattle.ccr_text.specs.Fields.{Words, or_code, word}
 use Rattle.ccr_wiring.specs.Repeats.{has_port}
 use Rattle.ccr_wiretext.specs.Names.{as_port, as_set}
 use Rattle.ccr_wiretext.specs.Drafts.{Declared, members_of}
-use Rattle.ccr_wiretext.specs.Places.{slash_place, member, set_port, port_at, port_of, port}
+use Rattle.ccr_wiretext.specs.Fields.{slash_index, member, set_port, port_at, port_of, port}
 use Rattle.ccr_wiretext.specs.Grammar.{IsPlain, IsPort}
 use Rattle.ccr_wiretext.proofs.Steps.{bind_ok, ok_is, or_code_ok, chosen, then_some}
 
@@ -41,9 +41,9 @@ cut_at (b ∷ bytes) = by (is_slash b) refl (cut_at bytes)
 shorter : (set name : List ℕ) → length set < length (set ++ 47 ∷ name)
 shorter set name = omega (arith, length-append {A = ℕ} set (47 ∷ name))
 
-cut_place : (word : List ℕ) (cut : IsCut word) → slash_place word ≡ Some (length cut.set)
-unfolding slash_place
-cut_place word cut =
+cut_index : (word : List ℕ) (cut : IsCut word) → slash_index word ≡ Some (length cut.set)
+unfolding slash_index
+cut_index word cut =
     let less : before word < length word = subst (λ w. before word < length w) (sym cut.spelled) (subst (λ n. n < length (cut.set ++ 47 ∷ cut.name)) (sym cut.place) (shorter cut.set cut.name)) in
     let test : nat_lt (before word) (length word) ≡ true = grind (arith, nat_tests, less) in
     rw test (ap Some cut.place)
@@ -56,11 +56,11 @@ before_slash (b ∷ set) name plain = by (is_slash b) refl plain (before_slash s
     by true e f next = absurd cc
     by false e f next = rw (e, next f) (omega arith)
 
-slash_at : (set name : List ℕ) → IsPlain set → slash_place (set ++ 47 ∷ name) ≡ Some (length set)
-slash_at set name plain = cut_place (set ++ 47 ∷ name) (record { set = set; name = name; spelled = refl; plain = plain; place = before_slash set name plain })
+slash_at : (set name : List ℕ) → IsPlain set → slash_index (set ++ 47 ∷ name) ≡ Some (length set)
+slash_at set name plain = cut_index (set ++ 47 ∷ name) (record { set = set; name = name; spelled = refl; plain = plain; place = before_slash set name plain })
 
-plain_none : (word : List ℕ) → IsPlain word → slash_place word ≡ None
-unfolding slash_place
+plain_none : (word : List ℕ) → IsPlain word → slash_index word ≡ None
+unfolding slash_index
 plain_none word plain = elim (cut_at word) [
   | inl parts ↦ let test : nat_lt (before word) (length word) ≡ false = grind (arith, nat_tests, parts.1) in rw test refl
   | inr cut ↦ absurd (slashed cut.set cut.name cut.plain (ap (list_any is_slash) (sym cut.spelled) ∙ plain))
@@ -74,10 +74,10 @@ plain_none word plain = elim (cut_at word) [
         by true e f next = absurd cc
         by false e f next = next e f
 
-place_cut : (word : List ℕ) (place : ℕ) → slash_place word ≡ Some place → (cut : IsCut word) × (place ≡ length cut.set)
-place_cut word place e = elim (cut_at word) [
+index_cut : (word : List ℕ) (place : ℕ) → slash_index word ≡ Some place → (cut : IsCut word) × (place ≡ length cut.set)
+index_cut word place e = elim (cut_at word) [
   | inl parts ↦ absurd (let h : None ≡ Some place = sym (plain_none word parts.0) ∙ e in cc)
-  | inr cut ↦ (cut, (let h : Some (length cut.set) ≡ Some place = sym (cut_place word cut) ∙ e in cc))
+  | inr cut ↦ (cut, (let h : Some (length cut.set) ≡ Some place = sym (cut_index word cut) ∙ e in cc))
 ]
 
 take_front : (set rest : List ℕ) → take (length set) (set ++ rest) ≡ set
@@ -92,15 +92,15 @@ drop_front : (set name : List ℕ) → drop (length set + 1) (set ++ 47 ∷ name
 drop_front set name = rw (add-one (length set)) (drop_behind set name)
 
 port_is : (draft : Declared) (word : List ℕ) (n : ℕ) → port_of draft word ≡ Some n → IsPort draft word n
-port_is draft word n e = by (slash_place word) refl e
+port_is draft word n e = by (slash_index word) refl e
   where
-    by : (o : Option ℕ) → slash_place word ≡ o → port_at draft word o ≡ Some n → IsPort draft word n
+    by : (o : Option ℕ) → slash_index word ≡ o → port_at draft word o ≡ Some n → IsPort draft word n
     by None at h = inl (unslashed, h)
       where
         unslashed : IsPlain word
-        unslashed = elim (cut_at word) [ inl parts ↦ parts.0 | inr cut ↦ absurd (let found : slash_place word ≡ Some (length cut.set) = cut_place word cut in let h2 : None ≡ Some (length cut.set) = sym at ∙ found in cc) ]
+        unslashed = elim (cut_at word) [ inl parts ↦ parts.0 | inr cut ↦ absurd (let found : slash_index word ≡ Some (length cut.set) = cut_index word cut in let h2 : None ≡ Some (length cut.set) = sym at ∙ found in cc) ]
     by (Some place) at h =
-        let cut = place_cut word place at in
+        let cut = index_cut word place at in
         let set = then_some (set_port draft (drop (place + 1) word)) (option_and_then as_set (meaning_of draft.names (take place word))) n h in
         let other = then_some (member draft set.0) (option_and_then as_port (meaning_of draft.names (drop (place + 1) word))) n set.2 in
         let front : take place word ≡ cut.0.set = ap (λ k. take k word) cut.1 ∙ ap (take (length cut.0.set)) cut.0.spelled ∙ take_front cut.0.set (47 ∷ cut.0.name) in

@@ -2,7 +2,7 @@
 use Rattle.std.proofs.Common.{◌≡◌, ℕ, suc, ◌-◌, ◌<◌, false, List, [], ◌∷◌, ◌++◌, length, Ok, refl, arith, length-append}
 use Rattle.std.specs.Prelude.{◌==◌}
 use Rattle.ccr_base.specs.declared.patterns.Slot.{Slot}
-use Rattle.ccr_text.specs.Places.{Words}
+use Rattle.ccr_text.specs.Fields.{Words}
 use Rattle.ccr_wiretext.specs.Drafts.{Declared}
 use Rattle.ccr_wiretext.specs.Patterns.{slot, slots, new_port, members, new_member, further}
 

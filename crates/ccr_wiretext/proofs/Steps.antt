@@ -5,7 +5,7 @@ use Rattle.std.specs.Option.{option_and_then}
 use Rattle.std.specs.Str.{bytes_eq}
 use Rattle.std.proofs.lemmas.Bool.Decides.{nat_tests}
 use Rattle.std.proofs.lemmas.Slice.Eq.{bytes_eq-Decides}
-use Rattle.ccr_text.specs.Places.{Words, ◌>>=◌, unless, or_code, word, no_more, limited}
+use Rattle.ccr_text.specs.Fields.{Words, ◌>>=◌, unless, or_code, word, no_more, limited}
 
 -- the value of a step that did not fail
 pub bind_ok : {A B : Type 0} (r : Result A ℕ) (f : A → Result B ℕ) (y : B) → (r >>= f) ≡ Ok y → (x : A) × (r ≡ Ok x) × (f x ≡ Ok y)

@@ -9,8 +9,8 @@ use Rattle.std.proofs.lemmas.List.Elements.{All-cons}
 use Rattle.std.proofs.lemmas.List.Splits.{join_with_byte-slice_split}
 use Rattle.ccr_base.specs.Values.{value_of_numbers}
 use Rattle.ccr_text.specs.Words.{value_after, is_digits, number_of}
-use Rattle.ccr_text.specs.Places.{or_code}
-use Rattle.ccr_wiretext.specs.Places.{pieces, numbers_after, several, single, value_in}
+use Rattle.ccr_text.specs.Fields.{or_code}
+use Rattle.ccr_wiretext.specs.Fields.{pieces, numbers_after, several, single, value_in}
 use Rattle.ccr_wiretext.specs.Grammar.{IsNumber, AreNumbers, IsList, IsOne, IsValueWord}
 use Rattle.ccr_wiretext.specs.Spelling.{value_word}
 use Rattle.ccr_wiretext.specs.Values.{IsNumeral}

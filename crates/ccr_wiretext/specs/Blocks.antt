@@ -3,7 +3,7 @@ use Rattle.std.specs.Prelude.{ℕ, length, Option, Some, None, Result, Ok, Err}
 use Rattle.ccr_base.specs.declared.policies.Group.{Group}
 use Rattle.ccr_base.specs.declared.policies.Group.TheVariants as groups
 use Rattle.ccr_base.specs.declared.handlers.Action.TheVariants as actions
-use Rattle.ccr_text.specs.Places.{Words, ◌>>=◌}
+use Rattle.ccr_text.specs.Fields.{Words, ◌>>=◌}
 use Rattle.ccr_wiring.specs.declared.parts.ArbiterPart.{ArbiterPart}
 use Rattle.ccr_wiring.specs.declared.parts.HandlerPart.{HandlerPart}
 use Rattle.ccr_wiring.specs.declared.parts.PosterPart.{PosterPart}

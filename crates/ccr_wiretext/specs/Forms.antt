@@ -6,7 +6,7 @@ use Rattle.ccr_base.specs.declared.handlers.Action.TheVariants as actions
 use Rattle.ccr_base.specs.declared.handlers.Expr.{Expr}
 use Rattle.ccr_base.specs.declared.messages.Sent.{Sent}
 use Rattle.ccr_base.specs.declared.policies.Group.{Group}
-use Rattle.ccr_text.specs.Places.{Words, ◌>>=◌, unless, limited, no_more, number_within, policy}
+use Rattle.ccr_text.specs.Fields.{Words, ◌>>=◌, unless, limited, no_more, number_within, policy}
 use Rattle.ccr_wiring.specs.declared.parts.QueuePart.{QueuePart}
 use Rattle.ccr_wiring.specs.declared.parts.SetPart.{SetPart}
 use Rattle.ccr_wiring.specs.declared.parts.CausePart.{CausePart}
@@ -18,7 +18,7 @@ use Rattle.ccr_wiring.specs.declared.parts.DomainPart.{DomainPart}
 use Rattle.ccr_wiring.specs.Spots.{branch_named, times}
 use Rattle.ccr_wiretext.specs.Names.{as_queue, as_cause, as_handler}
 use Rattle.ccr_wiretext.specs.Drafts.{Declared, branch_count, script_count}
-use Rattle.ccr_wiretext.specs.Places.{new_name, reference, port, group, value, expr}
+use Rattle.ccr_wiretext.specs.Fields.{new_name, reference, port, group, value, expr}
 use Rattle.ccr_wiretext.specs.Patterns.{pattern, all_members, combined, causes}
 
 -- budget N. A second one is code 13

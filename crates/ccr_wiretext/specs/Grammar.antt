@@ -15,7 +15,7 @@ use Rattle.ccr_base.specs.declared.patterns.Pattern.{Pattern}
 use Rattle.ccr_base.specs.declared.patterns.Pattern.TheVariants as patterns
 use Rattle.ccr_text.specs.Words.{number_of, is_name_of}
 use Rattle.ccr_text.specs.Names.{meaning_of}
-use Rattle.ccr_text.specs.Places.{Words}
+use Rattle.ccr_text.specs.Fields.{Words}
 use Rattle.ccr_wiring.specs.References.{no_interleave}
 use Rattle.ccr_wiring.specs.Repeats.{has_port}
 use Rattle.ccr_wiretext.specs.declared.named.Named.{Named}
@@ -98,18 +98,18 @@ abbrev pub IsValueWord : ℕ → List ℕ → List ℕ → Type 0
 IsValueWord version word value = (((version == 2) ≡ false) × IsOne word value) ⊎ (((version == 2) ≡ true) × IsList word value)
 
 -- part, and which number of which message's value. Only in version 2
-pub record IsPart (version : ℕ) (words : Words) (message place : ℕ) : Type 0 where
+pub record IsPart (version : ℕ) (words : Words) (message index : ℕ) : Type 0 where
   pub newer : (version == 2) ≡ true
   pub first : List ℕ
   pub second : List ℕ
   pub spelled : words ≡ codes "part" ∷ first ∷ second ∷ []
   pub counted : IsWithin 0 65535 first message
-  pub within : IsWithin 0 7 second place
+  pub within : IsWithin 0 7 second index
 
 -- the words say this expression, in a text of this version
 abbrev pub IsExpr : ℕ → Words → Expr → Type 0
 IsExpr version words (exprs.Number value) = (word : List ℕ) × (words ≡ word ∷ []) × IsValueWord version word value
-IsExpr version words (exprs.Part message place) = IsPart version words message place
+IsExpr version words (exprs.Part message index) = IsPart version words message index
 IsExpr version words (exprs.Arg k) = (digits : List ℕ) × (words ≡ codes "arg" ∷ digits ∷ []) × IsWithin 0 65535 digits k
 IsExpr version words exprs.Sum = words ≡ codes "sum" ∷ []
 IsExpr version words exprs.Count = words ≡ codes "count" ∷ []

@@ -2,7 +2,7 @@ pub mod Keywords
 pub mod Names
 pub mod Counts
 pub mod Drafts
-pub mod Places
+pub mod Fields
 pub mod Patterns
 pub mod Forms
 pub mod Blocks

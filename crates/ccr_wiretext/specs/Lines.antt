@@ -16,7 +16,7 @@ use Rattle.ccr_wiring.specs.declared.parts.DomainPart.{DomainPart}
 use Rattle.ccr_wiring.specs.declared.parts.Kind.TheVariants as arbiters
 use Rattle.ccr_text.specs.declared.lines.Line.{Line}
 use Rattle.ccr_text.specs.Lines.{lines_of}
-use Rattle.ccr_text.specs.Places.{Words}
+use Rattle.ccr_text.specs.Fields.{Words}
 use Rattle.ccr_text.specs.Words.{is_comment}
 use Rattle.ccr_wiretext.specs.declared.keyword.Keyword.{Keyword}
 use Rattle.ccr_wiretext.specs.declared.keyword.Keyword.TheVariants as keywords

@@ -9,12 +9,12 @@ use Rattle.ccr_base.specs.declared.patterns.Slot.{Slot}
 use Rattle.ccr_base.specs.declared.patterns.Pattern.{Pattern}
 use Rattle.ccr_base.specs.declared.patterns.Pattern.TheVariants as patterns
 use Rattle.ccr_text.specs.Names.{meaning_of}
-use Rattle.ccr_text.specs.Places.{Words, ◌>>=◌, unless, or_code, word, no_more, number, number_within}
+use Rattle.ccr_text.specs.Fields.{Words, ◌>>=◌, unless, or_code, word, no_more, number, number_within}
 use Rattle.ccr_wiring.specs.declared.parts.DomainPart.{DomainPart}
 use Rattle.ccr_wiring.specs.Repeats.{has_port}
 use Rattle.ccr_wiretext.specs.Names.{Naming, as_cause}
 use Rattle.ccr_wiretext.specs.Drafts.{Declared}
-use Rattle.ccr_wiretext.specs.Places.{port, interleave}
+use Rattle.ccr_wiretext.specs.Fields.{port, interleave}
 
 -- any, eq N, lt N or ge N
 unfoldable pub pred : Words → Result (Pred × Words) ℕ

@@ -3,7 +3,7 @@ use Rattle.std.specs.Prelude.{ℕ, Bool, List, [], ◌∷◌, Option, Some, None
 use Rattle.std.specs.Str.{bytes_eq}
 use Rattle.ccr_text.specs.declared.lines.Line.{Line}
 use Rattle.ccr_text.specs.Lines.{lines_of}
-use Rattle.ccr_text.specs.Places.{Words, ◌>>=◌, or_code}
+use Rattle.ccr_text.specs.Fields.{Words, ◌>>=◌, or_code}
 use Rattle.ccr_text.specs.Words.{is_comment}
 use Rattle.ccr_wiring.specs.declared.parts.Parts.{Parts}
 use Rattle.ccr_wiretext.specs.declared.draft.Block.{Block}

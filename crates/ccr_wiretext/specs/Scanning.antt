@@ -9,7 +9,7 @@ use Rattle.ccr_wiring.specs.declared.parts.PosterPart.{PosterPart}
 use Rattle.ccr_wiretext.specs.declared.draft.Block.TheVariants as blocks
 use Rattle.ccr_wiretext.specs.declared.scanning.PlainPost.{PlainPost}
 use Rattle.ccr_wiretext.specs.Drafts.{Declared, script_count}
-use Rattle.ccr_wiretext.specs.Places.{port_of}
+use Rattle.ccr_wiretext.specs.Fields.{port_of}
 use Rattle.ccr_wiretext.specs.Reading.{So, after_clean}
 
 -- the text's first line is clean, and these are its words

@@ -27,7 +27,7 @@ use Rattle.ccr_wiring.specs.declared.parts.PosterPart.{PosterPart}
 use Rattle.ccr_wiring.specs.declared.parts.DomainPart.{DomainPart}
 use Rattle.ccr_wiring.specs.declared.parts.Kind.TheVariants as arbiters
 use Rattle.ccr_text.specs.Spelling.{text_of}
-use Rattle.ccr_text.specs.Places.{Words}
+use Rattle.ccr_text.specs.Fields.{Words}
 
 -- the name of a port. The others are likewise
 abbrev pub port_name : Parts → ℕ → List ℕ
@@ -86,7 +86,7 @@ value_word value = join_with_byte 44 (map decimal value)
 -- how an expression is written
 abbrev pub expr_words : Expr → Words
 expr_words (exprs.Number value) = value_word value ∷ []
-expr_words (exprs.Part message place) = codes "part" ∷ decimal message ∷ decimal place ∷ []
+expr_words (exprs.Part message index) = codes "part" ∷ decimal message ∷ decimal index ∷ []
 expr_words (exprs.Arg k) = codes "arg" ∷ decimal k ∷ []
 expr_words exprs.Sum = codes "sum" ∷ []
 expr_words exprs.Count = codes "count" ∷ []

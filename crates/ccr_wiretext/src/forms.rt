@@ -11,7 +11,7 @@ ghost use Rattle.ccr_wiretext.specs.Forms.{budget_form, queue_form, name_form, s
 
 use crate::draft::{Draft, copy_of};
 use crate::spotted::Spotted;
-use crate::{patterns, places};
+use crate::{fields, patterns};
 use ccr_base::{Action, CauseNo, Expr, Group, OutOfMemory, PortNo, Sent};
 use ccr_text::{Code, Cursor, Stop};
 use ccr_wiring::{
@@ -94,7 +94,7 @@ impl Draft {
     }
 
     /// queue NAME POLICY.
-    #[tactic(auto, unfolding(crate::specs::Forms::queue_form, crate::specs::Places::new_name))]
+    #[tactic(auto, unfolding(crate::specs::Forms::queue_form, crate::specs::Fields::new_name))]
     pub fn queue_form(&self, mut words: Cursor<'_>) -> Result<QueuePart, Stop>
         ensures form { Gives result (queue_form self.now words.entry) }
         ensures new { IfOk result (λ part. meaning_of self.now.names part.name ≡ None) }
@@ -103,7 +103,7 @@ impl Draft {
         if self.parts.queues.as_slice().len() >= MAX_QUEUES {
             return Err(Stop::Refused(Code::Limit));
         }
-        let name = places::new_name(&mut words, &self.names)?;
+        let name = fields::new_name(&mut words, &self.names)?;
         let policy = words.policy(MAX_POLICY)?;
         words.no_more()?;
         let name = copy_of(self.alloc, name)?;
@@ -111,7 +111,7 @@ impl Draft {
     }
 
     /// A line that is a name alone, where `count` such names stand and at most `limit` may.
-    #[tactic(auto, unfolding(crate::specs::Forms::name_form, crate::specs::Places::new_name))]
+    #[tactic(auto, unfolding(crate::specs::Forms::name_form, crate::specs::Fields::new_name))]
     pub fn name_form<'a>(
         &self,
         limit: usize,
@@ -125,13 +125,13 @@ impl Draft {
         if count >= limit {
             return Err(Stop::Refused(Code::Limit));
         }
-        let name = places::new_name(&mut words, &self.names)?;
+        let name = fields::new_name(&mut words, &self.names)?;
         words.no_more()?;
         Ok(name)
     }
 
     /// portset NAME PORT ..
-    #[tactic(auto, unfolding(crate::specs::Forms::set_form, crate::specs::Places::new_name))]
+    #[tactic(auto, unfolding(crate::specs::Forms::set_form, crate::specs::Fields::new_name))]
     pub fn set_form(&self, mut words: Cursor<'_>) -> Result<SetPart, Stop>
         ensures form { Gives result (set_form self.now words.entry) }
         ensures new { IfOk result (λ part. meaning_of self.now.names part.name ≡ None) }
@@ -140,14 +140,14 @@ impl Draft {
         if self.parts.sets.as_slice().len() >= MAX_SETS {
             return Err(Stop::Refused(Code::Limit));
         }
-        let name = places::new_name(&mut words, &self.names)?;
+        let name = fields::new_name(&mut words, &self.names)?;
         let ports = patterns::members(&mut words, self.alloc, self)?;
         let name = copy_of(self.alloc, name)?;
         Ok(SetPart { name, ports })
     }
 
     /// cause NAME PORT.
-    #[tactic(auto, unfolding(crate::specs::Forms::cause_form, crate::specs::Places::new_name))]
+    #[tactic(auto, unfolding(crate::specs::Forms::cause_form, crate::specs::Fields::new_name))]
     pub fn cause_form(&self, mut words: Cursor<'_>) -> Result<CausePart, Stop>
         ensures form { Gives result (cause_form self.now words.entry) }
         ensures new { IfOk result (λ part. meaning_of self.now.names part.name ≡ None) }
@@ -156,8 +156,8 @@ impl Draft {
         if self.parts.causes.as_slice().len() >= MAX_CAUSES {
             return Err(Stop::Refused(Code::Limit));
         }
-        let name = places::new_name(&mut words, &self.names)?;
-        let port = places::port(&mut words, self)?;
+        let name = fields::new_name(&mut words, &self.names)?;
+        let port = fields::port(&mut words, self)?;
         words.no_more()?;
         let name = copy_of(self.alloc, name)?;
         Ok(CausePart { name, port })
@@ -183,8 +183,8 @@ impl Draft {
         ensures form { Gives result (branch_tail self.now name.now group words.entry) }
         ensures name { IfOk result (λ branch. branch.name ≡ name.now) }
     {
-        let queue = places::queue(&mut words, &self.names)?;
-        let handler = places::handler(&mut words, &self.names)?;
+        let queue = fields::queue(&mut words, &self.names)?;
+        let handler = fields::handler(&mut words, &self.names)?;
         let pattern = patterns::pattern(&mut words, self.alloc, self)?;
         let branch = BranchPart {
             name: copy_of(self.alloc, name)?,
@@ -226,19 +226,19 @@ impl Draft {
     }
 
     /// receive NAME GROUP QUEUE HANDLER PATTERN.
-    #[tactic(auto, unfolding(crate::specs::Forms::receive_form, crate::specs::Places::new_name))]
+    #[tactic(auto, unfolding(crate::specs::Forms::receive_form, crate::specs::Fields::new_name))]
     pub fn receive_form(&self, mut words: Cursor<'_>) -> Result<BranchPart, Stop>
         ensures form { Gives result (receive_form self.now words.entry) }
         ensures new { IfOk result (λ branch. meaning_of self.now.names branch.name ≡ None) }
     {
         self.receive_room()?;
-        let name = places::new_name(&mut words, &self.names)?;
-        let group = places::group(&mut words)?;
+        let name = fields::new_name(&mut words, &self.names)?;
+        let group = fields::group(&mut words)?;
         self.branch_tail(name, group, words)
     }
 
     /// NAME QUEUE HANDLER PATTERN, behind the word that gives the group.
-    #[tactic(auto, unfolding(crate::specs::Forms::branch_form, crate::specs::Places::new_name))]
+    #[tactic(auto, unfolding(crate::specs::Forms::branch_form, crate::specs::Fields::new_name))]
     pub fn branch_form(
         &self,
         part: &ArbiterPart,
@@ -252,7 +252,7 @@ impl Draft {
         if !has_branch_room(self.parts.arbiters.as_slice(), begun) {
             return Err(Stop::Refused(Code::Limit));
         }
-        let name = places::new_name(&mut words, &self.names)?;
+        let name = fields::new_name(&mut words, &self.names)?;
         self.branch_tail(name, group, words)
     }
 
@@ -264,8 +264,8 @@ impl Draft {
         if part.handler.actions.as_slice().len() >= MAX_ACTIONS {
             return Err(Stop::Refused(Code::Limit));
         }
-        let port = places::port(&mut words, self)?;
-        let value = places::expr(&mut words, self.alloc, self.parts.version)?;
+        let port = fields::port(&mut words, self)?;
+        let value = fields::expr(&mut words, self.alloc, self.parts.version)?;
         words.no_more()?;
         Ok(Action::Post(port, value))
     }
@@ -278,7 +278,7 @@ impl Draft {
         if part.handler.actions.as_slice().len() >= MAX_ACTIONS {
             return Err(Stop::Refused(Code::Limit));
         }
-        let value = places::expr(&mut words, self.alloc, self.parts.version)?;
+        let value = fields::expr(&mut words, self.alloc, self.parts.version)?;
         words.no_more()?;
         Ok(value)
     }
@@ -291,7 +291,7 @@ impl Draft {
         if part.handler.actions.as_slice().len() >= MAX_ACTIONS {
             return Err(Stop::Refused(Code::Limit));
         }
-        let cause = places::cause(&mut words, &self.names)?;
+        let cause = fields::cause(&mut words, &self.names)?;
         words.no_more()?;
         Ok(cause)
     }
@@ -304,7 +304,7 @@ impl Draft {
         if part.handler.actions.as_slice().len() >= MAX_ACTIONS {
             return Err(Stop::Refused(Code::Limit));
         }
-        let port = places::port(&mut words, self)?;
+        let port = fields::port(&mut words, self)?;
         words.no_more()?;
         Ok(Action::Await(port))
     }
@@ -325,8 +325,8 @@ impl Draft {
         if !self.has_post_room(part) {
             return Err(Stop::Refused(Code::Limit));
         }
-        let port = places::port(&mut words, self)?;
-        let value = places::value(&mut words, self.alloc, self.parts.version)?;
+        let port = fields::port(&mut words, self)?;
+        let value = fields::value(&mut words, self.alloc, self.parts.version)?;
         let causes = patterns::causes(&mut words, self.alloc, &self.names)?;
         Ok(Sent {
             port,

@@ -6,8 +6,8 @@ ghost use Rattle.ccr_wiretext.specs.Patterns.{pred, new_port, slot, slots, taken
 ghost use Rattle.std.specs.List.{list_any};
 
 use crate::draft::Draft;
+use crate::fields;
 use crate::named::Named;
-use crate::places;
 use crate::references::{has_port, is_combined};
 use ccr_base::{ArbiterNo, CauseNo, List, Pattern, PortNo, Pred, Slot};
 use ccr_text::{Code, Cursor, Names, Stop, is_text};
@@ -45,7 +45,7 @@ fn pred(words: &mut Cursor<'_>) -> Result<Pred, Stop>
 fn new_port(words: &mut Cursor<'_>, draft: &Draft, found: &[PortNo]) -> Result<PortNo, Stop>
     ensures { Leaves words.new result (new_port draft.now found.now words.old) }
 {
-    let port = places::port(words, draft)?;
+    let port = fields::port(words, draft)?;
     if has_port(found, port) {
         return Err(Stop::Refused(Code::Repeat));
     }
@@ -57,7 +57,7 @@ fn new_port(words: &mut Cursor<'_>, draft: &Draft, found: &[PortNo]) -> Result<P
 fn slot(words: &mut Cursor<'_>, draft: &Draft, found: &[Slot]) -> Result<Slot, Stop>
     ensures { Leaves words.new result (slot draft.now found.now words.old) }
 {
-    let port = places::port(words, draft)?;
+    let port = fields::port(words, draft)?;
     if has_slot(found, port) {
         return Err(Stop::Refused(Code::Repeat));
     }
@@ -94,7 +94,7 @@ fn gathered(words: &mut Cursor<'_>, draft: &Draft) -> Result<Pattern, Stop>
     ensures { Gives result (gathered draft.now words.old) }
 {
     let total = words.number_within(1, MAX_COUNT)?;
-    let first = places::port(words, draft)?;
+    let first = fields::port(words, draft)?;
     let second = new_port(words, draft, &[first])?;
     words.no_more()?;
     Ok(Pattern::Gather {
@@ -125,7 +125,7 @@ pub fn members(words: &mut Cursor<'_>, alloc: Global, draft: &Draft) -> Result<L
     ensures { Gives result (all_members draft.now words.old) }
 {
     let mut found = Vec::new(alloc);
-    found.push(places::port(words, draft)?)?;
+    found.push(fields::port(words, draft)?)?;
     'members: while !words.is_empty() {
         if found.len() == MAX_SET_PORTS {
             return Err(Stop::Refused(Code::Limit));
@@ -141,7 +141,7 @@ pub fn members(words: &mut Cursor<'_>, alloc: Global, draft: &Draft) -> Result<L
 fn new_member(words: &mut Cursor<'_>, draft: &Draft, found: &[ArbiterNo]) -> Result<ArbiterNo, Stop>
     ensures { Leaves words.new result (new_member draft.now found.now words.old) }
 {
-    let arbiter = places::interleave(words, draft)?;
+    let arbiter = fields::interleave(words, draft)?;
     if is_combined(draft.parts.domains.as_slice(), arbiter) || has_port(found, arbiter) {
         return Err(Stop::Refused(Code::Repeat));
     }
@@ -171,7 +171,7 @@ pub fn combined(
 }
 
 /// The causes of a post, up to the end of the line.
-#[tactic(auto, unfolding(crate::specs::Patterns::causes, crate::specs::Places::reference))]
+#[tactic(auto, unfolding(crate::specs::Patterns::causes, crate::specs::Fields::reference))]
 pub fn causes(
     words: &mut Cursor<'_>,
     alloc: Global,
@@ -181,7 +181,7 @@ pub fn causes(
 {
     let mut found = Vec::new(alloc);
     'causes: while !words.is_empty() {
-        let next = places::cause(words, names)?;
+        let next = fields::cause(words, names)?;
         if has_port(&found, next) {
             return Err(Stop::Refused(Code::Repeat));
         }

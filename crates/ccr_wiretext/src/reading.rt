@@ -3,7 +3,7 @@
 ghost use Rattle.std.specs.Prelude.{◌≡◌, ◌≢◌, ◌≤◌, [], length, None, IfErr, IfNone, IfOk, IfSome};
 ghost use Rattle.ccr_base.specs.Bounds.{most_wiring_bytes};
 ghost use Rattle.ccr_text.specs.Answers.{Gives, GivesState};
-ghost use Rattle.ccr_text.specs.Places.{seen};
+ghost use Rattle.ccr_text.specs.Fields.{seen};
 ghost use Rattle.ccr_wiring.specs.Valid.{IsValid};
 ghost use Rattle.ccr_wiretext.specs.Answers.{IsReading, IsNoText};
 ghost use Rattle.ccr_wiretext.specs.Lines.{IsText};

@@ -7,7 +7,7 @@ ghost use Rattle.ccr_wiring.specs.Repeats.{has_port};
 ghost use Rattle.ccr_wiring.specs.References.{no_interleave};
 ghost use Rattle.ccr_wiretext.specs.Patterns.{is_combined};
 ghost use Rattle.ccr_wiretext.specs.Drafts.{members_of};
-ghost use Rattle.ccr_wiretext.specs.Places.{slash_place, set_port, port_of};
+ghost use Rattle.ccr_wiretext.specs.Fields.{slash_index, set_port, port_of};
 ghost use Rattle.std.specs.Option.{option_and_then};
 ghost use Rattle.ccr_wiretext.specs.Names.{as_port, as_set};
 
@@ -33,9 +33,9 @@ pub fn is_combined(domains: &[DomainPart], arbiter: ArbiterNo) -> bool
 }
 
 /// The place of the first slash.
-#[tactic(auto, unfolding(crate::specs::Places::slash_place))]
-fn slash_place(name: &[u8]) -> Option<usize>
-    ensures place { result ≡ slash_place name.now }
+#[tactic(auto, unfolding(crate::specs::Fields::slash_index))]
+fn slash_index(name: &[u8]) -> Option<usize>
+    ensures place { result ≡ slash_index name.now }
     ensures within { IfSome result (λ place. place < length name.now) }
 {
     name.iter().position(|byte| *byte == b'/')
@@ -84,11 +84,11 @@ impl Draft {
     pub fn port(&self, name: &[u8]) -> Option<PortNo>
         ensures { result ≡ port_of self.now name.now }
     {
-        let Some(place) = slash_place(name) else {
+        let Some(index) = slash_index(name) else {
             return self.plain_port(name);
         };
-        let set = self.port_set(&name[..place])?;
-        self.set_port(set, &name[place + 1..])
+        let set = self.port_set(&name[..index])?;
+        self.set_port(set, &name[index + 1..])
     }
 
     pub fn is_interleave(&self, arbiter: ArbiterNo) -> bool

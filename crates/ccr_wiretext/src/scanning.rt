@@ -41,9 +41,9 @@ fn word_before(bytes: &[u8]) -> Option<(&[u8], &[u8])>
     ensures marks { IfSome result (λ found. list_all is_mark found.0.now ≡ true) }
     ensures some { IfSome result (λ found. found.0.now ≢ []) }
 {
-    for (place, byte) in bytes.iter().enumerate() {
-        if *byte == b' ' && place > 0 {
-            return Some((&bytes[..place], &bytes[place + 1..]));
+    for (index, byte) in bytes.iter().enumerate() {
+        if *byte == b' ' && index > 0 {
+            return Some((&bytes[..index], &bytes[index + 1..]));
         }
         if !(33..=126).contains(byte) {
             return None;

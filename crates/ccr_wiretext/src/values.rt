@@ -2,7 +2,7 @@
 
 ghost use Rattle.std.specs.Prelude.{◌≡◌, ◌∷◌, ◌<◌, [], IfSome, IfNone, length};
 ghost use Rattle.ccr_text.specs.Answers.{Gives, GivesBy};
-ghost use Rattle.ccr_wiretext.specs.Places.{pieces, numbers_after, several, single, value_in};
+ghost use Rattle.ccr_wiretext.specs.Fields.{pieces, numbers_after, several, single, value_in};
 
 use ccr_base::Value;
 use ccr_text::{Code, Stop, read_number};
@@ -14,16 +14,16 @@ fn cut_piece(word: &[u8]) -> (&[u8], Option<&[u8]>)
     ensures cut { IfSome result.1 (λ after. pieces word.now ≡ result.0.now ∷ pieces after.now) }
     ensures shorter { IfSome result.1 (λ after. length after.now < length word.now) }
 {
-    for (place, byte) in word.iter().enumerate() {
+    for (index, byte) in word.iter().enumerate() {
         if *byte == b',' {
-            return (&word[..place], Some(&word[place + 1..]));
+            return (&word[..index], Some(&word[index + 1..]));
         }
     }
     (word, None)
 }
 
 /// The numbers between the commas of a word.
-#[tactic(auto, unfolding(crate::specs::Places::numbers_after))]
+#[tactic(auto, unfolding(crate::specs::Fields::numbers_after))]
 fn numbers_in(alloc: Global, word: &[u8]) -> Result<Vec<u64>, Stop>
     ensures { GivesBy (λ numbers. numbers.items) result (numbers_after [] (pieces word.now)) }
 {
@@ -41,7 +41,7 @@ fn numbers_in(alloc: Global, word: &[u8]) -> Result<Vec<u64>, Stop>
 }
 
 /// 1 to 8 numbers with commas between them.
-#[tactic(auto, unfolding(crate::specs::Places::several))]
+#[tactic(auto, unfolding(crate::specs::Fields::several))]
 fn several(alloc: Global, word: &[u8]) -> Result<Value, Stop>
     ensures { Gives result (several word.now) }
 {
@@ -52,7 +52,7 @@ fn several(alloc: Global, word: &[u8]) -> Result<Value, Stop>
     }
 }
 
-#[tactic(auto, unfolding(crate::specs::Places::single))]
+#[tactic(auto, unfolding(crate::specs::Fields::single))]
 fn single(word: &[u8]) -> Result<Value, Stop>
     ensures { Gives result (single word.now) }
 {
@@ -63,7 +63,7 @@ fn single(word: &[u8]) -> Result<Value, Stop>
 }
 
 /// The value that a word is in a text of this version.
-#[tactic(auto, unfolding(crate::specs::Places::value_in))]
+#[tactic(auto, unfolding(crate::specs::Fields::value_in))]
 pub fn value_in(alloc: Global, version: u32, word: &[u8]) -> Result<Value, Stop>
     ensures { Gives result (value_in version word.now) }
 {

@@ -99,19 +99,19 @@ branch_named parts branch none =
     let one = neither (is_beyond (length parts.queues) branch.queue) (is_beyond (length parts.handlers) branch.handler) two.0 in
     record { queue = below (length parts.queues) branch.queue one.0; handler = below (length parts.handlers) branch.handler one.1; pattern = two.1 }
 
-slot_port : (parts : Parts) (slots : List Slot) (place port : ℕ) → slots_are_dangling parts slots ≡ false → slice_get (slot_ports slots) place ≡ Some port → port < length parts.ports
-slot_port parts slots place port none at = below (length parts.ports) port (none_at (no_port parts) (slot_ports slots) place port (mapped slots ∙ none) at)
+slot_port : (parts : Parts) (slots : List Slot) (index port : ℕ) → slots_are_dangling parts slots ≡ false → slice_get (slot_ports slots) index ≡ Some port → port < length parts.ports
+slot_port parts slots index port none at = below (length parts.ports) port (none_at (no_port parts) (slot_ports slots) index port (mapped slots ∙ none) at)
   where
     mapped : (slots : List Slot) → list_any (no_port parts) (slot_ports slots) ≡ slots_are_dangling parts slots
     mapped [] = refl
     mapped (slot ∷ slots) = ap (λ b. no_port parts slot.port || b) (mapped slots)
 
-pattern_port : (parts : Parts) (pattern : Pattern) (place port : ℕ) → pattern_is_dangling parts pattern ≡ false → slice_get (pattern_ports pattern) place ≡ Some port → port < length parts.ports
-pattern_port parts (Slots slots) place port none at = slot_port parts slots place port none at
-pattern_port parts (Gather total first second) place port none at =
+pattern_port : (parts : Parts) (pattern : Pattern) (index port : ℕ) → pattern_is_dangling parts pattern ≡ false → slice_get (pattern_ports pattern) index ≡ Some port → port < length parts.ports
+pattern_port parts (Slots slots) index port none at = slot_port parts slots index port none at
+pattern_port parts (Gather total first second) index port none at =
     let both = neither (no_port parts first) (no_port parts second) none in
     let each : list_any (no_port parts) (first ∷ second ∷ []) ≡ false = rw (both.0, both.1) refl in
-    below (length parts.ports) port (none_at (no_port parts) (first ∷ second ∷ []) place port each at)
+    below (length parts.ports) port (none_at (no_port parts) (first ∷ second ∷ []) index port each at)
 
 slot_filled : (slot : Slot) → slot_is_outside slot ≡ false → IsSlotFilled slot
 slot_filled slot none =
@@ -127,7 +127,7 @@ pattern_filled (Slots slots) none =
     let two = neither (is_outside 1 8 (length slots)) (list_any slot_is_outside slots) none in
     let one = neither (nat_lt (length slots) 1) (nat_lt 8 (length slots)) two.0 in
     let low : 1 ≤ length slots = at_most (length slots) 1 one.0 in
-    (omega arith, at_most 8 (length slots) one.1, λ place slot at. slot_filled slot (none_at slot_is_outside slots place slot two.1 at))
+    (omega arith, at_most 8 (length slots) one.1, λ index slot at. slot_filled slot (none_at slot_is_outside slots index slot two.1 at))
 pattern_filled (Gather total first second) none =
     let one = neither (nat_lt total 1) (nat_lt 1000 total) none in
     let low : 1 ≤ total = at_most total 1 one.0 in
@@ -140,13 +140,13 @@ action_named parts (Add cause) none = below (length parts.causes) cause none
 action_named parts (Remove cause) none = below (length parts.causes) cause none
 action_named parts (Fail expr) none = tt
 
-actions_named : (parts : Parts) (handler place : ℕ) (action : Action) (found : Option HandlerPart) → slice_get parts.handlers handler ≡ found → has_dangling_handler parts ≡ false → slice_get (actions_of parts handler) place ≡ Some action → IsActionNamed parts action
-actions_named parts handler place action None found none at = absurd (no_action (rw found at at))
+actions_named : (parts : Parts) (handler index : ℕ) (action : Action) (found : Option HandlerPart) → slice_get parts.handlers handler ≡ found → has_dangling_handler parts ≡ false → slice_get (actions_of parts handler) index ≡ Some action → IsActionNamed parts action
+actions_named parts handler index action None found none at = absurd (no_action (rw found at at))
   where
-    no_action : slice_get {X = Action} [] place ≡ Some action → ⊥
+    no_action : slice_get {X = Action} [] index ≡ Some action → ⊥
     no_action e = absurd cc
-actions_named parts handler place action (Some part) found none at =
-    action_named parts action (none_at (action_is_dangling parts) part.handler.actions place action (none_at (handler_is_dangling parts) parts.handlers handler part none found) (rw found at at))
+actions_named parts handler index action (Some part) found none at =
+    action_named parts action (none_at (action_is_dangling parts) part.handler.actions index action (none_at (handler_is_dangling parts) parts.handlers handler part none found) (rw found at at))
 
 actions_none : (parts : Parts) (handler : ℕ) (found : Option HandlerPart) → slice_get parts.handlers handler ≡ found → has_dangling_handler parts ≡ false → list_any (action_is_dangling parts) (actions_of parts handler) ≡ false
 actions_none parts handler None found none = rw found refl
@@ -188,7 +188,7 @@ post_named parts post none once =
     let both = neither (no_port parts post.port) (has_beyond (length parts.causes) post.causes) none in
     record {
       port = below (length parts.ports) post.port both.0;
-      causes = λ place cause at. below (length parts.causes) cause (none_at (is_beyond (length parts.causes)) post.causes place cause both.1 at);
+      causes = λ index cause at. below (length parts.causes) cause (none_at (is_beyond (length parts.causes)) post.causes index cause both.1 at);
       apart = not_not (are_apart post.causes) once;
     }
 
@@ -264,13 +264,13 @@ sound parts valid =
       queues = λ branch s at. (branch_named parts s.branch (branches branch s at)).queue;
       handlers = λ branch s at. (branch_named parts s.branch (branches branch s at)).handler;
       groups = λ branch s at. not_not (may_have s.kind s.branch.group) (placement_none (λ kind branch. not (may_have kind branch.group)) parts (any_first has_strange_group _ parts.arbiters none.groups) branch s at);
-      pattern_ports = λ branch s place port at there. pattern_port parts s.branch.pattern place port (branch_named parts s.branch (branches branch s at)).pattern there;
+      pattern_ports = λ branch s index port at there. pattern_port parts s.branch.pattern index port (branch_named parts s.branch (branches branch s at)).pattern there;
       patterns = λ branch s at. pattern_filled s.branch.pattern (placement_none (λ kind branch. branch_is_outside branch) parts inside.arbiters branch s at);
-      actions = λ handler place action at. actions_named parts handler place action (slice_get parts.handlers handler) refl numbers.handlers at;
+      actions = λ handler index action at. actions_named parts handler index action (slice_get parts.handlers handler) refl numbers.handlers at;
       few_actions = λ handler. few_actions parts handler none.limits;
       site_ports = λ branch site port at. site_named parts branch site port (placement parts branch) refl numbers.handlers at;
       exception_ports = λ cause port at. exception_named parts cause port (slice_get parts.causes cause) refl numbers.causes at;
-      scripts = λ poster place part post at there. post_named parts post (none_at (post_is_dangling parts) part.posts place post (none_at (poster_is_dangling parts) parts.posters poster part numbers.posters at) there) (none_at post_repeats part.posts place post (none_at poster_repeats parts.posters poster part twice.1 at) there);
+      scripts = λ poster index part post at there. post_named parts post (none_at (post_is_dangling parts) part.posts index post (none_at (poster_is_dangling parts) parts.posters poster part numbers.posters at) there) (none_at post_repeats part.posts index post (none_at poster_repeats parts.posters poster part twice.1 at) there);
       few_spots = not_crowded (named_ports parts) none.spots;
       small = small parts none.limits;
       domains = λ branch s at. kept_domain parts branch s numbers.domains at;

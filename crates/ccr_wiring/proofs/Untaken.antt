@@ -20,11 +20,11 @@ none_pass test [] never = refl
 none_pass test (spot ∷ seen) never = rw (never spot) (none_pass test seen never)
 
 -- numbers below the bound don't have one that isn't
-below : (ports : List ℕ) (bound port : ℕ) → ((place other : ℕ) → slice_get ports place ≡ Some other → other < bound) → bound ≤ port → has_port ports port ≡ false
+below : (ports : List ℕ) (bound port : ℕ) → ((index other : ℕ) → slice_get ports index ≡ Some other → other < bound) → bound ≤ port → has_port ports port ≡ false
 below [] bound port low past = refl
 below (other ∷ ports) bound port low past =
     let first = low zero other refl in
-    let rest = below ports bound port (λ place. low (suc place)) past in
+    let rest = below ports bound port (λ index. low (suc index)) past in
     grind (arith, nat_tests, first, past, rest)
 
 pub untaken : (wiring : Parts) (port : ℕ) → IsValid wiring → length wiring.ports ≤ port → spots_at wiring port ≡ []
@@ -35,7 +35,7 @@ untaken wiring port valid past = none_pass (takes_from wiring port) (spots wirin
       where
         of_branch : (found : Option Placement) → placement wiring branch ≡ found → option_map_or (λ (s : Placement). has_port (pattern_ports s.branch.pattern) port) found false ≡ false
         of_branch None is = refl
-        of_branch (Some s) is = below (pattern_ports s.branch.pattern) (length wiring.ports) port (λ place other. (sound wiring valid).pattern_ports branch s place other is) past
+        of_branch (Some s) is = below (pattern_ports s.branch.pattern) (length wiring.ports) port (λ index other. (sound wiring valid).pattern_ports branch s index other is) past
     at (Site branch site) = of_site (site_port wiring branch site) refl
       where
         of_site : (found : Option ℕ) → site_port wiring branch site ≡ found → option_map_or (λ other. other == port) found false ≡ false

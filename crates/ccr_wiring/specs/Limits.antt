@@ -32,7 +32,7 @@ policy_is_outside (Throttle n) = is_outside 1 1000 n
 -- the number of a message is 0 to 65,535, the place of a number in its value 0 to 7
 abbrev pub expr_is_outside : Expr → Bool
 expr_is_outside (Arg k) = is_outside 0 65535 k
-expr_is_outside (Part k place) = is_outside 0 65535 k || is_outside 0 7 place
+expr_is_outside (Part k index) = is_outside 0 65535 k || is_outside 0 7 index
 expr_is_outside _ = false
 
 -- the action's expression is outside its limits

@@ -40,7 +40,7 @@ HasGroups wiring = (branch : ℕ) (s : Placement) → placement wiring branch �
 
 -- each port of a pattern is one of the wiring's
 abbrev pub HasPatternPorts : Parts → Type 0
-HasPatternPorts wiring = (branch : ℕ) (s : Placement) (place port : ℕ) → placement wiring branch ≡ Some s → slice_get (pattern_ports s.branch.pattern) place ≡ Some port → port < length wiring.ports
+HasPatternPorts wiring = (branch : ℕ) (s : Placement) (index port : ℕ) → placement wiring branch ≡ Some s → slice_get (pattern_ports s.branch.pattern) index ≡ Some port → port < length wiring.ports
 
 -- a slot takes 1 to 1,000 messages, no more and no fewer
 abbrev pub IsSlotFilled : Slot → Type 0
@@ -48,7 +48,7 @@ IsSlotFilled slot = (slot.least ≡ slot.most) × (0 < slot.least) × (slot.leas
 
 -- a pattern takes at least one message: it has 1 to 8 slots, or is a gather of 1 to 1,000
 abbrev pub IsPatternFilled : Pattern → Type 0
-IsPatternFilled (Slots slots) = (0 < length slots) × (length slots ≤ 8) × ((place : ℕ) (slot : Slot) → slice_get slots place ≡ Some slot → IsSlotFilled slot)
+IsPatternFilled (Slots slots) = (0 < length slots) × (length slots ≤ 8) × ((index : ℕ) (slot : Slot) → slice_get slots index ≡ Some slot → IsSlotFilled slot)
 IsPatternFilled (Gather total first second) = (0 < total) × (total ≤ 1000)
 
 -- each branch takes at least one message
@@ -65,7 +65,7 @@ IsActionNamed wiring (Fail expr) = Unit {0}
 
 -- each port and each cause of a handler is one of the wiring's
 abbrev pub HasActionsNamed : Parts → Type 0
-HasActionsNamed wiring = (handler place : ℕ) (action : Action) → slice_get (actions_of wiring handler) place ≡ Some action → IsActionNamed wiring action
+HasActionsNamed wiring = (handler index : ℕ) (action : Action) → slice_get (actions_of wiring handler) index ≡ Some action → IsActionNamed wiring action
 
 -- the port that a site awaits is one of the wiring's
 abbrev pub HasSitePorts : Parts → Type 0
@@ -82,12 +82,12 @@ HasExceptionPorts wiring = (cause port : ℕ) → exception_port wiring cause �
 -- a post's port and causes are the wiring's, and no cause stands twice
 pub record IsPostNamed (wiring : Parts) (post : Sent) : Type 0 where
   pub port : post.port < length wiring.ports
-  pub causes : (place cause : ℕ) → slice_get post.causes place ≡ Some cause → cause < length wiring.causes
+  pub causes : (index cause : ℕ) → slice_get post.causes index ≡ Some cause → cause < length wiring.causes
   pub apart : are_apart post.causes ≡ true
 
 -- the posts of each script
 abbrev pub HasScriptsNamed : Parts → Type 0
-HasScriptsNamed wiring = (poster place : ℕ) (part : PosterPart) (post : Sent) → slice_get wiring.posters poster ≡ Some part → slice_get part.posts place ≡ Some post → IsPostNamed wiring post
+HasScriptsNamed wiring = (poster index : ℕ) (part : PosterPart) (post : Sent) → slice_get wiring.posters poster ≡ Some part → slice_get part.posts index ≡ Some post → IsPostNamed wiring post
 
 -- at most 16 spots name one port
 abbrev pub HasFewSpots : Parts → Type 0

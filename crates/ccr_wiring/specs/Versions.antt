@@ -21,7 +21,7 @@ is_long value = nat_lt 1 (length value)
 -- the expression is a value of several numbers, or one number of a value
 abbrev pub expr_is_newer : Expr → Bool
 expr_is_newer (Number value) = is_long value
-expr_is_newer (Part message place) = true
+expr_is_newer (Part message index) = true
 expr_is_newer _ = false
 
 -- the action's expression is such

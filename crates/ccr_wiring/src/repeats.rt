@@ -18,8 +18,8 @@ fn has_number(numbers: &[u32], number: u32) -> bool
 pub fn are_apart(numbers: &[u32]) -> bool
     ensures { result ≡ are_apart numbers.now }
 {
-    for (place, number) in numbers.iter().enumerate() {
-        if has_number(&numbers[place + 1..], *number) {
+    for (index, number) in numbers.iter().enumerate() {
+        if has_number(&numbers[index + 1..], *number) {
             return false;
         }
     }
@@ -41,8 +41,8 @@ pub fn has_slot_at(slots: &[Slot], port: PortNo) -> bool
 fn are_slots_apart(slots: &[Slot]) -> bool
     ensures { result ≡ are_slots_apart slots.now }
 {
-    for (place, slot) in slots.iter().enumerate() {
-        if has_slot_at(&slots[place + 1..], slot.port) {
+    for (index, slot) in slots.iter().enumerate() {
+        if has_slot_at(&slots[index + 1..], slot.port) {
             return false;
         }
     }

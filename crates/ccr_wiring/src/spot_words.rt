@@ -6,7 +6,7 @@ ghost use Rattle.ccr_wiring.specs.SpotWords.{spot_word};
 
 use crate::spot_names::name_at;
 use ccr_base::{List, Name, OutOfMemory, Spot};
-use ccr_text::{put_bytes, put_number};
+use ccr_text::{put_bytes, put_number, shorten};
 use std::alloc::Global;
 
 /// The word for the spot: its branch's name, or NAME@K for the branch's site K. `branches` are the names of all branches.
@@ -30,17 +30,6 @@ pub fn put_spot_word(out: &mut List<u8>, branches: &[Name], spot: Spot) -> Resul
             shorten(out, len);
             Err(refused)
         }
-    }
-}
-
-/// Takes off the end what stands behind this length.
-fn shorten(out: &mut List<u8>, len: usize)
-    requires { len ≤ length out.old }
-    ensures { out.new ≡ take len out.old }
-{
-    'longer: while out.as_slice().len() > len {
-        let last = out.as_slice().len() - 1;
-        out.remove(last);
     }
 }
 

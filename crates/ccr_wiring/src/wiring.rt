@@ -46,7 +46,7 @@ impl Model for Wiring {
 
     ghost view = { λ wiring. wiring.known.value.parts };
 
-    ghost invariant = { λ wiring. AreKnown wiring.known.value.parts wiring.known.value.spots.items wiring.known.value.positions.items wiring.known.value.takers.ports.items wiring.known.value.takers.queues.items };
+    ghost invariant = { λ w. AreKnown w.known.value.parts w.known.value.spots.items w.known.value.positions.items w.known.value.takers.ports.items w.known.value.takers.queues.items };
 }
 
 impl Wiring {

@@ -3,7 +3,7 @@ use Rattle.std.proofs.Common.{ℕ, ◌+◌, ◌<◌, ◌≤◌, List, [], ◌∷
 use Rattle.std.specs.Prelude.{codes, flat_map}
 use Rattle.std.specs.List.{All}
 use Rattle.ccr_base.specs.declared.messages.Sent.{Sent}
-use Rattle.ccr_text.specs.Places.{Words}
+use Rattle.ccr_text.specs.Fields.{Words}
 use Rattle.ccr_wiring.specs.declared.parts.Parts.{Parts}
 use Rattle.ccr_wiring.specs.declared.parts.PosterPart.{PosterPart}
 use Rattle.ccr_wiring.specs.Limits.{posts_in_all}

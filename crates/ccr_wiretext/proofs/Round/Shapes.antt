@@ -7,7 +7,7 @@ use Rattle.ccr_base.specs.declared.patterns.Slot.{Slot}
 use Rattle.ccr_base.specs.declared.patterns.Pattern.{Pattern}
 use Rattle.ccr_base.specs.declared.patterns.Pattern.TheVariants as patterns
 use Rattle.ccr_text.specs.Spelling.{AreWords}
-use Rattle.ccr_text.specs.Places.{Words}
+use Rattle.ccr_text.specs.Fields.{Words}
 use Rattle.ccr_wiring.specs.declared.parts.Parts.{Parts}
 use Rattle.ccr_wiring.specs.declared.parts.BranchPart.{BranchPart}
 use Rattle.ccr_wiring.specs.Repeats.{are_apart, slot_ports}

@@ -12,7 +12,7 @@ use Rattle.ccr_base.specs.declared.patterns.Pred.{Pred}
 use Rattle.ccr_base.specs.declared.patterns.Pred.TheVariants as preds
 use Rattle.ccr_text.specs.Words.{is_mark, value_after, is_digits, number_of, may_be_in_name, is_name_of}
 use Rattle.ccr_text.specs.Spelling.{AreWords}
-use Rattle.ccr_text.specs.Places.{Words}
+use Rattle.ccr_text.specs.Fields.{Words}
 use Rattle.ccr_wiring.specs.Versions.{is_long}
 use Rattle.ccr_wiretext.specs.Values.{IsNumeral, IsValue, IsExprValued, IsPredValued}
 use Rattle.ccr_wiretext.specs.Grammar.{IsPlain, IsNumber, IsWithin, IsPolicy, AreNumbers, IsOne, IsValueWord, IsExpr, IsPred}
@@ -155,13 +155,13 @@ newer_is false e = absurd cc
 
 pub expr_says : Again → (version : ℕ) (value : Expr) → ExprFit version value → IsExprValued value → IsExpr version (expr_words value) value
 expr_says again version (exprs.Number value) fit valued = (value_word value, refl, value_says again version value fit valued)
-expr_says again version (exprs.Part message place) fit valued = record {
+expr_says again version (exprs.Part message index) fit valued = record {
   newer = newer_is (version == 2) fit.0;
   first = decimal message;
-  second = decimal place;
+  second = decimal index;
   spelled = refl;
   counted = within_says again 0 65535 message (omega arith) fit.1 (omega arith);
-  within = within_says again 0 7 place (omega arith) fit.2 (omega arith);
+  within = within_says again 0 7 index (omega arith) fit.2 (omega arith);
 }
 expr_says again version (exprs.Arg k) fit valued = (decimal k, refl, within_says again 0 65535 k (omega arith) fit (omega arith))
 expr_says again version exprs.Sum fit valued = refl
@@ -169,9 +169,9 @@ expr_says again version exprs.Count fit valued = refl
 
 pub expr_clean : Again → (version : ℕ) (value : Expr) → ExprFit version value → IsExprValued value → AreWords (expr_words value)
 expr_clean again version (exprs.Number value) fit valued = word_more (value_word value) [] (value_clean again value valued) tt
-expr_clean again version (exprs.Part message place) fit valued =
-    word_more (codes "part") (decimal message ∷ decimal place ∷ []) (refl, refl)
-    (word_more (decimal message) (decimal place ∷ []) (number_word again message (omega (arith, fit.1))) (word_more (decimal place) [] (number_word again place (omega (arith, fit.2))) tt))
+expr_clean again version (exprs.Part message index) fit valued =
+    word_more (codes "part") (decimal message ∷ decimal index ∷ []) (refl, refl)
+    (word_more (decimal message) (decimal index ∷ []) (number_word again message (omega (arith, fit.1))) (word_more (decimal index) [] (number_word again index (omega (arith, fit.2))) tt))
 expr_clean again version (exprs.Arg k) fit valued = keyed_words again (codes "arg") k (refl, refl) (omega (arith, fit))
 expr_clean again version exprs.Sum fit valued = (refl, refl, tt)
 expr_clean again version exprs.Count fit valued = (refl, refl, tt)

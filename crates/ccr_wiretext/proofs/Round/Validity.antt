@@ -79,9 +79,9 @@ old_each {X} version newer xs old = by (not (version == 2)) old
 
 expr_fits : (version : ℕ) (value : Expr) → expr_is_outside value ≡ false → OldFit version (expr_is_newer value) → ExprFit version value
 expr_fits version (exprs.Number value) e old = old
-expr_fits version (exprs.Part message place) e old =
-    let parts = neither (is_outside 0 65535 message) (is_outside 0 7 place) e in
-    (old, (limits 0 65535 message parts.0).1, (limits 0 7 place parts.1).1)
+expr_fits version (exprs.Part message index) e old =
+    let parts = neither (is_outside 0 65535 message) (is_outside 0 7 index) e in
+    (old, (limits 0 65535 message parts.0).1, (limits 0 7 index parts.1).1)
 expr_fits version (exprs.Arg k) e old = (limits 0 65535 k e).1
 expr_fits version exprs.Sum e old = tt
 expr_fits version exprs.Count e old = tt

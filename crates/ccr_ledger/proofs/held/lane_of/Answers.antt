@@ -3,12 +3,12 @@ use Rattle.std.proofs.lemmas.List.{take_more}
 use Rattle.ccr_ledger.proofs.Lanes.{lane-item, pred-item}
 use Rattle.ccr_ledger.proofs.held.lane_of.Goals as goal
 
-pub loop-place-preserved : goal.loop-place-preserved
-loop-place-preserved c =
-    let low : c.loop-place.place < length c.args.items.now = omega arith in
-    let all : length (take c.loop-place.place c.args.items.now) ≡ c.loop-place.place = length-take-le c.loop-place.place c.args.items.now (omega arith) in
-    rw (c.in_ok-enter_item.ensures, take_more c.args.items.now c.loop-place.place c.index-items-place.result low, ← c.index-items-place.is)
+pub loop-index-preserved : goal.loop-index-preserved
+loop-index-preserved c =
+    let low : c.loop-index.index < length c.args.items.now = omega arith in
+    let all : length (take c.loop-index.index c.args.items.now) ≡ c.loop-index.index = length-take-le c.loop-index.index c.args.items.now (omega arith) in
+    rw (c.in_ok-enter_item.ensures, take_more c.args.items.now c.loop-index.index c.index-items-index.result low, ← c.index-items-index.is)
     (record {
-      lane = lane-item (take c.loop-place.place c.args.items.now) c.loop-place.place c.index-items-place.result c.loop-place.lane (sym all) c.loop-place.invariant.lane;
-      pred = pred-item c.loop-place.place c.index-items-place.result c.loop-place.lane ∙ c.loop-place.invariant.pred;
+      lane = lane-item (take c.loop-index.index c.args.items.now) c.loop-index.index c.index-items-index.result c.loop-index.lane (sym all) c.loop-index.invariant.lane;
+      pred = pred-item c.loop-index.index c.index-items-index.result c.loop-index.lane ∙ c.loop-index.invariant.pred;
     })

@@ -5,28 +5,28 @@ use Rattle.ccr_ledger.proofs.held.tidy.Goals as goal
 
 pub returns-in_default-clause-front : goal.returns-in_default-clause-front
 returns-in_default-clause-front c =
-    rw (← c.place.invariant.pred) (tidy-all c.args.items.now c.place.lane c.place.number c.place.invariant.lane c.place.invariant.tidy c.args.most (sym c.at.ensures ∙ c.in_default.is))
+    rw (← c.index.invariant.pred) (tidy-all c.args.items.now c.index.lane c.index.number c.index.invariant.lane c.index.invariant.tidy c.args.most (sym c.at.ensures ∙ c.in_default.is))
 
 pub returns-clause-front : goal.returns-clause-front
 returns-clause-front c =
-    rw (← c.place.invariant.pred) (tidy-front c.args.items.now c.place.lane c.place.number c.place.invariant.lane c.place.invariant.tidy c.args.most (omega arith))
+    rw (← c.index.invariant.pred) (tidy-front c.args.items.now c.index.lane c.index.number c.index.invariant.lane c.index.invariant.tidy c.args.most (omega arith))
 
 pub remove-requires : goal.remove-requires
-remove-requires c = slice_get_within c.place.lane.places c.place.number c.in-Some.place (sym c.at.ensures ∙ c.in-Some.is)
+remove-requires c = slice_get_within c.index.lane.indices c.index.number c.in-Some.index (sym c.at.ensures ∙ c.in-Some.is)
 
-pub place-preserved-then-is_here : goal.place-preserved-then-is_here
-place-preserved-then-is_here c = record {
-  lane = c.place.invariant.lane;
-  pred = c.place.invariant.pred;
-  tidy = tidy-more c.args.items.now c.place.lane c.place.number c.place.invariant.lane c.place.invariant.tidy c.in-Some.place (sym c.at.ensures ∙ c.in-Some.is) (sym c.is_here.ensures ∙ c.if-is_here.true);
+pub index-preserved-then-is_here : goal.index-preserved-then-is_here
+index-preserved-then-is_here c = record {
+  lane = c.index.invariant.lane;
+  pred = c.index.invariant.pred;
+  tidy = tidy-more c.args.items.now c.index.lane c.index.number c.index.invariant.lane c.index.invariant.tidy c.in-Some.index (sym c.at.ensures ∙ c.in-Some.is) (sym c.is_here.ensures ∙ c.if-is_here.true);
 }
 
-pub place-smaller : goal.place-smaller
-place-smaller c = rw c.remove.ensures (fewer-left c.place.lane.places c.place.number c.in-Some.place (sym c.at.ensures ∙ c.in-Some.is))
+pub index-smaller : goal.index-smaller
+index-smaller c = rw c.remove.ensures (fewer-left c.index.lane.indices c.index.number c.in-Some.index (sym c.at.ensures ∙ c.in-Some.is))
 
-pub place-preserved : goal.place-preserved
-place-preserved c = rw c.remove.ensures (record {
-  lane = lane-left c.args.items.now c.place.lane c.place.number c.place.invariant.lane c.place.invariant.tidy c.in-Some.place (sym c.at.ensures ∙ c.in-Some.is) (sym c.is_here.ensures ∙ c.if-is_here.false);
-  pred = c.place.invariant.pred;
-  tidy = tidy-left c.args.items.now c.place.lane c.place.number c.place.invariant.lane c.place.invariant.tidy c.in-Some.place (sym c.at.ensures ∙ c.in-Some.is) (sym c.is_here.ensures ∙ c.if-is_here.false);
+pub index-preserved : goal.index-preserved
+index-preserved c = rw c.remove.ensures (record {
+  lane = lane-left c.args.items.now c.index.lane c.index.number c.index.invariant.lane c.index.invariant.tidy c.in-Some.index (sym c.at.ensures ∙ c.in-Some.is) (sym c.is_here.ensures ∙ c.if-is_here.false);
+  pred = c.index.invariant.pred;
+  tidy = tidy-left c.args.items.now c.index.lane c.index.number c.index.invariant.lane c.index.invariant.tidy c.in-Some.index (sym c.at.ensures ∙ c.in-Some.is) (sym c.is_here.ensures ∙ c.if-is_here.false);
 })

@@ -4,10 +4,10 @@ use Rattle.ccr_service.specs.Telling.{told_asks}
 use Rattle.ccr_service.proofs.TellingAll.{told_next}
 use Rattle.ccr_service.proofs.telling.add_client.Goals as goal
 
-pub loop-place-preserved : goal.loop-place-preserved
-loop-place-preserved c =
+pub loop-index-preserved : goal.loop-index-preserved
+loop-index-preserved c =
     let asks = c.args.asks.now in
-    let place = c.loop-place.place in
-    let more = c.in_ok-push.ensures.items ∙ ap (λ (a : Answer). c.loop-place.answers.items ++ a ∷ []) c.in_ok-tell.ensures in
-    ap (λ (xs : List Answer). xs ++ told_asks c.args.tables.now c.args.faults c.args.client (place + 1) (drop (place + 1) asks)) more
-    ∙ told_next c.args.tables.now c.args.faults c.args.client asks place c.loop-place.answers.items _ c.loop-place-test.true c.loop-place.invariant
+    let index = c.loop-index.index in
+    let more = c.in_ok-push.ensures.items ∙ ap (λ (a : Answer). c.loop-index.answers.items ++ a ∷ []) c.in_ok-tell.ensures in
+    ap (λ (xs : List Answer). xs ++ told_asks c.args.tables.now c.args.faults c.args.client (index + 1) (drop (index + 1) asks)) more
+    ∙ told_next c.args.tables.now c.args.faults c.args.client asks index c.loop-index.answers.items _ c.loop-index-test.true c.loop-index.invariant

@@ -2,4 +2,4 @@ use Rattle.ccr_telling.proofs.Along.{IsAlong}
 use Rattle.ccr_telling.proofs.counted.tally_of.Given as goal
 
 abbrev pub invariant-loop-event : goal.invariant-loop-event
-invariant-loop-event l = IsAlong l.ports l.places l.queues l.ledger l.events l.event-index l.tally
+invariant-loop-event l = IsAlong l.ports l.indices l.queues l.ledger l.events l.event-index l.tally

@@ -4,16 +4,16 @@ use Rattle.ccr_text.proofs.Cutting.{cut_at, cut_whole, no_feed, no_feeds, parts_
 use Rattle.ccr_text.proofs.lines.cut_line.Goals as goal
 
 pub returns-then-byte-eq10-clause-feed : goal.returns-then-byte-eq10-clause-feed
-returns-then-byte-eq10-clause-feed c = grind (arith, common_steps, no_feed c.args.text.now c.loop-place.place c.loop-place.invariant (omega arith))
+returns-then-byte-eq10-clause-feed c = grind (arith, common_steps, no_feed c.args.text.now c.loop-index.index c.loop-index.invariant (omega arith))
 
 pub returns-then-byte-eq10-clause-parts : goal.returns-then-byte-eq10-clause-parts
-returns-then-byte-eq10-clause-parts c = grind (arith, common_steps, parts_at c.args.text.now c.loop-place.place c.loop-place-test.true c.if-byte-eq10.true)
+returns-then-byte-eq10-clause-parts c = grind (arith, common_steps, parts_at c.args.text.now c.loop-index.index c.loop-index-test.true c.if-byte-eq10.true)
 
 pub returns-then-byte-eq10-clause-lines : goal.returns-then-byte-eq10-clause-lines
-returns-then-byte-eq10-clause-lines c = grind (arith, common_steps, cut_at c.args.text.now c.loop-place.place c.loop-place.invariant c.loop-place-test.true c.if-byte-eq10.true)
+returns-then-byte-eq10-clause-lines c = grind (arith, common_steps, cut_at c.args.text.now c.loop-index.index c.loop-index.invariant c.loop-index-test.true c.if-byte-eq10.true)
 
 pub returns-clause-feed : goal.returns-clause-feed
-returns-clause-feed c = no_feeds c.args.text.now (λ k h. c.loop-place.invariant k (omega arith))
+returns-clause-feed c = no_feeds c.args.text.now (λ k h. c.loop-index.invariant k (omega arith))
 
 pub returns-clause-lines : goal.returns-clause-lines
-returns-clause-lines c = cut_whole c.args.text.now c.requires (λ k h. c.loop-place.invariant k (omega arith))
+returns-clause-lines c = cut_whole c.args.text.now c.requires (λ k h. c.loop-index.invariant k (omega arith))

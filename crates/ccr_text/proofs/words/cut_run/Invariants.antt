@@ -4,5 +4,5 @@ use Rattle.ccr_text.specs.Words.{is_mark}
 use Rattle.ccr_text.proofs.words.cut_run.Given as goal
 
 -- marks so far
-abbrev pub invariant-loop-place : goal.invariant-loop-place
-invariant-loop-place l = list_all is_mark (take l.place l.bytes) ≡ true
+abbrev pub invariant-loop-index : goal.invariant-loop-index
+invariant-loop-index l = list_all is_mark (take l.index l.bytes) ≡ true

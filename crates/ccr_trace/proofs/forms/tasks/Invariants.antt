@@ -1,6 +1,6 @@
 use Rattle.std.proofs.Common.{◌≡◌, length}
-use Rattle.ccr_trace.specs.Places.{task_of}
-use Rattle.ccr_trace.specs.Places.{each}
+use Rattle.ccr_trace.specs.Fields.{task_of}
+use Rattle.ccr_trace.specs.Fields.{each}
 use Rattle.ccr_trace.proofs.Each.{behind_found}
 use Rattle.ccr_trace.proofs.forms.tasks.Given as goal
 

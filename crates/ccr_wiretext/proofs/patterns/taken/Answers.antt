@@ -1,6 +1,6 @@
 use Rattle.std.proofs.Common.{arith, sym, ap, ◌∙◌, Ok}
 use Rattle.ccr_base.specs.declared.patterns.Pattern.TheVariants as patterns
-use Rattle.ccr_text.specs.Places.{◌>>=◌}
+use Rattle.ccr_text.specs.Fields.{◌>>=◌}
 use Rattle.ccr_wiretext.proofs.Slots.{slots_step}
 use Rattle.ccr_wiretext.proofs.patterns.taken.Goals as goal
 

@@ -1,5 +1,5 @@
 use Rattle.std.proofs.Common.{◌≡◌, ◌-◌, ◌≤◌, length}
-use Rattle.ccr_text.specs.Places.{◌>>=◌}
+use Rattle.ccr_text.specs.Fields.{◌>>=◌}
 use Rattle.ccr_wiretext.specs.Patterns.{slots, taken}
 use Rattle.ccr_wiretext.proofs.patterns.taken.Given as goal
 use Rattle.ccr_base.specs.declared.patterns.Pattern.TheVariants as patterns

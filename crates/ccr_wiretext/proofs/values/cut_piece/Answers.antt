@@ -4,7 +4,7 @@ use Rattle.ccr_wiretext.proofs.ValuesRead.{pieces_at, pieces_whole}
 use Rattle.ccr_wiretext.proofs.values.cut_piece.Goals as goal
 
 pub returns-then-byte-eq44-clause-cut : goal.returns-then-byte-eq44-clause-cut
-returns-then-byte-eq44-clause-cut c = grind (arith, common_steps, pieces_at c.args.word.now c.loop-place.place c.loop-place.invariant)
+returns-then-byte-eq44-clause-cut c = grind (arith, common_steps, pieces_at c.args.word.now c.loop-index.index c.loop-index.invariant)
 
 pub returns-clause-whole : goal.returns-clause-whole
-returns-clause-whole c = pieces_whole c.args.word.now (λ k h. c.loop-place.invariant k (omega arith))
+returns-clause-whole c = pieces_whole c.args.word.now (λ k h. c.loop-index.invariant k (omega arith))

@@ -1,6 +1,6 @@
 use Rattle.std.proofs.Common.{◌≡◌, [], length, ◌+◌}
 use Rattle.std.specs.Option.{option_map_or}
-use Rattle.ccr_wiretext.specs.Places.{pieces, numbers_after}
+use Rattle.ccr_wiretext.specs.Fields.{pieces, numbers_after}
 use Rattle.ccr_wiretext.proofs.values.numbers_in.Given as goal
 
 -- the numbers so far and those of the rest

@@ -3,5 +3,5 @@ use Rattle.ccr_wiring.specs.Repeats.{are_apart}
 use Rattle.ccr_wiring.proofs.repeats.are_apart.Given as goal
 
 -- none so far stands again
-abbrev pub invariant-loop-place : goal.invariant-loop-place
-invariant-loop-place l = are_apart (drop l.place l.numbers) ≡ are_apart l.numbers
+abbrev pub invariant-loop-index : goal.invariant-loop-index
+invariant-loop-index l = are_apart (drop l.index l.numbers) ≡ are_apart l.numbers

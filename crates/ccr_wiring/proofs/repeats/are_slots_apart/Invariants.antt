@@ -3,5 +3,5 @@ use Rattle.ccr_wiring.specs.Repeats.{are_slots_apart}
 use Rattle.ccr_wiring.proofs.repeats.are_slots_apart.Given as goal
 
 -- none so far stands again
-abbrev pub invariant-loop-place : goal.invariant-loop-place
-invariant-loop-place l = are_slots_apart (drop l.place l.slots) ≡ are_slots_apart l.slots
+abbrev pub invariant-loop-index : goal.invariant-loop-index
+invariant-loop-index l = are_slots_apart (drop l.index l.slots) ≡ are_slots_apart l.slots

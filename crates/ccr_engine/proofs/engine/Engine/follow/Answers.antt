@@ -9,7 +9,7 @@ use Rattle.ccr_engine.proofs.engine.Engine.follow.Goals as goal
 pub push-requires : goal.push-requires
 push-requires c =
     let next : next_event _ ≡ Some c.args.event.now = subst (λ (s : Engine). next_event s ≡ Some c.args.event.now) (sym c.self.view_is) c.requires in
-    attempt_fits c.self.inside.places c.self.inside.closer _ c.args.event.now c.self.inside.desk (c.self.invariant.stands (grind arith)) (IsSound-fits _ c.self.invariant.sound c.args.event.now next)
+    attempt_fits c.self.inside.indices c.self.inside.closer _ c.args.event.now c.self.inside.desk (c.self.invariant.stands (grind arith)) (IsSound-fits _ c.self.invariant.sound c.args.event.now next)
 
 pub invariant_of-self-2 : goal.invariant_of-self-2
 invariant_of-self-2 c =

@@ -1,6 +1,6 @@
 use Rattle.std.proofs.Common.{◌≡◌, length}
 use Rattle.ccr_trace.specs.Words.{cause_names}
-use Rattle.ccr_trace.specs.Places.{each}
+use Rattle.ccr_trace.specs.Fields.{each}
 use Rattle.ccr_trace.specs.Known.{number_in}
 use Rattle.ccr_trace.proofs.Each.{behind_found}
 use Rattle.ccr_trace.proofs.known.Known.causes.Given as goal
