@@ -27,7 +27,7 @@ use Rattle.ccr_claim.specs.Lines.{line_ask}
 use Rattle.ccr_claim.specs.Plans.{slots_in}
 use Rattle.ccr_claim.specs.Attempts.{at_place, Phase, booking, claiming, had_in, attempt_ask, release, firing_hand, put_ask, over_dropped, claimed}
 use Rattle.ccr_wiring.specs.Takers.{spots_at}
-use Rattle.ccr_actor.specs.Plans.{plan_of, throttled, arbiter_at, is_interleave_number}
+use Rattle.ccr_actor.specs.Plans.{plan_of, throttled, domain_of_spot, is_interleave_number}
 
 -- what an actor does between drives: the rest of a script, a round, a take (how many posters have left, the queue, those
 -- behind it), a play (its task, how many posts are made, the rest), a post that was drawn, an end for want of budget, rest
@@ -168,7 +168,7 @@ give_up wiring actor state spot more = end_attempt state (release (plan_of wirin
 
 -- after a firing that waits, admissions at its Interleave
 abbrev pub admissions_after : Parts → Spot → Option Task → List ℕ
-admissions_after wiring spot None = arbiter_at wiring spot ∷ []
+admissions_after wiring spot None = domain_of_spot wiring spot ∷ []
 admissions_after wiring spot (Some task) = []
 
 -- after so many firings the drive ends

@@ -30,7 +30,7 @@ use Rattle.ccr_actor.specs.Acting.{Acting, Asking, quiet, settling, going, kept}
 use Rattle.ccr_actor.specs.Actors.{State, spots_left, settled, after, in_attempt, end_attempt, driven_on, after_attempt, shorten}
 use Rattle.ccr_actor.specs.Inside.{work_of}
 use Rattle.ccr_actor.specs.Needs.{attempt_needs, settling_needs, work_needs, work_unnumbered}
-use Rattle.ccr_actor.specs.Plans.{plan_of, arbiter_at}
+use Rattle.ccr_actor.specs.Plans.{plan_of, domain_of_spot}
 use Rattle.ccr_actor.specs.Hands.{AreSettling}
 
 -- what the attempt owes; nothing where there is none
@@ -140,7 +140,7 @@ heard wiring actor state spot more (Err refused) = state
 
 -- the Interleave of a firing that waits
 abbrev pub waiting_at : Parts → Spot → Bool → List ℕ
-waiting_at wiring spot waits = if waits then arbiter_at wiring spot ∷ [] else []
+waiting_at wiring spot waits = if waits then domain_of_spot wiring spot ∷ [] else []
 
 -- a firing, after which this is in hand
 abbrev pub fired_on : Parts → State → Spot → List Spot → Bool → List Asked → State

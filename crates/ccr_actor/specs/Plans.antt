@@ -35,12 +35,12 @@ abbrev pub queue_at : Parts → Spot → ℕ
 queue_at wiring spot = option_map_or (λ (s : Placement). s.branch.queue) (placement wiring (branch_of spot)) 0
 
 -- the domain of the spot's branch
-abbrev pub arbiter_at : Parts → Spot → ℕ
-arbiter_at wiring spot = option_map_or (λ (s : Placement). s.domain) (placement wiring (branch_of spot)) 0
+abbrev pub domain_of_spot : Parts → Spot → ℕ
+domain_of_spot wiring spot = option_map_or (λ (s : Placement). s.domain) (placement wiring (branch_of spot)) 0
 
 -- the plan of attempts on the spot
 abbrev pub plan_of : Parts → Spot → ClaimPlan
-plan_of wiring spot = record { spot = spot; pattern = pattern_at wiring spot; queue = queue_at wiring spot; arbiter = arbiter_at wiring spot }
+plan_of wiring spot = record { spot = spot; pattern = pattern_at wiring spot; queue = queue_at wiring spot; arbiter = domain_of_spot wiring spot }
 
 -- the branches of a throttle queue
 abbrev pub throttled : Parts → ℕ → Policy → List Spot

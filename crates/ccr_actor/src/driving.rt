@@ -10,7 +10,7 @@ ghost use Rattle.ccr_actor.specs.Courses.{state_of, phase_of, due_at, due_next, 
 use crate::attempting::{answer, is_memory};
 use crate::course::{ATTEMPTS, Course, MOST};
 use crate::driven::Driven;
-use crate::wired::arbiter_at;
+use crate::wired::domain_of_spot;
 use ccr_base::{OutOfMemory, Spot};
 use ccr_claim::{Progress, Reply};
 
@@ -43,7 +43,7 @@ impl Course<'_> {
         self.admitted = 0;
         self.arbiters.clear();
         if waits {
-            let arbiter = arbiter_at(self.wiring, spot);
+            let arbiter = domain_of_spot(self.wiring, spot);
             self.arbiters.push_back(arbiter)?;
         }
         Ok(())

@@ -4,7 +4,7 @@ ghost use Rattle.std.specs.Prelude.{◌≡◌, IfOk};
 ghost use Rattle.ccr_wiring.specs.Wirings.{segment_of, policy_of};
 ghost use Rattle.ccr_claim.specs.Attempts.{begun};
 ghost use Rattle.ccr_actor.specs.Actors.{play_in};
-ghost use Rattle.ccr_actor.specs.Plans.{one_of, pattern_at, queue_at, arbiter_at, plan_of, throttled, is_interleave_number};
+ghost use Rattle.ccr_actor.specs.Plans.{one_of, pattern_at, queue_at, domain_of_spot, plan_of, throttled, is_interleave_number};
 
 use ccr_base::{
     ArbiterNo, List, OutOfMemory, Pattern, Policy, PortNo, Pred, QueueNo, Slot, Spot, Task, TaskId,
@@ -72,8 +72,8 @@ fn queue_at(wiring: &Wiring, spot: Spot) -> QueueNo
 }
 
 /// The domain of the spot's branch.
-pub fn arbiter_at(wiring: &Wiring, spot: Spot) -> ArbiterNo
-    ensures { result ≡ arbiter_at wiring.now spot }
+pub fn domain_of_spot(wiring: &Wiring, spot: Spot) -> ArbiterNo
+    ensures { result ≡ domain_of_spot wiring.now spot }
 {
     let _valid = wiring.parts();
     match wiring.placement(branch_of(spot)) {
@@ -120,7 +120,7 @@ fn begin(
     ensures { IfOk result (λ attempt. attempt ≡ begun (plan_of wiring.now spot) name) }
 {
     let queue = queue_at(wiring, spot);
-    let arbiter = arbiter_at(wiring, spot);
+    let arbiter = domain_of_spot(wiring, spot);
     match earlier {
         Some(old) => Attempt::begin_in(old, spot, pattern, queue, arbiter, name),
         None => {

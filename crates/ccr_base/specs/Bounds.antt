@@ -17,6 +17,10 @@ most_name_bytes = 16
 abbrev pub most_workers : ℕ
 most_workers = 16
 
+-- the posters of a wiring, at most
+abbrev pub most_posters : ℕ
+most_posters = 16
+
 -- the posters and workers of a run, at most; who finishes a run has a number up to this one
 abbrev pub most_actors : ℕ
 most_actors = 32

@@ -22,7 +22,7 @@ use Rattle.ccr_model.specs.Order.{admit_first}
 use Rattle.ccr_model.specs.Rules.{cuts_at, is_first, is_oldest_waiting, is_concurrent_task, may_admit}
 use Rattle.ccr_model.specs.Sites.{root_of}
 use Rattle.ccr_model.specs.TaskData.{placement_of}
-use Rattle.ccr_model.specs.Tasks.{is_interleave, is_teardown, is_concurrent, is_branch_where, fired_by, waiting, is_over, is_in_arbiter, admitted}
+use Rattle.ccr_model.specs.Tasks.{is_interleave, is_teardown, is_concurrent, is_branch_where, fired_by, waiting, is_over, is_of_domain, admitted}
 use Rattle.ccr_model.specs.Legal.{IsAllowed, IsLegal}
 use Rattle.ccr_model.proofs.Allowing.{OneName-legal}
 use Rattle.ccr_model.proofs.Alone.{ever_admitted_fired}
@@ -86,7 +86,7 @@ none_comes w (Fire t (Branch n) ms cs) d none = of_placement (placement w n) non
 
 module _ (w : Parts) (h : List Event) (legal : IsLegal w h) where
   -- who waits in a domain fired, and is of it
-  waits_within : (d : ℕ) (u : TaskId) → has_task (waiting w h d) u ≡ true → IsFired h u × (is_in_arbiter w h d u ≡ true)
+  waits_within : (d : ℕ) (u : TaskId) → has_task (waiting w h d) u ≡ true → IsFired h u × (is_of_domain w h d u ≡ true)
   waits_within d u waits =
       let facts = WaitingFacts-waiting w h d u (OneName-legal w h legal) waits in
       let branch = BranchFacts-where w (is_placement_in d) facts.firing.spot facts.is_branch in
@@ -115,15 +115,15 @@ module _ (w : Parts) (h : List Event) (legal : IsLegal w h) where
       of_spot (Branch n) none = of_placement (placement w n) none
 
   -- whom the event admits is of no domain that could admit none
-  none_admitted : (e : Event) (d : ℕ) → IsAllowed w h e → admission w h d ≡ None → (t : TaskId) → has_task (admitted_by e) t ≡ true → is_in_arbiter w h d t ≡ false
+  none_admitted : (e : Event) (d : ℕ) → IsAllowed w h e → admission w h d ≡ None → (t : TaskId) → has_task (admitted_by e) t ≡ true → is_of_domain w h d t ≡ false
   none_admitted (Post m) d allowed was t among = absurd (cc)
   none_admitted (Fire x s ms cs) d allowed was t among = absurd (cc)
   none_admitted (Put x y) d allowed was t among = absurd (cc)
   none_admitted (Start x a) d allowed was t among = absurd (cc)
   none_admitted (End x how) d allowed was t among = absurd (cc)
-  none_admitted (Admit x) d allowed was t among = subst (λ u. is_in_arbiter w h d u ≡ false) (sym (of_one x t among)) (refuted (is_in_arbiter w h d x) admits)
+  none_admitted (Admit x) d allowed was t among = subst (λ u. is_of_domain w h d u ≡ false) (sym (of_one x t among)) (refuted (is_of_domain w h d x) admits)
     where
-      admits : is_in_arbiter w h d x ≡ true → ⊥
+      admits : is_of_domain w h d x ≡ true → ⊥
       admits within =
           let rules = refused_not (is_oldest_waiting w h x) _ _ allowed in
           let may = (refused_not (may_admit w h x) _ None rules.1).0 in
@@ -135,24 +135,24 @@ module _ (w : Parts) (h : List Event) (legal : IsLegal w h) where
           cc
 
   -- the domain of a task that fired stays
-  within_same : (e : Event) (d : ℕ) (u : TaskId) → IsFired h u → is_in_arbiter w (h ++ e ∷ []) d u ≡ is_in_arbiter w h d u
+  within_same : (e : Event) (d : ℕ) (u : TaskId) → IsFired h u → is_of_domain w (h ++ e ∷ []) d u ≡ is_of_domain w h d u
   within_same e d u fired = ap (λ o. option_map_or (λ (s : Placement). s.domain == d) o false) (placement_stays w h (e ∷ []) u fired)
 
   -- by a task of another domain no root of the domain is over
-  over_last : (e : Event) (d : ℕ) (x : TaskId) → last_by e ≡ x ∷ [] → IsFired h x → is_in_arbiter w h d x || false ≡ false → (u : TaskId) → is_in_arbiter w h d u ≡ true → is_over (h ++ e ∷ []) u ≡ is_over h u
+  over_last : (e : Event) (d : ℕ) (x : TaskId) → last_by e ≡ x ∷ [] → IsFired h x → is_of_domain w h d x || false ≡ false → (u : TaskId) → is_of_domain w h d u ≡ true → is_over (h ++ e ∷ []) u ≡ is_over h u
   over_last e d x last fired out u within = over-last w h legal e x u last fired ∙ (ap (λ b. is_over h u || b) (refuted (same_task (root_of h x) u) root) ∙ or-false (is_over h u))
     where
       root : same_task (root_of h x) u ≡ true → ⊥
       root same =
-          let here : is_in_arbiter w h d (root_of h x) ≡ true = subst (λ v. is_in_arbiter w h d v ≡ true) (sym (same_task-is (root_of h x) u same)) within in
-          no_both (ap (λ o. option_map_or (λ (s : Placement). s.domain == d) o false) (sym (placement_of_root w h legal x fired)) ∙ here) (neither (is_in_arbiter w h d x) false out).0
+          let here : is_of_domain w h d (root_of h x) ≡ true = subst (λ v. is_of_domain w h d v ≡ true) (sym (same_task-is (root_of h x) u same)) within in
+          no_both (ap (λ o. option_map_or (λ (s : Placement). s.domain == d) o false) (sym (placement_of_root w h legal x fired)) ∙ here) (neither (is_of_domain w h d x) false out).0
 
   -- who ends fired
   ended_fired : (t : TaskId) (how : EndHow) → IsAllowed w h (End t how) → IsFired h t
   ended_fired t how allowed = let placed = ArePlaced-legal w h legal in placed.all_fired t (placed.lists.put_started t (RunningFacts-allowed w h t how allowed).started_so)
 
   -- the roots of the domain that are over are as they were
-  over_same : (e : Event) (d : ℕ) → IsAllowed w h e → list_any (is_in_arbiter w h d) (last_by e) ≡ false → (u : TaskId) → is_in_arbiter w h d u ≡ true → is_over (h ++ e ∷ []) u ≡ is_over h u
+  over_same : (e : Event) (d : ℕ) → IsAllowed w h e → list_any (is_of_domain w h d) (last_by e) ≡ false → (u : TaskId) → is_of_domain w h d u ≡ true → is_over (h ++ e ∷ []) u ≡ is_over h u
   over_same (Post m) d allowed none u within = over-other w h legal (Post m) u refl
   over_same (Fire t s ms cs) d allowed none u within = over-other w h legal (Fire t s ms cs) u refl
   over_same (Admit t) d allowed none u within = over-other w h legal (Admit t) u refl
@@ -165,7 +165,7 @@ module _ (w : Parts) (h : List Event) (legal : IsLegal w h) where
   over_same (End t Shed) d allowed none u within = over_last (End t Shed) d t refl (ended_fired t Shed allowed) none u within
 
   -- the event admits nobody to the domain
-  none_enters : (e : Event) (d : ℕ) → IsAllowed w h e → ((t : TaskId) → has_task (admitted_by e) t ≡ true → is_in_arbiter w h d t ≡ false) → filter (λ u. is_in_arbiter w (h ++ e ∷ []) d u && not (is_over (h ++ e ∷ []) u)) (admitted_by e) ≡ []
+  none_enters : (e : Event) (d : ℕ) → IsAllowed w h e → ((t : TaskId) → has_task (admitted_by e) t ≡ true → is_of_domain w h d t ≡ false) → filter (λ u. is_of_domain w (h ++ e ∷ []) d u && not (is_over (h ++ e ∷ []) u)) (admitted_by e) ≡ []
   none_enters (Post m) d allowed others = refl
   none_enters (Fire t s ms cs) d allowed others = refl
   none_enters (Put t x) d allowed others = refl
@@ -173,10 +173,10 @@ module _ (w : Parts) (h : List Event) (legal : IsLegal w h) where
   none_enters (End t how) d allowed others = refl
   none_enters (Admit t) d allowed others =
       let found = some_of (λ (s : Placement). is_first (waiting w h s.domain) t) (placement_of w h t) (refused_not (is_oldest_waiting w h t) _ _ allowed).0 in
-      let out : is_in_arbiter w (h ++ Admit t ∷ []) d t ≡ false = within_same (Admit t) d t (placement_fired w h t found.0 found.1) ∙ others t (or_left (same_task t t) false (same_task-self t)) in
+      let out : is_of_domain w (h ++ Admit t ∷ []) d t ≡ false = within_same (Admit t) d t (placement_fired w h t found.0 found.1) ∙ others t (or_left (same_task t t) false (same_task-self t)) in
       rw out refl
 
-  module _ (e : Event) (allowed : IsAllowed w h e) (d : ℕ) (others : (t : TaskId) → has_task (admitted_by e) t ≡ true → is_in_arbiter w h d t ≡ false) (lasts : list_any (is_in_arbiter w h d) (last_by e) ≡ false) where
+  module _ (e : Event) (allowed : IsAllowed w h e) (d : ℕ) (others : (t : TaskId) → has_task (admitted_by e) t ≡ true → is_of_domain w h d t ≡ false) (lasts : list_any (is_of_domain w h d) (last_by e) ≡ false) where
     -- the same tasks wait
     waits_same : fires_for w e d ≡ false → waiting w (h ++ e ∷ []) d ≡ waiting w h d
     waits_same none =
@@ -195,17 +195,17 @@ module _ (w : Parts) (h : List Event) (legal : IsLegal w h) where
         ∙ (filter_append now (ever_admitted h) (admitted_by e)
         ∙ (ap (λ ts. filter now (ever_admitted h) ++ ts) (none_enters e d allowed others)
         ∙ (append-nil (filter now (ever_admitted h))
-        ∙ filter_on now (λ u. is_in_arbiter w h d u && not (is_over h u)) (ever_admitted h) (λ u among. passes u (ever_admitted_fired w h legal u among)))))
+        ∙ filter_on now (λ u. is_of_domain w h d u && not (is_over h u)) (ever_admitted h) (λ u among. passes u (ever_admitted_fired w h legal u among)))))
       where
         now : TaskId → Bool
-        now u = is_in_arbiter w (h ++ e ∷ []) d u && not (is_over (h ++ e ∷ []) u)
+        now u = is_of_domain w (h ++ e ∷ []) d u && not (is_over (h ++ e ∷ []) u)
 
-        of_test : (u : TaskId) (b : Bool) → is_in_arbiter w h d u ≡ b → b && not (is_over (h ++ e ∷ []) u) ≡ b && not (is_over h u)
+        of_test : (u : TaskId) (b : Bool) → is_of_domain w h d u ≡ b → b && not (is_over (h ++ e ∷ []) u) ≡ b && not (is_over h u)
         of_test u false within = refl
         of_test u true within = ap not (over_same e d allowed lasts u within)
 
-        passes : (u : TaskId) → IsFired h u → now u ≡ is_in_arbiter w h d u && not (is_over h u)
-        passes u fired = ap (λ b. b && not (is_over (h ++ e ∷ []) u)) (within_same e d u fired) ∙ of_test u (is_in_arbiter w h d u) refl
+        passes : (u : TaskId) → IsFired h u → now u ≡ is_of_domain w h d u && not (is_over h u)
+        passes u fired = ap (λ b. b && not (is_over (h ++ e ∷ []) u)) (within_same e d u fired) ∙ of_test u (is_of_domain w h d u) refl
 
     -- who waits there may be admitted as before
     may_same : (t : TaskId) → has_task (waiting w h d) t ≡ true → may_admit w (h ++ e ∷ []) t ≡ may_admit w h t
@@ -215,7 +215,7 @@ module _ (w : Parts) (h : List Event) (legal : IsLegal w h) where
       where
         all_same : list_all (is_concurrent_task w (h ++ e ∷ [])) (admitted w h d) ≡ list_all (is_concurrent_task w h) (admitted w h d)
         all_same = all_on (is_concurrent_task w (h ++ e ∷ [])) (is_concurrent_task w h) (admitted w h d) (λ u among.
-            ap (λ o. option_map_or (λ (s : Placement). is_concurrent s.branch.group) o false) (placement_stays w h (e ∷ []) u (ever_admitted_fired w h legal u (of_filter (λ v. is_in_arbiter w h d v && not (is_over h v)) (ever_admitted h) u among).0)))
+            ap (λ o. option_map_or (λ (s : Placement). is_concurrent s.branch.group) o false) (placement_stays w h (e ∷ []) u (ever_admitted_fired w h legal u (of_filter (λ v. is_of_domain w h d v && not (is_over h v)) (ever_admitted h) u among).0)))
 
         of_test : (c : Bool) → (if c then list_all (is_concurrent_task w (h ++ e ∷ [])) (admitted w (h ++ e ∷ []) d) else is_none_of (admitted w (h ++ e ∷ []) d)) ≡ (if c then list_all (is_concurrent_task w h) (admitted w h d) else is_none_of (admitted w h d))
         of_test true = ap (λ ts. list_all (is_concurrent_task w (h ++ e ∷ [])) ts) admitted_same ∙ all_same
@@ -239,6 +239,6 @@ module _ (w : Parts) (h : List Event) (legal : IsLegal w h) where
   -- a domain that can admit no task cannot after an event that does not touch it
   pub admission_stays : (e : Event) (d : ℕ) → IsAllowed w h e → touches_domain w h e d ≡ false → admission w h d ≡ None → admission w (h ++ e ∷ []) d ≡ None
   admission_stays e d allowed none was =
-      let outs = neither (fires_for w e d) (list_any (is_in_arbiter w h d) (last_by e)) none in
+      let outs = neither (fires_for w e d) (list_any (is_of_domain w h d) (last_by e)) none in
       let others = none_admitted e d allowed was in
       ap (admit_first w (h ++ e ∷ [])) (waits_same e allowed d others outs.1 outs.0) ∙ first_same e allowed d others outs.1 was

@@ -15,7 +15,7 @@ use Rattle.ccr_model.proofs.Booleans.{and_false}
 use Rattle.ccr_model.proofs.ListParts.{take_more}
 use Rattle.ccr_model.proofs.Options.{none-above, some-below}
 use Rattle.ccr_engine.specs.Ready.{has_number}
-use Rattle.ccr_engine.specs.Numbered.{ArePlaces}
+use Rattle.ccr_engine.specs.Numbered.{AreIndices}
 use Rattle.ccr_engine.specs.Indices.{takes_from, list_at, IsNoted, AreListed, branch_indices, AreKeyed}
 use Rattle.ccr_engine.proofs.Gaining.{has-more, read}
 use Rattle.ccr_engine.proofs.FirstIndices.{never_at, passes-more}
@@ -88,10 +88,10 @@ listed_next test count ss i x old new at known noted = record {
 }
 
 -- what the lists say of a number, past the last of them too
-pub listed_all : (test : ℕ → Spot → Bool) (count : ℕ) (ss : List Spot) (lists : List (Vec ℕ Global)) (n : ℕ) → AreListed test count ss lists → (count ≤ n → list_any (test n) ss ≡ false) → ArePlaces (test n) ss (list_at lists n)
+pub listed_all : (test : ℕ → Spot → Bool) (count : ℕ) (ss : List Spot) (lists : List (Vec ℕ Global)) (n : ℕ) → AreListed test count ss lists → (count ≤ n → list_any (test n) ss ≡ false) → AreIndices (test n) ss (list_at lists n)
 listed_all test count ss lists n all past = of_option (slice_get lists n) refl
   where
-    of_option : (o : Option (Vec ℕ Global)) → slice_get lists n ≡ o → ArePlaces (test n) ss (list_at lists n)
+    of_option : (o : Option (Vec ℕ Global)) → slice_get lists n ≡ o → AreIndices (test n) ss (list_at lists n)
     of_option None at = λ index. rw at (sym (never_at (test n) ss (past (omega (arith, all.size, none-above lists n at))) index))
     of_option (Some list) at = all.each n (omega (arith, all.size, some-below lists n list at))
 

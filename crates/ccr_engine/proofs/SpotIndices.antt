@@ -22,7 +22,7 @@ use Rattle.ccr_wiring.specs.Valid.{IsValid}
 use Rattle.ccr_wiring.proofs.Soundness.{sound}
 use Rattle.ccr_model.proofs.Booleans.{and_false, eq-self}
 use Rattle.ccr_engine.specs.Touched.{names_any}
-use Rattle.ccr_engine.specs.Numbered.{ArePlaces}
+use Rattle.ccr_engine.specs.Numbered.{AreIndices}
 use Rattle.ccr_engine.specs.Indices.{first_index, takes_from, list_at, branch_indices, AreKeyed}
 use Rattle.ccr_engine.proofs.FirstIndices.{IsOnce, first_never, first_behind, first_within, once_never, once_later, once_here, once_behind}
 use Rattle.ccr_engine.proofs.NotedIndices.{listed_all, indices_append}
@@ -152,7 +152,7 @@ no_site w valid n k far = site_index w n k ∙ rw (of_placement (placement w n))
     of_placement (Some s) = slice_get_past (awaited (actions_of w s.branch.handler)) k (omega (arith, far, few_awaited (actions_of w s.branch.handler), (sound w valid).few_actions s.branch.handler))
 
 -- what the lists say of a port
-pub at_port : (w : Parts) (ports : List (Vec ℕ Global)) (branches : List ℕ) (port : ℕ) → AreKeyed w (spots w) ports branches → ArePlaces (takes_from w port) (spots w) (list_at ports port)
+pub at_port : (w : Parts) (ports : List (Vec ℕ Global)) (branches : List ℕ) (port : ℕ) → AreKeyed w (spots w) ports branches → AreIndices (takes_from w port) (spots w) (list_at ports port)
 at_port w ports branches port keyed = listed_all (takes_from w) (length w.ports) (spots w) ports port keyed.by_port (λ past. nowhere (takes_from w port) (spots w) (no_port w keyed.valid port past))
 
 -- a branch's index, by its number

@@ -13,7 +13,7 @@ use Rattle.ccr_wiring.specs.Wirings.{Placement, next_site}
 use Rattle.ccr_wiring.specs.Valid.{IsValid}
 use Rattle.ccr_model.specs.declared.history.Event.{Event}
 use Rattle.ccr_model.specs.Firings.{Firing, firing_named}
-use Rattle.ccr_model.specs.Tasks.{is_in_arbiter, is_for_queue}
+use Rattle.ccr_model.specs.Tasks.{is_of_domain, is_for_queue}
 use Rattle.ccr_model.specs.Sites.{yields_at}
 use Rattle.ccr_model.specs.TaskData.{placement_of}
 use Rattle.ccr_model.specs.Legal.{IsLegal}
@@ -36,7 +36,7 @@ module _ (w : Parts) (valid : IsValid w) (h : List Event) (legal : IsLegal w h) 
       of_firing None at = rw at refl
       of_firing (Some f) at = rw at refl
 
-  domain_told : (domain : ℕ) (t : TaskId) → is_in_arbiter w h domain t ≡ true → is_in_domain b domain t ≡ true
+  domain_told : (domain : ℕ) (t : TaskId) → is_of_domain w h domain t ≡ true → is_in_domain b domain t ≡ true
   domain_told domain t within =
       let found = some_of (λ (s : Placement). s.domain == domain) (placement_of w h t) within in
       let facts = CardFacts-fired w h t b legal keeps.tasks (placement_fired w h t found.0 found.1) in

@@ -22,7 +22,7 @@ use Rattle.ccr_model.specs.TaskData.{play_of}
 use Rattle.ccr_model.specs.Posts.{posts_of_task}
 use Rattle.ccr_model.specs.Legal.{IsAllowed, IsLegal}
 use Rattle.ccr_model.specs.Rules.{drop_at}
-use Rattle.ccr_model.specs.Tasks.{waiting, running, is_in_arbiter, is_for_queue}
+use Rattle.ccr_model.specs.Tasks.{waiting, running, is_of_domain, is_for_queue}
 use Rattle.ccr_model.specs.Order.{post_from, next_attempt, fire_at, fire_from, admit_first, admit_from, put_first, run_task, run_with, start_from}
 use Rattle.ccr_model.proofs.Booleans.{neither, refuted, no_both, or_left}
 use Rattle.ccr_model.proofs.SameNames.{same_task-self}
@@ -124,7 +124,7 @@ module _ (w : Parts) (c : ℕ) (h : List Event) (b : Books) (told : TablesTell w
   pub untouched_domain : (e : Event) (domain : ℕ) → touches_domain_in w b e domain ≡ false → touches_domain w h e domain ≡ false
   untouched_domain e domain none =
       let outs = neither (fires_for w e domain) (list_any (is_in_domain b domain) (last_by e)) none in
-      rw outs.0 (none_narrower (is_in_arbiter w h domain) (is_in_domain b domain) (last_by e) (told.domain_so domain) outs.1)
+      rw outs.0 (none_narrower (is_of_domain w h domain) (is_in_domain b domain) (last_by e) (told.domain_so domain) outs.1)
 
   pub domains_kept : (e : Event) (old new : List ℕ) → IsLegal w h → IsAllowed w h e → IsNoneBut (admission w h) (length w.arbiters) old → Gains (touches_domain_in w b e) old new → IsNoneBut (admission w (h ++ e ∷ [])) (length w.arbiters) new
   domains_kept e old new legal allowed known gains = none_but-gains (admission w h) (admission w (h ++ e ∷ [])) (touches_domain_in w b e) (length w.arbiters) old new (λ domain none was. admission_stays w h legal e domain allowed (untouched_domain e domain none) was) known gains

@@ -21,7 +21,7 @@ use Rattle.ccr_model.specs.Firings.{yielded_by}
 use Rattle.ccr_ledger.specs.declared.cards.Card.{Card}
 use Rattle.ccr_ledger.specs.Books.{Books, card_at}
 use Rattle.ccr_engine.specs.Touched.{posts_to, names_any, touches_branch}
-use Rattle.ccr_engine.specs.Numbered.{Gains, ArePlaces, passes_at}
+use Rattle.ccr_engine.specs.Numbered.{Gains, AreIndices, passes_at}
 use Rattle.ccr_engine.specs.Ready.{has_number}
 use Rattle.ccr_engine.specs.Indices.{first_index, takes_from}
 use Rattle.ccr_engine.specs.Parts.{yields_in, touches_in}
@@ -76,7 +76,7 @@ module _ (w : Parts) (b : Books) where
   spots_none : (p : Spot → Bool) (old : List ℕ) → ((s : Spot) → p s ≡ false) → Gains (passes_at p (spots w)) old old
   spots_none p old never = gains-none (passes_at p (spots w)) old (passes-never p (spots w) never)
 
-  spots_listed : (p q : Spot → Bool) (numbers old new : List ℕ) → ArePlaces p (spots w) numbers → ((s : Spot) → p s ≡ q s) → Gains (has_number numbers) old new → Gains (passes_at q (spots w)) old new
+  spots_listed : (p q : Spot → Bool) (numbers old new : List ℕ) → AreIndices p (spots w) numbers → ((s : Spot) → p s ≡ q s) → Gains (has_number numbers) old new → Gains (passes_at q (spots w)) old new
   spots_listed p q numbers old new indices same gains = spots_same p q old new same (gains-same (has_number numbers) (passes_at p (spots w)) old new indices gains)
 
   -- after a yield of a task that fired, or of one that never did
@@ -90,7 +90,7 @@ module _ (w : Parts) (b : Books) where
   yield_unknown t old at = spots_none (λ s. yields_in b s t) old (λ s. rw at refl)
 
   -- after each event
-  pub post_touched : (m : Msg) (numbers old new : List ℕ) → ArePlaces (takes_from w m.port) (spots w) numbers → Gains (has_number numbers) old new → Gains (passes_at (touches_in w b (Post m)) (spots w)) old new
+  pub post_touched : (m : Msg) (numbers old new : List ℕ) → AreIndices (takes_from w m.port) (spots w) numbers → Gains (has_number numbers) old new → Gains (passes_at (touches_in w b (Post m)) (spots w)) old new
   post_touched m numbers old new indices = spots_listed (takes_from w m.port) (touches_in w b (Post m)) numbers old new indices (λ s. sym (posted m s))
 
   none_touched : (e : Event) (old : List ℕ) → ((port : ℕ) → posts_to e port ≡ false) → yielded_by e ≡ [] → Gains (passes_at (touches_in w b e) (spots w)) old old

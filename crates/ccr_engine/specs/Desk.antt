@@ -13,7 +13,7 @@ use Rattle.ccr_model.specs.Firings.{fired}
 use Rattle.ccr_model.specs.Posts.{posts_of_poster, posts_of_task}
 use Rattle.ccr_model.specs.Sites.{yields_at}
 use Rattle.ccr_model.specs.TaskData.{play_of}
-use Rattle.ccr_model.specs.Tasks.{waiting, queued, running, is_in_arbiter, is_for_queue}
+use Rattle.ccr_model.specs.Tasks.{waiting, queued, running, is_of_domain, is_for_queue}
 use Rattle.ccr_model.specs.Live.{is_live, has_room}
 use Rattle.ccr_model.specs.Choice.{engine_choice}
 use Rattle.ccr_model.specs.Rules.{cuts_at, may_admit, drop_at, has_budget, needs_no_admission}
@@ -110,7 +110,7 @@ pub record TablesTell (wiring : Parts) (history : List Event) (books : Books) : 
   pub budget_so : budget_lasts wiring books ≡ has_budget wiring history
   pub queued_so : (queue : ℕ) → queue < length wiring.queues → row books.queued queue ≡ queued wiring history queue
   pub yields_so : (site : Spot) (task : TaskId) → yields_in books site task ≡ yields_at history site task
-  pub domain_so : (domain : ℕ) (task : TaskId) → is_in_arbiter wiring history domain task ≡ true → is_in_domain books domain task ≡ true
+  pub domain_so : (domain : ℕ) (task : TaskId) → is_of_domain wiring history domain task ≡ true → is_in_domain books domain task ≡ true
   pub for_queue_so : (queue : ℕ) (task : TaskId) → is_for_queue wiring history queue task ≡ true → is_for_queue_in books queue task ≡ true
 
 -- the closer's next attempt after the event

@@ -10,7 +10,7 @@ use Rattle.ccr_wiring.specs.Wirings.{Placement, placement, site_port}
 use Rattle.ccr_wiring.specs.Valid.{IsValid}
 use Rattle.ccr_engine.specs.Touched.{names_any}
 use Rattle.ccr_engine.specs.Ready.{has_number}
-use Rattle.ccr_engine.specs.Numbered.{ArePlaces}
+use Rattle.ccr_engine.specs.Numbered.{AreIndices}
 
 -- the index of the first item that passes the test
 abbrev pub first_index : {T : Type 0} → (T → Bool) → List T → Option ℕ
@@ -34,7 +34,7 @@ pub record IsNoted (test : ℕ → Bool) (index : ℕ) (old new : List (Vec ℕ 
 -- the lists have, for each of so many numbers, all the indices of the spots that pass its test
 pub record AreListed (test : ℕ → Spot → Bool) (count : ℕ) (seen : List Spot) (lists : List (Vec ℕ Global)) : Type 0 where
   pub size : length lists ≡ count
-  pub each : (number : ℕ) → number < count → ArePlaces (test number) seen (list_at lists number)
+  pub each : (number : ℕ) → number < count → AreIndices (test number) seen (list_at lists number)
 
 -- the indices of the branches, where the first spot has this index
 abbrev pub branch_indices : ℕ → List Spot → List ℕ

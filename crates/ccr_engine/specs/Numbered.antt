@@ -10,8 +10,8 @@ abbrev pub passes_at : {T : Type 0} → (T → Bool) → List T → ℕ → Bool
 passes_at test items index = option_map_or test (slice_get items index) false
 
 -- the numbers are the indices of the items that pass the test
-abbrev pub ArePlaces : {T : Type 0} → (T → Bool) → List T → List ℕ → Type 0
-ArePlaces test items numbers = (index : ℕ) → has_number numbers index ≡ passes_at test items index
+abbrev pub AreIndices : {T : Type 0} → (T → Bool) → List T → List ℕ → Type 0
+AreIndices test items numbers = (index : ℕ) → has_number numbers index ≡ passes_at test items index
 
 -- the numbers afterwards are those before and all that pass the test
 pub record Gains (test : ℕ → Bool) (old new : List ℕ) : Type 0 where

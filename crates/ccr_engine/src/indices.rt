@@ -8,7 +8,7 @@ ghost use Rattle.ccr_base.specs.Names.{same_spot};
 ghost use Rattle.ccr_wiring.specs.Wirings.{next_site, spots};
 ghost use Rattle.ccr_wiring.specs.Valid.{IsValid};
 ghost use Rattle.ccr_engine.specs.Touched.{names_any};
-ghost use Rattle.ccr_engine.specs.Numbered.{ArePlaces};
+ghost use Rattle.ccr_engine.specs.Numbered.{AreIndices};
 ghost use Rattle.ccr_engine.specs.Indices.{AreKeyed, IsNoted, branch_indices, first_index, list_at, takes_from};
 
 use ccr_base::{OutOfMemory, Pattern, PortNo, Slot, Spot};
@@ -185,7 +185,7 @@ impl<'w> SpotIndices<'w> {
 
     /// The indices of the spots that take from the port.
     pub(crate) fn at_port(&self, port: PortNo) -> &[usize]
-        ensures { ArePlaces (takes_from self.now port) (spots self.now) result.now }
+        ensures { AreIndices (takes_from self.now port) (spots self.now) result.now }
     {
         list_of(&self.ports, port)
     }

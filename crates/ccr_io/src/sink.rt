@@ -14,7 +14,7 @@ pub trait Sink {
     /// How often a call has failed. It never falls.
     ghost faults: { Self → ℕ };
 
-    /// Writes a front of the piece, at least one byte unless the piece is empty.
+    /// Writes a prefix of the piece, at least one byte unless the piece is empty.
     fn write(&mut self, piece: &[u8]) -> Result<usize, Failed>
         ensures fits { IfOk result (λ n. n ≤ length piece.now) }
         ensures some { IfOk result (λ n. piece.now ≢ [] → 0 < n) }

@@ -16,7 +16,7 @@ use Rattle.ccr_model.specs.declared.history.Event.TheVariants.{Post, Fire, Admit
 use Rattle.ccr_model.specs.Firings.{Firing, firing_of, firing_named, fired, cut, ever_admitted, admitted_by, started, started_by}
 use Rattle.ccr_model.specs.Sites.{root_of}
 use Rattle.ccr_model.specs.TaskData.{placement_of}
-use Rattle.ccr_model.specs.Tasks.{is_interleave, is_teardown, is_concurrent, is_branch_where, fired_by, waiting, is_in_arbiter, is_over, admitted, queued}
+use Rattle.ccr_model.specs.Tasks.{is_interleave, is_teardown, is_concurrent, is_branch_where, fired_by, waiting, is_of_domain, is_over, admitted, queued}
 use Rattle.ccr_model.specs.Rules.{cuts_at}
 use Rattle.ccr_model.specs.Legal.{IsAllowed, IsLegal}
 use Rattle.ccr_model.proofs.Stable.{firing_named-append}
@@ -107,10 +107,10 @@ not_over_before : (w : Parts) (h : List Event) (e : Event) (t : TaskId) → IsLe
 not_over_before w h e t legal is = refuted (is_over h t) (λ over. no_both (over_stays h e t (lasts_fired w h legal) over) is)
 
 -- who is admitted after one more event was so before it, or enters by it
-admitted_before : (w : Parts) (h : List Event) (e : Event) (i : ℕ) (t : TaskId) → IsLegal w h → IsAllowed w h e → has_task (admitted w (h ++ e ∷ []) i) t ≡ true → (has_task (admitted w h i) t ≡ true) ⊎ ((has_task (admitted_by e) t ≡ true) × (is_in_arbiter w (h ++ e ∷ []) i t ≡ true))
+admitted_before : (w : Parts) (h : List Event) (e : Event) (i : ℕ) (t : TaskId) → IsLegal w h → IsAllowed w h e → has_task (admitted w (h ++ e ∷ []) i) t ≡ true → (has_task (admitted w h i) t ≡ true) ⊎ ((has_task (admitted_by e) t ≡ true) × (is_of_domain w (h ++ e ∷ []) i t ≡ true))
 admitted_before w h e i t legal allowed is =
     let facts = AdmittedFacts-admitted w (h ++ e ∷ []) i t is in
-    of_more (ever_admitted h) (admitted_by e) t ((has_task (admitted w h i) t ≡ true) ⊎ ((has_task (admitted_by e) t ≡ true) × (is_in_arbiter w (h ++ e ∷ []) i t ≡ true))) (subst (λ ts. has_task ts t ≡ true) (ever_admitted-push h e) facts.entered)
+    of_more (ever_admitted h) (admitted_by e) t ((has_task (admitted w h i) t ≡ true) ⊎ ((has_task (admitted_by e) t ≡ true) × (is_of_domain w (h ++ e ∷ []) i t ≡ true))) (subst (λ ts. has_task ts t ≡ true) (ever_admitted-push h e) facts.entered)
     (λ old. inl (admitted_whole w h i t old (sym (ap (λ o. option_map_or (λ (s : Placement). s.domain == i) o false) (placement_stays w h (e ∷ []) t (ever_admitted_fired w h legal t old))) ∙ facts.within) (not_over_before w h e t legal facts.lasts)))
     (λ new. inr (new, facts.within))
 
@@ -151,12 +151,12 @@ record FollowFacts (w : Parts) (i : ℕ) (r : TaskId) (past done : List Event) :
 none_else_kept : (w : Parts) → HasGroups w → (i : ℕ) (r : TaskId) (f : Firing) (h : List Event) (e : Event) → IsLegal w h → IsAllowed w h e → firing_named h r ≡ Some f → tears_down w i f.spot ≡ true → ((t : TaskId) → has_task (admitted w h i) t ≡ true → t ≡ r) → (t : TaskId) → has_task (admitted w (h ++ e ∷ []) i) t ≡ true → t ≡ r
 none_else_kept w groups_fit i r f h e legal allowed named tears known t is = of_case (admitted_before w h e i t legal allowed is)
   where
-    by_event : (e : Event) → IsAllowed w h e → has_task (admitted_by e) t ≡ true → is_in_arbiter w (h ++ e ∷ []) i t ≡ true → t ≡ r
+    by_event : (e : Event) → IsAllowed w h e → has_task (admitted_by e) t ≡ true → is_of_domain w (h ++ e ∷ []) i t ≡ true → t ≡ r
     by_event (Admit x) allowed' new within =
         let facts = AdmitFacts-allowed w h x allowed' in
         let one : t ≡ x = of_one x t new in
         let place : placement_of w (h ++ Admit x ∷ []) x ≡ Some facts.place = placement_stays w h (Admit x ∷ []) x (placement_fired w h x facts.place facts.is_place) ∙ facts.is_place in
-        let within_x : is_in_arbiter w (h ++ Admit x ∷ []) i x ≡ true = subst (λ y. is_in_arbiter w (h ++ Admit x ∷ []) i y ≡ true) one within in
+        let within_x : is_of_domain w (h ++ Admit x ∷ []) i x ≡ true = subst (λ y. is_of_domain w (h ++ Admit x ∷ []) i y ≡ true) one within in
         let there : (facts.place.domain == i) ≡ true = sym (ap (λ o. option_map_or (λ (s : Placement). s.domain == i) o false) place) ∙ within_x in
         let number = same_number facts.place.domain i there in
         one ∙ IsTornDown-legal w groups_fit i h legal r f named tears x (subst (λ n. has_task (waiting w h n) x ≡ true) number facts.waits)
@@ -166,7 +166,7 @@ none_else_kept w groups_fit i r f h e legal allowed named tears known t is = of_
     by_event (Start x a) allowed' new within = absurd (cc)
     by_event (End x how) allowed' new within = absurd (cc)
 
-    of_case : (has_task (admitted w h i) t ≡ true) ⊎ ((has_task (admitted_by e) t ≡ true) × (is_in_arbiter w (h ++ e ∷ []) i t ≡ true)) → t ≡ r
+    of_case : (has_task (admitted w h i) t ≡ true) ⊎ ((has_task (admitted_by e) t ≡ true) × (is_of_domain w (h ++ e ∷ []) i t ≡ true)) → t ≡ r
     of_case (inl old) = known t old
     of_case (inr new) = by_event e allowed new.0 new.1
 

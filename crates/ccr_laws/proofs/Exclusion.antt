@@ -14,7 +14,7 @@ use Rattle.ccr_model.specs.declared.history.Event.TheVariants.{Admit}
 use Rattle.ccr_model.specs.Firings.{ever_admitted}
 use Rattle.ccr_model.specs.Sites.{root_of}
 use Rattle.ccr_model.specs.TaskData.{placement_of}
-use Rattle.ccr_model.specs.Tasks.{is_interleave, is_concurrent, is_in_arbiter, is_over, admitted}
+use Rattle.ccr_model.specs.Tasks.{is_interleave, is_concurrent, is_of_domain, is_over, admitted}
 use Rattle.ccr_model.specs.Rules.{is_concurrent_task}
 use Rattle.ccr_model.specs.Legal.{IsLegal}
 use Rattle.ccr_model.proofs.Options.{some_of}
@@ -57,7 +57,7 @@ alone_since w i before since t legal exclusive lasts =
     let found = some_of (is_exclusive_in i) (placement_of w h t) exclusive in
     let parts = both (is_placement_in i found.0) (not (is_concurrent found.0.branch.group)) found.2 in
     let number = (both (is_interleave found.0.kind) (found.0.domain == i) parts.0).1 in
-    let there : is_in_arbiter w h i t ≡ true = ap (λ o. option_map_or (λ (s : Placement). s.domain == i) o false) found.1 ∙ number in
+    let there : is_of_domain w h i t ≡ true = ap (λ o. option_map_or (λ (s : Placement). s.domain == i) o false) found.1 ∙ number in
     alone w h legal i t exclusive (admitted_whole w h i t entered there lasts)
   where
     ever_admitted_more : ever_admitted (before ++ Admit t ∷ since) ≡ ever_admitted before ++ t ∷ ever_admitted since

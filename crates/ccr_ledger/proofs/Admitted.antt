@@ -16,7 +16,7 @@ use Rattle.ccr_model.specs.declared.history.EndHow.{EndHow}
 use Rattle.ccr_model.specs.declared.history.EndHow.TheVariants as ends
 use Rattle.ccr_model.specs.Firings.{ever_admitted, admitted_by, last_by}
 use Rattle.ccr_model.specs.Sites.{root_of}
-use Rattle.ccr_model.specs.Tasks.{is_concurrent, is_in_arbiter, is_over}
+use Rattle.ccr_model.specs.Tasks.{is_concurrent, is_of_domain, is_over}
 use Rattle.ccr_model.specs.Rules.{is_concurrent_task}
 use Rattle.ccr_model.specs.Legal.{IsAllowed, IsLegal}
 use Rattle.ccr_model.proofs.Pushes.{ever_admitted-push}
@@ -43,7 +43,7 @@ use Rattle.ccr_ledger.proofs.NewRoots.{NewRoot, NewRoot-allowed, ever_admitted_o
 
 -- whether the root counts: all do, or those alone that no concurrent branch fired
 abbrev pub counts_as : Bool → Parts → List Event → ℕ → TaskId → Bool
-counts_as all w h i t = (is_in_arbiter w h i t && not (is_over h t)) && (all || not (is_concurrent_task w h t))
+counts_as all w h i t = (is_of_domain w h i t && not (is_over h t)) && (all || not (is_concurrent_task w h t))
 
 -- the two tables
 pub record Roots : Type 0 where
@@ -69,10 +69,10 @@ table-size true w b sizes = sizes.admitted
 table-size false w b sizes = sizes.alone
 
 -- what is said of a task that fired stays but for who is over
-counts-by : (all : Bool) (w : Parts) (h : List Event) (e : Event) (i : ℕ) (t : TaskId) (over : Bool) → IsFired h t → is_over (h ++ e ∷ []) t ≡ over → counts_as all w (h ++ e ∷ []) i t ≡ (is_in_arbiter w h i t && not over) && (all || not (is_concurrent_task w h t))
+counts-by : (all : Bool) (w : Parts) (h : List Event) (e : Event) (i : ℕ) (t : TaskId) (over : Bool) → IsFired h t → is_over (h ++ e ∷ []) t ≡ over → counts_as all w (h ++ e ∷ []) i t ≡ (is_of_domain w h i t && not over) && (all || not (is_concurrent_task w h t))
 counts-by all w h e i t over fired is =
     ap (λ o. (option_map_or (λ (s : Placement). s.domain == i) o false && not (is_over (h ++ e ∷ []) t)) && (all || not (option_map_or (λ (s : Placement). is_concurrent s.branch.group) o false))) (placement_stays w h (e ∷ []) t fired)
-    ∙ ap (λ b. (is_in_arbiter w h i t && not b) && (all || not (is_concurrent_task w h t))) is
+    ∙ ap (λ b. (is_of_domain w h i t && not b) && (all || not (is_concurrent_task w h t))) is
 
 -- and by its card
 counts-card : (all : Bool) (w : Parts) (h : List Event) (i : ℕ) (t : TaskId) (b : Books) → (facts : CardFacts w h t b) → counts_as all w h i t ≡ ((facts.card.domain == i) && not (is_over h t)) && (all || not facts.card.concurrent)
@@ -156,7 +156,7 @@ counted-less all w h e x b ns legal no_admit last fired facts size counts i low 
     narrower : (u : TaskId) → has_task (ever_admitted h) u ≡ true → counts_as all w (h ++ e ∷ []) i u ≡ counts_as all w h i u && not (same_task u r)
     narrower u among =
         counts-by all w h e i u (is_over h u || same_task r u) (ever_admitted_fired w h legal u among) (over-last w h legal e x u last fired)
-        ∙ (drops_out (is_in_arbiter w h i u) (is_over h u) (same_task r u) (all || not (is_concurrent_task w h u))
+        ∙ (drops_out (is_of_domain w h i u) (is_over h u) (same_task r u) (all || not (is_concurrent_task w h u))
         ∙ ap (λ is. counts_as all w h i u && not is) (same_task-sym r u))
 
     turn : (l o k d : Bool) → ((l && o) && k) && d ≡ l && ((d && o) && k)

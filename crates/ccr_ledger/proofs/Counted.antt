@@ -4,7 +4,7 @@ use Rattle.std.proofs.Math.Bool.{and-true}
 use Rattle.ccr_wiring.specs.declared.parts.Parts.{Parts}
 use Rattle.ccr_model.specs.declared.history.Event.{Event}
 use Rattle.ccr_model.specs.Firings.{ever_admitted}
-use Rattle.ccr_model.specs.Tasks.{is_in_arbiter, is_over, admitted}
+use Rattle.ccr_model.specs.Tasks.{is_of_domain, is_over, admitted}
 use Rattle.ccr_model.specs.Rules.{is_concurrent_task}
 use Rattle.ccr_model.specs.Legal.{IsAllowed, IsLegal}
 use Rattle.ccr_model.proofs.Covered.{filter_twice}
@@ -18,11 +18,11 @@ use Rattle.ccr_ledger.proofs.Admitted.{AreCounted, counts_as, counted-event}
 
 -- all admitted roots
 filter_all : (w : Parts) (h : List Event) (i : ℕ) → filter (counts_as true w h i) (ever_admitted h) ≡ admitted w h i
-filter_all w h i = filter_on (counts_as true w h i) (λ t. is_in_arbiter w h i t && not (is_over h t)) (ever_admitted h) (λ u among. and-true (is_in_arbiter w h i u && not (is_over h u)))
+filter_all w h i = filter_on (counts_as true w h i) (λ t. is_of_domain w h i t && not (is_over h t)) (ever_admitted h) (λ u among. and-true (is_of_domain w h i u && not (is_over h u)))
 
 -- those of them that no concurrent branch fired
 filter_alone : (w : Parts) (h : List Event) (i : ℕ) → filter (counts_as false w h i) (ever_admitted h) ≡ filter (λ t. not (is_concurrent_task w h t)) (admitted w h i)
-filter_alone w h i = sym (filter_twice (λ t. not (is_concurrent_task w h t)) (λ t. is_in_arbiter w h i t && not (is_over h t)) (ever_admitted h))
+filter_alone w h i = sym (filter_twice (λ t. not (is_concurrent_task w h t)) (λ t. is_of_domain w h i t && not (is_over h t)) (ever_admitted h))
 
 -- after each allowed event the counts are still those of the tasks on their way to each queue, and of the roots admitted to each domain
 pub counts-event : (w : Parts) (h : List Event) (e : Event) (b : Books) → IsLegal w h → IsAllowed w h e → Keeps w h b → KeepsCounts w (h ++ e ∷ []) (after_event w e b)

@@ -91,7 +91,7 @@ pub record KeepsTasks (wiring : Parts) (history : List Event) (books : Books) : 
   pub names : map (λ entry. entry.0) books.tasks ≡ fired history
   pub cards : (task : TaskId) → card_at books.tasks task ≡ option_map (card_of wiring history task) (firing_named history task)
 
--- tasks by their indices
+-- tasks by their rows
 pub record KeepsRows (wiring : Parts) (history : List Event) (books : Books) : Type 0 where
   pub queued : (queue : ℕ) → queue < length wiring.queues → row books.queued queue ≡ queued wiring history queue
   pub waiting : (domain : ℕ) → domain < length wiring.arbiters → row books.waiting domain ≡ waiting wiring history domain

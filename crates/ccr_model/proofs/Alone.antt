@@ -18,7 +18,7 @@ use Rattle.ccr_wiring.specs.Wirings.{Placement, policy_of}
 use Rattle.ccr_model.specs.Firings.{ever_admitted, admitted_by, last_segments, last_by, started, put, dropped}
 use Rattle.ccr_model.specs.Sites.{root_of}
 use Rattle.ccr_model.specs.TaskData.{placement_of}
-use Rattle.ccr_model.specs.Tasks.{waiting, queued, is_for_queue, running, is_over, is_in_arbiter, admitted, is_concurrent}
+use Rattle.ccr_model.specs.Tasks.{waiting, queued, is_for_queue, running, is_over, is_of_domain, admitted, is_concurrent}
 use Rattle.ccr_model.specs.Live.{is_none_of}
 use Rattle.ccr_model.specs.Rules.{is_oldest_waiting, is_first, may_admit, may_put, drop_at, drop_by, is_concurrent_task}
 use Rattle.ccr_model.specs.Legal.{IsAllowed, IsLegal}
@@ -143,14 +143,14 @@ record Known (w : Parts) (h : List Event) : Type 0 where
   alone : (i : ℕ) → keeps_exclusion w h i ≡ true
 
 -- the test of admitted roots narrows
-stays_narrow : (w : Parts) (h : List Event) (e : Event) (i : ℕ) (t : TaskId) → AreFired h (last_segments h) → IsFired h t → is_in_arbiter w (h ++ e ∷ []) i t && not (is_over (h ++ e ∷ []) t) ≡ true → is_in_arbiter w h i t && not (is_over h t) ≡ true
+stays_narrow : (w : Parts) (h : List Event) (e : Event) (i : ℕ) (t : TaskId) → AreFired h (last_segments h) → IsFired h t → is_of_domain w (h ++ e ∷ []) i t && not (is_over (h ++ e ∷ []) t) ≡ true → is_of_domain w h i t && not (is_over h t) ≡ true
 stays_narrow w h e i t lasts fired is =
     let placement_so = placement_stays w h (e ∷ []) t fired in
-    let parts = both (is_in_arbiter w (h ++ e ∷ []) i t) (not (is_over (h ++ e ∷ []) t)) is in
-    let within : is_in_arbiter w h i t ≡ true = rw placement_so at parts.0 in
+    let parts = both (is_of_domain w (h ++ e ∷ []) i t) (not (is_over (h ++ e ∷ []) t)) is in
+    let within : is_of_domain w h i t ≡ true = rw placement_so at parts.0 in
     of_test (is_over h t) refl within (λ over. over_stays h e t lasts over) parts.1
   where
-    of_test : (b : Bool) → is_over h t ≡ b → is_in_arbiter w h i t ≡ true → (is_over h t ≡ true → is_over (h ++ e ∷ []) t ≡ true) → not (is_over (h ++ e ∷ []) t) ≡ true → is_in_arbiter w h i t && not (is_over h t) ≡ true
+    of_test : (b : Bool) → is_over h t ≡ b → is_of_domain w h i t ≡ true → (is_over h t ≡ true → is_over (h ++ e ∷ []) t ≡ true) → not (is_over (h ++ e ∷ []) t) ≡ true → is_of_domain w h i t && not (is_over h t) ≡ true
     of_test false e' within stays live = rw (within, e') refl
     of_test true e' within stays live = let over = stays e' in absurd (cc (rw over at live))
 
@@ -159,7 +159,7 @@ concurrent_stays w h es t fired = rw (placement_stays w h es t fired) refl
 
 alone_other : (w : Parts) (h : List Event) (e : Event) → ever_admitted (h ++ e ∷ []) ≡ ever_admitted h → Known w h → (i : ℕ) → keeps_exclusion w (h ++ e ∷ []) i ≡ true
 alone_other w h e same known i =
-    rw same (alone_narrower (is_concurrent_task w h) (is_concurrent_task w (h ++ e ∷ [])) (λ t. is_in_arbiter w h i t && not (is_over h t)) (λ t. is_in_arbiter w (h ++ e ∷ []) i t && not (is_over (h ++ e ∷ []) t)) (ever_admitted h)
+    rw same (alone_narrower (is_concurrent_task w h) (is_concurrent_task w (h ++ e ∷ [])) (λ t. is_of_domain w h i t && not (is_over h t)) (λ t. is_of_domain w (h ++ e ∷ []) i t && not (is_over (h ++ e ∷ []) t)) (ever_admitted h)
     (λ t among. stays_narrow w h e i t known.lasts (known.lets t among)) (λ t among. concurrent_stays w h (e ∷ []) t (known.lets t among)) (known.alone i))
 
 -- over plain lists: one more is let in
@@ -175,7 +175,7 @@ one_more c p ts t may_be_admitted is = of_test (p t) refl may_be_admitted
         by_case (inr none) = let one : length (filter p (ts ++ t ∷ [])) ≡ 1 = grind (arith, common_steps, e, none) in or_right (list_all c (filter p (ts ++ t ∷ []))) _ (rw one refl)
 
 -- what an allowed admission says of those in its Interleave
-may_be_admitted : (w : Parts) (h : List Event) (t : TaskId) (i : ℕ) → may_admit w h t ≡ true → is_in_arbiter w h i t ≡ true → ((is_concurrent_task w h t ≡ true) × (list_all (is_concurrent_task w h) (admitted w h i) ≡ true)) ⊎ (length (admitted w h i) ≡ 0)
+may_be_admitted : (w : Parts) (h : List Event) (t : TaskId) (i : ℕ) → may_admit w h t ≡ true → is_of_domain w h i t ≡ true → ((is_concurrent_task w h t ≡ true) × (list_all (is_concurrent_task w h) (admitted w h i) ≡ true)) ⊎ (length (admitted w h i) ≡ 0)
 may_be_admitted w h t i may within =
     let test : Placement → Bool = λ s. (if is_concurrent s.branch.group then list_all (is_concurrent_task w h) (admitted w h s.domain) else is_none_of (admitted w h s.domain)) in
     let found = some_of test (placement_of w h t) may in
@@ -195,12 +195,12 @@ alone_admit w h t allowed known i =
     let placement_at = some_of (λ (s : Placement). is_first (waiting w h s.domain) t) (placement_of w h t) a.0 in
     let fired = placement_fired w h t placement_at.0 placement_at.1 in
     let g = h ++ Admit t ∷ [] in
-    let now : TaskId → Bool = λ u. is_in_arbiter w g i u && not (is_over g u) in
-    let was : TaskId → Bool = λ u. is_in_arbiter w h i u && not (is_over h u) in
+    let now : TaskId → Bool = λ u. is_of_domain w g i u && not (is_over g u) in
+    let was : TaskId → Bool = λ u. is_of_domain w h i u && not (is_over h u) in
     let narrow : (u : TaskId) → has_task (ever_admitted h) u ≡ true → now u ≡ true → was u ≡ true = λ u among. stays_narrow w h (Admit t) i u known.lasts (known.lets u among) in
     let same : (u : TaskId) → has_task (ever_admitted h) u ≡ true → is_concurrent_task w g u ≡ is_concurrent_task w h u = λ u among. concurrent_stays w h (Admit t ∷ []) u (known.lets u among) in
     rw ever_admitted-push (one_more (is_concurrent_task w g) now (ever_admitted h) t
-    (λ passes. by_case (may_be_admitted w h t i may (both (is_in_arbiter w h i t) (not (is_over h t)) (stays_narrow w h (Admit t) i t known.lasts fired passes)).0) (concurrent_stays w h (Admit t ∷ []) t fired) (all_narrower (is_concurrent_task w h) (is_concurrent_task w g) was now (ever_admitted h) narrow same) (few_narrower was now (ever_admitted h) narrow))
+    (λ passes. by_case (may_be_admitted w h t i may (both (is_of_domain w h i t) (not (is_over h t)) (stays_narrow w h (Admit t) i t known.lasts fired passes)).0) (concurrent_stays w h (Admit t ∷ []) t fired) (all_narrower (is_concurrent_task w h) (is_concurrent_task w g) was now (ever_admitted h) narrow same) (few_narrower was now (ever_admitted h) narrow))
     (alone_narrower (is_concurrent_task w h) (is_concurrent_task w g) was now (ever_admitted h) narrow same (known.alone i)))
   where
     by_case : {A B C D : Bool} {n m : ℕ} → ((A ≡ true) × (B ≡ true)) ⊎ (n ≡ 0) → C ≡ A → (B ≡ true → D ≡ true) → m ≤ n → ((C ≡ true) × (D ≡ true)) ⊎ (m ≡ 0)

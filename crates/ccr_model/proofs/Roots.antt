@@ -14,7 +14,7 @@ use Rattle.ccr_model.specs.declared.history.Event.TheVariants.{Post, Fire, Admit
 use Rattle.ccr_model.specs.Firings.{Firing, firing_of, fired, firing_named, ever_admitted, admitted_by, put, started, dropped, ended, yielded, last_segments}
 use Rattle.ccr_model.specs.Sites.{root_at, root_of, resumed}
 use Rattle.ccr_model.specs.TaskData.{placement_of}
-use Rattle.ccr_model.specs.Tasks.{is_interleave, is_in_arbiter, is_over, admitted, queued, running}
+use Rattle.ccr_model.specs.Tasks.{is_interleave, is_of_domain, is_over, admitted, queued, running}
 use Rattle.ccr_model.specs.Rules.{needs_no_admission}
 use Rattle.ccr_model.specs.Legal.{IsAllowed, IsLegal}
 use Rattle.ccr_model.proofs.TaskSteps.{firing_named-fire}
@@ -256,17 +256,17 @@ placement_of_root w h legal t fired =
 -- an admitted root that isn't over
 pub record AdmittedFacts (w : Parts) (h : List Event) (i : ℕ) (t : TaskId) : Type 0 where
   pub entered : has_task (ever_admitted h) t ≡ true
-  pub within : is_in_arbiter w h i t ≡ true
+  pub within : is_of_domain w h i t ≡ true
   pub lasts : is_over h t ≡ false
 
 pub AdmittedFacts-admitted : (w : Parts) (h : List Event) (i : ℕ) (t : TaskId) → has_task (admitted w h i) t ≡ true → AdmittedFacts w h i t
 AdmittedFacts-admitted w h i t is =
-    let parts = of_filter (λ u. is_in_arbiter w h i u && not (is_over h u)) (ever_admitted h) t is in
-    let tests = both (is_in_arbiter w h i t) (not (is_over h t)) parts.1 in
+    let parts = of_filter (λ u. is_of_domain w h i u && not (is_over h u)) (ever_admitted h) t is in
+    let tests = both (is_of_domain w h i t) (not (is_over h t)) parts.1 in
     record { entered = parts.0; within = tests.0; lasts = not_true (is_over h t) tests.1 }
 
-pub admitted_whole : (w : Parts) (h : List Event) (i : ℕ) (t : TaskId) → has_task (ever_admitted h) t ≡ true → is_in_arbiter w h i t ≡ true → is_over h t ≡ false → has_task (admitted w h i) t ≡ true
-admitted_whole w h i t entered within lasts = to_filter (λ u. is_in_arbiter w h i u && not (is_over h u)) (ever_admitted h) t entered (and_not (is_in_arbiter w h i t) (is_over h t) within lasts)
+pub admitted_whole : (w : Parts) (h : List Event) (i : ℕ) (t : TaskId) → has_task (ever_admitted h) t ≡ true → is_of_domain w h i t ≡ true → is_over h t ≡ false → has_task (admitted w h i) t ≡ true
+admitted_whole w h i t entered within lasts = to_filter (λ u. is_of_domain w h i u && not (is_over h u)) (ever_admitted h) t entered (and_not (is_of_domain w h i t) (is_over h t) within lasts)
 
 -- who of an Interleave is at work has a root that was admitted and isn't over
 pub at_work_admitted : (w : Parts) (h : List Event) → IsLegal w h → (i : ℕ) (t : TaskId) → is_of_interleave w h i t ≡ true → IsAtWork h t → has_task (admitted w h i) (root_of h t) ≡ true
@@ -276,7 +276,7 @@ at_work_admitted w h legal i t within work =
     let parts = both (is_interleave found.0.kind) (found.0.domain == i) found.2 in
     let place : placement w (branch_of fired.0.spot) ≡ Some found.0 = sym (placement_by w h t fired.0 fired.1) ∙ found.1 in
     let entered = put_ever_admitted w h legal (AreEverAdmitted-legal w h legal) t fired.0 fired.0.spot found.0 work.put_so fired.1 refl place parts.0 in
-    let there : is_in_arbiter w h i (root_of h t) ≡ true = ap (λ o. option_map_or (λ (s : Placement). s.domain == i) o false) (placement_of_root w h legal t fired ∙ found.1) ∙ parts.1 in
+    let there : is_of_domain w h i (root_of h t) ≡ true = ap (λ o. option_map_or (λ (s : Placement). s.domain == i) o false) (placement_of_root w h legal t fired ∙ found.1) ∙ parts.1 in
     admitted_whole w h i (root_of h t) entered there (not_over w h legal t work)
 
 unfinished_last : (w : Parts) (h : List Event) → IsLegal w h → (t : TaskId) → has_task (ended h) t ≡ false → has_task (dropped h) t ≡ false → has_task (last_segments h) t ≡ false

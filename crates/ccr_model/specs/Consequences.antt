@@ -15,7 +15,7 @@ use Rattle.ccr_base.specs.Names.{same_task, has_task, has_message, same_lists, w
 use Rattle.ccr_model.specs.Posts.{taken}
 use Rattle.ccr_model.specs.Firings.{cut, put, dropped, started}
 use Rattle.ccr_model.specs.Sites.{root_of}
-use Rattle.ccr_model.specs.Tasks.{fired_by, is_teardown, is_for_queue, queued, running, admitted, is_in_arbiter}
+use Rattle.ccr_model.specs.Tasks.{fired_by, is_teardown, is_for_queue, queued, running, admitted, is_of_domain}
 use Rattle.ccr_model.specs.Rules.{is_concurrent_task}
 
 -- no name stands twice
@@ -49,7 +49,7 @@ keeps_exclusion wiring history arbiter = list_all (is_concurrent_task wiring his
 
 -- exclusion: who runs is a segment of such a root
 abbrev pub run_admitted : Parts → List Event → ℕ → Bool
-run_admitted wiring history arbiter = list_all (λ task. has_task (admitted wiring history arbiter) (root_of history task)) (filter (is_in_arbiter wiring history arbiter) (running history))
+run_admitted wiring history arbiter = list_all (λ task. has_task (admitted wiring history arbiter) (root_of history task)) (filter (is_of_domain wiring history arbiter) (running history))
 
 -- whether the task is a segment of a root that a teardown branch fired
 abbrev pub is_teardown_task : Parts → List Event → TaskId → Bool
@@ -62,7 +62,7 @@ stay_last test (task ∷ tasks) = (not (test task) || list_all test tasks) && st
 
 -- after a teardown's firing no other branch of the domain fires, and once a segment of it started no task of another root starts
 abbrev pub ends_by_teardown : Parts → List Event → ℕ → Bool
-ends_by_teardown wiring history arbiter = stay_last (is_teardown_task wiring history) (fired_by wiring (λ s. s.domain == arbiter) history) && stay_last (is_teardown_task wiring history) (filter (is_in_arbiter wiring history arbiter) (started history))
+ends_by_teardown wiring history arbiter = stay_last (is_teardown_task wiring history) (fired_by wiring (λ s. s.domain == arbiter) history) && stay_last (is_teardown_task wiring history) (filter (is_of_domain wiring history arbiter) (started history))
 
 -- the domains, by the numbers of the arbiters, of which the first has this one, fire and admit as they should
 abbrev pub are_kept_from : Parts → List Event → ℕ → List ArbiterPart → Bool

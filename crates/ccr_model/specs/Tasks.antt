@@ -67,12 +67,12 @@ abbrev pub is_over : List Event → TaskId → Bool
 is_over history root = list_any (λ task. same_task (root_of history task) root) (last_segments history)
 
 -- whether the task's branch is of an arbiter of the domain
-abbrev pub is_in_arbiter : Parts → List Event → ℕ → TaskId → Bool
-is_in_arbiter wiring history domain task = option_map_or (λ (s : Placement). s.domain == domain) (placement_of wiring history task) false
+abbrev pub is_of_domain : Parts → List Event → ℕ → TaskId → Bool
+is_of_domain wiring history domain task = option_map_or (λ (s : Placement). s.domain == domain) (placement_of wiring history task) false
 
 -- the roots of the domain that were admitted and aren't over
 abbrev pub admitted : Parts → List Event → ℕ → List TaskId
-admitted wiring history domain = filter (λ task. is_in_arbiter wiring history domain task && not (is_over history task)) (ever_admitted history)
+admitted wiring history domain = filter (λ task. is_of_domain wiring history domain task && not (is_over history task)) (ever_admitted history)
 
 -- the tasks that branches fired for the queue, neither started, dropped nor cut
 abbrev pub coming : Parts → List Event → ℕ → List TaskId

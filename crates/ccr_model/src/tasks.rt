@@ -4,7 +4,7 @@ ghost use Rattle.std.specs.Prelude.{◌≡◌, IfOk};
 ghost use Rattle.std.specs.Option.{option_map};
 ghost use Rattle.ccr_base.specs.Names.{same_task};
 ghost use Rattle.ccr_model.specs.TaskData.{placement_of};
-ghost use Rattle.ccr_model.specs.Tasks.{is_branch_where, fired_by, waiting, is_for_queue, queued, running, running_by, is_over, is_in_arbiter, admitted, coming, has_post_left, count_unfinished};
+ghost use Rattle.ccr_model.specs.Tasks.{is_branch_where, fired_by, waiting, is_for_queue, queued, running, running_by, is_over, is_of_domain, admitted, coming, has_post_left, count_unfinished};
 ghost use Rattle.ccr_model.specs.Views.{placement_seen, means};
 
 use crate::Event;
@@ -163,8 +163,8 @@ fn is_over(alloc: Global, events: &[Event], root: TaskId) -> Result<bool, OutOfM
     Ok(false)
 }
 
-fn is_in_arbiter(wiring: &Wiring, events: &[Event], arbiter: usize, task: TaskId) -> bool
-    ensures { result ≡ is_in_arbiter wiring.now events.now arbiter task }
+fn is_of_domain(wiring: &Wiring, events: &[Event], arbiter: usize, task: TaskId) -> bool
+    ensures { result ≡ is_of_domain wiring.now events.now arbiter task }
 {
     match placement_of(wiring, events, task) {
         Some(placement) => placement.domain == arbiter,
@@ -184,7 +184,7 @@ pub(crate) fn admitted(
     let ever_admitted = ever_admitted(alloc, events)?;
     let mut tasks = Vec::new(alloc);
     for task in &ever_admitted {
-        if is_in_arbiter(wiring, events, domain, *task) && !is_over(alloc, events, *task)? {
+        if is_of_domain(wiring, events, domain, *task) && !is_over(alloc, events, *task)? {
             tasks.push(*task)?;
         }
     }

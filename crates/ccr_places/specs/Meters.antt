@@ -1,5 +1,6 @@
 -- What the meter keeps, and its steps: draws from the budget of posts, and the posters that are through.
 use Rattle.std.specs.Prelude.{◌≡◌, ⊤, ℕ, ◌+◌, Bool, nat_lt, List, fold, Option, Some, None, if◌then◌else◌}
+use Rattle.ccr_base.specs.Bounds.{most_posters}
 use Rattle.ccr_places.specs.declared.notes.Note.{Note}
 use Rattle.ccr_places.specs.declared.notes.Note.TheVariants.{Draw, Leave, Left}
 
@@ -13,9 +14,9 @@ pub record MeterState : Type 0 where
 abbrev pub start : ℕ → MeterState
 start budget = record { budget = budget; drawn = 0; left = 0 }
 
--- at most 16 posters leave
+-- no more posters leave than a wiring may have
 abbrev pub may_leave : MeterState → Bool
-may_leave meter = nat_lt meter.left 16
+may_leave meter = nat_lt meter.left most_posters
 
 -- how many were drawn before, or none where the budget is spent
 abbrev pub draw_note : MeterState → Option ℕ

@@ -19,13 +19,14 @@ pub struct Meter {
 
 impl Model for Meter {
     ghost use Rattle.std.specs.Prelude.{◌≤◌};
+    ghost use Rattle.ccr_base.specs.Bounds.{most_posters};
     ghost use Rattle.ccr_places.specs.Meters.{MeterState};
 
     ghost Value = { MeterState };
 
     ghost view = { λ meter. record { budget = meter.budget; drawn = meter.drawn; left = meter.left } };
 
-    ghost invariant = { λ meter. (meter.drawn ≤ meter.budget) × (meter.left ≤ 16) };
+    ghost invariant = { λ meter. (meter.drawn ≤ meter.budget) × (meter.left ≤ most_posters) };
 }
 
 impl Meter {
@@ -55,7 +56,7 @@ impl Meter {
         Some(before)
     }
 
-    /// Whether fewer than 16 posters have left.
+    /// Whether fewer posters have left than a wiring may have.
     pub fn may_leave(&self) -> bool
         ensures { result ≡ can_leave self.now }
     {

@@ -39,7 +39,7 @@ use Rattle.ccr_claim.specs.declared.asks.Ask.TheVariants as asks
 use Rattle.ccr_runs.specs.declared.entries.Entry.{Entry}
 use Rattle.ccr_runs.specs.Places.{arbiter_after, arbiter_note, commit_note, first_branch, interleave_after, interleave_note, note_at_arbiter, note_by_kind, note_of}
 use Rattle.ccr_runs.specs.EntryRuns.{IsRunAfter, Lacks, made_by, notes_at, port_at, same_place, state_of}
-use Rattle.ccr_runs.specs.Views.{arbiter_of}
+use Rattle.ccr_runs.specs.Views.{domain_of_task}
 use Rattle.ccr_runs.specs.Visible.{event_of, visible}
 use Rattle.ccr_net.proofs.Parts.ActorSteps.{unfired}
 use Rattle.ccr_net.proofs.Parts.Arbiter.{fired_note, fired_there, is_of, none_at_first}
@@ -380,7 +380,7 @@ module _ (w : Parts) (workers : ℕ) (lacks : Lacks) (valid : IsValid w) (few : 
           let holds = holds_so past parts.run in
           fired_by_named w (is_of i) (visible past) r (OneName-legal w (visible past) holds.legal) (ap (λ ts. has_task ts r) (sym (holds.arbiters i)) ∙ fired_at_it i r past (let one = over_then.0 in omega (arith, one)))
 
-      its_arbiter : arbiter_of w (visible past) r ≡ i
+      its_arbiter : domain_of_task w (visible past) r ≡ i
       its_arbiter = ap (λ o. option_map_or (λ (s : Placement). s.domain) o 0) (placement_by w (visible past) r named.0 named.1 ∙ ap (λ s. placement w (branch_of s)) facts.is_branch ∙ facts.is_place) ∙ same_number facts.place.domain i facts.passes
         where
           facts : BranchFacts w (is_of i) (named.0).spot
@@ -390,7 +390,7 @@ module _ (w : Parts) (workers : ℕ) (lacks : Lacks) (valid : IsValid w) (few : 
       its_firing = (named.0, named.1)
 
     -- only the root's domain notes it over, and it has fired
-    root_placed : (r : TaskId) → has_task (over_by e.note) r ≡ true → (e.place ≡ places.Arbiter (arbiter_of w (visible past) r)) × IsFired (visible past) r
+    root_placed : (r : TaskId) → has_task (over_by e.note) r ≡ true → (e.place ≡ places.Arbiter (domain_of_task w (visible past) r)) × IsFired (visible past) r
     root_placed r has = (at ∙ ap places.Arbiter (sym (its_arbiter found.0 r told)), its_firing found.0 r told)
       where
         found : (i : ℕ) × (step.asking.place ≡ places.Arbiter i)
@@ -402,7 +402,7 @@ module _ (w : Parts) (workers : ℕ) (lacks : Lacks) (valid : IsValid w) (few : 
         told : tells over_by (places.Arbiter found.0) r e ≡ true
         told = (λ k. same_place (at k) (places.Arbiter found.0) && has k) ∙ ap (λ b. b && true) (eq-self found.0)
 
-    pub root_domain : (r : TaskId) → has_task (over_by e.note) r ≡ true → e.place ≡ places.Arbiter (arbiter_of w (visible past) r)
+    pub root_domain : (r : TaskId) → has_task (over_by e.note) r ≡ true → e.place ≡ places.Arbiter (domain_of_task w (visible past) r)
     root_domain r has = (root_placed r has).0
 
   -- ---- nowhere else
@@ -410,7 +410,7 @@ module _ (w : Parts) (workers : ℕ) (lacks : Lacks) (valid : IsValid w) (few : 
   -- each entry that notes a root over is at the domain of the root, as the whole run has it
   record OversPlaced (es : List Entry) : Type 0 where
     run : IsRunAfter w workers lacks [] es
-    placed : (x : Entry) → Among x es → (r : TaskId) → has_task (over_by x.note) r ≡ true → (x.place ≡ places.Arbiter (arbiter_of w (visible es) r)) × IsFired (visible es) r
+    placed : (x : Entry) → Among x es → (r : TaskId) → has_task (over_by x.note) r ≡ true → (x.place ≡ places.Arbiter (domain_of_task w (visible es) r)) × IsFired (visible es) r
 
   overs_placed : (es : List Entry) → IsRunAfter w workers lacks [] es → OversPlaced es
   overs_placed es run = along_run w workers lacks OversPlaced kept (record { run = tt; placed = λ x is r has. absurd is }) es run
@@ -421,17 +421,17 @@ module _ (w : Parts) (workers : ℕ) (lacks : Lacks) (valid : IsValid w) (few : 
           on : IsRunAfter w workers lacks [] (past ++ e ∷ [])
           on = run_on w workers lacks [] past e known.run low made
 
-          later : (x : Entry) (r : TaskId) → (x.place ≡ places.Arbiter (arbiter_of w (visible past) r)) × IsFired (visible past) r → (x.place ≡ places.Arbiter (arbiter_of w (visible (past ++ e ∷ [])) r)) × IsFired (visible (past ++ e ∷ [])) r
-          later x r is = subst (λ g. (x.place ≡ places.Arbiter (arbiter_of w g r)) × IsFired g r) (sym (visible-push past e)) (is.0 ∙ ap (λ o. places.Arbiter (option_map_or (λ (s : Placement). s.domain) o 0)) (sym (placement_stays w (visible past) (event_of e) r is.1)), IsFired-append (visible past) (event_of e) r is.1)
+          later : (x : Entry) (r : TaskId) → (x.place ≡ places.Arbiter (domain_of_task w (visible past) r)) × IsFired (visible past) r → (x.place ≡ places.Arbiter (domain_of_task w (visible (past ++ e ∷ [])) r)) × IsFired (visible (past ++ e ∷ [])) r
+          later x r is = subst (λ g. (x.place ≡ places.Arbiter (domain_of_task w g r)) × IsFired g r) (sym (visible-push past e)) (is.0 ∙ ap (λ o. places.Arbiter (option_map_or (λ (s : Placement). s.domain) o 0)) (sym (placement_stays w (visible past) (event_of e) r is.1)), IsFired-append (visible past) (event_of e) r is.1)
 
-          of : (x : Entry) (r : TaskId) → has_task (over_by x.note) r ≡ true → Among x past ⊎ Among x (e ∷ []) → (x.place ≡ places.Arbiter (arbiter_of w (visible (past ++ e ∷ [])) r)) × IsFired (visible (past ++ e ∷ [])) r
+          of : (x : Entry) (r : TaskId) → has_task (over_by x.note) r ≡ true → Among x past ⊎ Among x (e ∷ []) → (x.place ≡ places.Arbiter (domain_of_task w (visible (past ++ e ∷ [])) r)) × IsFired (visible (past ++ e ∷ [])) r
           of x r has (inl old) = later x r (known.placed x old r has)
-          of x r has (inr (inl same)) = subst (λ (y : Entry). (y.place ≡ places.Arbiter (arbiter_of w (visible (past ++ e ∷ [])) r)) × IsFired (visible (past ++ e ∷ [])) r) (sym same) (later e r (root_placed past e [] on r (subst (λ (y : Entry). has_task (over_by y.note) r ≡ true) same has)))
+          of x r has (inr (inl same)) = subst (λ (y : Entry). (y.place ≡ places.Arbiter (domain_of_task w (visible (past ++ e ∷ [])) r)) × IsFired (visible (past ++ e ∷ [])) r) (sym same) (later e r (root_placed past e [] on r (subst (λ (y : Entry). has_task (over_by y.note) r ≡ true) same has)))
           of x r has (inr (inr none)) = absurd none
 
   module _ (past : List Entry) (e : Entry) (more : List Entry) (run : IsRunAfter w workers lacks [] (past ++ e ∷ more)) (r : TaskId) (has : has_task (over_by e.note) r ≡ true) where
     abbrev its_domain : ℕ
-    its_domain = arbiter_of w (visible (past ++ e ∷ more)) r
+    its_domain = domain_of_task w (visible (past ++ e ∷ more)) r
 
     placed_there : (x : Entry) → Among x (past ++ e ∷ more) → has_task (over_by x.note) r ≡ true → same_place x.place (places.Arbiter its_domain) ≡ true
     placed_there x is also = ap (λ pl. same_place pl (places.Arbiter its_domain)) ((overs_placed (past ++ e ∷ more) run).placed x is r also).0 ∙ eq-self its_domain

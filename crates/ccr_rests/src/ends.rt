@@ -8,7 +8,7 @@ ghost use Rattle.ccr_base.specs.Names.{has_task};
 ghost use Rattle.ccr_places.specs.Ports.{is_claimed_by};
 ghost use Rattle.ccr_places.specs.Queues.{is_booked};
 ghost use Rattle.ccr_runs.specs.EntryRuns.{port_at};
-ghost use Rattle.ccr_runs.specs.Views.{arbiter_of};
+ghost use Rattle.ccr_runs.specs.Views.{domain_of_task};
 ghost use Rattle.ccr_runs.specs.Visible.{visible};
 ghost use Rattle.ccr_rests.specs.Ends.{EndsBooking, EndsClaim, booked_by, claimed_by, fired_by, over_by, telling_of, tells, unbooked_by, unclaimed_by};
 ghost use Rattle.ccr_rests.specs.Keeping.{queue_in};
@@ -36,7 +36,7 @@ pub fn bookings_are_ended_once()
 /// A root is noted over once, at its domain: only the domain at whose branch it fired notes it over, one entry before fired it, and
 /// no other entry notes it over, before or after, wherever it is.
 pub fn roots_are_noted_over_once()
-    ensures domain { (here : RunAt) (root : TaskId) → has_task (over_by here.entry.note) root ≡ true → here.entry.place ≡ places.Arbiter (arbiter_of here.wiring (visible here.past) root) }
+    ensures domain { (here : RunAt) (root : TaskId) → has_task (over_by here.entry.note) root ≡ true → here.entry.place ≡ places.Arbiter (domain_of_task here.wiring (visible here.past) root) }
     ensures once { (here : RunAt) (domain : ℕ) (root : TaskId) → tells over_by (places.Arbiter domain) root here.entry ≡ true → IsEndedOnce fired_by over_by (places.Arbiter domain) root here }
     ensures before { (here : RunAt) (root : TaskId) → has_task (over_by here.entry.note) root ≡ true → telling_of over_by root here.past ≡ [] }
     ensures later { (here : RunAt) (root : TaskId) → has_task (over_by here.entry.note) root ≡ true → telling_of over_by root here.more ≡ [] }

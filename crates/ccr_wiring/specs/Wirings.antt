@@ -22,7 +22,7 @@ pub record Placement : Type 0 where
   pub kind : Kind
   pub branch : BranchPart
 
--- the arbiter's branches, each with the arbiter's number and kind
+-- the arbiter's branches, each with the arbiter's kind and, as if it were its own domain, its number
 abbrev pub placements_of : ℕ → ArbiterPart → List Placement
 placements_of number arbiter = map (λ branch. record { domain = number; kind = arbiter.kind; branch = branch }) arbiter.branches
 

@@ -58,7 +58,7 @@ use Rattle.ccr_claim.specs.Plans.{any_slot, in_pattern, names_of, firing_task, r
 use Rattle.ccr_base.specs.declared.names.MsgId.{MsgId}
 use Rattle.ccr_claim.specs.declared.asks.Asked.{Asked}
 use Rattle.ccr_claim.specs.Attempts.{at_place, Phase, booking, claiming, had_in, attempt_ask}
-use Rattle.ccr_actor.specs.Plans.{one_of, no_pattern, plan_of, pattern_at, is_interleave_number, queue_at as queue_number, arbiter_at}
+use Rattle.ccr_actor.specs.Plans.{one_of, no_pattern, plan_of, pattern_at, is_interleave_number, queue_at as queue_number, domain_of_spot}
 use Rattle.ccr_actor.specs.Actors.{State, settle, drive, turn, name_at, spots_left}
 use Rattle.ccr_runs.specs.declared.entries.Entry.{Entry}
 use Rattle.ccr_runs.specs.Places.{note_of, note_at_arbiter, note_by_kind, arbiter_note, interleave_note, first_branch, arbiter_after, commit_note}
@@ -318,11 +318,11 @@ module _ (w : Parts) (n : ℕ) (first : PlainFacts w) (few : n ≤ 33) (lacks : 
       by_dead None is = fires_branch b s more had i (interleaves.cut_note place (Branch b)) sits at_its turns phase fits there (live is) (cuts_so w h i b place s sits at_its within match) (noted None is) (λ ms allowed note. DomainsMatch-fire w h es e (name_at e.actor before) b i s ms holds.legal allowed sits within number there note holds.domains)
       by_dead (Some by) is = step_dead w n lacks es e low holds i (Branch b) more (name_at e.actor before) (Branch b) by there (noted (Some by) is) turns (rw (turns, noted (Some by) is) refl)
 
-  commit_by : (b : ℕ) (s : Placement) (more : List Spot) (had : List Had) → placement w b ≡ Some s → turn before ≡ drive (Branch b) more → before.phase ≡ claiming [] had → Fits s.branch.pattern [] had → Given w es e (at_place (places.Arbiter (arbiter_at w (Branch b))) (asks.Commit (firing_task (plan_of w (Branch b)) (name_at e.actor before) (in_pattern s.branch.pattern had)) (names_of (in_pattern s.branch.pattern had)))) → Done
+  commit_by : (b : ℕ) (s : Placement) (more : List Spot) (had : List Had) → placement w b ≡ Some s → turn before ≡ drive (Branch b) more → before.phase ≡ claiming [] had → Fits s.branch.pattern [] had → Given w es e (at_place (places.Arbiter (domain_of_spot w (Branch b))) (asks.Commit (firing_task (plan_of w (Branch b)) (name_at e.actor before) (in_pattern s.branch.pattern had)) (names_of (in_pattern s.branch.pattern had)))) → Done
   commit_by b s more had sits turns phase fits got = by_part (slice_get w.arbiters i) refl got.gives
     where
       i : ℕ
-      i = arbiter_at w (Branch b)
+      i = domain_of_spot w (Branch b)
 
       at_its : s.domain ≡ i
       at_its = rw sits refl
@@ -458,8 +458,8 @@ module _ (w : Parts) (n : ℕ) (first : PlainFacts w) (few : n ≤ 33) (lacks : 
           fits_so : (had : List Had) → before.phase ≡ claiming [] had → Fits found.0.branch.pattern [] had
           fits_so had phase = subst (λ p. Fits p [] had) (ap (pattern_at w) is ∙ pattern) (whole had phase)
 
-          given_now : (had : List Had) → before.phase ≡ claiming [] had → Given w es e (at_place (places.Arbiter (arbiter_at w (Branch b))) (asks.Commit (firing_task (plan_of w (Branch b)) (name_at e.actor before) (in_pattern found.0.branch.pattern had)) (names_of (in_pattern found.0.branch.pattern had))))
-          given_now had phase = subst (λ p. Given w es e (at_place (places.Arbiter (arbiter_at w (Branch b))) (asks.Commit (firing_task (plan_of w (Branch b)) (name_at e.actor before) (in_pattern p had)) (names_of (in_pattern p had))))) pattern (subst (λ x. Given w es e (attempt_ask (plan_of w x) (name_at e.actor before) (claiming [] had))) is (asked_in (claiming [] had) phase))
+          given_now : (had : List Had) → before.phase ≡ claiming [] had → Given w es e (at_place (places.Arbiter (domain_of_spot w (Branch b))) (asks.Commit (firing_task (plan_of w (Branch b)) (name_at e.actor before) (in_pattern found.0.branch.pattern had)) (names_of (in_pattern found.0.branch.pattern had))))
+          given_now had phase = subst (λ p. Given w es e (at_place (places.Arbiter (domain_of_spot w (Branch b))) (asks.Commit (firing_task (plan_of w (Branch b)) (name_at e.actor before) (in_pattern p had)) (names_of (in_pattern p had))))) pattern (subst (λ x. Given w es e (attempt_ask (plan_of w x) (name_at e.actor before) (claiming [] had))) is (asked_in (claiming [] had) phase))
       by_spot (Site b k) is fits = by_phase (λ had phase. commit_site b k found.0 more had found.1 (turns ∙ ap (λ x. drive x more) is) phase (subst (λ x. Fits (pattern_at w x) [] had) is (whole had phase)) (subst (λ x. Given w es e (attempt_ask (plan_of w x) (name_at e.actor before) (claiming [] had))) is (asked_in (claiming [] had) phase))) before.phase refl
         where
           found : (port : ℕ) × (site_port w b k ≡ Some port)

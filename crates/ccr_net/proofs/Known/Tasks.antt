@@ -35,7 +35,7 @@ use Rattle.ccr_model.proofs.Pushes.{firings-push}
 use Rattle.ccr_model.proofs.TakenOnce.{FireFacts-allowed}
 use Rattle.ccr_claim.specs.Wired.{IsDomainOf, IsSpotOf, IsTaskOf}
 use Rattle.ccr_claim.specs.Plans.{firing_task}
-use Rattle.ccr_actor.specs.Plans.{arbiter_at, plan_of, queue_at}
+use Rattle.ccr_actor.specs.Plans.{domain_of_spot, plan_of, queue_at}
 use Rattle.ccr_runs.specs.Views.{view}
 use Rattle.ccr_net.proofs.Known.Causes.{AreFine, causes_below, fine_causes, load_of-fine, play_of-fine, posted_fine, union_fine}
 use Rattle.ccr_net.proofs.Parts.Phases.{SpotFits}
@@ -192,7 +192,7 @@ pub spot_known : (w : Parts) (spot : Spot) → SpotFits w spot → IsSpotOf w sp
 spot_known w (Branch b) fits = some-below _ b fits.0 fits.1
 spot_known w (Site b k) fits = ap is_some fits.1
 
-pub spot_domain : (w : Parts) (spot : Spot) → SpotFits w spot → IsDomain w (arbiter_at w spot)
+pub spot_domain : (w : Parts) (spot : Spot) → SpotFits w spot → IsDomain w (domain_of_spot w spot)
 spot_domain w spot fits = let seat = seat_of w spot fits in (branch_of spot, seat.0, seat.1, sym (ap (λ o. option_map_or (λ (s : Placement). s.domain) o 0) seat.1))
 
 pub spot_queue : (w : Parts) → IsSound w → (spot : Spot) → SpotFits w spot → queue_at w spot < length w.queues
@@ -201,10 +201,10 @@ spot_queue w all spot fits = let seat = seat_of w spot fits in subst (λ k. k < 
 -- ---- tasks
 
 -- a task of the spot with such causes
-pub task_known : (w : Parts) → IsValid w → IsSound w → (spot : Spot) → SpotFits w spot → (task : Task) → task.spot ≡ spot → task.arbiter ≡ arbiter_at w spot → task.queue ≡ queue_at w spot → AreFine (length w.causes) task.causes → IsTaskOf w task
+pub task_known : (w : Parts) → IsValid w → IsSound w → (spot : Spot) → SpotFits w spot → (task : Task) → task.spot ≡ spot → task.arbiter ≡ domain_of_spot w spot → task.queue ≡ queue_at w spot → AreFine (length w.causes) task.causes → IsTaskOf w task
 task_known w valid all spot fits task at arbiter queue fine = (
   subst (IsSpotOf w) (sym at) (spot_known w spot fits),
-  subst (IsDomainOf w) (sym arbiter) (domain_low w (arbiter_at w spot) (spot_domain w spot fits), same_number _ (arbiter_at w spot) (domain_own w valid (arbiter_at w spot) (spot_domain w spot fits))),
+  subst (IsDomainOf w) (sym arbiter) (domain_low w (domain_of_spot w spot) (spot_domain w spot fits), same_number _ (domain_of_spot w spot) (domain_own w valid (domain_of_spot w spot) (spot_domain w spot fits))),
   subst (λ k. k < length w.queues) (sym queue) (spot_queue w all spot fits),
   fine_causes w task.causes fine,
 )
@@ -255,7 +255,7 @@ module _ (w : Parts) (all : IsSound w) (h : List Event) (legal : IsLegal w h) (t
   placed_so : placement_of w h t ≡ placement w (branch_of fires.0.spot)
   placed_so = ap (λ o. option_and_then (λ spot. placement w (branch_of spot)) (option_map (λ (f : Firing). f.spot) o)) fires.1
 
-  arbiter_so : (view w h t).arbiter ≡ arbiter_at w fires.0.spot
+  arbiter_so : (view w h t).arbiter ≡ domain_of_spot w fires.0.spot
   arbiter_so = ap (λ o. option_map_or (λ (s : Placement). s.domain) o 0) placed_so
 
   queue_so : (view w h t).queue ≡ queue_at w fires.0.spot

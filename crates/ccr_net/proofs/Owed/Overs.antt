@@ -57,7 +57,7 @@ use Rattle.ccr_actor.specs.Actors.{State, name_at}
 use Rattle.ccr_runs.specs.declared.entries.Entry.{Entry}
 use Rattle.ccr_runs.specs.Places.{note_of, note_at_arbiter, note_by_kind, arbiter_note, interleave_note, first_branch, arbiter_after, interleave_after, commit_note}
 use Rattle.ccr_runs.specs.EntryRuns.{Lacks, state_of, notes_at, same_place}
-use Rattle.ccr_runs.specs.Views.{cut_view, arbiter_of}
+use Rattle.ccr_runs.specs.Views.{cut_view, domain_of_task}
 use Rattle.ccr_runs.specs.Visible.{visible, shown}
 use Rattle.ccr_net.proofs.Parts.Pushes.{Step, notes_at-push, visible-push}
 use Rattle.ccr_net.proofs.Parts.Invariant.{IsOwed}
@@ -280,7 +280,7 @@ module _ (w : Parts) (domains : HasDomains w) (n : ℕ) (lacks : Lacks) (es : Li
   h = visible es
 
   -- the root of who is at work may be noted over
-  pub at_work_may : (t : TaskId) → IsAtWork h t → may_over_at w es (arbiter_of w h t) (root_of h t) ≡ true
+  pub at_work_may : (t : TaskId) → IsAtWork h t → may_over_at w es (domain_of_task w h t) (root_of h t) ≡ true
   at_work_may t work = ap (λ i. may_over_at w es i root) (ap (λ o. option_map_or (λ (z : Placement). z.domain) o 0) placed) ∙ of_part (slice_get w.arbiters s.domain) refl (domains (branch_of fires.0.spot) s place.1)
     where
       root : TaskId
@@ -489,12 +489,12 @@ module _ (w : Parts) (domains : HasDomains w) (n : ℕ) (lacks : Lacks) (es : Li
 
   on_of : Owes w es e st old new → On
   on_of (less x given split) = taken_first x given split
-  on_of (dropped x rest t d given note split is) = record { own = one_more (arbiter_of w after d) (root_of after d) (λ r i. count i r) is_new; stays = others_stay x given no_over }
+  on_of (dropped x rest t d given note split is) = record { own = one_more (domain_of_task w after d) (root_of after d) (λ r i. count i r) is_new; stays = others_stay x given no_over }
     where
       no_over : (i : ℕ) (r : TaskId) → is_about i r x ≡ false
       no_over i r = put_no_over w (notes_at es x.place) x.place x.ask e.note t (Some d) i r given.gives note
 
-      count : (i : ℕ) (r : TaskId) → many i r new ≡ bit ((arbiter_of w after d == i) && (same_task r (root_of after d) || false)) + many i r old
+      count : (i : ℕ) (r : TaskId) → many i r new ≡ bit ((domain_of_task w after d == i) && (same_task r (root_of after d) || false)) + many i r old
       count i r = let one = ap (many i r) is in let was = ap (many i r) split in let none = ap bit (no_over i r) in omega (arith, one, was, none)
 
       event : Event
@@ -515,28 +515,28 @@ module _ (w : Parts) (domains : HasDomains w) (n : ℕ) (lacks : Lacks) (es : Li
       root_so : root_of after d ≡ root_of now d
       root_so = ap (λ g. root_of g d) shows ∙ root_stays now (event ∷ []) d fires
 
-      arbiter_so : arbiter_of w after d ≡ arbiter_of w now d
-      arbiter_so = ap (λ g. arbiter_of w g d) shows ∙ ap (λ o. option_map_or (λ (s : Placement). s.domain) o 0) (placement_stays w now (event ∷ []) d fires)
+      arbiter_so : domain_of_task w after d ≡ domain_of_task w now d
+      arbiter_so = ap (λ g. domain_of_task w g d) shows ∙ ap (λ o. option_map_or (λ (s : Placement). s.domain) o 0) (placement_stays w now (event ∷ []) d fires)
 
       lasting : is_over now (root_of after d) ≡ false
       lasting = ap (is_over now) root_so ∙ not_over w now holds.legal d work
 
-      may_before : may_over_at w es (arbiter_of w after d) (root_of after d) ≡ true
+      may_before : may_over_at w es (domain_of_task w after d) (root_of after d) ≡ true
       may_before = (λ k. may_over_at w es (arbiter_so k) (root_so k)) ∙ at_work_may w domains n lacks es holds noted d work
 
-      nobody : (b : ℕ) → many (arbiter_of w after d) (root_of after d) (owed_by w lacks es b) ≡ 0
-      nobody b = lasts_none w domains n lacks es holds noted (root_of after d) lasting b (arbiter_of w after d)
+      nobody : (b : ℕ) → many (domain_of_task w after d) (root_of after d) (owed_by w lacks es b) ≡ 0
+      nobody b = lasts_none w domains n lacks es holds noted (root_of after d) lasting b (domain_of_task w after d)
 
-      is_new : IsNew (arbiter_of w after d) (root_of after d)
+      is_new : IsNew (domain_of_task w after d) (root_of after d)
       is_new = record {
-        one = let one = count (arbiter_of w after d) (root_of after d) in let self : bit ((arbiter_of w after d == arbiter_of w after d) && (same_task (root_of after d) (root_of after d) || false)) ≡ 1 = rw (eq-self (arbiter_of w after d), same_task-self (root_of after d)) refl in let none = nobody e.actor in omega (arith, one, self, none);
-        met = of_kept (kept_or_taken x given (arbiter_of w after d) (root_of after d) may_before);
+        one = let one = count (domain_of_task w after d) (root_of after d) in let self : bit ((domain_of_task w after d == domain_of_task w after d) && (same_task (root_of after d) (root_of after d) || false)) ≡ 1 = rw (eq-self (domain_of_task w after d), same_task-self (root_of after d)) refl in let none = nobody e.actor in omega (arith, one, self, none);
+        met = of_kept (kept_or_taken x given (domain_of_task w after d) (root_of after d) may_before);
         nobody = λ b other. nobody b;
       }
         where
-          of_kept : (may_over_at w (es ++ e ∷ []) (arbiter_of w after d) (root_of after d) ≡ true) ⊎ (is_about (arbiter_of w after d) (root_of after d) x ≡ true) → may_over_at w (es ++ e ∷ []) (arbiter_of w after d) (root_of after d) ≡ true
+          of_kept : (may_over_at w (es ++ e ∷ []) (domain_of_task w after d) (root_of after d) ≡ true) ⊎ (is_about (domain_of_task w after d) (root_of after d) x ≡ true) → may_over_at w (es ++ e ∷ []) (domain_of_task w after d) (root_of after d) ≡ true
           of_kept (inl kept) = kept
-          of_kept (inr about) = absurd (no_both about (no_over (arbiter_of w after d) (root_of after d)))
+          of_kept (inr about) = absurd (no_both about (no_over (domain_of_task w after d) (root_of after d)))
   on_of (admitted i more t numbers given note is) = no_more (λ k r. (let one = ap (many k r) is in omega (arith, one))) _ given (λ k r. about_quiet (at_place (places.Arbiter i) asks.Admit) k r refl)
   on_of (booked spot given note was is) = no_more (λ k r. (let one = ap (many k r) is in omega (arith, one))) _ given (λ k r. refl)
   on_of (got d k given free note is) = no_more (λ j r. (let one = ap (many j r) is in omega (arith, one))) _ given (λ j r. about_quiet (at_place (places.Port d.slot.port) (asks.Claim name d.slot)) j r refl)

@@ -21,7 +21,7 @@ use Rattle.ccr_claim.specs.declared.asks.Ask.{Ask}
 use Rattle.ccr_claim.specs.declared.asks.Ask.TheVariants as asks
 use Rattle.ccr_claim.specs.declared.asks.Asked.{Asked}
 use Rattle.ccr_claim.specs.Attempts.{consume_ask, cut_ask, put_asks}
-use Rattle.ccr_actor.specs.Plans.{is_interleave_number, arbiter_at}
+use Rattle.ccr_actor.specs.Plans.{is_interleave_number, domain_of_spot}
 use Rattle.ccr_actor.specs.Plans as plans
 use Rattle.ccr_actor.specs.Actors.{State, after, add_arbiter, admissions_after, name_at}
 use Rattle.ccr_runs.specs.declared.entries.Entry.{Entry}
@@ -104,7 +104,7 @@ module _ (w : Parts) (n : ℕ) (lacks : Lacks) (es : List Entry) (e : Entry) (st
 
 -- ---- admissions
 
-waits_at : (w : Parts) → HasDomains w → (spot : Spot) → waits w spot ≡ true → is_interleave_number w (arbiter_at w spot) ≡ true
+waits_at : (w : Parts) → HasDomains w → (spot : Spot) → waits w spot ≡ true → is_interleave_number w (domain_of_spot w spot) ≡ true
 waits_at w domains (Site b k) is = absurd (cc)
 waits_at w domains (Branch b) is = of_option (placement w b) refl is
   where

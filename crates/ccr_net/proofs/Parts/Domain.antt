@@ -27,7 +27,7 @@ use Rattle.ccr_model.specs.Legal.{IsAllowed, IsLegal}
 use Rattle.ccr_model.specs.Live.{is_none_of}
 use Rattle.ccr_model.specs.Rules.{is_concurrent_task, is_oldest_waiting, may_admit, cuts_at}
 use Rattle.ccr_model.specs.TaskData.{placement_of}
-use Rattle.ccr_model.specs.Tasks.{is_interleave, is_teardown, is_concurrent, is_branch_where, fired_by, waiting, admitted, is_over, is_in_arbiter}
+use Rattle.ccr_model.specs.Tasks.{is_interleave, is_teardown, is_concurrent, is_branch_where, fired_by, waiting, admitted, is_over, is_of_domain}
 use Rattle.ccr_model.proofs.Allowing.{OneName-legal}
 use Rattle.ccr_model.proofs.Booleans.{both, refuted, no_both, same_number, eq-self}
 use Rattle.ccr_model.proofs.FiredTasks.{IsFired, placement_stays}
@@ -422,12 +422,12 @@ DomainMatches-begins w i = record { branches_so = refl; groups_so = refl; waitin
 -- ---- an admission
 
 -- the roots that are left after it were left before, or are its own
-roots_admitted : (w : Parts) (h : List Event) (t : TaskId) (i : ℕ) (place place' : InterleaveState) → IsLegal w h → IsFired h t → ((u : TaskId) (c : Bool) → IsKeptRoot c place u → IsKeptRoot c place' u) → (is_in_arbiter w h i t ≡ true → IsKeptRoot (is_concurrent_task w h t) place' t) → DomainMatches w h i place → (u : TaskId) → has_task (admitted w (h ++ events.Admit t ∷ []) i) u ≡ true → IsKeptRoot (is_concurrent_task w (h ++ events.Admit t ∷ []) u) place' u
+roots_admitted : (w : Parts) (h : List Event) (t : TaskId) (i : ℕ) (place place' : InterleaveState) → IsLegal w h → IsFired h t → ((u : TaskId) (c : Bool) → IsKeptRoot c place u → IsKeptRoot c place' u) → (is_of_domain w h i t ≡ true → IsKeptRoot (is_concurrent_task w h t) place' t) → DomainMatches w h i place → (u : TaskId) → has_task (admitted w (h ++ events.Admit t ∷ []) i) u ≡ true → IsKeptRoot (is_concurrent_task w (h ++ events.Admit t ∷ []) u) place' u
 roots_admitted w h t i place place' legal fires grows new match u is =
     let now = AdmittedFacts-admitted w (h ++ events.Admit t ∷ []) i u is in
     of_more (ever_admitted h) (t ∷ []) u _ (subst (λ ts. has_task ts u ≡ true) (ever_admitted-push h (events.Admit t)) now.entered)
     (λ old. grows u (is_concurrent_task w (h ++ events.Admit t ∷ []) u) (subst (λ b. IsKeptRoot b place u) (sym (concurrent_stays w h (events.Admit t) u legal old)) (match.roots_so u (admitted_before w h (events.Admit t) i u legal old is))))
-    (λ one. (let same : u ≡ t = of_one t u one in subst (λ v. IsKeptRoot (is_concurrent_task w (h ++ events.Admit t ∷ []) v) place' v) (sym same) (subst (λ b. IsKeptRoot b place' t) (sym stays) (new (within_before (subst (λ v. is_in_arbiter w (h ++ events.Admit t ∷ []) i v ≡ true) same now.within))))))
+    (λ one. (let same : u ≡ t = of_one t u one in subst (λ v. IsKeptRoot (is_concurrent_task w (h ++ events.Admit t ∷ []) v) place' v) (sym same) (subst (λ b. IsKeptRoot b place' t) (sym stays) (new (within_before (subst (λ v. is_of_domain w (h ++ events.Admit t ∷ []) i v ≡ true) same now.within))))))
   where
     placed : placement_of w (h ++ events.Admit t ∷ []) t ≡ placement_of w h t
     placed = placement_stays w h (events.Admit t ∷ []) t fires
@@ -435,7 +435,7 @@ roots_admitted w h t i place place' legal fires grows new match u is =
     stays : is_concurrent_task w (h ++ events.Admit t ∷ []) t ≡ is_concurrent_task w h t
     stays = ap (λ o. option_map_or (λ (s : Placement). is_concurrent s.branch.group) o false) placed
 
-    within_before : is_in_arbiter w (h ++ events.Admit t ∷ []) i t ≡ true → is_in_arbiter w h i t ≡ true
+    within_before : is_of_domain w (h ++ events.Admit t ∷ []) i t ≡ true → is_of_domain w h i t ≡ true
     within_before is' = ap (λ o. option_map_or (λ (s : Placement). s.domain == i) o false) (sym placed) ∙ is'
 
 -- of another domain

@@ -17,7 +17,7 @@ use Rattle.ccr_model.specs.Sites.{root_of}
 use Rattle.ccr_model.specs.Interleaves.{is_placement_in}
 use Rattle.ccr_model.specs.Legal.{IsAllowed, IsLegal}
 use Rattle.ccr_model.specs.Rules.{is_concurrent_task}
-use Rattle.ccr_model.specs.Tasks.{is_branch_where, fired_by, waiting, admitted, is_over, is_in_arbiter}
+use Rattle.ccr_model.specs.Tasks.{is_branch_where, fired_by, waiting, admitted, is_over, is_of_domain}
 use Rattle.ccr_model.proofs.Allowing.{OneName-legal}
 use Rattle.ccr_model.proofs.Alone.{over_stays, lasts_fired, ever_admitted_fired}
 use Rattle.ccr_model.proofs.Booleans.{refuted, no_both, or_left, or_right}
@@ -153,7 +153,7 @@ pub admitted_before : (w : Parts) (h : List Event) (e : Event) (i : ℕ) (t : Ta
 admitted_before w h e i t legal entered is =
     let facts = AdmittedFacts-admitted w (h ++ e ∷ []) i t is in
     let stays = placement_stays w h (e ∷ []) t (ever_admitted_fired w h legal t entered) in
-    let within : is_in_arbiter w h i t ≡ true = ap (λ o. option_map_or (λ (s : Placement). s.domain == i) o false) (sym stays) ∙ facts.within in
+    let within : is_of_domain w h i t ≡ true = ap (λ o. option_map_or (λ (s : Placement). s.domain == i) o false) (sym stays) ∙ facts.within in
     admitted_whole w h i t entered within (refuted (is_over h t) (λ over. no_both (over_stays h e t (lasts_fired w h legal) over) facts.lasts))
 
 pub concurrent_stays : (w : Parts) (h : List Event) (e : Event) (t : TaskId) → IsLegal w h → has_task (ever_admitted h) t ≡ true → is_concurrent_task w (h ++ e ∷ []) t ≡ is_concurrent_task w h t

@@ -43,7 +43,7 @@ use Rattle.ccr_claim.specs.declared.asks.Asked.{Asked}
 use Rattle.ccr_claim.specs.declared.plan.Had.{Had}
 use Rattle.ccr_claim.specs.Attempts.{at_place, Phase, booking, claiming, had_in, attempt_ask}
 use Rattle.ccr_claim.specs.Plans.{had_at, ports_in, in_pattern, names_of, firing_task}
-use Rattle.ccr_actor.specs.Plans.{plan_of, pattern_at, arbiter_at, queue_at as queue_number}
+use Rattle.ccr_actor.specs.Plans.{plan_of, pattern_at, domain_of_spot, queue_at as queue_number}
 use Rattle.ccr_actor.specs.Actors.{State, Work, lines, round, taking, playing, posting, shedding, resting, Turn, settle, admit, drive, go_on, stop, turn, ask_in, work_ask, play_ask, end_ask, name_at, spots_left}
 use Rattle.ccr_runs.specs.declared.entries.Entry.{Entry}
 use Rattle.ccr_runs.specs.EntryRuns.{Lacks, state_of, port_at}
@@ -197,7 +197,7 @@ goes_on w h b k t u messages = record {
   id = t;
   root = root_at h b k u;
   spot = Site b k;
-  arbiter = arbiter_at w (Site b k);
+  arbiter = domain_of_spot w (Site b k);
   queue = queue_number w (Site b k);
   values = (load_at w h b k u).values ++ map (λ (m : Msg). m.value) messages;
   causes = union (play_at w b k (load_at w h b k u)).causes (flat_map (λ (m : Msg). m.causes) messages);
@@ -328,7 +328,7 @@ module _ (w : Parts) (n : ℕ) (lacks : Lacks) (es : List Entry) (e : Entry) (ho
   shows_so : (t : TaskId) (spot : Spot) (ms : List MsgId) (cs : List TaskId) → e.note ≡ notes.Fired t spot ms cs → visible (es ++ e ∷ []) ≡ h ++ events.Fire t spot ms cs ∷ []
   shows_so t spot ms cs note = visible-push es e ∙ ap (λ m. h ++ shown e.actor m) note
 
-  branch_commit : (b : ℕ) (had : List Had) → SpotFits w (Branch b) → before_it.phase ≡ claiming [] had → IsBuilt w es e (arbiter_at w (Branch b)) (firing_task (plan_of w (Branch b)) name (in_pattern (pattern_at w (Branch b)) had)) (names_of (in_pattern (pattern_at w (Branch b)) had))
+  branch_commit : (b : ℕ) (had : List Had) → SpotFits w (Branch b) → before_it.phase ≡ claiming [] had → IsBuilt w es e (domain_of_spot w (Branch b)) (firing_task (plan_of w (Branch b)) name (in_pattern (pattern_at w (Branch b)) had)) (names_of (in_pattern (pattern_at w (Branch b)) had))
   branch_commit b had fits phase = record {
     number = b;
     seat = fits.0;
@@ -352,8 +352,8 @@ module _ (w : Parts) (n : ℕ) (lacks : Lacks) (es : List Entry) (e : Entry) (ho
 
       of_spot : (spot : Spot) → SpotFits w spot → attempt_ask (plan_of w spot) name (claiming [] found.had) ≡ at_place (places.Arbiter i) (asks.Commit task ms) → IsBuilt w es e i task ms
       of_spot (Branch b) fits same =
-          let parts = same_commit (places.Arbiter (arbiter_at w (Branch b))) (places.Arbiter i) (firing_task (plan_of w (Branch b)) name (in_pattern (pattern_at w (Branch b)) found.had)) task (names_of (in_pattern (pattern_at w (Branch b)) found.had)) ms (ap Some same) in
-          subst (λ (j : ℕ). IsBuilt w es e j task ms) (number_so parts.places_so) (subst (λ (t : Task). IsBuilt w es e (arbiter_at w (Branch b)) t ms) parts.tasks_so (subst (λ (ns : List MsgId). IsBuilt w es e (arbiter_at w (Branch b)) (firing_task (plan_of w (Branch b)) name (in_pattern (pattern_at w (Branch b)) found.had)) ns) parts.names_so (branch_commit b found.had fits found.phase)))
+          let parts = same_commit (places.Arbiter (domain_of_spot w (Branch b))) (places.Arbiter i) (firing_task (plan_of w (Branch b)) name (in_pattern (pattern_at w (Branch b)) found.had)) task (names_of (in_pattern (pattern_at w (Branch b)) found.had)) ms (ap Some same) in
+          subst (λ (j : ℕ). IsBuilt w es e j task ms) (number_so parts.places_so) (subst (λ (t : Task). IsBuilt w es e (domain_of_spot w (Branch b)) t ms) parts.tasks_so (subst (λ (ns : List MsgId). IsBuilt w es e (domain_of_spot w (Branch b)) (firing_task (plan_of w (Branch b)) name (in_pattern (pattern_at w (Branch b)) found.had)) ns) parts.names_so (branch_commit b found.had fits found.phase)))
       of_spot (Site b k) fits same = absurd (let at = ap (λ (x : Asked). x.place) same in cc)
 
   site_commit : (b k : ℕ) (had : List Had) → before_it.phase ≡ claiming [] had → IsResuming w es e b k (firing_task (plan_of w (Site b k)) name (in_pattern (pattern_at w (Site b k)) had)) (names_of (in_pattern (pattern_at w (Site b k)) had))

@@ -6,7 +6,7 @@ use Rattle.std.proofs.lemmas.Option.{slice_get_within}
 use Rattle.ccr_wiring.specs.Placements.{placement_seen}
 use Rattle.ccr_wiring.specs.Wirings.{placement, branch_of}
 use Rattle.ccr_wiring.proofs.Soundness.{sound}
-use Rattle.ccr_actor.proofs.wired.arbiter_at.Goals as goal
+use Rattle.ccr_actor.proofs.wired.domain_of_spot.Goals as goal
 
 within : {A : Type 0} (xs : List A) (k : ℕ) (P : A → Type 0) (o : Option A) → slice_get xs k ≡ o → IsSomeAnd o P → k < length xs
 within xs k P None is some = absurd some
