@@ -39,9 +39,9 @@ is_once _ = false
 
 -- fires at most once: a choice, a once receiver and the teardowns of a domain together
 abbrev pub has_one_firing : Parts → List Event → ℕ → Kind → Bool
-has_one_firing wiring history arbiter kinds.Receive = nat_le (length (fired_by wiring (λ s. (s.domain == arbiter) && is_once s.branch.group) history)) 1
-has_one_firing wiring history arbiter kinds.Choice = nat_le (length (fired_by wiring (λ s. s.domain == arbiter) history)) 1
-has_one_firing wiring history arbiter kinds.Interleave = nat_le (length (fired_by wiring (λ s. (s.domain == arbiter) && is_teardown s.branch.group) history)) 1
+has_one_firing wiring history domain kinds.Receive = nat_le (length (fired_by wiring (λ s. (s.domain == domain) && is_once s.branch.group) history)) 1
+has_one_firing wiring history domain kinds.Choice = nat_le (length (fired_by wiring (λ s. s.domain == domain) history)) 1
+has_one_firing wiring history domain kinds.Interleave = nat_le (length (fired_by wiring (λ s. (s.domain == domain) && is_teardown s.branch.group) history)) 1
 
 -- exclusion: of the admitted roots that aren't over, all are concurrent or there is one
 abbrev pub keeps_exclusion : Parts → List Event → ℕ → Bool

@@ -21,10 +21,10 @@ is_none_of tasks = length tasks == 0
 
 -- an always branch: at any time; once: until it fired; of a choice: until a branch of the choice fired; of an Interleave: until a teardown of its domain fired
 abbrev pub is_live_in : Parts → List Event → ℕ → ℕ → Group → Bool
-is_live_in wiring history branch arbiter Always = true
-is_live_in wiring history branch arbiter Once = is_none_of (fired_at history (Branch branch))
-is_live_in wiring history branch arbiter Choice = is_none_of (fired_by wiring (λ s. s.domain == arbiter) history)
-is_live_in wiring history branch arbiter _ = is_none_of (fired_by wiring (λ s. (s.domain == arbiter) && is_teardown s.branch.group) history)
+is_live_in wiring history branch domain Always = true
+is_live_in wiring history branch domain Once = is_none_of (fired_at history (Branch branch))
+is_live_in wiring history branch domain Choice = is_none_of (fired_by wiring (λ s. s.domain == domain) history)
+is_live_in wiring history branch domain _ = is_none_of (fired_by wiring (λ s. (s.domain == domain) && is_teardown s.branch.group) history)
 
 -- whether the spot may fire once more: a branch by its group, a site while a task is suspended there
 abbrev pub is_live : Parts → List Event → Spot → Bool

@@ -1,5 +1,6 @@
 -- The numbers of places, kept by kind.
 use Rattle.std.specs.Prelude.{◌≡◌, ◌<◌, ◌≤◌, ℕ, List, length, slice_get, slice_index, Some}
+use Rattle.ccr_base.specs.Bounds.{most_places}
 use Rattle.ccr_base.specs.declared.names.Place.{Place}
 use Rattle.ccr_base.specs.declared.names.Place.TheVariants as places
 use Rattle.ccr_runs.specs.declared.directory.Sort.{Sort}
@@ -24,7 +25,7 @@ AreRows all rows = (branch : ℕ) (row : List ℕ) → slice_get rows branch ≡
 -- each number that is kept is that of its place
 pub record IsIndexed (all : List Place) (ports arbiters : List ℕ) (sites : List (List ℕ)) (queues : List ℕ) (meter : ℕ) : Type 0 where
   pub some : 1 ≤ length all
-  pub few : length all ≤ 8192
+  pub few : length all ≤ most_places
   pub at_ports : AreNumbers all Ports ports
   pub at_arbiters : AreNumbers all Arbiters arbiters
   pub at_sites : AreRows all sites

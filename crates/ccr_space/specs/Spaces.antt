@@ -3,6 +3,7 @@ use Rattle.std.specs.Prelude.{◌≡◌, ◌⊎◌, ℕ, ◌+◌, ◌<◌, ◌�
 use Rattle.std.specs.Option.{is_some}
 use Rattle.std.specs.Borrow.{Bor}
 use Rattle.std.specs.List.{list_any, range_with_len}
+use Rattle.ccr_base.specs.Bounds.{most_actors, most_places}
 use Rattle.ccr_base.specs.declared.names.Place.{Place}
 use Rattle.ccr_wiring.specs.declared.parts.Parts.{Parts}
 use Rattle.ccr_claim.specs.declared.asks.Ask.{Ask}
@@ -52,8 +53,8 @@ pub record HasPlaces (space : Space) : Type 0 where
   pub objects : map placed (starts space.turns) ≡ map (placed_at space.wiring.now) (places_of space.wiring.now)
   pub numbers : space.directory ≡ places_of space.wiring.now
   pub places : place_count space.turns ≡ length (places_of space.wiring.now)
-  pub few : length (places_of space.wiring.now) ≤ 8192
-  pub seats : seat_count space.turns ≤ 32
+  pub few : length (places_of space.wiring.now) ≤ most_places
+  pub seats : seat_count space.turns ≤ most_actors
 
 -- and its locks keep every entry
 pub record IsSpace (space : Space) : Type 0 where
