@@ -1,5 +1,6 @@
 -- What is written of records: a run as whose turn it was, the run that those turns give again, and its steps.
 use Rattle.std.specs.Prelude.{◌≡◌, ◌<◌, ◌≤◌, ◌+◌, ℕ, zero, suc, All, Bool, false, List, [], length, Some, Ok}
+use Rattle.ccr_base.specs.Bounds.{most_wiring_bytes, most_workers}
 use Rattle.ccr_wiring.specs.declared.parts.Parts.{Parts}
 use Rattle.ccr_wiretext.specs.Reading.{reading_text}
 use Rattle.ccr_runs.specs.EntryRuns.{scheduled}
@@ -47,7 +48,7 @@ IsReadAgain wiring workers text = (turns : List ℕ) × AreTurnsToRest wiring wo
 abbrev pub RecordIsReadAgain : Parts → ℕ → List ℕ → List ℕ → Type 0
 RecordIsReadAgain wiring workers bytes text =
     reading_text bytes ≡ Ok wiring →
-    length bytes ≤ 1048576 →
-    workers ≤ 16 →
+    length bytes ≤ most_wiring_bytes →
+    workers ≤ most_workers →
     RecordGives wiring workers bytes Done text →
     IsReadAgain wiring workers text

@@ -1,5 +1,6 @@
 -- What an engine is to its callers.
 use Rattle.std.specs.Prelude.{◌≤◌, ◌<◌, ◌+◌, ◌^◌, ℕ, List, length, Option}
+use Rattle.ccr_base.specs.Bounds.{most_actors}
 use Rattle.ccr_wiring.specs.declared.parts.Parts.{Parts}
 use Rattle.ccr_wiring.specs.Valid.{IsValid}
 use Rattle.ccr_model.specs.declared.history.Event.{Event}
@@ -24,6 +25,6 @@ next_engine engine = record engine { history = with_first engine.history (next_e
 pub record IsSound (engine : Engine) : Type 0 where
   pub valid : IsValid engine.wiring
   pub high : length engine.wiring.posters ≤ engine.closer
-  pub low : engine.closer ≤ 32
+  pub low : engine.closer ≤ most_actors
   pub legal : IsLegal engine.wiring engine.history
   pub attempts : next_attempt engine.closer (fired engine.history) < 2 ^ 31 + length engine.history

@@ -1,5 +1,6 @@
 -- What a law is about: runs of a valid wiring.
 use Rattle.std.specs.Prelude.{◌≡◌, ◌<◌, ◌≤◌, ◌+◌, ℕ, List, [], length, Some}
+use Rattle.ccr_base.specs.Bounds.{most_workers}
 use Rattle.ccr_wiring.specs.declared.parts.Parts.{Parts}
 use Rattle.ccr_wiring.specs.Valid.{IsValid}
 use Rattle.ccr_claim.specs.declared.asks.Asked.{Asked}
@@ -14,7 +15,7 @@ use Rattle.ccr_runs.specs.EntryRuns.{Lacks, IsRun, IsRunAfter, replies_of}
 
 -- the law holds of each run, by its entries
 abbrev pub OfRuns : (Parts → ℕ → List Entry → Type 0) → Type 0
-OfRuns law = (wiring : Parts) (workers : ℕ) (entries : List Entry) → IsValid wiring → workers ≤ 16 → IsRun wiring workers entries → law wiring workers entries
+OfRuns law = (wiring : Parts) (workers : ℕ) (entries : List Entry) → IsValid wiring → workers ≤ most_workers → IsRun wiring workers entries → law wiring workers entries
 
 -- where the actor of a run asks this next
 abbrev pub WhereAskedNext : Parts → ℕ → Lacks → List Entry → ℕ → Asked → Type 0 → Type 0
@@ -29,7 +30,7 @@ abbrev pub OfNextAsks : (Parts → List Entry → Asked → Type 0) → Type 0
 OfNextAsks law =
     (wiring : Parts) (workers : ℕ) (lacks : Lacks) (entries : List Entry) (actor : ℕ) (one : Asked) →
     IsValid wiring →
-    workers ≤ 16 →
+    workers ≤ most_workers →
     WhereAskedNext wiring workers lacks entries actor one (law wiring entries one)
 
 -- the acts are a run as the objects of the places play it
@@ -38,7 +39,7 @@ IsPlayedRun wiring workers lacks acts = IsRunFrom (rules wiring lacks) (length w
 
 -- the law holds of each such run
 abbrev pub OfPlayedRuns : (Parts → ℕ → Lacks → List (Act Deed) → Type 0) → Type 0
-OfPlayedRuns law = (wiring : Parts) (workers : ℕ) (lacks : Lacks) (acts : List (Act Deed)) → IsValid wiring → workers ≤ 16 → IsPlayedRun wiring workers lacks acts → law wiring workers lacks acts
+OfPlayedRuns law = (wiring : Parts) (workers : ℕ) (lacks : Lacks) (acts : List (Act Deed)) → IsValid wiring → workers ≤ most_workers → IsPlayedRun wiring workers lacks acts → law wiring workers lacks acts
 
 -- each actor's steps are what it asks next where the actors lack memory so
 abbrev pub AreNextToo : Parts → ℕ → Lacks → List (Act Deed) → Type 0

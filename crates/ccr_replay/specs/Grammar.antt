@@ -1,5 +1,6 @@
 -- What a record's text says, apart from reading: no codes, and no order of looking.
 use Rattle.std.specs.Prelude.{◌≡◌, ◌≤◌, ℕ, ◌+◌, true, List, [], ◌∷◌, ◌++◌, length, Some, codes}
+use Rattle.ccr_base.specs.Bounds.{most_wiring_bytes, most_workers}
 use Rattle.ccr_text.specs.Lines.{cut}
 use Rattle.ccr_text.specs.Words.{is_clean, number_of, words_of}
 use Rattle.ccr_wiretext.specs.Lines.{IsText}
@@ -12,7 +13,7 @@ pub record IsRecordLine (line : List ℕ) (workers : ℕ) : Type 0 where
   pub digits : List ℕ
   pub form : words_of line ≡ codes "record" ∷ codes "1" ∷ digits ∷ []
   pub value : number_of digits ≡ Some workers
-  pub few : workers ≤ 16
+  pub few : workers ≤ most_workers
 
 -- the line is `done 0`
 pub record IsLastLine (line : List ℕ) : Type 0 where
@@ -41,6 +42,6 @@ pub record Says (text : List ℕ) (said : Record) : Type 0 where
   pub wiring_text : List ℕ
   pub behind : List ℕ
   pub whole : text ≡ wiring_text ++ 10 ∷ behind
-  pub short : length wiring_text ≤ 1048576
+  pub short : length wiring_text ≤ most_wiring_bytes
   pub wiring : IsText wiring_text said.wiring
   pub lines : AreRecord (length said.wiring.posters) said.workers said.turns (cut behind)

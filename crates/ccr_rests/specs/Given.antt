@@ -1,5 +1,6 @@
 -- What the laws are given, a run of a valid wiring wherever its actors lack memory, and what they say of it.
 use Rattle.std.specs.Prelude.{◌≡◌, ◌<◌, ◌≤◌, ◌+◌, ℕ, Bool, true, List, [], ◌∷◌, ◌++◌, length, Option}
+use Rattle.ccr_base.specs.Bounds.{most_workers}
 use Rattle.ccr_base.specs.declared.names.Place.{Place}
 use Rattle.ccr_base.specs.declared.names.Place.TheVariants as places
 use Rattle.ccr_base.specs.declared.names.TaskId.{TaskId}
@@ -35,7 +36,7 @@ pub record Run : Type 0 where
   pub lacks : Lacks
   pub entries : List Entry
   pub valid : IsValid wiring
-  pub few : workers ≤ 16
+  pub few : workers ≤ most_workers
   pub steps : IsRunAfter wiring workers lacks [] entries
 
 -- what the run shows
@@ -87,7 +88,7 @@ pub record RunAt : Type 0 where
   pub entry : Entry
   pub more : List Entry
   pub valid : IsValid wiring
-  pub few : workers ≤ 16
+  pub few : workers ≤ most_workers
   pub steps : IsRunAfter wiring workers lacks [] (past ++ entry ∷ more)
 
 -- the entries up to it, with it
@@ -109,7 +110,7 @@ pub record PlayedRun : Type 0 where
   pub lacks : Lacks
   pub acts : List (Act Deed)
   pub valid : IsValid wiring
-  pub few : workers ≤ 16
+  pub few : workers ≤ most_workers
   pub steps : IsPlayedRun wiring workers lacks acts
 
 -- the number of an actor of it

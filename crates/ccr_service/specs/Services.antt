@@ -2,6 +2,7 @@
 use Rattle.std.specs.Prelude.{◌≡◌, ℕ, ◌<◌, ◌≤◌, Bool, true, false, not, ◌&&◌, nat_lt, List, [], ◌∷◌, ◌++◌, map, length}
 use Rattle.std.specs.List.{list_all}
 use Rattle.std.specs.Char.{is_ascii_alphabetic, is_ascii_alphanumeric}
+use Rattle.ccr_base.specs.Bounds.{most_asks, most_ops, most_posters}
 use Rattle.ccr_base.specs.declared.handlers.Expr.{Expr}
 use Rattle.ccr_wiring.specs.declared.parts.Kind.TheVariants as kinds
 use Rattle.ccr_wiring.specs.Groups.{may_have}
@@ -46,9 +47,9 @@ are_asked ops asks = list_all (λ (ask : AskPart). nat_lt ask.op ops) asks
 -- 1 to 32 operations, at most 16 clients and 10,000 requests in all; names of the form, none twice; and what operations, policy and requests may be
 pub record IsService (service : ServiceParts) : Type 0 where
   pub some_ops : 0 < length service.ops
-  pub few_ops : length service.ops ≤ 32
-  pub few_clients : length service.clients ≤ 16
-  pub few_asks : asks_in_all service.clients ≤ 10000
+  pub few_ops : length service.ops ≤ most_ops
+  pub few_clients : length service.clients ≤ most_posters
+  pub few_asks : asks_in_all service.clients ≤ most_asks
   pub formed : list_all is_service_name (service_names service) ≡ true
   pub apart : has_repeated (service_names service) ≡ false
   pub policy : policy_is_outside service.policy ≡ false

@@ -5,6 +5,7 @@ use Rattle.std.specs.List.{list_all}
 use Rattle.std.specs.Char.{is_ascii_digit}
 use Rattle.std.specs.Str.{bytes_eq}
 use Rattle.std.specs.Str.Parse.{digits_value}
+use Rattle.ccr_base.specs.Bounds.{most_size, most_workers}
 use Rattle.ccr_words.specs.Parts.{Given, Text, has, text_of}
 use Rattle.ccr_words.specs.Parts as part
 use Rattle.ccr_words.specs.declared.requests.Request.{Request}
@@ -62,14 +63,14 @@ load_request workers size schedule json = if schedule then None else load_of (nu
 
 -- a run has at most 16 workers
 abbrev pub HasFewWorkers : Command → Type 0
-HasFewWorkers (Run workers schedule) = workers ≤ 16
-HasFewWorkers (Record workers) = workers ≤ 16
-HasFewWorkers (Service workers) = workers ≤ 16
+HasFewWorkers (Run workers schedule) = workers ≤ most_workers
+HasFewWorkers (Record workers) = workers ≤ most_workers
+HasFewWorkers (Service workers) = workers ≤ most_workers
 HasFewWorkers _ = Unit {0}
 
 -- a load is of 1 to 10,000 posts and has at most 16 workers, and so has a run
 abbrev pub IsWithin : Request → Type 0
-IsWithin (Load size workers json) = ((0 < size) × (size ≤ 10000)) × (workers ≤ 16)
+IsWithin (Load size workers json) = ((0 < size) × (size ≤ most_size)) × (workers ≤ most_workers)
 IsWithin (Read command json) = HasFewWorkers command
 
 -- a word of a wiring, a run or its output
