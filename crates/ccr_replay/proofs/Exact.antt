@@ -4,7 +4,7 @@ use Rattle.std.specs.Prelude.{◌==◌, ◌&&◌, not, nat_le, nat_lt, if◌then
 use Rattle.std.specs.Str.{bytes_eq}
 use Rattle.std.proofs.lemmas.Bool.Decides.{nat_tests}
 use Rattle.std.proofs.lemmas.Slice.Eq.{bytes_eq-Decides}
-use Rattle.ccr_text.specs.Lines.{begin_from, begins_with, cut, is_first_word, numbered, numbered_line, place_or_end}
+use Rattle.ccr_text.specs.Lines.{begin_from, begins_with, cut, is_first_word, numbered, numbered_line, index_or_end}
 use Rattle.ccr_text.specs.Fields.{Words, ◌>>=◌, no_more, or_code, unless, word}
 use Rattle.ccr_text.specs.Words.{is_clean, number_of, words_of}
 use Rattle.ccr_wiring.specs.declared.parts.Parts.{Parts}
@@ -79,7 +79,7 @@ done_found text middle last others is free begins =
     let at : begin_from (codes "done") 0 0 (cut text) ≡ Some (0 + spans middle, 0 + length middle) = ap (begin_from (codes "done") 0 0) is ∙ passed (codes "done") 0 0 middle (last ∷ others) free ∙ found (codes "done") last others (0 + spans middle) (0 + length middle) begins in
     let bytes : 0 + spans middle ≡ spans middle = omega arith in
     let count : 0 + length middle ≡ length middle = omega arith in
-    ap (place_or_end text) at ∙ ap (λ (n : ℕ). (n, 0 + length middle)) bytes ∙ ap (λ (n : ℕ). (spans middle, n)) count
+    ap (index_or_end text) at ∙ ap (λ (n : ℕ). (n, 0 + length middle)) bytes ∙ ap (λ (n : ℕ). (spans middle, n)) count
 
 turns_read : (actors number : ℕ) (turns text : List ℕ) (middle : List (List ℕ)) (last : List ℕ) (others : List (List ℕ)) → cut text ≡ middle ++ last ∷ others → AreTurns actors middle turns → IsLastLine last → AreSkipped others → turns_behind actors number text ≡ Ok turns
 turns_read actors number turns text middle last others is are ends skipped =
@@ -108,7 +108,7 @@ record_found text behind first more free is begins =
     let at : begin_from (codes "record") 0 0 (cut (text ++ 10 ∷ behind)) ≡ Some (0 + spans lines, 0 + length lines) = ap (begin_from (codes "record") 0 0) whole ∙ passed (codes "record") 0 0 lines (first ∷ more) (ended_free (codes "record") text free) ∙ found (codes "record") first more (0 + spans lines) (0 + length lines) begins in
     let bytes : 0 + spans lines ≡ length text + 1 = let e = spans_ended text in omega (arith, e) in
     let count : 0 + length lines ≡ length lines = omega arith in
-    ap (place_or_end (text ++ 10 ∷ behind)) at ∙ ap (λ (n : ℕ). (n, 0 + length lines)) bytes ∙ ap (λ (n : ℕ). (length text + 1, n)) count
+    ap (index_or_end (text ++ 10 ∷ behind)) at ∙ ap (λ (n : ℕ). (n, 0 + length lines)) bytes ∙ ap (λ (n : ℕ). (length text + 1, n)) count
 
 some_bytes : (text first : List ℕ) (lines : List (List ℕ)) → cut text ≡ first ∷ lines → 0 < length text
 some_bytes [] first lines is = absurd (cc)
@@ -265,7 +265,7 @@ turns_at actors number text p = and_then (reading_turns (take p.0 text) number a
 turns_said : (actors number : ℕ) (text turns : List ℕ) → turns_behind actors number text ≡ Ok turns → Ended actors turns (cut text)
 turns_said actors number text turns is = by (begin_from (codes "done") 0 0 (cut text)) refl is
   where
-    by : (o : Option (ℕ × ℕ)) → begin_from (codes "done") 0 0 (cut text) ≡ o → turns_at actors number text (place_or_end text o) ≡ Ok turns → Ended actors turns (cut text)
+    by : (o : Option (ℕ × ℕ)) → begin_from (codes "done") 0 0 (cut text) ≡ o → turns_at actors number text (index_or_end text o) ≡ Ok turns → Ended actors turns (cut text)
     by None at is =
         let first = and_ok (reading_turns (take (length text) text) number actors) (λ ts. and_then (ending (number + length (cut text)) (cut (drop (length text) text))) (λ done. Ok ts)) turns is in
         let clash : Err (number + length (cut text), 17) ≡ Ok turns = sym (ap (λ (t : List ℕ). and_then (ending (number + length (cut text)) (cut t)) (λ done. Ok first.0)) (none_left text)) ∙ first.2 in
@@ -373,7 +373,7 @@ said_behind text r at count (first ∷ front) line back cuts spot begins is =
 pub said : (text : List ℕ) (r : Record) → reading_record text ≡ Ok r → Says text r
 said text r is = by (begin_from (codes "record") 0 0 (cut text)) refl is
   where
-    by : (o : Option (ℕ × ℕ)) → begin_from (codes "record") 0 0 (cut text) ≡ o → record_at text (place_or_end text o) ≡ Ok r → Says text r
+    by : (o : Option (ℕ × ℕ)) → begin_from (codes "record") 0 0 (cut text) ≡ o → record_at text (index_or_end text o) ≡ Ok r → Says text r
     by None at is =
         let read = and_ok (reading_part (part_before (length text) text)) (λ w. reading_behind w (length (cut text)) (drop (length text) text)) r is in
         let clash : Err (max (length (cut text)) 1, 16) ≡ Ok r = sym (ap (reading_behind read.0 (length (cut text))) (none_left text)) ∙ read.2 in
