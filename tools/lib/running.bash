@@ -77,9 +77,17 @@ keep_input() {
   fi
 }
 
+# Whether no word stands there, or one that asks which there are.
+asks_help() {
+  case ${1---help} in
+    -h | --help | help) return 0 ;;
+  esac
+  return 1
+}
+
 # What is told on standard error of the end of a run.
 tell() {
-  if [ "$status" -eq 1 ] && [ $# -eq 0 ]; then
+  if [ "$status" -eq 1 ] && asks_help "$@"; then
     help >&2
   elif [ "$status" -eq 1 ] && [ -n "$off" ]; then
     say "$off (./ccr --help)"
