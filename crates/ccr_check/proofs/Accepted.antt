@@ -1,6 +1,6 @@
 -- How far a verdict has come: each event so far was accepted.
 use Rattle.std.proofs.Common.{◌≡◌, ◌∙◌, ℕ, suc, ◌+◌, ◌≤◌, ◌<◌, List, [], ◌∷◌, ◌++◌, length, take, drop, get_or, Option, Some, None, refl, ap, sym, arith, drop-cons}
-use Rattle.std.proofs.lemmas.List.{take_more, take_all, drop_all}
+use Rattle.std.proofs.lemmas.List.{take_more, drop_all}
 use Rattle.ccr_wiring.specs.declared.parts.Parts.{Parts}
 use Rattle.ccr_model.specs.declared.history.Event.{Event}
 use Rattle.ccr_model.specs.declared.rule.Rule.{Rule}
@@ -45,6 +45,3 @@ refused_here start now es at rule e low is refused so_far = sym (told_here start
 
 pub none_refused : (start now : Judged) (es : List Event) (at : ℕ) → length es ≤ at → HasAccepted start now es at → None ≡ first_refusal start.wiring [] 0 es
 none_refused start now es at whole so_far = rw (drop_all at es whole) at so_far.refusal
-
-pub all_accepted : (start now : Judged) (es : List Event) (at : ℕ) → length es ≤ at → HasAccepted start now es at → now ≡ record start { history = es }
-all_accepted start now es at whole so_far = rw (take_all at es whole) at so_far.so_far

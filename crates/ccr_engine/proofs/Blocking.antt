@@ -8,7 +8,6 @@ use Rattle.ccr_base.specs.declared.names.Spot.{Spot}
 use Rattle.ccr_base.specs.declared.names.Spot.TheVariants.{Branch, Site}
 use Rattle.ccr_wiring.specs.declared.parts.Parts.{Parts}
 use Rattle.ccr_wiring.specs.Wirings.{Placement, placement, policy_of, spots}
-use Rattle.ccr_wiring.specs.Valid.{HasQueues}
 use Rattle.ccr_model.proofs.Booleans.{either, or_left, or_right, no_both, eq-self, same_number}
 use Rattle.ccr_ledger.specs.Rows.{row, with_row, empty_rows}
 use Rattle.ccr_ledger.specs.Books.{Books}
@@ -17,7 +16,7 @@ use Rattle.ccr_engine.specs.Ready.{has_number, IsLeastFirst}
 use Rattle.ccr_engine.specs.Numbered.{passes_at}
 use Rattle.ccr_engine.specs.Blocked.{queue_at, is_on, is_blocked, AreBlocked, Blocks}
 
--- which queue a index is blocked at
+-- which queue an index is blocked at
 pub row_within : (rows : List (List ℕ)) (q k : ℕ) → has_number (row rows q) k ≡ true → q < length rows
 row_within [] q k is = absurd (cc)
 row_within (r ∷ rows) zero k is = omega arith
@@ -99,25 +98,6 @@ room_at w b q k on = of_option (slice_get (spots w) k) on
 pub same_room : (w : Parts) (b : Books) (blocked : List (List ℕ)) → AreBlocked w blocked → (q j k : ℕ) → has_number (row blocked q) j ≡ true → has_number (row blocked q) k ≡ true → passes_at (room w b) (spots w) j ≡ passes_at (room w b) (spots w) k
 same_room w b blocked are q j k one other = room_at w b q j (are.on_queue q j one) ∙ sym (room_at w b q k (are.on_queue q k other))
 
--- the queue of a spot that lacks room
-pub queue_within : (w : Parts) → HasQueues w → (s : Spot) (q : ℕ) → queue_at w s ≡ Some q → q < length w.queues
-queue_within w has (Site n k) q at = absurd (cc)
-queue_within w has (Branch n) q at = of_placement (placement w n) refl at
-  where
-    of_placement : (o : Option Placement) → placement w n ≡ o → option_map (λ (s : Placement). s.branch.queue) o ≡ Some q → q < length w.queues
-    of_placement None is at = absurd (cc)
-    of_placement (Some s) is at =
-        let same : s.branch.queue ≡ q = cc in
-        subst (λ m. m < length w.queues) same (has n s is)
-
-pub roomy_else : (w : Parts) (b : Books) (s : Spot) → queue_at w s ≡ None → room w b s ≡ true
-roomy_else w b (Site n k) none = refl
-roomy_else w b (Branch n) none = of_placement (placement w n) none
-  where
-    of_placement : (o : Option Placement) → option_map (λ (s : Placement). s.branch.queue) o ≡ None → option_map_or (λ (s : Placement). queue_has_room b s.branch.queue (policy_of w s.branch.queue)) o true ≡ true
-    of_placement None none = refl
-    of_placement (Some s) none = absurd (cc)
-
 -- one queue's indices change, and no other's
 module _ (old new : List (List ℕ)) (q : ℕ) (others : new ≡ with_row old q (row new q)) where
   rows_else : (n : ℕ) → (n == q) ≡ false → row new n ≡ row old n
@@ -133,7 +113,7 @@ module _ (old new : List (List ℕ)) (q : ℕ) (others : new ≡ with_row old q 
       of_test true same = let here : n ≡ q = same_number n q same in subst (λ m. IsLeastFirst (row new m)) (sym here) least
       of_test false differs = subst IsLeastFirst (sym (rows_else n differs)) (was n)
 
-  -- a index comes in
+  -- an index comes in
   module _ (index : ℕ) (members : (k : ℕ) → has_number (row new q) k ≡ (k == index) || has_number (row old q) k) where
     came : (n k : ℕ) → has_number (row new n) k ≡ true → (C : Type 0) → (n ≡ q → k ≡ index → C) → (has_number (row old n) k ≡ true → C) → C
     came n k is C one other = of_test (n == q) refl
@@ -207,6 +187,3 @@ module _ (old new : List (List ℕ)) (q : ℕ) (others : new ≡ with_row old q 
         let longer : length (row old q) ≡ suc (length (row new q)) = ap length rest in
         let less = total_set old q (row new q) low (omega (arith, longer)) in
         subst (λ n. n < total old) (sym (ap total others)) less
-
-pub Blocks-same : (w : Parts) (b : Books) (blocked : List (List ℕ)) → AreBlocked w blocked → Blocks w b blocked blocked
-Blocks-same w b blocked are = record { blocked = are; more = λ k was. was; full = λ limit known. known }

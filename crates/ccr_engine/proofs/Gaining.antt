@@ -1,13 +1,12 @@
 -- What sets of numbers gain.
-use Rattle.std.proofs.Common.{◌≡◌, ◌∙◌, ℕ, zero, suc, ◌+◌, ◌<◌, ◌≤◌, Bool, true, false, ◌||◌, List, [], ◌∷◌, ◌++◌, length, take, Option, None, Some, Result, Ok, Err, refl, ap, sym, subst, arith}
-use Rattle.std.specs.Prelude.{◌==◌, OnOk, IfSome, IsSome, ◌↔◌}
+use Rattle.std.proofs.Common.{◌≡◌, ◌∙◌, ℕ, zero, suc, ◌+◌, ◌<◌, ◌≤◌, Bool, true, false, ◌||◌, List, [], ◌∷◌, ◌++◌, length, take, Option, None, Some, Result, Ok, Err, refl, ap, arith}
+use Rattle.std.specs.Prelude.{◌==◌, OnOk}
 use Rattle.std.specs.List.{slice_get, list_any}
 use Rattle.std.specs.Option.{option_map_or}
 use Rattle.std.proofs.Math.ListN.{get_or}
 use Rattle.std.proofs.lemmas.Option.{slice_get-get_or}
 use Rattle.std.proofs.lemmas.Bool.Decides.{nat_tests}
-use Rattle.ccr_model.proofs.ListParts.{take_more}
-use Rattle.ccr_engine.specs.Ready.{has_number, IsLeastFirst}
+use Rattle.ccr_engine.specs.Ready.{has_number}
 use Rattle.ccr_engine.specs.Numbered.{Gains, passes_at}
 
 -- what holds on success gives what follows from it
@@ -28,17 +27,6 @@ swap true false c = refl
 swap false true c = refl
 swap false false c = refl
 
--- one after the other
-pub gains-or : (p q r : ℕ → Bool) (old mid new : List ℕ) → ((n : ℕ) → r n ≡ p n || q n) → Gains p old mid → Gains q mid new → Gains r old new
-gains-or p q r old mid new both first second = record {
-  members = λ n. second.members n ∙ (ap (λ b. q n || b) (first.members n) ∙ (swap (p n) (q n) (has_number old n) ∙ ap (λ b. b || has_number old n) (sym (both n))));
-  least = λ least. second.least (first.least least);
-}
-
--- one number
-pub gains-one : (k : ℕ) (old new : List ℕ) → ((n : ℕ) → has_number new n ≡ (n == k) || has_number old n) → IsLeastFirst new → Gains (λ n. n == k) old new
-gains-one k old new members least = record { members = members; least = λ was. least }
-
 -- the numbers of a list, one by one
 pub has-more : (xs : List ℕ) (x n : ℕ) → has_number (xs ++ x ∷ []) n ≡ has_number xs n || (n == x)
 has-more [] x n = of_test (x == n) (n == x) (grind (arith, nat_tests))
@@ -52,29 +40,13 @@ has-more (y ∷ xs) x n = of_test (y == n) (has-more xs x n)
     of_test true rest = refl
     of_test false rest = rest
 
-pub gains-start : (numbers old : List ℕ) → Gains (has_number (take 0 numbers)) old old
-gains-start [] old = gains-none (has_number []) old (λ n. refl)
-gains-start (x ∷ xs) old = gains-none (has_number []) old (λ n. refl)
-
-pub gains-next : (numbers : List ℕ) (i x : ℕ) (old mid new : List ℕ) → slice_get numbers i ≡ Some x → Gains (has_number (take i numbers)) old mid → ((n : ℕ) → has_number new n ≡ (n == x) || has_number mid n) → IsLeastFirst new → Gains (has_number (take (i + 1) numbers)) old new
-gains-next numbers i x old mid new at before members least = gains-or (has_number (take i numbers)) (λ n. n == x) (has_number (take (i + 1) numbers)) old mid new (λ n. rw (take_more numbers i x at) (has-more (take i numbers) x n)) before (gains-one x mid new members least)
-
 pub take-all : {X : Type 0} (xs : List X) (i : ℕ) → length xs ≤ i → take i xs ≡ xs
 take-all [] zero all = refl
 take-all [] (suc i) all = refl
 take-all (x ∷ xs) zero all = absurd (omega (arith, all))
 take-all (x ∷ xs) (suc i) all = ap (λ ys. x ∷ ys) (take-all xs i (omega (arith, all)))
 
-pub gains-all : {X : Type 0} (test : List X → ℕ → Bool) (xs : List X) (i : ℕ) (old new : List ℕ) → length xs ≤ i → Gains (test (take i xs)) old new → Gains (test xs) old new
-gains-all test xs i old new all gains = subst (λ ys. Gains (test ys) old new) (take-all xs i all) gains
-
--- the least taken off
-pub popped : (old new : List ℕ) (r : Option ℕ) → (IsSome r ↔ (0 < length old)) → IfSome r (λ k. old ≡ k ∷ new) → IfSome (slice_get old 0) (λ number. old ≡ number ∷ new)
-popped old new (Some k) variant removal = subst (λ xs. IfSome (slice_get xs 0) (λ number. xs ≡ number ∷ new)) (sym removal) refl
-popped [] new None variant removal = tt
-popped (x ∷ old) new None variant removal = let some = variant.1 (omega arith) in absurd (cc)
-
--- the item at a index is read
+-- the item at an index is read
 pub read : {T : Type 0} (ss xs : List T) (i : ℕ) (d : T) → ss ≡ xs → i < length ss → slice_get xs i ≡ Some (get_or ss i d)
 read ss xs i d same lt = rw (← same) (slice_get-get_or ss i d lt)
 
@@ -92,13 +64,6 @@ passes-never p xs never n = of_option (slice_get xs n)
     of_option : (o : Option _) → option_map_or p o false ≡ false
     of_option None = refl
     of_option (Some x) = never x
-
-pub passes-or : {T : Type 0} (p q r : T → Bool) (xs : List T) → ((x : T) → r x ≡ p x || q x) → (n : ℕ) → passes_at r xs n ≡ passes_at p xs n || passes_at q xs n
-passes-or p q r xs both n = of_option (slice_get xs n)
-  where
-    of_option : (o : Option _) → option_map_or r o false ≡ option_map_or p o false || option_map_or q o false
-    of_option None = refl
-    of_option (Some x) = both x
 
 -- none of the first passes, where none does at their indices
 pub none_before : {T : Type 0} (test : T → Bool) (xs : List T) (n : ℕ) → ((index : ℕ) → index < n → passes_at test xs index ≡ false) → list_any test (take n xs) ≡ false

@@ -24,7 +24,7 @@ use Rattle.ccr_model.proofs.TasksOnce.{fired_once}
 use Rattle.ccr_engine.specs.Ready.{has_number, AreReady, IsLeast}
 use Rattle.ccr_engine.proofs.MayPut.{may_put-fire, may_put-new, may_put-admit, may_put-put, may_put-other}
 
--- who stands at a index is among them
+-- who stands at an index is among them
 pub has_at : (ts : List TaskId) (n : ℕ) (t : TaskId) → slice_get ts n ≡ Some t → has_task ts t ≡ true
 has_at [] n t at = absurd (cc)
 has_at (x ∷ ts) zero t at = let one : t ≡ x = cc in or_left (same_task t x) (has_task ts t) (rw one (same_task-self x))
@@ -54,7 +54,7 @@ same_place (x ∷ ts) (suc n) zero u t apart at there =
 same_place (x ∷ ts) (suc n) (suc m) u t apart at there =
     rw suc_suc (same_place ts n m u t (both (not (has_task ts x)) (are_distinct_tasks ts) apart).1 at there)
 
--- over plain lists: what a test says at a index after it took in, or let go, the one at another index
+-- over plain lists: what a test says at an index after it took in, or let go, the one at another index
 at_entered : (p q : TaskId → Bool) (ts : List TaskId) (n m : ℕ) (t : TaskId) → are_distinct_tasks ts ≡ true → slice_get ts m ≡ Some t → ((u : TaskId) → q u ≡ same_task u t || p u) → option_map_or q (slice_get ts n) false ≡ (n == m) || option_map_or p (slice_get ts n) false
 at_entered p q ts n m t apart there tests = of_option (slice_get ts n) refl
   where

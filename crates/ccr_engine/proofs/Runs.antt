@@ -110,9 +110,6 @@ pub record GoesFrom (start now : Engine) : Type 0 where
   pub begins : now.history ≡ start.history ++ more
   pub ordered : IsOrderedAfter start.wiring start.closer start.history more
 
-pub GoesFrom-none : (s : Engine) → GoesFrom s s
-GoesFrom-none s = record { wiring = refl; closer = refl; more = []; begins = sym (append-nil s.history); ordered = tt }
-
 goes_on : (start s : Engine) → GoesFrom start s → (e : Event) → next_event s ≡ Some e → GoesFrom start (record s { history = s.history ++ e ∷ [] })
 unfolding next_event
 goes_on start s goes e is =

@@ -89,9 +89,6 @@ module _ (w : Parts) (b : Books) (blocked : List (List ℕ)) (are : AreBlocked w
             (λ k among before. absurd (no_both among (least.low k (grind (arith, nat_tests, before)))));
       }
 
-pub open_start : (w : Parts) (b : Books) (blocked : List (List ℕ)) → IsFirstOpen w b blocked 0 None
-open_start w b blocked = record { is_open = tt; full = λ q k low among before. absurd (omega (arith, low)) }
-
 -- all queues were looked at
 pub full_before : (w : Parts) (b : Books) (blocked : List (List ℕ)) (found : Option Found) → IsFirstOpen w b blocked (length blocked) found → IsFullBefore w b blocked (index_of found)
 full_before w b blocked found first = λ q k among before. first.full q k (row_within blocked q k among) among before
@@ -148,7 +145,7 @@ none_can w t b touched blocked limit still full above = λ k before. of_test k b
     of_test k before true is = let there = blocked_row blocked k is in no_room w t b k (full there.0 k there.1 before)
     of_test k before false out = could_not w t b k (still k (above k before) out)
 
--- the firing at a index before which none fires is the first
+-- the firing at an index before which none fires is the first
 pub first_at : (w : Parts) (t : TaskId) (b : Books) (k : ℕ) (e : Event) → IsNoneBefore w t b (Some k) → option_and_then (fire_in w t b) (slice_get (spots w) k) ≡ Some e → first_fire_in w t b (spots w) ≡ Some e
 first_at w t b k e none is =
     let there = some_then (fire_in w t b) (slice_get (spots w) k) e is in
@@ -185,14 +182,6 @@ module _ (w : Parts) (t : TaskId) (b : Books) (touched : List ℕ) (blocked : Li
   -- one fires, and stays
   pub touched_stays : (now : List (List ℕ)) → Blocks w b blocked now → AreCandidates w b touched now
   touched_stays now blocks = record { still = λ j out free. are.still j out (refuted (is_blocked blocked j) (λ was. no_both (blocks.more j was) free)); lowest = are.lowest; by_queue = blocks.blocked }
-
--- what is blocked no longer could not fire
-pub candidates_left : (w : Parts) (b : Books) (touched : List ℕ) (old new : List (List ℕ)) → AreCandidates w b touched old → AreBlocked w new → ((k : ℕ) → is_blocked old k ≡ true → is_blocked new k ≡ false → passes_at (could_fire_in w b) (spots w) k ≡ false) → AreCandidates w b touched new
-candidates_left w b touched old new are blocked left = record { still = λ k out free. of_test k out free (is_blocked old k) refl; lowest = are.lowest; by_queue = blocked }
-  where
-    of_test : (k : ℕ) → has_number touched k ≡ false → is_blocked new k ≡ false → (c : Bool) → is_blocked old k ≡ c → passes_at (could_fire_in w b) (spots w) k ≡ false
-    of_test k out free true was = left k was free
-    of_test k out free false never = are.still k out never
 
 -- among the blocked ones: those that left could not fire
 pub record IsLeft (w : Parts) (b : Books) (old now : List (List ℕ)) : Type 0 where

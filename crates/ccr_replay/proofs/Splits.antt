@@ -48,9 +48,6 @@ passed word byte number (line ∷ lines) more none =
 ended : List ℕ → List (List ℕ)
 ended text = cut (text ++ 10 ∷ [])
 
-onto_some : (b : ℕ) (first : List ℕ) (lines more : List (List ℕ)) → onto_first b ((first ∷ lines) ++ more) ≡ onto_first b (first ∷ lines) ++ more
-onto_some b first lines more = refl
-
 cut_some : (text : List ℕ) → (first : List ℕ) × (lines : List (List ℕ)) × (cut (text ++ 10 ∷ []) ≡ first ∷ lines)
 cut_some [] = ([], [], refl)
 cut_some (b ∷ text) = go (b == 10) (cut_some text)
@@ -127,13 +124,6 @@ cut_lines (words ∷ lines) rest are =
     ∙ ap cut (append_assoc (line_text words) (text_of lines) rest)
     ∙ cut_line words (text_of lines ++ rest) are.0
     ∙ ap (λ (ls : List (List ℕ)). joined words ∷ ls) (cut_lines lines rest are.1)
-
-pub spans_lines : (lines : List (List (List ℕ))) → spans (map joined lines) ≡ length (text_of lines)
-spans_lines [] = refl
-spans_lines (words ∷ lines) =
-    let more = spans_lines lines in
-    let whole : length (text_of (words ∷ lines)) ≡ (length (joined words) + 1) + length (text_of lines) = grind (arith, common_steps, flat_map-cons line_text words lines) in
-    omega (arith, more, whole)
 
 -- the digits of a number are a word
 pub decimal_word : (n : ℕ) → n < 2 ^ 64 → ((length (decimal n) == 0) ≡ false) × (list_all is_mark (decimal n) ≡ true)

@@ -18,7 +18,7 @@ record_place bytes = line_of bytes (codes "record")
 
 -- what stands before the line that begins at this byte, less the LF at its end; the whole text where there is no such line
 abbrev pub part_before : ℕ → List ℕ → List ℕ
-part_before place bytes = if nat_lt place (length bytes) then take (place - 1) bytes else bytes
+part_before index bytes = if nat_lt index (length bytes) then take (index - 1) bytes else bytes
 
 -- the text of the wiring that was recorded
 abbrev pub recorded_wiring : List ℕ → List ℕ
@@ -39,9 +39,9 @@ done_place bytes = line_of bytes (codes "done")
 
 -- ---- the wiring
 
--- the number of the line at which the byte of this place stands
+-- the number of the line at which the byte of this index stands
 abbrev pub line_at : ℕ → List ℕ → ℕ
-line_at place text = length (filter (λ b. b == 10) (take place text)) + 1
+line_at index text = length (filter (λ b. b == 10) (take index text)) + 1
 
 -- the wiring that the part says, or the first offending line and its code: of a longer part than a wiring text may be, that of the first byte too many
 abbrev pub reading_part : List ℕ → Result Parts (ℕ × ℕ)

@@ -22,14 +22,14 @@ use std::alloc::Global;
 /// The most bytes that a wiring text may have.
 const MAX_WIRING_TEXT: usize = 1_048_576;
 
-/// The number of the line at which the byte of this place stands.
-fn line_at(place: usize, text: &[u8]) -> u32
-    requires within { place ≤ length text.now }
-    requires small { place ≤ most_wiring_bytes }
-    ensures { result ≡ line_at place text.now }
+/// The number of the line at which the byte of this index stands.
+fn line_at(index: usize, text: &[u8]) -> u32
+    requires within { index ≤ length text.now }
+    requires small { index ≤ most_wiring_bytes }
+    ensures { result ≡ line_at index text.now }
 {
     let mut line = 1;
-    for byte in &text[..place] {
+    for byte in &text[..index] {
         if *byte == b'\n' {
             line += 1;
         }
@@ -102,12 +102,12 @@ fn read_turns_behind(
     ensures turns { IsReading result (turns_behind actors before text.now) }
     ensures below { IfOk result (λ turns. All (λ actor. actor < actors) turns) }
 {
-    let (place, count) = line_of(text, b"done");
-    let turns = match read_turns(alloc, &text[..place], before, actors) {
+    let (index, count) = line_of(text, b"done");
+    let turns = match read_turns(alloc, &text[..index], before, actors) {
         Ok(turns) => turns,
         Err(why) => return Err(why),
     };
-    match read_ending(alloc, &text[place..], before + count) {
+    match read_ending(alloc, &text[index..], before + count) {
         Ok(()) => Ok(turns),
         Err(why) => Err(why),
     }
@@ -180,12 +180,12 @@ fn first_line(text: &[u8]) -> (&[u8], &[u8])
 }
 
 /// What stands before the line that begins at this byte, less the LF at its end; the whole text where there is no such line.
-fn part_before(text: &[u8], place: usize) -> &[u8]
-    requires { place ≤ length text.now }
-    ensures { result.now ≡ part_before place text.now }
+fn part_before(text: &[u8], index: usize) -> &[u8]
+    requires { index ≤ length text.now }
+    ensures { result.now ≡ part_before index text.now }
 {
-    if place < text.len() {
-        &text[..place.saturating_sub(1)]
+    if index < text.len() {
+        &text[..index.saturating_sub(1)]
     } else {
         text
     }
@@ -197,9 +197,9 @@ fn read_text(alloc: Global, text: &[u8]) -> Result<Record, ReadRefused>
     ensures workers { IfOk result (λ read. read.workers ≤ most_workers) }
     ensures turns { IfOk result (λ read. All (λ actor. actor < length read.wiring.posters + read.workers) read.turns) }
 {
-    let (place, before) = line_of(text, b"record");
-    match read_part(alloc, part_before(text, place)) {
-        Ok(wiring) => read_behind(alloc, wiring, &text[place..], before),
+    let (index, before) = line_of(text, b"record");
+    match read_part(alloc, part_before(text, index)) {
+        Ok(wiring) => read_behind(alloc, wiring, &text[index..], before),
         Err(why) => Err(why),
     }
 }

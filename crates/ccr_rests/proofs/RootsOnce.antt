@@ -3,7 +3,6 @@ use Rattle.std.proofs.Common.{◌⊎◌, inr, inl, ◌≡◌, ◌≤◌, ◌<◌
 use Rattle.std.specs.Prelude.{if◌then◌else◌, slice_get}
 use Rattle.std.specs.FinSet as set
 use Rattle.std.specs.Option.{option_map_or}
-use Rattle.std.proofs.lemmas.Grind.{common_steps}
 use Rattle.ccr_base.specs.declared.names.Place.{Place}
 use Rattle.ccr_base.specs.declared.names.Place.TheVariants as places
 use Rattle.ccr_base.specs.declared.names.TaskId.{TaskId}
@@ -303,10 +302,6 @@ at_arbiter w place earlier ask note r is has = by (is_over_ask ask) refl
     by : (b : Bool) → is_over_ask ask ≡ b → (i : ℕ) × (place ≡ places.Arbiter i)
     by true at = (let found = over_asked ask at in of_place place found.0 found.1 found.2 (subst (λ x. note_of w place earlier x ≡ Some note) found.3 is))
     by false at = absurd (over_told note r has (noted_other w place earlier ask note at is))
-
--- who is told to have fired at an arbiter is among those that its notes say
-there-append : (xs ys : List Note) → fired_there (xs ++ ys) ≡ fired_there xs ++ fired_there ys
-there-append xs ys = grind (arith, common_steps)
 
 fired_at_it : (i : ℕ) (r : TaskId) (es : List Entry) → 1 ≤ count fired_by (places.Arbiter i) r es → has_task (fired_there (notes_at es (places.Arbiter i))) r ≡ true
 fired_at_it i r [] some = absurd (omega (arith, some))

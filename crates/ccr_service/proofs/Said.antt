@@ -305,9 +305,6 @@ said_of text parts is = lines_said None 0 1 (cut text) parts is
 
 -- ---- what is said is read
 
-is_key : (word key : List ℕ) → word ≡ key → bytes_eq word key ≡ true
-is_key word key same = (bytes_decides word key).1 same
-
 -- a word of digits is no keyword
 no_key : (digits key : List ℕ) (n : ℕ) → IsNumber digits n → number_of key ≡ None → bytes_eq digits key ≡ false
 no_key digits key n is none = refuted (bytes_eq digits key) (λ e. let same = keyed digits key e in let gone : None ≡ Some n = sym none ∙ ap number_of (sym same) ∙ is in absurd (cc))

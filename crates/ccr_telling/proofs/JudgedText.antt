@@ -1,5 +1,5 @@
 -- A text that is judged while it is read: how far it has come.
-use Rattle.std.proofs.Common.{◌≡◌, ◌∙◌, ℕ, ◌+◌, true, false, List, [], ◌∷◌, ◌++◌, length, Option, Some, None, Ok, refl, sym, ap, subst, arith}
+use Rattle.std.proofs.Common.{◌≡◌, ◌∙◌, ℕ, ◌+◌, true, false, List, [], ◌∷◌, ◌++◌, length, Option, Some, None, refl, sym, ap, subst, arith}
 use Rattle.std.specs.Prelude.{is_some}
 use Rattle.ccr_wiring.specs.declared.parts.Parts.{Parts}
 use Rattle.ccr_model.specs.declared.history.Event.{Event}
@@ -8,25 +8,12 @@ use Rattle.ccr_model.specs.Rules.{refusal}
 use Rattle.ccr_model.specs.Legal.{first_refusal}
 use Rattle.ccr_checker.specs.Judges.{Judged}
 use Rattle.ccr_telling.specs.Tallies.{Tallies, IsCounting}
-use Rattle.ccr_trace.specs.declared.reading.ReadHistory.{ReadHistory}
-use Rattle.ccr_trace.specs.EventReaders.{Reader, HasRead, HasReadAll, reading_of}
-use Rattle.ccr_trace.proofs.Outcomes.{done}
-use Rattle.ccr_telling.specs.Judging.{AgreesSoFar, IsJudgedSoFar, IsJudgedWhole}
+use Rattle.ccr_trace.specs.EventReaders.{Reader, HasRead}
+use Rattle.ccr_telling.specs.Judging.{IsJudgedSoFar}
 use Rattle.ccr_telling.proofs.Refusals.{at_last, refusal_next, refusal_stays}
 
 abbrev judged_of : Parts → List Event → Judged
 judged_of w h = record { wiring = w; history = h }
-
--- what the judge agrees with stays, where wiring and events are the same
-agrees_moved : (r s : Reader) (j : Judged) (t : Tallies) → s.wiring ≡ r.wiring → s.so_far.history ≡ r.so_far.history → AgreesSoFar r j t → AgreesSoFar s j t
-agrees_moved r s j t wiring events agrees = record {
-  accepted = agrees.accepted ∙ (ap (λ w. judged_of w r.so_far.history) (sym wiring) ∙ ap (judged_of s.wiring) (sym events));
-  counted = subst (λ (h : List Event). IsCounting s.wiring h t) (sym events) (subst (λ (w : Parts). IsCounting w r.so_far.history t) (sym wiring) agrees.counted);
-}
-
--- before the first event
-pub judged_none : (reader : Reader) (judged : Judged) (tallies : Tallies) → reader.so_far.history ≡ [] → AgreesSoFar reader judged tallies → IsJudgedSoFar reader reader judged tallies None
-judged_none reader judged tallies none agrees = record { wiring = refl; reads = refl; first = sym (ap (first_refusal reader.wiring [] 0) none); agrees = λ is. agrees }
 
 -- behind a refusal events are read alone
 pub judged_past : (old now next : Reader) (judged : Judged) (tallies : Tallies) (at : ℕ × Rule) (e : Event) → IsJudgedSoFar old now judged tallies (Some at) → HasRead now e next → IsJudgedSoFar old next judged tallies (Some at)
@@ -87,14 +74,3 @@ pub judged_accepted_if : (refused : Option (ℕ × Rule)) → is_some refused �
     → new ≡ record judged { history = judged.history ++ e ∷ [] } → (IsCounting judged.wiring judged.history tallies → IsCounting judged.wiring (judged.history ++ e ∷ []) counted) → IsJudgedSoFar old next new counted refused
 judged_accepted_if None none old now next judged new tallies counted e so_far read asked accepted counts = judged_accepted old now next judged new tallies counted e so_far read asked accepted counts
 judged_accepted_if (Some before) none old now next judged new tallies counted e so_far read asked accepted counts = absurd (cc)
-
--- all is read
-pub judged_whole : (old now new : Reader) (judged : Judged) (tallies : Tallies) (refused : Option (ℕ × Rule)) → IsJudgedSoFar old now judged tallies refused → HasReadAll now new → IsJudgedWhole old.wiring new judged tallies refused
-judged_whole old now new judged tallies refused so_far read = record {
-  wiring_is = read.wiring ∙ so_far.wiring;
-  first = so_far.first ∙ ap (λ (r : ReadHistory). first_refusal old.wiring [] 0 r.history) (sym read.so_far);
-  agrees = λ is. agrees_moved now new judged tallies read.wiring (ap (λ (r : ReadHistory). r.history) read.so_far) (so_far.agrees is);
-}
-
-pub read_whole : (old now new : Reader) (judged : Judged) (tallies : Tallies) (refused : Option (ℕ × Rule)) → IsJudgedSoFar old now judged tallies refused → HasReadAll now new → reading_of old ≡ Ok new.so_far
-read_whole old now new judged tallies refused so_far read = sym so_far.reads ∙ (read.reads ∙ ap done (sym read.so_far))

@@ -1,4 +1,4 @@
--- Over plain lists of numbers: one more at a index.
+-- Over plain lists of numbers: one more at an index.
 use Rattle.std.proofs.Common.{◌≡◌, ℕ, zero, suc, ◌+◌, ◌≤◌, Option, Some, None, List, [], ◌∷◌, length, refl, arith, length-set}
 use Rattle.std.specs.Prelude.{slice_index}
 use Rattle.ccr_base.specs.declared.names.TaskId.{TaskId}
@@ -7,7 +7,7 @@ use Rattle.ccr_ledger.specs.Books.{Books, card_at, number, more}
 use Rattle.ccr_telling.specs.Tallies.{more_at, more_for, more_if_some}
 use Rattle.std.specs.Option.{option_map_or}
 
--- the number at a index is what an index reads
+-- the number at an index is what an index reads
 pub number_read : (numbers : List ℕ) (k : ℕ) → slice_index numbers k ≡ number numbers k
 number_read [] k = refl
 number_read (n ∷ numbers) zero = refl

@@ -12,7 +12,7 @@ use Rattle.ccr_wiring.proofs.Soundness.{sound}
 use Rattle.ccr_telling.specs.Tallies.{all_indices, index_of}
 use Rattle.ccr_engine.proofs.SpotIndices.{few_awaited}
 
--- two counts of spots are the same where a spot has a index
+-- two counts of spots are the same where a spot has an index
 abbrev pub AreSame : (Spot → ℕ) → (Spot → ℕ) → Type 0
 AreSame f g = (spot : Spot) (index : ℕ) → index_of spot ≡ Some index → index < all_indices → f spot ≡ g spot
 

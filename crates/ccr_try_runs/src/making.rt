@@ -4,9 +4,9 @@ use ccr_base::{List, Msg, MsgId, Pred, Spot, Task, TaskId, Value};
 use ccr_try::{first_number, numbers_of};
 use std::alloc::Global;
 
-/// The number at this place, and 0 where there is none.
-pub fn at(numbers: &[u32], place: usize) -> u32 {
-    numbers.get(place).copied().unwrap_or(0)
+/// The number at this index, and 0 where there is none.
+pub fn at(numbers: &[u32], index: usize) -> u32 {
+    numbers.get(index).copied().unwrap_or(0)
 }
 
 /// The predicate of this word.

@@ -266,9 +266,6 @@ option_not_word false false true d = refl
 option_not_word false false false true = refl
 option_not_word false false false false = refl
 
-is_word : Option Part → Bool
-is_word o = option_map_or (λ part. bytes_eq (name_of part) (name_of word)) o false
-
 option_of-not_word : (name : Text) → option_map_or (λ part. bytes_eq (name_of part) (name_of word)) (option_of name) false ≡ false
 option_of-not_word name = option_not_word (bytes_eq (codes "workers") name) (bytes_eq (codes "size") name) (bytes_eq (codes "schedule") name) (bytes_eq (codes "json") name)
 

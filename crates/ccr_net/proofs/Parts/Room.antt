@@ -214,9 +214,6 @@ BookingsMatch-put w h queue queue' q t d may unput uncut changes match = record 
 
 -- ---- nobody fires twice
 
-fired-same : (h : List Event) (e : Event) → firing_of e ≡ [] → fired (h ++ e ∷ []) ≡ fired h
-fired-same h e none = ap (λ fs. map (λ (f : Firing). f.task) fs) (firings-push h e ∙ ap (λ fs. firings h ++ fs) none ∙ append-nil (firings h))
-
 -- ---- room
 
 queued_as : (xs : List Queued) (t : TaskId) → has_task (map task_queued xs) t ≡ true → (x : Queued) × Among x xs × (x.task ≡ t)
