@@ -11,6 +11,7 @@ pub struct Task {
     pub id: TaskId,
     pub root: TaskId,
     pub spot: Spot,
+    /// The number of the domain of its branch.
     pub arbiter: ArbiterNo,
     pub queue: QueueNo,
     pub values: List<Value>,

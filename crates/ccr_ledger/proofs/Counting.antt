@@ -19,7 +19,7 @@ more_if comes n = if comes then n + 1 else n
 abbrev pub less_if : Bool → ℕ → ℕ
 less_if goes n = if goes then n - 1 else n
 
--- what stands at a index after one more, and after one less, at another
+-- what stands at an index after one more, and after one less, at another
 pub number-more : (is : Bool) (numbers : List ℕ) (index k : ℕ) → k < length numbers → number (if is then more index numbers else numbers) k ≡ more_if (is && (index == k)) (number numbers k)
 number-more false numbers index k low = refl
 number-more true numbers index k low = number-set numbers index k (number numbers index + 1) low ∙ of_test (index == k) refl

@@ -94,15 +94,12 @@ pub posted : (items : List (Option Msg)) (m : Msg) (lanes : List Indices) → Ar
 posted items m [] are = tt
 posted items m (lane ∷ lanes) are = (lane-posted items m lane are.0, posted items m lanes are.1)
 
--- ---- a lane that is tidy up to a index
+-- ---- a lane that is tidy up to an index
 
 none-long : (ks : List ℕ) (n : ℕ) → slice_get ks n ≡ None → length ks ≤ n
 none-long [] n at = omega arith
 none-long (k ∷ ks) zero at = absurd (cc)
 none-long (k ∷ ks) (suc n) at = omega (arith, none-long ks n at)
-
-pub take-past : (ks : List ℕ) (n most : ℕ) → slice_get ks n ≡ None → n ≤ most → take n ks ≡ take most ks
-take-past ks n most at less = let long = none-long ks n at in take_all n ks long ∙ sym (take_all most ks (omega (arith, long)))
 
 pub take-one : (ks : List ℕ) (n k : ℕ) → slice_get ks n ≡ Some k → take (n + 1) ks ≡ take n ks ++ k ∷ []
 take-one [] n k at = absurd (cc)
@@ -182,21 +179,11 @@ module _ (items : List (Option Msg)) (lane : Indices) (n : ℕ) (is : IsLane ite
 pub fewer-left : (ks : List ℕ) (n k : ℕ) → slice_get ks n ≡ Some k → length (remove ks n) - n < length ks - n
 fewer-left ks n k at = let low = slice_get_within ks n k at in omega (arith, length-remove ks n low, low)
 
--- the first of the front
-pub front-first : (ks js : List ℕ) → take 1 ks ≡ take 1 js → slice_get ks 0 ≡ slice_get js 0
-front-first [] [] is = refl
-front-first [] (j ∷ js) is = absurd (cc)
-front-first (k ∷ ks) [] is = absurd (cc)
-front-first (k ∷ ks) (j ∷ js) is = cc
-
 -- ---- a post, whole
 
 module _ (items now : List (Option Msg)) (lanes then' : List Indices) (n : ℕ) (last : n ≡ length items) (grown : now ≡ items ++ None ∷ []) (are : AreLanes items lanes) where
   pub after_post : (m : Msg) → then' ≡ map (entered n m.value) lanes → AreLanes (set now n (Some m)) then'
   after_post m is = rw (grown, is, last, set_at items None [] (Some m) (length items) refl) (posted items m lanes are)
-
-pub present-failed : (items now : List (Option Msg)) → now ≡ items ++ None ∷ [] → present now ≡ present items
-present-failed items now grown = rw grown (grind (arith, common_steps))
 
 pub present-post : (items now : List (Option Msg)) (n : ℕ) (m : Msg) → n ≡ length items → now ≡ items ++ None ∷ [] → present (set now n (Some m)) ≡ present items ++ m ∷ []
 present-post items now n m last grown = rw (grown, last, set_at items None [] (Some m) (length items) refl) (grind (arith, common_steps))

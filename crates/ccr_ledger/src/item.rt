@@ -1,4 +1,4 @@
-//! What stands at a index of a port: the message that was posted there, in few bytes, until it is taken.
+//! What stands at an index of a port: the message that was posted there, in few bytes, until it is taken.
 
 ghost use Rattle.std.specs.Prelude.{◌≡◌, [], ◌∷◌, Some, None, IfOk, IfSome, option_map, is_some};
 ghost use Rattle.ccr_base.specs.declared.messages.Msg.{Msg};

@@ -45,11 +45,11 @@ has_one_firing wiring history domain kinds.Interleave = nat_le (length (fired_by
 
 -- exclusion: of the admitted roots that aren't over, all are concurrent or there is one
 abbrev pub keeps_exclusion : Parts → List Event → ℕ → Bool
-keeps_exclusion wiring history arbiter = list_all (is_concurrent_task wiring history) (admitted wiring history arbiter) || nat_le (length (admitted wiring history arbiter)) 1
+keeps_exclusion wiring history domain = list_all (is_concurrent_task wiring history) (admitted wiring history domain) || nat_le (length (admitted wiring history domain)) 1
 
 -- exclusion: who runs is a segment of such a root
 abbrev pub run_admitted : Parts → List Event → ℕ → Bool
-run_admitted wiring history arbiter = list_all (λ task. has_task (admitted wiring history arbiter) (root_of history task)) (filter (is_of_domain wiring history arbiter) (running history))
+run_admitted wiring history domain = list_all (λ task. has_task (admitted wiring history domain) (root_of history task)) (filter (is_of_domain wiring history domain) (running history))
 
 -- whether the task is a segment of a root that a teardown branch fired
 abbrev pub is_teardown_task : Parts → List Event → TaskId → Bool
@@ -62,7 +62,7 @@ stay_last test (task ∷ tasks) = (not (test task) || list_all test tasks) && st
 
 -- after a teardown's firing no other branch of the domain fires, and once a segment of it started no task of another root starts
 abbrev pub ends_by_teardown : Parts → List Event → ℕ → Bool
-ends_by_teardown wiring history arbiter = stay_last (is_teardown_task wiring history) (fired_by wiring (λ s. s.domain == arbiter) history) && stay_last (is_teardown_task wiring history) (filter (is_of_domain wiring history arbiter) (started history))
+ends_by_teardown wiring history domain = stay_last (is_teardown_task wiring history) (fired_by wiring (λ s. s.domain == domain) history) && stay_last (is_teardown_task wiring history) (filter (is_of_domain wiring history domain) (started history))
 
 -- the domains, by the numbers of the arbiters, of which the first has this one, fire and admit as they should
 abbrev pub are_kept_from : Parts → List Event → ℕ → List ArbiterPart → Bool

@@ -45,10 +45,10 @@ member draft set port = if has_port (members_of draft set) port then Some port e
 abbrev pub set_port : Declared → List ℕ → ℕ → Option ℕ
 set_port draft name set = option_and_then (member draft set) (option_and_then as_port (meaning_of draft.names name))
 
--- the port that is meant, by the place of the slash
+-- the port that is meant, by the index of the slash
 abbrev pub port_at : Declared → List ℕ → Option ℕ → Option ℕ
 port_at draft name None = option_and_then as_port (meaning_of draft.names name)
-port_at draft name (Some place) = option_and_then (set_port draft (drop (place + 1) name)) (option_and_then as_set (meaning_of draft.names (take place name)))
+port_at draft name (Some index) = option_and_then (set_port draft (drop (index + 1) name)) (option_and_then as_set (meaning_of draft.names (take index name)))
 
 -- the port that PORT or SET/PORT means
 abbrev pub port_of : Declared → List ℕ → Option ℕ

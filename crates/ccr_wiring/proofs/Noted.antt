@@ -1,6 +1,6 @@
 -- Lists of spots, one for each number, and what they gain.
 use Rattle.std.proofs.Common.{◌≡◌, ◌∙◌, ℕ, zero, suc, ◌+◌, ◌<◌, ◌≤◌, Bool, true, false, List, [], ◌∷◌, ◌++◌, length, take, Option, None, Some, refl, ap, sym, arith, length-set}
-use Rattle.std.specs.Prelude.{◌==◌, ◌||◌, ◌&&◌, not, filter, if◌then◌else◌, slice_set}
+use Rattle.std.specs.Prelude.{◌==◌, ◌||◌, ◌&&◌, not, if◌then◌else◌, slice_set}
 use Rattle.std.specs.List.{slice_get}
 use Rattle.std.proofs.Math.ListN.{get_or}
 use Rattle.std.proofs.lemmas.Bool.Decides.{nat_tests}
@@ -8,7 +8,7 @@ use Rattle.std.proofs.lemmas.Option.{slice_get-get_or}
 use Rattle.ccr_base.specs.declared.names.Spot.{Spot}
 use Rattle.ccr_base.specs.declared.patterns.Slot.{Slot}
 use Rattle.ccr_wiring.specs.Repeats.{has_port, are_apart, slot_ports}
-use Rattle.ccr_wiring.specs.Takers.{more_for, IsNoted, AreListed}
+use Rattle.ccr_wiring.specs.Takers.{more_for, IsNoted}
 
 -- one list in the place of another
 set_at : (lists : List (List Spot)) (k n : ℕ) (list : List Spot) → k < length lists → slice_get (slice_set lists k list) n ≡ (if k == n then Some list else slice_get lists n)
@@ -70,10 +70,6 @@ noted_or p q r spot old mid new both apart first second = record {
     of_tests true true apart = grind (arith, apart)
     of_tests true false apart = refl
     of_tests false b apart = refl
-
--- the same test, told otherwise
-pub noted_as : (p q : ℕ → Bool) (spot : Spot) (old new : List (List Spot)) → ((n : ℕ) → p n ≡ q n) → IsNoted p spot old new → IsNoted q spot old new
-noted_as p q spot old new same noted = record { size = noted.size; each = λ n list there. noted.each n list there ∙ ap (λ b. Some (list ++ (if b then spot ∷ [] else []))) (same n) }
 
 -- the ports up to one more
 any_more : (ports : List ℕ) (i port n : ℕ) → slice_get ports i ≡ Some port → has_port (take (suc i) ports) n ≡ has_port (take i ports) n || (port == n)
@@ -145,18 +141,3 @@ gather_noted a b spot old mid new differ first second = noted_or (λ n. a == n) 
         absurd (grind (arith, nat_tests, differ, same))
     once n true false one other = refl
     once n false q one other = refl
-
--- a spot more
-pub listed_more : (test : ℕ → Spot → Bool) (count : ℕ) (seen : List Spot) (spot : Spot) (old new : List (List Spot)) → AreListed test count seen old → IsNoted (λ n. test n spot) spot old new → AreListed test count (seen ++ spot ∷ []) new
-listed_more test count seen spot old new listed noted = record {
-  size = noted.size ∙ listed.size;
-  each = λ n low. noted.each n (filter (test n) seen) (listed.each n low) ∙ ap Some (sym (filter_more (test n) seen));
-}
-  where
-    filter_more : (f : Spot → Bool) (seen : List Spot) → filter f (seen ++ spot ∷ []) ≡ filter f seen ++ (if f spot then spot ∷ [] else [])
-    filter_more f [] = refl
-    filter_more f (one ∷ seen) = of_test (f one) (filter_more f seen)
-      where
-        of_test : (b : Bool) → filter f (seen ++ spot ∷ []) ≡ filter f seen ++ (if f spot then spot ∷ [] else []) → (if b then one ∷ filter f (seen ++ spot ∷ []) else filter f (seen ++ spot ∷ [])) ≡ (if b then one ∷ filter f seen else filter f seen) ++ (if f spot then spot ∷ [] else [])
-        of_test true rest = ap (λ l. one ∷ l) rest
-        of_test false rest = rest
