@@ -1,8 +1,7 @@
 -- An actor follows the list of its steps.
 use Rattle.std.proofs.Common.{◌≡◌, ◌⊎◌, ◌≤◌, ◌<◌, ℕ, suc, ◌+◌, Bool, true, false, List, [], ◌∷◌, ◌++◌, length, take, drop, Option, Some, None, Ok, Err, refl, sym, ap, subst, cond, arith, inl, inr, ◌∙◌}
-use Rattle.std.specs.Prelude.{nat_le, ◌↔◌}
-use Rattle.std.proofs.lemmas.Bool.{le-leb}
-use Rattle.std.proofs.lemmas.Bool.Decides.{nat_tests}
+use Rattle.std.specs.Prelude.{◌↔◌}
+use Rattle.std.proofs.lemmas.Bool.{le-leb, lt-leb}
 use Rattle.std.proofs.lemmas.List.{map-append, length-append, take-append-le, drop-append-le, append-nil}
 use Rattle.std.proofs.lemmas.Grind.{fold-append}
 use Rattle.ccr_base.specs.declared.list.OutOfMemory.{OutOfMemory}
@@ -130,12 +129,9 @@ refused-in wiring actor state stop one goes all is may = cc is
 
 -- ---- the steps
 
-no-less : (n m : ℕ) → m < n → nat_le n m ≡ false
-no-less n m less = grind (arith, nat_tests, less)
-
 -- a place that lies behind what was replied changes nothing
 later : (wiring : Parts) (actor n : ℕ) (given : List Reply) → length given < n → state_after wiring actor (Some n) given ≡ state_after wiring actor None given
-later wiring actor n given less = ap (λ b. cond b (after_all wiring actor (shorten wiring actor (after_all wiring actor (start wiring actor) (take n given))) (drop n given)) (after_all wiring actor (start wiring actor) given)) (no-less n (length given) less)
+later wiring actor n given less = ap (λ b. cond b (after_all wiring actor (shorten wiring actor (after_all wiring actor (start wiring actor) (take n given))) (drop n given)) (after_all wiring actor (start wiring actor) given)) (lt-leb n (length given) less)
 
 more-replies : (given : List Reply) (reply : Reply) → length (given ++ reply ∷ []) ≡ length given + 1
 more-replies given reply = length-append given (reply ∷ [])
@@ -157,7 +153,7 @@ next_more wiring actor lack given (first ∷ steps) step all is =
     regroup (x ∷ xs) y zs = ap (λ (l : List Reply). x ∷ l) (regroup xs y zs)
 
 -- one more reply
-after-more : (wiring : Parts) (actor : ℕ) (state : State) (given : List Reply) (reply : Reply) → after_all wiring actor state (given ++ reply ∷ []) ≡ after wiring actor (after_all wiring actor state given) reply
+pub after-more : (wiring : Parts) (actor : ℕ) (state : State) (given : List Reply) (reply : Reply) → after_all wiring actor state (given ++ reply ∷ []) ≡ after wiring actor (after_all wiring actor state given) reply
 after-more wiring actor state given reply = fold-append (after wiring actor) state given (reply ∷ [])
 
 short-state : (wiring : Parts) (actor n : ℕ) (given : List Reply) → n ≤ length given → state_after wiring actor (Some n) given ≡ after_all wiring actor (shorten wiring actor (after_all wiring actor (start wiring actor) (take n given))) (drop n given)

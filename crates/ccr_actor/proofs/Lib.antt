@@ -1,7 +1,7 @@
 pub mod Settled
 mod Plays
 mod Attempted
-mod Steps
+pub mod Steps
 mod Plied
 pub mod Bounds
 mod Worked

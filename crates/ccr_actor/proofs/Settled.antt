@@ -22,6 +22,7 @@ use Rattle.ccr_claim.specs.Attempts.{Phase, booking, claiming, had_in, free_ask,
 use Rattle.ccr_actor.specs.Plans.{plan_of}
 use Rattle.ccr_actor.specs.Actors.{State, Work, lines, round, taking, playing, posting, shedding, resting, Turn, settle, admit, drive, go_on, stop, turn, turn_of, spots_left, name_at, asked, ask_in, settled, after_admit, after_attempt, after_work, after_line, after_round, after_take, after_play, after_end, take_from, after_in, after, after_all, in_attempt, shorten, start, state_after, next}
 use Rattle.ccr_actor.specs.Hands.{AreSettling}
+use Rattle.ccr_actor.proofs.Kept.{settled_short}
 
 joined : (front back : List Asked) → AreSettling front → AreSettling back → AreSettling (front ++ back)
 joined [] back one two = two
@@ -243,27 +244,10 @@ all_settle wiring actor (Some n) given = split-settles (nat_le n (length given))
 abbrev IsShort : State → Type 0
 IsShort state = state.is_short ≡ true
 
-settled-short : (wiring : Parts) (state : State) (more : List Asked) (reply : Reply) → (settled wiring state more reply).is_short ≡ state.is_short
-settled-short wiring state more replies.Done = refl
-settled-short wiring state more (replies.Got m) = refl
-settled-short wiring state more (replies.Busy t) = refl
-settled-short wiring state more (replies.Short n) = refl
-settled-short wiring state more (replies.Fired t cuts) = refl
-settled-short wiring state more (replies.Dead by) = refl
-settled-short wiring state more (replies.Admitted t) = refl
-settled-short wiring state more replies.Booked = refl
-settled-short wiring state more (replies.Full n) = refl
-settled-short wiring state more (replies.Dropped (Some task)) = refl
-settled-short wiring state more (replies.Dropped None) = refl
-settled-short wiring state more (replies.Taken t) = refl
-settled-short wiring state more (replies.Drawn n) = refl
-settled-short wiring state more replies.Spent = refl
-settled-short wiring state more (replies.Left n) = refl
-
 -- a short actor settles or stops
 short-turn : (wiring : Parts) (actor : ℕ) (state : State) (hand : List Asked) (arbiters : List ℕ) (spots : List Spot) (reply : Reply) → (after_in wiring actor state (turn_of true hand arbiters spots) reply).is_short ≡ state.is_short
 short-turn wiring actor state [] arbiters spots reply = refl
-short-turn wiring actor state (one ∷ more) arbiters spots reply = settled-short wiring state more reply
+short-turn wiring actor state (one ∷ more) arbiters spots reply = settled_short wiring state more reply
 
 short-after : (wiring : Parts) (actor : ℕ) (state : State) (reply : Reply) → IsShort state → IsShort (after wiring actor state reply)
 short-after wiring actor state reply short =

@@ -21,7 +21,7 @@ use Rattle.ccr_actor.specs.Courses.{IsUnderWay, target, dropped_by, phase_of, Ru
 use Rattle.ccr_actor.proofs.Attempted.{heard_at}
 
 -- nothing is owed where no attempt is under way
-none-owed : (wiring : Parts) (actor : ℕ) (state : State) (spots : List Spot) → state.phase ≡ booking → in_attempt wiring actor state spots ≡ []
+pub none-owed : (wiring : Parts) (actor : ℕ) (state : State) (spots : List Spot) → state.phase ≡ booking → in_attempt wiring actor state spots ≡ []
 none-owed wiring actor state [] is = refl
 none-owed wiring actor state (spot ∷ more) is = rw is refl
 

@@ -7,6 +7,7 @@ use Rattle.std.proofs.lemmas.Map.Made.{length-le_from_is_member}
 use Rattle.std.proofs.lemmas.Map.Steps.{list_any_congr}
 use Rattle.std.specs.Cmp.{IsEquivalence}
 use Rattle.std.specs.List.{IsDistinct}
+use Rattle.std.proofs.Math.Bool.{or-false}
 use Rattle.ccr_base.specs.declared.names.TaskId.{TaskId}
 use Rattle.ccr_base.specs.Names.{same_task, has_task}
 use Rattle.ccr_arbiter.specs.Room.{AreAmong}
@@ -27,13 +28,9 @@ IsEquivalence-same_task = record {
     congr_of : (a b c d e f : ℕ) → ((a == c) && (b == d)) ≡ true → ((a == e) && (b == f)) ≡ ((c == e) && (d == f))
     congr_of a b c d e f h = grind (arith, nat_tests)
 
-or_false : (b : Bool) → (b || false) ≡ b
-or_false true = refl
-or_false false = refl
-
 -- a name more behind the list
 pub has_task-push : (tasks : List TaskId) (last task : TaskId) → has_task (tasks ++ last ∷ []) task ≡ (has_task tasks task || same_task task last)
-has_task-push tasks last task = list_any-append (same_task task) tasks (last ∷ []) ∙ ap (λ b. has_task tasks task || b) (or_false (same_task task last))
+has_task-push tasks last task = list_any-append (same_task task) tasks (last ∷ []) ∙ ap (λ b. has_task tasks task || b) (or-false (same_task task last))
 
 -- one of them may come to the shorter list
 pub AreAmong-push : (tasks all : List TaskId) (last : TaskId) → AreAmong tasks all → has_task all last ≡ true → AreAmong (tasks ++ last ∷ []) all

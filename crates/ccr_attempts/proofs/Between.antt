@@ -21,11 +21,11 @@ use Rattle.ccr_claim.specs.Lines.{line_ask}
 use Rattle.ccr_claim.specs.Settling.{Step}
 use Rattle.ccr_actor.specs.Plans.{plan_of}
 use Rattle.ccr_actor.specs.Actors.{State, Work, lines, round, taking, playing, posting, shedding, resting, Turn, settle, admit, go_on, stop, turn, turn_of, spots_left, name_at, asked, ask_in, work_ask, play_ask, end_ask, settled, after_admit, after_in, after, after_work, after_line, after_round, after_take, take_from, after_play, after_end, in_attempt, shorten}
+use Rattle.ccr_actor.proofs.Steps.{none-owed}
 use Rattle.ccr_attempts.specs.Trials.{Trial, between, is_of_attempt}
 use Rattle.ccr_attempts.proofs.Answering.{state_lacking, steps_lacking, may_lacking}
 use Rattle.ccr_attempts.proofs.Hands.{one_ask, IsBetween, release_ordered}
 use Rattle.ccr_attempts.proofs.Going.{and, Idle, Runs, Goes, ends, runs_go, settles_go}
-use Rattle.ccr_net.proofs.Owed.Owing.{attempt_none as nothing-back}
 
 -- ---- what the work asks, and what a reply to it leaves
 
@@ -247,7 +247,7 @@ goes_on w a past st one reply (inr (inl run)) asks fit = runs_go w a past st run
 goes_on w a past st one reply (inr (inr at)) asks fit = settles_go w a past st at one reply asks fit
 
 same-hand : (w : Parts) (a : ℕ) (st : State) → st.phase ≡ booking → (shorten w a st).hand ≡ st.hand
-same-hand w a st is = ap (λ back. st.hand ++ back) (nothing-back w a st st.spots is) ∙ append-nil st.hand
+same-hand w a st is = ap (λ back. st.hand ++ back) (none-owed w a st st.spots is) ∙ append-nil st.hand
 
 short-runs : (w : Parts) (a : ℕ) (past : List Step) (st : State) → Runs w a past st → Goes w a past (shorten w a st)
 short-runs w a past st run = ends w a past (shorten w a st) lacking (release (plan_of w run.spot) (name_at a st) st.phase) (outcomes.GaveUp whys.Memory)

@@ -1,5 +1,5 @@
 mod Answering
-mod Hands
+pub mod Hands
 mod Going
 mod Between
 pub mod Tried

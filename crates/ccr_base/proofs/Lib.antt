@@ -1,2 +1,7 @@
+pub mod Booleans
+pub mod Options
+pub mod Filters
+pub mod Lists
+pub mod Texts
 pub mod Places
 pub mod Chosen

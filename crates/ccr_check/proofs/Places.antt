@@ -5,6 +5,7 @@ use Rattle.ccr_model.specs.declared.history.Event.{Event}
 use Rattle.ccr_model.specs.declared.rule.Rule.{Rule}
 use Rattle.ccr_model.specs.Rules.{refusal}
 use Rattle.ccr_model.specs.Legal.{first_refusal, IsLegal, IsLegalAfter}
+use Rattle.ccr_model.proofs.LegalParts.{first_refusal-legal}
 
 -- where no event is refused, each is allowed
 pub IsLegalAfter-none : (w : Parts) (past : List Event) (n : ℕ) (es : List Event) → first_refusal w past n es ≡ None → IsLegalAfter w past es
@@ -14,15 +15,6 @@ IsLegalAfter-none w past n (e ∷ es) none = of_rule (refusal w past e) refl non
     of_rule : (o : Option Rule) → refusal w past e ≡ o → elim o as (λ x. Option (ℕ × Rule)) [ None ↦ first_refusal w (past ++ e ∷ []) (n + 1) es | Some rule ↦ Some (n, rule) ] ≡ None → (first_refusal w (past ++ e ∷ []) (n + 1) es ≡ None → IsLegalAfter w (past ++ e ∷ []) es) → IsLegalAfter w past (e ∷ es)
     of_rule None is rest others = (is, others rest)
     of_rule (Some rule) is rest others = absurd (cc)
-
--- where each is allowed, no event is refused
-pub first_refusal-legal : (w : Parts) (past : List Event) (n : ℕ) (es : List Event) → IsLegalAfter w past es → first_refusal w past n es ≡ None
-first_refusal-legal w past n [] legal = refl
-first_refusal-legal w past n (e ∷ es) legal = of_rule (refusal w past e) legal.0 (first_refusal-legal w (past ++ e ∷ []) (n + 1) es legal.1)
-  where
-    of_rule : (o : Option Rule) → o ≡ None → first_refusal w (past ++ e ∷ []) (n + 1) es ≡ None → elim o as (λ x. Option (ℕ × Rule)) [ None ↦ first_refusal w (past ++ e ∷ []) (n + 1) es | Some rule ↦ Some (n, rule) ] ≡ None
-    of_rule None is rest = rest
-    of_rule (Some rule) is rest = absurd (cc)
 
 -- where one is refused, not each is allowed
 pub not_legal : (w : Parts) (h : List Event) (place : ℕ) (rule : Rule) → first_refusal w [] 0 h ≡ Some (place, rule) → IsLegal w h → ⊥

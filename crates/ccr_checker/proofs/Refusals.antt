@@ -20,8 +20,8 @@ use Rattle.ccr_model.specs.Tasks.{running, running_by}
 use Rattle.ccr_model.specs.Live.{is_none_of}
 use Rattle.ccr_model.specs.Rules.{is_post, is_script_line, is_play_post, is_new, may_start, may_shed, may_end, refusal_of_post, refusal}
 use Rattle.ccr_model.specs.Legal.{IsLegal}
-use Rattle.ccr_model.proofs.Booleans.{and_false, not_not}
-use Rattle.ccr_model.proofs.Options.{some-below}
+use Rattle.ccr_base.proofs.Booleans.{and_false, not_not}
+use Rattle.ccr_base.proofs.Options.{some-below}
 use Rattle.ccr_ledger.specs.Books.{Books, number}
 use Rattle.ccr_ledger.specs.Asked.{made_in}
 use Rattle.ccr_ledger.specs.Kept.{Keeps}

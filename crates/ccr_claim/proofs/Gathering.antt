@@ -3,15 +3,11 @@ use Rattle.std.proofs.Common.{◌≡◌, ℕ, ◌+◌, ◌<◌, List, [], ◌∷
 use Rattle.std.specs.List.{flat_map}
 use Rattle.std.proofs.lemmas.List.{map-append, append-nil, append_assoc, take_more}
 use Rattle.ccr_base.specs.declared.messages.Msg.{Msg}
-use Rattle.ccr_cause.specs.Causes.{with_cause, union}
+use Rattle.ccr_cause.specs.Causes.{union}
+use Rattle.ccr_cause.proofs.Joined.{union-append}
 use Rattle.ccr_claim.specs.declared.firing.Gathered.{Gathered}
 use Rattle.ccr_claim.specs.Firings.{IsOf}
 use Rattle.ccr_claim.specs.Plans.{names_of, values_of, causes_of}
-
--- causes are joined from left to right
-pub union-append : (a b c : List ℕ) → union a (b ++ c) ≡ union (union a b) c
-union-append a [] c = refl
-union-append a (x ∷ b) c = union-append (with_cause a x) b c
 
 -- of one more list
 pub flat-push : {A : Type 0} {B : Type 0} (f : A → List B) → (xs : List A) (x : A) → flat_map f (xs ++ x ∷ []) ≡ flat_map f xs ++ f x

@@ -2,7 +2,7 @@
 use Rattle.std.proofs.Common.{◌≡◌, ◌⊎◌, ℕ, ◌+◌, ◌*◌, ◌≤◌, Bool, true, false, List, [], ◌∷◌, ◌++◌, length, map, take, drop, reverse, Option, Some, None, Ok, Err, refl, sym, ap, inl, inr, ◌∙◌, arith, subst, cond}
 use Rattle.std.specs.Prelude.{nat_le}
 use Rattle.std.specs.List.{flat_map}
-use Rattle.std.proofs.lemmas.List.{append-nil, append_assoc, map-append, length-append, length-map, length-reverse, reverse-append}
+use Rattle.std.proofs.lemmas.List.{append-nil, append_assoc, map-append, length-append, length-map, length-reverse, reverse-append, length_push}
 use Rattle.std.proofs.lemmas.List.Elements.{filter-append}
 use Rattle.ccr_base.specs.declared.messages.Msg.{Msg}
 use Rattle.ccr_base.specs.declared.names.Place.{Place}
@@ -39,9 +39,6 @@ none_more f past s none = flat-push f past s ∙ ap (λ ys. flat_map f past ++ y
 map-reverse : {A : Type 0} {B : Type 0} (f : A → B) → (xs : List A) → map f (reverse xs) ≡ reverse (map f xs)
 map-reverse f [] = refl
 map-reverse f (x ∷ xs) = ap (map f) (reverse-append (x ∷ []) xs) ∙ map-append f (reverse xs) (x ∷ []) ∙ ap (λ ys. ys ++ f x ∷ []) (map-reverse f xs) ∙ sym (reverse-append (f x ∷ []) (map f xs))
-
-length-push : {A : Type 0} (xs : List A) (x : A) → length (xs ++ x ∷ []) ≡ length xs + 1
-length-push xs x = length-append xs (x ∷ [])
 
 asks-push : (past : List Step) (s : Step) → asks_of (past ++ s ∷ []) ≡ asks_of past ++ s.asked ∷ []
 asks-push past s = map-append (λ (step : Step). step.asked) past (s ∷ [])
@@ -203,7 +200,7 @@ give_up plan task past phase why going few = record {
 give_up_at : (plan : ClaimPlan) (task : TaskId) (past : List Step) (s : Step) (phase : Phase) (why : Why) → Stands plan task past [] phase None → got_in s ≡ [] → booked_in s ≡ [] → shot_in s ≡ [] → is_settling s.asked.ask ≡ false → Stands plan task (past ++ s ∷ []) (release plan task phase) booking (Some (outcomes.GaveUp why))
 give_up_at plan task past s phase why st got at shot other =
     let few : length (past ++ s ∷ []) + length (release plan task phase) ≤ most plan (past ++ s ∷ []) =
-    rw (none_more shot_in past s shot) (omega (arith, st.count, length-push past s, release-less plan task (length (slots_in plan.pattern)) phase)) in
+    rw (none_more shot_in past s shot) (omega (arith, st.count, length_push past s, release-less plan task (length (slots_in plan.pattern)) phase)) in
     give_up plan task (past ++ s ∷ []) phase why (going_more plan past s phase st.rest.1 got at shot other) few
 
 -- ---- the steps
@@ -228,7 +225,7 @@ booked_on plan task past st =
           unsettled = settling-other past s refl ∙ going.unsettled;
         },
       );
-      count = rw (none_more shot_in past s refl) (omega (arith, st.count, length-push past s));
+      count = rw (none_more shot_in past s refl) (omega (arith, st.count, length_push past s));
     }
 
 book_step : (plan : ClaimPlan) (task : TaskId) (past : List Step) (answer : MaybeReply) → Stands plan task past [] booking None → may_come dues.Booking answer ≡ true → StandsAt plan task (past ++ step_at (attempt_ask plan task booking) answer ∷ []) (after (between plan task [] booking None) answer)
@@ -248,7 +245,8 @@ book_step plan task past (Ok (replies.Drawn n)) st may = cc may
 book_step plan task past (Ok replies.Spent) st may = cc may
 book_step plan task past (Ok (replies.Left n)) st may = cc may
 
-narrowed-length : (pattern : Pattern) (got : ℕ) (left : List Slot) → length (narrowed pattern got left) ≡ length left
+-- what was got leaves as many slots
+pub narrowed-length : (pattern : Pattern) (got : ℕ) (left : List Slot) → length (narrowed pattern got left) ≡ length left
 narrowed-length (Slots slots) got left = refl
 narrowed-length (Gather total first second) got [] = refl
 narrowed-length (Gather total first second) got (slot ∷ left) = refl
@@ -268,7 +266,7 @@ claimed_on plan task past slot left had messages st =
           unsettled = settling-other past s refl ∙ going.unsettled;
         },
       );
-      count = rw (none_more shot_in past s refl) (omega (arith, st.count, length-push past s, length-push had one, narrowed-length plan.pattern (length messages) left));
+      count = rw (none_more shot_in past s refl) (omega (arith, st.count, length_push past s, length_push had one, narrowed-length plan.pattern (length messages) left));
     }
 
 claim_step : (plan : ClaimPlan) (task : TaskId) (past : List Step) (slot : Slot) (left : List Slot) (had : List Had) (answer : MaybeReply) → Stands plan task past [] (claiming (slot ∷ left) had) None → may_come (dues.Claim slot) answer ≡ true → StandsAt plan task (past ++ step_at (claim_ask plan task (slot ∷ left) had) answer ∷ []) (after (between plan task [] (claiming (slot ∷ left) had) None) answer)
@@ -303,7 +301,7 @@ fired_on plan task past had fired cuts st =
     let whole : firing_hand task had fired cuts ≡ completed task (past ++ s ∷ []) = rw (claims_are, shots_are, consumes-at task had, append-nil (map cut_ask cuts ++ put_asks fired)) refl in
     record {
       rest = (settles, ((shot, shots_are, refl), settling-behind (asks_of (past ++ s ∷ [])) (firing_hand task had fired cuts) (settling-other past s refl ∙ going.unsettled) ∙ settling-all (firing_hand task had fired cuts) settles ∙ whole));
-      count = rw (shots_are, append-nil cuts) (omega (arith, st.count, length-push past s, hand-length task had fired cuts, ap (λ ys. length (cuts_of ys)) going.unfired));
+      count = rw (shots_are, append-nil cuts) (omega (arith, st.count, length_push past s, hand-length task had fired cuts, ap (λ ys. length (cuts_of ys)) going.unfired));
     }
 
 commit_step : (plan : ClaimPlan) (task : TaskId) (past : List Step) (had : List Had) (answer : MaybeReply) → Stands plan task past [] (claiming [] had) None → may_come dues.Commit answer ≡ true → StandsAt plan task (past ++ step_at (claim_ask plan task [] had) answer ∷ []) (after (between plan task [] (claiming [] had) None) answer)
@@ -391,7 +389,7 @@ owing_on task past s more (outcomes.Fired waiting dropped) is got at shot = ((is
 settled_on : (plan : ClaimPlan) (task : TaskId) (past : List Step) (s : Step) (more : List Asked) (phase : Phase) (outcome : Outcome) → Stands plan task past (s.asked ∷ more) phase (Some outcome) → got_in s ≡ [] → booked_in s ≡ [] → shot_in s ≡ [] → Stands plan task (past ++ s ∷ []) more phase (Some outcome)
 settled_on plan task past s more phase outcome st got at shot = record {
   rest = (st.rest.0.1, owing_on task past s more outcome st.rest.1 got at shot);
-  count = rw (none_more shot_in past s shot) (omega (arith, st.count, length-push past s));
+  count = rw (none_more shot_in past s shot) (omega (arith, st.count, length_push past s));
 }
 
 -- which task the put dropped changes nothing

@@ -4,7 +4,7 @@ use Rattle.std.specs.Prelude.{◌==◌, codes, if◌then◌else◌}
 use Rattle.ccr_wiring.specs.declared.parts.Parts.{Parts}
 use Rattle.ccr_model.specs.declared.history.Event.{Event}
 use Rattle.ccr_model.specs.Legal.{IsLegal, IsQuiet, has_shed, is_complete}
-use Rattle.ccr_model.proofs.Booleans.{eq-self}
+use Rattle.ccr_base.proofs.Booleans.{eq-self}
 use Rattle.ccr_trace.specs.declared.reading.ReadHistory.{ReadHistory}
 use Rattle.ccr_trace.specs.HistoryText.{history_text}
 use Rattle.ccr_trace.specs.Reading.{reading, reading_lines}

@@ -1,11 +1,13 @@
 -- What is found of an output is found once.
 use Rattle.std.proofs.Common.{◌≡◌, ℕ, ◌+◌, ◌<◌, ◌≤◌, false, Bool, List, [], ◌∷◌, ◌++◌, length, Option, Some, None, Result, Ok, Err, refl, sym, subst, ap, arith}
 use Rattle.std.specs.Option.{option_map_or}
+use Rattle.ccr_base.proofs.Options.{no_some}
 use Rattle.ccr_wiring.specs.declared.parts.Parts.{Parts}
 use Rattle.ccr_model.specs.declared.history.Event.{Event}
 use Rattle.ccr_model.specs.declared.rule.Rule.{Rule}
 use Rattle.ccr_model.specs.Rules.{refusal}
-use Rattle.ccr_model.specs.Legal.{IsLegalAfter, first_refusal}
+use Rattle.ccr_model.specs.Legal.{first_refusal}
+use Rattle.ccr_model.proofs.LegalParts.{first_refusal-legal}
 use Rattle.ccr_trace.specs.declared.reading.ReadHistory.{ReadHistory}
 use Rattle.ccr_trace.proofs.Outcomes.{lines_of, rest_of}
 use Rattle.ccr_telling.specs.declared.judging.LegalText.{LegalText}
@@ -22,12 +24,6 @@ use Rattle.ccr_commands.specs.Findings.{IsLegalOutput, difference, IsFound, Veri
 -- what the first refusal is, where the rule that refuses the first event is this, if any
 abbrev first_or : Option Rule → ℕ → Option (ℕ × Rule) → Option (ℕ × Rule)
 first_or answer index later = elim answer [ None ↦ later | Some rule ↦ Some (index, rule) ]
-
--- no event of a legal history is refused
-pub none_refused : (wiring : Parts) (past : List Event) (index : ℕ) (events : List Event) → IsLegalAfter wiring past events → first_refusal wiring past index events ≡ None
-none_refused wiring past index [] legal = refl
-none_refused wiring past index (event ∷ events) legal =
-    subst (λ (answer : Option Rule). first_or answer index (first_refusal wiring (past ++ event ∷ []) (index + 1) events) ≡ None) (sym legal.0) (none_refused wiring (past ++ event ∷ []) (index + 1) events legal.1)
 
 bounded : (answer : Option Rule) (later : Option (ℕ × Rule)) (index bound at : ℕ) (rule : Rule) → (later ≡ Some (at, rule) → at < bound) → index < bound → first_or answer index later ≡ Some (at, rule) → at < bound
 bounded None later index bound at rule within here is = within is
@@ -47,21 +43,18 @@ unread read one line code ok err = cc
 same_read : (read : Result ReadHistory (ℕ × ℕ)) (one other : ReadHistory) → read ≡ Ok one → read ≡ Ok other → one ≡ other
 same_read read one other ok again = cc
 
-none_some : {A : Type 0} (o : Option A) (x : A) → o ≡ None → o ≡ Some x → ⊥
-none_some o x none some = cc
-
 -- where an output is legal and nothing differs, no fault is found
 no_fault : (wiring : Parts) (before : ℕ) (output : List ℕ) (read : ReadHistory) (finding : Finding) → IsLegalOutput wiring before output read → difference wiring before output read ≡ None → IsFound wiring before output finding → is_fault finding ≡ false
 no_fault wiring before output read (Legal complete quiet) legal same found = refl
 no_fault wiring before output read (Malformed line code) legal same found = absurd (unread _ read line code legal.reads found)
 no_fault wiring before output read (Illegal line rule) legal same found =
     let one : found.0 ≡ read = same_read _ found.0 read found.2 legal.reads in
-    let none : first_refusal wiring [] 0 found.0.history ≡ None = subst (λ (r : ReadHistory). first_refusal wiring [] 0 r.history ≡ None) (sym one) (none_refused wiring [] 0 read.history legal.legal) in
-    absurd (none_some _ (found.1, rule) none found.3)
+    let none : first_refusal wiring [] 0 found.0.history ≡ None = subst (λ (r : ReadHistory). first_refusal wiring [] 0 r.history ≡ None) (sym one) (first_refusal-legal wiring [] 0 read.history legal.legal) in
+    absurd (no_some _ (found.1, rule) none found.3)
 no_fault wiring before output read (Misreported line) legal same found =
     let one : found.0 ≡ read = same_read _ found.0 read found.1.reads legal.reads in
     let none : difference wiring before output found.0 ≡ None = subst (λ (r : ReadHistory). difference wiring before output r ≡ None) (sym one) same in
-    absurd (none_some _ line none found.2)
+    absurd (no_some _ line none found.2)
 
 -- a legal output has no fault
 pub no_fault_beside : (wiring : Parts) (before : ℕ) (output : List ℕ) (complete quiet : Bool) (finding : Finding) → IsFound wiring before output (Legal complete quiet) → IsFound wiring before output finding → is_fault finding ≡ false

@@ -26,10 +26,10 @@ use Rattle.ccr_model.specs.Posts.{held, post_of, posts}
 use Rattle.ccr_model.specs.Rules.{ends_so, may_end}
 use Rattle.ccr_model.specs.TaskData.{play_of}
 use Rattle.ccr_model.specs.Tasks.{has_post_left, running}
-use Rattle.ccr_model.proofs.Booleans.{both}
+use Rattle.ccr_base.proofs.Booleans.{both}
 use Rattle.ccr_model.proofs.LegalParts.{along_legal, legal_push}
 use Rattle.ccr_model.proofs.Members.{Among, Among-right}
-use Rattle.ccr_model.proofs.Options.{some_of}
+use Rattle.ccr_base.proofs.Options.{some_of}
 use Rattle.ccr_model.proofs.PostNames.{refused_not}
 use Rattle.ccr_model.proofs.Pushes.{posts-push}
 use Rattle.ccr_model.proofs.TakenOnce.{FireFacts-allowed}

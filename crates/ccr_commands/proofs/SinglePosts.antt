@@ -30,9 +30,9 @@ use Rattle.ccr_model.specs.Rules.{is_play_post, is_post, is_script_line, refusal
 use Rattle.ccr_model.specs.Sites.{before, is_firing_of, resumed}
 use Rattle.ccr_model.specs.TaskData.{Load, load_after, load_at, messages_of, no_load, no_play, play_at, play_of, with_messages}
 use Rattle.ccr_model.specs.Tasks.{running}
-use Rattle.ccr_model.proofs.Booleans.{both, neither}
+use Rattle.ccr_base.proofs.Booleans.{both, neither}
 use Rattle.ccr_model.proofs.Members.{Among, Among-at, Among-either, Among-left, Among-right}
-use Rattle.ccr_model.proofs.Options.{some_of, some_then}
+use Rattle.ccr_base.proofs.Options.{some_of, some_then}
 use Rattle.ccr_model.proofs.PostNames.{along, refused_not}
 use Rattle.ccr_model.proofs.Pushes.{posts-push}
 use Rattle.ccr_trace.specs.Values.{IsSingle}

@@ -18,8 +18,8 @@ use Rattle.ccr_wiring.specs.Wirings.{Placement, placement, site_port}
 use Rattle.ccr_model.specs.declared.history.Event.{Event}
 use Rattle.ccr_model.specs.Choice.{are_first, are_oldest, are_split, choice_of_slots, is_choice, is_choice_of, names_of}
 use Rattle.ccr_model.specs.Posts.{held}
-use Rattle.ccr_model.proofs.Booleans.{both, same_number}
-use Rattle.ccr_model.proofs.Options.{some_of}
+use Rattle.ccr_base.proofs.Booleans.{both, same_number}
+use Rattle.ccr_base.proofs.Options.{some_of}
 use Rattle.ccr_model.proofs.TakenOnce.{joined_some}
 
 same_length : (names others : List MsgId) → same_lists same_message names others ≡ true → length names ≡ length others

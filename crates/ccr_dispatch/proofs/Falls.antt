@@ -1,5 +1,5 @@
 -- What an actor has still to do falls with each step.
-use Rattle.std.proofs.Common.{◌≡◌, ◌<◌, ◌≤◌, ℕ, suc, ◌+◌, ◌-◌, ◌*◌, ◌^◌, Bool, true, false, List, [], ◌∷◌, ◌++◌, length, map, filter, fold, reverse, Option, Some, None, refl, sym, ap, subst, cond, arith}
+use Rattle.std.proofs.Common.{◌≡◌, ◌<◌, ◌≤◌, ℕ, suc, ◌+◌, ◌-◌, ◌*◌, ◌^◌, Bool, true, false, List, [], ◌∷◌, ◌++◌, length, map, fold, reverse, Option, Some, None, refl, sym, ap, subst, cond, arith}
 use Rattle.std.specs.Prelude.{nat_lt, nat_le, ◌==◌, ◌&&◌, ◌||◌, not}
 use Rattle.std.specs.List.{list_any}
 use Rattle.std.specs.Option.{option_map_or}
@@ -15,6 +15,7 @@ use Rattle.ccr_base.specs.declared.policies.Policy.{Policy}
 use Rattle.ccr_base.specs.declared.policies.Policy.TheVariants as policies
 use Rattle.ccr_base.specs.declared.tasks.Cut.{Cut}
 use Rattle.ccr_base.specs.declared.tasks.Task.{Task}
+use Rattle.ccr_base.proofs.Filters.{length-kept}
 use Rattle.ccr_handler.specs.declared.segments.Play.{Play}
 use Rattle.ccr_handler.specs.declared.segments.PlayEnd.{PlayEnd}
 use Rattle.ccr_handler.specs.declared.segments.PlayEnd.TheVariants as plays
@@ -33,6 +34,7 @@ use Rattle.ccr_claim.specs.declared.plan.Had.{Had}
 use Rattle.ccr_claim.specs.Asks.{due_of, fits}
 use Rattle.ccr_claim.specs.Plans.{slots_in, gather_slots, insert_slot, narrowed}
 use Rattle.ccr_claim.specs.Attempts.{Phase, booking, claiming, had_in, attempt_ask, claimed, release, firing_hand, free_ask, consume_ask, unbook_ask, cut_ask, put_asks}
+use Rattle.ccr_claim.proofs.Settled.{narrowed-length}
 use Rattle.ccr_wiring.specs.Takers.{spots_at, takes_from, is_for}
 use Rattle.ccr_actor.specs.Plans.{plan_of, one_of, no_pattern, throttled, is_interleave_number}
 use Rattle.ccr_actor.specs.Actors.{State, Work, lines, round, taking, playing, posting, shedding, resting, spots_left, work_ask, name_at, add_arbiter, admit_too, settled, strike, after_admit, give_up, driven_on, fire, after_attempt, after_work, after_line, after_round, after_take, after_play, after_end, after_over, take_from}
@@ -47,14 +49,6 @@ Fitting (Some one) reply = fits (due_of one.ask) reply ≡ true
 cond-length : {A : Type 0} (b : Bool) (xs : List A) → length (cond b xs []) ≤ length xs
 cond-length true xs = omega arith
 cond-length false xs = omega arith
-
-filter-length : {A : Type 0} (p : A → Bool) (xs : List A) → length (filter p xs) ≤ length xs
-filter-length p [] = omega arith
-filter-length p (x ∷ xs) = by-test (p x) x (filter p xs) (length xs) (filter-length p xs)
-  where
-    by-test : {A : Type 0} (b : Bool) (x : A) (ys : List A) (n : ℕ) → length ys ≤ n → length (cond b (x ∷ ys) ys) ≤ suc n
-    by-test true x ys n few = omega (arith, few)
-    by-test false x ys n few = omega (arith, few)
 
 -- ---- the slots of a plan
 
@@ -90,11 +84,6 @@ one-at (Some port) = omega arith
 few_slots : (wiring : Parts) (spot : Spot) → IsValid wiring → length (slots_in (plan_of wiring spot).pattern) ≤ 8
 few_slots wiring (Branch branch) valid = few-at wiring branch (placement wiring branch) valid refl
 few_slots wiring (Site branch site) valid = one-at (site_port wiring branch site)
-
-narrowed-length : (pattern : Pattern) (got : ℕ) (slots : List Slot) → length (narrowed pattern got slots) ≡ length slots
-narrowed-length (Slots all) got slots = refl
-narrowed-length (Gather total first second) got [] = refl
-narrowed-length (Gather total first second) got (slot ∷ slots) = refl
 
 -- ---- puts
 
@@ -285,7 +274,7 @@ calm-from wiring state left queue (part ∷ parts) is = record { driven = is.dri
 throttled-few : (wiring : Parts) (queue : ℕ) (policy : Policy) → length (throttled wiring queue policy) ≤ length (spots wiring)
 throttled-few wiring queue policies.Unbounded = omega arith
 throttled-few wiring queue (policies.Discard n) = omega arith
-throttled-few wiring queue (policies.Throttle n) = filter-length (is_for wiring queue) (spots wiring)
+throttled-few wiring queue (policies.Throttle n) = length-kept (is_for wiring queue) (spots wiring)
 
 -- a drive of these spots
 calm-spots : (wiring : Parts) (b : Bool) (front : List Spot) (n : ℕ) → length front ≤ n → length (cond b front []) ≤ n
@@ -341,7 +330,7 @@ calm-play wiring state task place play (sent ∷ posts) replies.Spent at is = re
 calm-play wiring state task place play (sent ∷ posts) (replies.Left n) at is = record { driven = is.driven; phase = is.phase; hand = is.hand; arbiters = is.arbiters }
 
 calm-at : (wiring : Parts) (state : State) (port : ℕ) → length (spots_left (record state { spots = spots_at wiring port })) ≤ length (spots wiring) + 1
-calm-at wiring state port = (let few = filter-length (takes_from wiring port) (spots wiring) in calm-spots wiring (nat_lt state.attempt (2 ^ 32)) (spots_at wiring port) (length (spots wiring) + 1) (omega (arith, few)))
+calm-at wiring state port = (let few = length-kept (takes_from wiring port) (spots wiring) in calm-spots wiring (nat_lt state.attempt (2 ^ 32)) (spots_at wiring port) (length (spots wiring) + 1) (omega (arith, few)))
 
 calm-line : (wiring : Parts) (state : State) (place : ℕ) (sents : List Sent) → IsCalm wiring state → IsCalm wiring (after_line wiring state place sents)
 calm-line wiring state place [] is = record { driven = is.driven; phase = is.phase; hand = is.hand; arbiters = is.arbiters }

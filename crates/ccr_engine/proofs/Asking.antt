@@ -5,8 +5,8 @@ use Rattle.std.specs.List.{slice_get}
 use Rattle.std.specs.Option.{option_or}
 use Rattle.std.proofs.lemmas.Bool.Decides.{nat_tests}
 use Rattle.ccr_model.specs.declared.history.Event.{Event}
-use Rattle.ccr_model.proofs.Booleans.{neither}
-use Rattle.ccr_model.proofs.Options.{no_head}
+use Rattle.ccr_base.proofs.Booleans.{neither}
+use Rattle.ccr_base.proofs.Options.{no_head}
 use Rattle.ccr_engine.specs.Ready.{has_number, IsLeast}
 use Rattle.ccr_engine.specs.Numbered.{Gains, IsNoneBut}
 

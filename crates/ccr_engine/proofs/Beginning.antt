@@ -16,7 +16,7 @@ use Rattle.ccr_wiring.specs.Valid.{IsValid}
 use Rattle.ccr_model.specs.Posts.{held}
 use Rattle.ccr_model.specs.Live.{is_live_in}
 use Rattle.ccr_model.specs.Enough.{has_enough}
-use Rattle.ccr_model.proofs.Booleans.{and_false}
+use Rattle.ccr_base.proofs.Booleans.{and_false}
 use Rattle.ccr_laws.specs.Potential.{takes_some}
 use Rattle.ccr_laws.proofs.Valid.{TakesSome-valid}
 use Rattle.ccr_engine.specs.Cursor.{could_fire}

@@ -26,12 +26,12 @@ use Rattle.ccr_model.specs.Tasks.{is_interleave, is_teardown, is_concurrent, is_
 use Rattle.ccr_model.specs.Legal.{IsAllowed, IsLegal}
 use Rattle.ccr_model.proofs.Allowing.{OneName-legal}
 use Rattle.ccr_model.proofs.Alone.{ever_admitted_fired}
-use Rattle.ccr_model.proofs.Booleans.{both, neither, refuted, no_both, or_left, or_right, and_false, same_number, eq-self}
+use Rattle.ccr_base.proofs.Booleans.{both, neither, refuted, no_both, or_left, or_right, and_false, same_number, eq-self, eq_turned}
 use Rattle.ccr_model.proofs.Cutting.{fired_by-append}
 use Rattle.ccr_model.proofs.Ending.{RunningFacts-allowed}
 use Rattle.ccr_model.proofs.FiredTasks.{IsFired, placement_fired, placement_stays}
 use Rattle.ccr_model.proofs.FiringFacts.{FiresSo-allowed, WaitingFacts-waiting, BranchFacts-where}
-use Rattle.ccr_model.proofs.Options.{some_of}
+use Rattle.ccr_base.proofs.Options.{some_of}
 use Rattle.ccr_model.proofs.PostNames.{refused_not}
 use Rattle.ccr_model.proofs.Pushes.{ever_admitted-push, cut-push}
 use Rattle.ccr_model.proofs.Roots.{placement_of_root}
@@ -42,7 +42,6 @@ use Rattle.ccr_model.proofs.TaskPlaces.{ArePlaced-legal, placement_by, new_drop}
 use Rattle.ccr_ledger.proofs.Admissions.{over-other, over-last}
 use Rattle.ccr_engine.specs.Cursor.{admission}
 use Rattle.ccr_engine.specs.Touched.{fires_for, touches_domain}
-use Rattle.ccr_ledger.proofs.PortsLeft.{turned}
 
 -- over plain lists: more go, none of whom was left
 without_more : (ts a more b others : List TaskId) → ((u : TaskId) → has_task (without ts (a ++ b)) u ≡ true → has_task more u || has_task others u ≡ false) → without ts ((a ++ more) ++ (b ++ others)) ≡ without ts (a ++ b)
@@ -82,7 +81,7 @@ none_comes w (Fire t (Branch n) ms cs) d none = of_placement (placement w n) non
   where
     of_placement : (o : Option Placement) → option_map_or (λ (s : Placement). d == s.domain) o false ≡ false → map (λ (f : Firing). f.task) (if option_map_or (is_placement_in d) o false then record { task = t; spot = Branch n; messages = ms; cuts = cs } ∷ [] else []) ≡ []
     of_placement None none = refl
-    of_placement (Some s) none = rw (turned d s.domain none, and_false (is_interleave s.kind)) refl
+    of_placement (Some s) none = rw (eq_turned d s.domain none, and_false (is_interleave s.kind)) refl
 
 module _ (w : Parts) (h : List Event) (legal : IsLegal w h) where
   -- who waits in a domain fired, and is of it

@@ -13,7 +13,7 @@ use Rattle.ccr_model.specs.Legal.{IsAllowed, IsLegal, IsQuiet, has_shed, are_who
 use Rattle.ccr_model.specs.Order.{first, post_from, script_post, fire_from, admit_from, put_first, run_task}
 use Rattle.ccr_model.proofs.Allowing.{first_allowed}
 use Rattle.ccr_model.proofs.Covered.{IsCovered-legal}
-use Rattle.ccr_model.proofs.Options.{none_or, none_map, no_head, none-above}
+use Rattle.ccr_base.proofs.Options.{none_or, none_map, no_head, none-above}
 use Rattle.ccr_laws.proofs.Lines.{ArePosted-legal}
 
 -- no script has a line left, and no task runs

@@ -12,9 +12,9 @@ use Rattle.ccr_model.specs.declared.history.Event.TheVariants.{Post, Fire, Admit
 use Rattle.ccr_model.specs.Firings.{put, put_by, started, started_by, dropped, dropped_by}
 use Rattle.ccr_model.specs.Tasks.{is_for_queue, queued}
 use Rattle.ccr_model.specs.Legal.{IsAllowed, IsLegal}
-use Rattle.ccr_model.proofs.Booleans.{neither, no_both}
+use Rattle.ccr_base.proofs.Booleans.{neither, no_both}
 use Rattle.ccr_model.proofs.FiredTasks.{IsFired, placement_stays}
-use Rattle.ccr_model.proofs.Options.{no_head, none_map}
+use Rattle.ccr_base.proofs.Options.{no_head, none_map}
 use Rattle.ccr_model.proofs.Pushes.{put-push, started-push, dropped-push}
 use Rattle.ccr_model.proofs.TasksLeft.{out_left}
 use Rattle.ccr_model.proofs.TaskLists.{to_filter, to_without, has_oldest, of_more, not_more, of_one}

@@ -4,7 +4,7 @@ use Rattle.std.specs.Prelude.{◌==◌, if◌then◌else◌, option_map}
 use Rattle.std.specs.Option.{option_map_or}
 use Rattle.std.specs.List.{slice_get, list_any}
 use Rattle.std.proofs.lemmas.Bool.Decides.{nat_tests}
-use Rattle.ccr_model.proofs.Booleans.{neither}
+use Rattle.ccr_base.proofs.Booleans.{neither}
 use Rattle.ccr_engine.specs.Numbered.{passes_at}
 use Rattle.ccr_engine.specs.Indices.{first_index}
 

@@ -1,5 +1,5 @@
 -- What sets of numbers gain.
-use Rattle.std.proofs.Common.{◌≡◌, ◌∙◌, ℕ, zero, suc, ◌+◌, ◌<◌, ◌≤◌, Bool, true, false, ◌||◌, List, [], ◌∷◌, ◌++◌, length, take, Option, None, Some, Result, Ok, Err, refl, ap, arith}
+use Rattle.std.proofs.Common.{◌≡◌, ◌∙◌, ℕ, zero, suc, ◌+◌, ◌<◌, Bool, true, false, ◌||◌, List, [], ◌∷◌, ◌++◌, length, take, Option, None, Some, Result, Ok, Err, refl, ap, arith}
 use Rattle.std.specs.Prelude.{◌==◌, OnOk}
 use Rattle.std.specs.List.{slice_get, list_any}
 use Rattle.std.specs.Option.{option_map_or}
@@ -39,12 +39,6 @@ has-more (y ∷ xs) x n = of_test (y == n) (has-more xs x n)
     of_test : (a : Bool) → has_number (xs ++ x ∷ []) n ≡ has_number xs n || (n == x) → a || has_number (xs ++ x ∷ []) n ≡ (a || has_number xs n) || (n == x)
     of_test true rest = refl
     of_test false rest = rest
-
-pub take-all : {X : Type 0} (xs : List X) (i : ℕ) → length xs ≤ i → take i xs ≡ xs
-take-all [] zero all = refl
-take-all [] (suc i) all = refl
-take-all (x ∷ xs) zero all = absurd (omega (arith, all))
-take-all (x ∷ xs) (suc i) all = ap (λ ys. x ∷ ys) (take-all xs i (omega (arith, all)))
 
 -- the item at an index is read
 pub read : {T : Type 0} (ss xs : List T) (i : ℕ) (d : T) → ss ≡ xs → i < length ss → slice_get xs i ≡ Some (get_or ss i d)

@@ -1,25 +1,22 @@
 -- Which tasks may be put after each event.
-use Rattle.std.proofs.Common.{◌≡◌, ◌∙◌, ℕ, Bool, true, false, not, ◌&&◌, ◌||◌, List, [], ◌∷◌, ◌++◌, Option, None, Some, refl, sym, subst, arith, append-nil}
-use Rattle.std.specs.Prelude.{if◌then◌else◌}
+use Rattle.std.proofs.Common.{◌≡◌, ◌∙◌, ℕ, Bool, true, false, not, ◌&&◌, ◌||◌, List, [], ◌∷◌, ◌++◌, Option, refl, sym, subst, arith, append-nil}
 use Rattle.std.specs.Option.{option_map_or}
 use Rattle.std.proofs.lemmas.Grind.{common_steps}
 use Rattle.ccr_base.specs.declared.names.TaskId.{TaskId}
 use Rattle.ccr_base.specs.declared.names.MsgId.{MsgId}
 use Rattle.ccr_base.specs.declared.names.Spot.{Spot}
-use Rattle.ccr_base.specs.declared.names.Spot.TheVariants.{Branch, Site}
 use Rattle.ccr_base.specs.Names.{same_task, has_task}
 use Rattle.ccr_wiring.specs.declared.parts.Parts.{Parts}
-use Rattle.ccr_wiring.specs.Wirings.{Placement, placement}
 use Rattle.ccr_model.specs.declared.history.Event.{Event}
 use Rattle.ccr_model.specs.declared.history.Event.TheVariants.{Post, Fire, Admit, Put, Start, End}
 use Rattle.ccr_model.specs.Firings.{firing_of, fired, cut, put, put_by, ever_admitted, admitted_by, spot_of}
 use Rattle.ccr_model.specs.Rules.{may_put, cuts_at, needs_no_admission}
-use Rattle.ccr_model.specs.Tasks.{waiting, is_teardown}
+use Rattle.ccr_model.specs.Tasks.{waiting}
 use Rattle.ccr_model.specs.Legal.{IsAllowed, IsLegal}
 use Rattle.ccr_model.proofs.Pushes.{put-push, cut-push, ever_admitted-push, fired-fire}
 use Rattle.ccr_model.proofs.TasksLeft.{has_task-append}
 use Rattle.ccr_model.proofs.TaskSteps.{firing_named-fire}
-use Rattle.ccr_model.proofs.Booleans.{refuted, no_both, and_false}
+use Rattle.ccr_base.proofs.Booleans.{refuted, no_both, and_false}
 use Rattle.ccr_model.proofs.SameNames.{same_task-is, same_task-self}
 use Rattle.ccr_model.proofs.FiredTasks.{fired_has}
 use Rattle.ccr_model.proofs.LegalParts.{along_legal}
@@ -28,7 +25,7 @@ use Rattle.ccr_model.proofs.TaskLists.{of_more, among_left}
 use Rattle.ccr_model.proofs.Allowing.{OneName-legal}
 use Rattle.ccr_model.proofs.TaskPlaces.{ArePlaced-legal}
 use Rattle.ccr_model.proofs.FiringFacts.{FiresSo, FiresSo-allowed, firing_named-new, firings-other, WaitingFacts, WaitingFacts-waiting, waits_outside}
-use Rattle.ccr_model.proofs.Cutting.{AdmitFacts, AdmitFacts-allowed, CutFacts-legal, waits_unput}
+use Rattle.ccr_model.proofs.Cutting.{AdmitFacts, AdmitFacts-allowed, CutFacts-legal, waits_unput, cuts_wait}
 
 -- a task that fired before a new one isn't it
 pub other_task : (h : List Event) (t u : TaskId) → has_task (fired h) t ≡ false → has_task (fired h) u ≡ true → same_task t u ≡ false
@@ -37,19 +34,6 @@ other_task h t u new among = refuted (same_task t u) (λ is. (let one : t ≡ u 
 -- a waiting task may not be put
 waits_not : (w : Parts) (h : List Event) (i : ℕ) (u : TaskId) → WaitingFacts w h i u → may_put w h u ≡ false
 waits_not w h i u waits = rw (waits.is_firing, waits_outside w h i u waits) (and_false (not (has_task (put h) u) && not (has_task (cut h) u)))
-
--- who is cut waited
-cuts_wait : (w : Parts) (h : List Event) (s : Spot) (u : TaskId) → has_task (cuts_at w h s) u ≡ true → (i : ℕ) × (has_task (waiting w h i) u ≡ true)
-cuts_wait w h (Site b k) u among = absurd (cc)
-cuts_wait w h (Branch b) u among = of_option (placement w b) among
-  where
-    of_test : (z : Placement) (c : Bool) → has_task (if c then waiting w h z.domain else []) u ≡ true → (i : ℕ) × (has_task (waiting w h i) u ≡ true)
-    of_test z true is = (z.domain, is)
-    of_test z false is = absurd (cc)
-
-    of_option : (o : Option Placement) → has_task (option_map_or (λ (z : Placement). if is_teardown z.branch.group then waiting w h z.domain else []) o []) u ≡ true → (i : ℕ) × (has_task (waiting w h i) u ≡ true)
-    of_option None is = absurd (cc)
-    of_option (Some z) is = of_test z (is_teardown z.branch.group) is
 
 -- over plain tests: one more is cut, who could not be put
 cut_more : (a b c d : Bool) → (c ≡ true → a && not b && d ≡ false) → a && not (b || c) && d ≡ a && not b && d

@@ -3,7 +3,7 @@ use Rattle.std.proofs.Common.{◌≡◌, ◌∙◌, ℕ, zero, suc, ◌+◌, ◌
 use Rattle.std.specs.Prelude.{◌==◌, if◌then◌else◌, slice_set}
 use Rattle.std.specs.List.{slice_get, list_any}
 use Rattle.std.proofs.Math.ListN.{get_or}
-use Rattle.std.proofs.Math.Bool.{or-false}
+use Rattle.std.proofs.Math.Bool.{or-false, and-true}
 use Rattle.std.proofs.lemmas.Bool.Decides.{nat_tests}
 use Rattle.std.proofs.lemmas.List.Folds.{list_any-append}
 use Rattle.std.proofs.lemmas.Option.{slice_get-get_or}
@@ -11,9 +11,9 @@ use Rattle.ccr_base.specs.declared.patterns.Slot.{Slot}
 use Rattle.ccr_base.specs.declared.names.Spot.{Spot}
 use Rattle.ccr_base.specs.declared.names.Spot.TheVariants.{Branch, Site}
 use Rattle.ccr_wiring.specs.declared.parts.Parts.{Parts}
-use Rattle.ccr_model.proofs.Booleans.{and_false}
+use Rattle.ccr_base.proofs.Booleans.{and_false}
 use Rattle.ccr_model.proofs.ListParts.{take_more}
-use Rattle.ccr_model.proofs.Options.{none-above, some-below}
+use Rattle.ccr_base.proofs.Options.{none-above, some-below}
 use Rattle.ccr_engine.specs.Ready.{has_number}
 use Rattle.ccr_engine.specs.Numbered.{AreIndices}
 use Rattle.ccr_engine.specs.Indices.{takes_from, list_at, IsNoted, AreListed, branch_indices, AreKeyed}
@@ -28,10 +28,6 @@ set_at (other ∷ lists) zero (suc n) list low = grind (arith, nat_tests)
 set_at (other ∷ lists) (suc k) zero list low = grind (arith, nat_tests)
 set_at (other ∷ lists) (suc k) (suc n) list low = set_at lists k n list (omega (arith, low)) ∙ grind (arith, nat_tests)
 
-and_true : (a : Bool) → a && true ≡ a
-and_true true = refl
-and_true false = refl
-
 -- the index at the end of the list of one number
 pub noted_one : (lists : List (Vec ℕ Global)) (k index : ℕ) (d now : Vec ℕ Global) → k < length lists → now.items ≡ (get_or lists k d).items ++ index ∷ [] → IsNoted (λ n. n == k) index lists (slice_set lists k now)
 noted_one lists k index d now within more = record {
@@ -45,7 +41,7 @@ noted_one lists k index d now within more = record {
     of_test : (n other : ℕ) (b : Bool) → (n == k) ≡ b → has_number (if b then now.items else list_at lists n) other ≡ has_number (list_at lists n) other || ((other == index) && b)
     of_test n other true same =
         let one : n ≡ k = grind (arith, nat_tests, same) in
-        rw (one, was, more, and_true (other == index)) (has-more (get_or lists k d).items index other)
+        rw (one, was, more, and-true (other == index)) (has-more (get_or lists k d).items index other)
     of_test n other false differs = rw (and_false (other == index)) (sym (or-false (has_number (list_at lists n) other)))
 
 -- into no list

@@ -9,7 +9,7 @@ use Rattle.std.specs.List.Sorted.{IsStrictlySortedBy}
 use Rattle.std.specs.BTreeMap.{is_at}
 use Rattle.std.specs.BTreeSet as sorted
 use Rattle.std.proofs.lemmas.Bool.Decides.{nat_tests}
-use Rattle.ccr_model.proofs.Booleans.{or_left, eq-self}
+use Rattle.ccr_base.proofs.Booleans.{or_left, eq-self, above_differs}
 use Rattle.ccr_engine.specs.Ready.{has_number, IsLeast, IsLeastFirst}
 
 same_number : (q m : ℕ) → is_at (nat_cmp q) m ≡ (m == q)
@@ -40,13 +40,10 @@ left s n k updates q =
 less_than : (x y : ℕ) → nat_cmp x y ≡ Less → x < y
 less_than x y is = grind (arith, nat_tests, is)
 
-apart : (x q : ℕ) → q < x → (x == q) ≡ false
-apart x q low = grind (arith, nat_tests, low)
-
 none_below : (x q : ℕ) (ks : List ℕ) → AllByRecursion (λ y. nat_cmp x y ≡ Less) ks → q < x → has_number ks q ≡ false
 none_below x q [] above low = refl
 none_below x q (y ∷ ks) above low =
-    let here : (y == q) ≡ false = apart y q (omega (arith, low, less_than x y above.0)) in
+    let here : (y == q) ≡ false = above_differs y q (omega (arith, low, less_than x y above.0)) in
     rw here (none_below x q ks above.1 low)
 
 -- where the numbers ascend the first is the least
@@ -57,5 +54,5 @@ least_first (x ∷ ks) ascends n at =
     let one : x ≡ n = cc in
     subst (IsLeast (x ∷ ks)) one (record {
       among = or_left (x == x) (has_number ks x) (eq-self x);
-      low = λ q less. rw (apart x q less) (none_below x q ks ascends.0 less);
+      low = λ q less. rw (above_differs x q less) (none_below x q ks ascends.0 less);
     })

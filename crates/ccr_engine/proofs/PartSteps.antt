@@ -13,8 +13,8 @@ use Rattle.ccr_wiring.specs.declared.parts.ArbiterPart.{ArbiterPart}
 use Rattle.ccr_wiring.specs.declared.parts.QueuePart.{QueuePart}
 use Rattle.ccr_model.specs.declared.history.Event.{Event}
 use Rattle.ccr_model.specs.Order.{script_post}
-use Rattle.ccr_model.proofs.Booleans.{both, neither}
-use Rattle.ccr_model.proofs.Options.{none-above, none_map}
+use Rattle.ccr_base.proofs.Booleans.{both, neither}
+use Rattle.ccr_base.proofs.Options.{none-above, none_map}
 use Rattle.ccr_ledger.specs.Books.{Books, number}
 use Rattle.ccr_engine.specs.Parts.{admission_in, are_done_in, fire_in, first_admit_in, first_fire_in, line_in, post_in, fires_in, start_at_in, start_in}
 use Rattle.ccr_engine.specs.Ready.{IsLeast}

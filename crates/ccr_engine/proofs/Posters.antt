@@ -10,7 +10,7 @@ use Rattle.ccr_model.specs.declared.history.Event.{Event}
 use Rattle.ccr_model.specs.Posts.{posts, post_of, is_script_of, posts_of_poster}
 use Rattle.ccr_model.specs.Order.{post_from}
 use Rattle.ccr_model.proofs.Pushes.{posts-push}
-use Rattle.ccr_model.proofs.Booleans.{both}
+use Rattle.ccr_base.proofs.Booleans.{both}
 use Rattle.ccr_engine.specs.Cursor.{are_done}
 
 more_kept : {X : Type 0} (p : X → Bool) (xs ys : List X) → length (filter p xs) ≤ length (filter p (xs ++ ys))

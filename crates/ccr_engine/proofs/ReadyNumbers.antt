@@ -4,6 +4,7 @@ use Rattle.std.specs.Prelude.{◌==◌, find}
 use Rattle.std.specs.List.{slice_get}
 use Rattle.std.specs.Option.{option_map_or}
 use Rattle.std.proofs.lemmas.Bool.Decides.{nat_tests}
+use Rattle.std.proofs.Math.Bool.{or-false}
 use Rattle.ccr_base.specs.declared.names.TaskId.{TaskId}
 use Rattle.ccr_base.specs.declared.names.MsgId.{MsgId}
 use Rattle.ccr_base.specs.declared.names.Spot.{Spot}
@@ -17,8 +18,8 @@ use Rattle.ccr_model.specs.Legal.{IsAllowed, IsLegal}
 use Rattle.ccr_model.specs.Consequences.{are_distinct_tasks}
 use Rattle.ccr_model.proofs.Pushes.{fired-fire}
 use Rattle.ccr_model.proofs.SameNames.{same_task-is, same_task-self}
-use Rattle.ccr_model.proofs.Booleans.{both, not_true, refuted, no_both, or_left, or_right}
-use Rattle.ccr_model.proofs.Options.{some-below, none-above}
+use Rattle.ccr_base.proofs.Booleans.{both, not_true, refuted, no_both, or_left, or_right}
+use Rattle.ccr_base.proofs.Options.{some-below, none-above}
 use Rattle.ccr_model.proofs.FiringFacts.{firings-other}
 use Rattle.ccr_model.proofs.TasksOnce.{fired_once}
 use Rattle.ccr_engine.specs.Ready.{has_number, AreReady, IsLeast}
@@ -102,11 +103,7 @@ pub ready-fire : (w : Parts) (h : List Event) (t : TaskId) (s : Spot) (ms : List
 ready-fire w h t s ms cs old new legal allowed known changed n = rw (fired-fire, changed n, known n) (over (fired h) (may_put w h) (may_put w (h ++ Fire t s ms cs ∷ [])) n (λ u among. may_put-fire w h t s ms cs u legal allowed among) (may_put-new w h t s ms cs legal allowed))
   where
     over : (ts : List TaskId) (p q : TaskId → Bool) (n : ℕ) → ((u : TaskId) → has_task ts u ≡ true → q u ≡ p u) → q t ≡ needs_no_admission w s → (n == length ts) && needs_no_admission w s || option_map_or p (slice_get ts n) false ≡ option_map_or q (slice_get (ts ++ t ∷ []) n) false
-    over [] p q zero same new_one = rw new_one (or_none (needs_no_admission w s))
-      where
-        or_none : (b : Bool) → b || false ≡ b
-        or_none true = refl
-        or_none false = refl
+    over [] p q zero same new_one = rw new_one (or-false (needs_no_admission w s))
     over [] p q (suc n) same new_one = rw (suc_zero n) refl
     over (x ∷ ts) p q zero same new_one = rw (zero_suc (length ts)) (sym (same x (or_left (same_task x x) (has_task ts x) (same_task-self x))))
     over (x ∷ ts) p q (suc n) same new_one = rw (suc_suc n (length ts)) (over ts p q n (λ u among. same u (or_right (same_task u x) (has_task ts u) among)) new_one)

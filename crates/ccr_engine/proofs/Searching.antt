@@ -10,9 +10,9 @@ use Rattle.ccr_base.specs.declared.list.OutOfMemory.{OutOfMemory}
 use Rattle.ccr_wiring.specs.declared.parts.Parts.{Parts}
 use Rattle.ccr_wiring.specs.Wirings.{spots}
 use Rattle.ccr_model.specs.declared.history.Event.{Event}
-use Rattle.ccr_model.proofs.Booleans.{and_false, both, refuted, no_both, same_number}
+use Rattle.ccr_base.proofs.Booleans.{both, refuted, no_both, same_number}
 use Rattle.ccr_model.proofs.CanFire.{is_some-if, is_some-map}
-use Rattle.ccr_model.proofs.Options.{no_head, some_then}
+use Rattle.ccr_base.proofs.Options.{no_head, some_then}
 use Rattle.ccr_ledger.specs.Rows.{row, with_row}
 use Rattle.ccr_ledger.specs.Books.{Books}
 use Rattle.ccr_ledger.specs.Asked.{lives, room, choice_at}
@@ -206,16 +206,6 @@ module _ (w : Parts) (t : TaskId) (b : Books) (old now next : List (List ℕ)) (
 
   pub fewer_left : total next < total now
   fewer_left = total_left now next found.queue others found.index shorter (first_within now found.queue found.index first.is_open.least)
-
--- by two tests
-pub two_true : (a b : Bool) → a ≡ true → b ≡ true → a && b ≡ true
-two_true a b one other = rw (one, other) refl
-
-pub first_false : (a b : Bool) → a ≡ false → a && b ≡ false
-first_false a b out = rw out refl
-
-pub second_false : (a b : Bool) → b ≡ false → a && b ≡ false
-second_false a b out = rw out (and_false a)
 
 -- the answer where all touched spots were asked
 pub all_asked : (w : Parts) (t : TaskId) (b : Books) (o : Option Event) → IfSome o (λ e. first_fire_in w t b (spots w) ≡ Some e) → IfNone o (IsNoneBefore w t b None) → o ≡ first_fire_in w t b (spots w)

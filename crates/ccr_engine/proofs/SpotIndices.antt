@@ -20,32 +20,26 @@ use Rattle.ccr_wiring.specs.Repeats.{slot_ports}
 use Rattle.ccr_wiring.specs.Spots.{pattern_ports}
 use Rattle.ccr_wiring.specs.Valid.{IsValid}
 use Rattle.ccr_wiring.proofs.Soundness.{sound}
-use Rattle.ccr_model.proofs.Booleans.{and_false, eq-self}
+use Rattle.ccr_wiring.proofs.Lists.{any_none}
+use Rattle.ccr_base.proofs.Booleans.{and_false, eq-self, above_differs}
 use Rattle.ccr_engine.specs.Touched.{names_any}
 use Rattle.ccr_engine.specs.Numbered.{AreIndices}
 use Rattle.ccr_engine.specs.Indices.{first_index, takes_from, list_at, branch_indices, AreKeyed}
 use Rattle.ccr_engine.proofs.FirstIndices.{IsOnce, first_never, first_behind, first_within, once_never, once_later, once_here, once_behind}
 use Rattle.ccr_engine.proofs.NotedIndices.{listed_all, indices_append}
 
-nowhere : {T : Type 0} (test : T → Bool) (xs : List T) → ((x : T) → test x ≡ false) → list_any test xs ≡ false
-nowhere test [] never = refl
-nowhere test (x ∷ xs) never = rw (never x) (nowhere test xs never)
-
-other : (n k : ℕ) → k < n → (n == k) ≡ false
-other n k low = grind (arith, nat_tests, low)
-
 -- a pattern names no port past the wiring's
 slots_low : (n : ℕ) (slots : List Slot) → ((index port : ℕ) → slice_get (slot_ports slots) index ≡ Some port → port < n) → list_any (λ (s : Slot). n == s.port) slots ≡ false
 slots_low n [] low = refl
 slots_low n (s ∷ slots) low =
-    let here = other n s.port (low 0 s.port refl) in
+    let here = above_differs n s.port (low 0 s.port refl) in
     rw here (slots_low n slots (λ index port at. low (suc index) port at))
 
 pattern_low : (n : ℕ) (p : Pattern) → ((index port : ℕ) → slice_get (pattern_ports p) index ≡ Some port → port < n) → names_any (λ port. n == port) p ≡ false
 pattern_low n (Slots slots) low = slots_low n slots low
 pattern_low n (Gather total a b) low =
-    let one = other n a (low 0 a refl) in
-    let two = other n b (low 1 b refl) in
+    let one = above_differs n a (low 0 a refl) in
+    let two = above_differs n b (low 1 b refl) in
     rw (one, two) refl
 
 no_port : (w : Parts) → IsValid w → (n : ℕ) → length w.ports ≤ n → (s : Spot) → takes_from w n s ≡ false
@@ -58,7 +52,7 @@ no_port w valid n past (Site b k) = of_port (site_port w b k) refl
   where
     of_port : (o : Option ℕ) → site_port w b k ≡ o → option_map_or (λ port. n == port) o false ≡ false
     of_port None at = refl
-    of_port (Some port) at = other n port (omega (arith, past, (sound w valid).site_ports b k port at))
+    of_port (Some port) at = above_differs n port (omega (arith, past, (sound w valid).site_ports b k port at))
 
 -- among the sites of a branch none passes that passes at no site of it
 sites_never : (test : Spot → Bool) (b j : ℕ) (ports : List ℕ) → ((k : ℕ) → test (Site b k) ≡ false) → list_any test (sites_from b j ports) ≡ false
@@ -153,7 +147,7 @@ no_site w valid n k far = site_index w n k ∙ rw (of_placement (placement w n))
 
 -- what the lists say of a port
 pub at_port : (w : Parts) (ports : List (Vec ℕ Global)) (branches : List ℕ) (port : ℕ) → AreKeyed w (spots w) ports branches → AreIndices (takes_from w port) (spots w) (list_at ports port)
-at_port w ports branches port keyed = listed_all (takes_from w) (length w.ports) (spots w) ports port keyed.by_port (λ past. nowhere (takes_from w port) (spots w) (no_port w keyed.valid port past))
+at_port w ports branches port keyed = listed_all (takes_from w) (length w.ports) (spots w) ports port keyed.by_port (λ past. any_none (takes_from w port) (spots w) (no_port w keyed.valid port past))
 
 -- a branch's index, by its number
 sites_placed : (b j p : ℕ) (ports : List ℕ) → branch_indices p (sites_from b j ports) ≡ []

@@ -12,7 +12,7 @@ use Rattle.ccr_model.specs.Enough.{can_take, can_fire}
 use Rattle.ccr_model.specs.Legal.{IsLegal}
 use Rattle.ccr_model.specs.Order.{fire_at, fire_from}
 use Rattle.ccr_model.proofs.CanFire.{some_fire_at}
-use Rattle.ccr_model.proofs.Booleans.{neither}
+use Rattle.ccr_base.proofs.Booleans.{neither}
 use Rattle.ccr_engine.specs.Touched.{touches}
 use Rattle.ccr_engine.specs.Ready.{has_number}
 use Rattle.ccr_engine.specs.Numbered.{Gains, passes_at}

@@ -16,8 +16,8 @@ use Rattle.ccr_model.specs.declared.history.Event.TheVariants.{Post, Fire, Admit
 use Rattle.ccr_model.specs.Posts.{held}
 use Rattle.ccr_model.specs.Enough.{has_enough}
 use Rattle.ccr_model.proofs.HeldSteps.{held-fire, held-admit, held-put, held-start, held-end}
-use Rattle.ccr_model.proofs.Filters.{length-kept, filter_swap}
-use Rattle.ccr_model.proofs.Booleans.{both, neither}
+use Rattle.ccr_base.proofs.Filters.{length-kept, filter_swap}
+use Rattle.ccr_base.proofs.Booleans.{both, neither}
 use Rattle.ccr_engine.specs.Touched.{posts_to, names_any}
 
 -- the second list holds as many of each predicate, and in all

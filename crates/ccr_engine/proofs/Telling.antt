@@ -17,9 +17,9 @@ use Rattle.ccr_model.specs.Tasks.{is_of_domain, is_for_queue}
 use Rattle.ccr_model.specs.Sites.{yields_at}
 use Rattle.ccr_model.specs.TaskData.{placement_of}
 use Rattle.ccr_model.specs.Legal.{IsLegal}
-use Rattle.ccr_model.proofs.Booleans.{same_number, eq-self}
+use Rattle.ccr_base.proofs.Booleans.{same_number, eq-self}
 use Rattle.ccr_model.proofs.FiredTasks.{placement_fired}
-use Rattle.ccr_model.proofs.Options.{some_of}
+use Rattle.ccr_base.proofs.Options.{some_of}
 use Rattle.ccr_ledger.specs.declared.cards.Card.{Card}
 use Rattle.ccr_ledger.specs.Books.{Books}
 use Rattle.ccr_ledger.specs.Kept.{Keeps, card_of}

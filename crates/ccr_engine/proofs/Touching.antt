@@ -22,7 +22,7 @@ use Rattle.ccr_model.proofs.Stable.{firing_named-append}
 use Rattle.ccr_model.proofs.Pushes.{yielded-push, firings-push}
 use Rattle.ccr_model.proofs.FiredTasks.{IsFired}
 use Rattle.ccr_model.proofs.TasksLeft.{filter_on}
-use Rattle.ccr_model.proofs.Booleans.{both, neither, refuted, no_both}
+use Rattle.ccr_base.proofs.Booleans.{both, neither, refuted, no_both}
 use Rattle.ccr_model.proofs.TaskLists.{filter_append}
 use Rattle.ccr_model.proofs.TaskPlaces.{ArePlaced-legal}
 use Rattle.ccr_model.proofs.Ending.{AreEnded-legal}

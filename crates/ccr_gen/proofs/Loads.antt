@@ -14,10 +14,10 @@ use Rattle.ccr_base.specs.Choice.{fitting, is_choosable, choice}
 use Rattle.ccr_model.specs.declared.history.Event.{Event}
 use Rattle.ccr_model.specs.Posts.{posts, taken, held}
 use Rattle.ccr_model.specs.Choice.{names_of, choice_of_slots, is_choice}
-use Rattle.ccr_model.proofs.Booleans.{both}
-use Rattle.ccr_model.proofs.Filters.{filter_swap}
+use Rattle.ccr_base.proofs.Booleans.{both}
+use Rattle.ccr_base.proofs.Filters.{filter_swap}
 use Rattle.ccr_model.proofs.FirstNames.{names_of-append, same_names}
-use Rattle.ccr_model.proofs.Options.{some_of}
+use Rattle.ccr_base.proofs.Options.{some_of}
 use Rattle.ccr_model.proofs.SameNames.{same_message-self}
 use Rattle.ccr_model.proofs.TakenOnce.{joined_some}
 use Rattle.ccr_model.proofs.MessageNames.{any_fits}

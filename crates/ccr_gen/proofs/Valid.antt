@@ -1,6 +1,6 @@
 -- Each generated wiring of at most 10,000 posts is valid.
-use Rattle.std.proofs.Common.{◌≡◌, ℕ, zero, suc, ◌+◌, ◌<◌, ◌≤◌, Bool, false, cond, List, [], ◌∷◌, map, filter, length, Option, Some, None, refl, ap, subst, ◌∙◌, length-append, arith}
-use Rattle.std.specs.Prelude.{◌||◌, ◌==◌, ◌%◌, nat_lt, nat_le, if◌then◌else◌}
+use Rattle.std.proofs.Common.{◌≡◌, ℕ, zero, suc, ◌+◌, ◌<◌, ◌≤◌, Bool, false, cond, List, [], ◌∷◌, map, filter, length, refl, ap, subst, ◌∙◌, length-append, arith}
+use Rattle.std.specs.Prelude.{◌||◌, ◌==◌, ◌%◌, nat_lt, nat_le}
 use Rattle.std.specs.List.{list_any, range_with_len}
 use Rattle.std.proofs.lemmas.Bool.Decides.{nat_tests}
 use Rattle.ccr_base.specs.declared.messages.Sent.{Sent}
@@ -13,6 +13,7 @@ use Rattle.ccr_wiring.specs.Limits.{has_outside, posts_in_all}
 use Rattle.ccr_wiring.specs.Versions.{has_strange_version, has_newer, is_long}
 use Rattle.ccr_wiring.specs.Spots.{has_crowded_port}
 use Rattle.ccr_wiring.specs.Valid.{IsValid}
+use Rattle.ccr_wiring.proofs.Validity.{no_code}
 use Rattle.ccr_gen.specs.Posters.{sent, script, posters}
 use Rattle.ccr_gen.specs.Generated.{generated}
 use Rattle.ccr_gen.proofs.Lines.{script_more}
@@ -33,12 +34,6 @@ behind b e = rw e refl
 
 before_none : (b : Bool) → b ≡ false → (b || false) ≡ false
 before_none b e = rw e refl
-
-abbrev first_code : Bool → Bool → Bool → Bool → Bool → Bool → Bool → Bool → Bool → Bool → Option ℕ
-first_code a b c d e f g h i j = if a then Some 2 else if b then Some 3 else if c then Some 5 else if d then Some 6 else if e then Some 7 else if f then Some 8 else if g then Some 10 else if h then Some 11 else if i then Some 12 else if j then Some 14 else None
-
-no_code : (a b c d e f g h i j : Bool) → a ≡ false → b ≡ false → c ≡ false → d ≡ false → e ≡ false → f ≡ false → g ≡ false → h ≡ false → i ≡ false → j ≡ false → first_code a b c d e f g h i j ≡ None
-no_code a b c d e f g h i j ea eb ec ed ee ef eg eh ei ej = rw (ea, eb, ec, ed, ee, ef, eg, eh, ei, ej) refl
 
 small_port : (k : ℕ) → nat_le 5 (k % 3) ≡ false
 small_port k = grind (arith, nat_tests)

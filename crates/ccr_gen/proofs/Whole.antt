@@ -20,8 +20,8 @@ use Rattle.ccr_model.specs.Tasks.{running}
 use Rattle.ccr_model.specs.TaskData.{play_of}
 use Rattle.ccr_model.specs.Rules.{refusal_of_post, is_script_line, is_play_post, is_post}
 use Rattle.ccr_model.specs.Legal.{IsAllowed, IsLegal, are_whole_from, has_shed, is_complete}
-use Rattle.ccr_model.proofs.Booleans.{both}
-use Rattle.ccr_model.proofs.Options.{some_of, some_then}
+use Rattle.ccr_base.proofs.Booleans.{both}
+use Rattle.ccr_base.proofs.Options.{some_of, some_then}
 use Rattle.ccr_model.proofs.PostNames.{along, refused_not}
 use Rattle.ccr_model.proofs.Pushes.{posts-push, firings-push}
 use Rattle.ccr_model.proofs.TakenOnce.{FireFacts-allowed, taken-push}

@@ -9,6 +9,7 @@ use Rattle.std.proofs.lemmas.Map.Made.{is_some-lookup}
 use Rattle.indexmap.specs.IndexMap.{insert_entry}
 use Rattle.std.specs.Option.{option_map_or}
 use Rattle.std.specs.FinSet as set
+use Rattle.std.proofs.Math.Bool.{or-true}
 use Rattle.ccr_base.specs.declared.names.TaskId.{TaskId}
 use Rattle.ccr_base.specs.declared.names.Spot.{Spot}
 use Rattle.ccr_base.specs.Names.{same_task, has_task}
@@ -126,10 +127,6 @@ none_later : (task : TaskId) (later : List Waiting) → AllByRecursion (λ y. sa
 none_later task [] h = refl
 none_later task (w ∷ later) h = λ i. h.0 i || none_later task later h.1 i
 
-or_true : (a : Bool) → (a || true) ≡ true
-or_true true = refl
-or_true false = refl
-
 module _ (old new : List (TaskId × Admission)) (oldest : Waiting) (later : List Waiting) (shared alone : ℕ) (tied : Tied old (oldest ∷ later) shared alone) where
   stands : kept_of old oldest.task ≡ Some Outside
   stands = tied.outside oldest.task (ap (λ b. b || list_any (λ (w : Waiting). same_task oldest.task w.task) later) (same_task_equiv.refl oldest.task))
@@ -155,7 +152,7 @@ module _ (old new : List (TaskId × Admission)) (oldest : Waiting) (later : List
         by other true same e = absurd (true≢false (sym e
             ∙ ap (λ t. list_any (λ (w : Waiting). same_task t w.task) later) (sym (same_task-true oldest.task other same))
             ∙ none_later oldest.task later (tied.waiting_distinct).0))
-        by other false same e = tied.outside other (ap (λ b. same_task other oldest.task || b) e ∙ or_true (same_task other oldest.task))
+        by other false same e = tied.outside other (ap (λ b. same_task other oldest.task || b) e ∙ or-true (same_task other oldest.task))
 
   module _ (distinct : IsDistinct same_task (keys_of new)) where
     -- the sets of the admitted roots, by whether the oldest task is of a concurrent branch

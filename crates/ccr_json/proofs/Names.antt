@@ -5,7 +5,6 @@ use Rattle.std.specs.List.{list_any, list_all}
 use Rattle.std.specs.Char.{is_ascii, is_ascii_alphabetic}
 use Rattle.std.specs.Str.{bytes_eq}
 use Rattle.std.proofs.lemmas.Bool.Decides.{nat_tests}
-use Rattle.std.proofs.lemmas.Slice.Eq.{bytes_eq-Decides}
 use Rattle.std.proofs.lemmas.List.Folds.{list_any-append, list_all-append}
 use Rattle.ccr_text.specs.Words.{may_be_in_name, is_name_of}
 use Rattle.ccr_wiring.specs.declared.parts.Parts.{Parts}
@@ -25,7 +24,8 @@ use Rattle.ccr_wiring.specs.SpotWords.{branch_names_of}
 use Rattle.ccr_json.specs.Lines.{is_plain}
 use Rattle.ccr_json.specs.Names.{is_plain_arbiter, HasPlainNames}
 use Rattle.std.proofs.lemmas.Bool.{and_parts as both}
-use Rattle.ccr_model.proofs.Booleans.{not_refuted}
+use Rattle.ccr_base.proofs.Booleans.{not_refuted}
+use Rattle.ccr_base.proofs.Texts.{same_word}
 
 letters_plain : (others : List ℕ) → list_all may_be_in_name others ≡ true → is_plain others ≡ true
 letters_plain [] all = refl
@@ -59,12 +59,9 @@ of_parts f xs formed = sym (mapped f xs) ∙ all_plain (map f xs) formed
 halves : (xs ys : List (List ℕ)) → names.has_malformed (xs ++ ys) ≡ false → (names.has_malformed xs ≡ false) × (names.has_malformed ys ≡ false)
 halves xs ys formed = neither (names.has_malformed xs) (names.has_malformed ys) (sym (list_any-append (λ name. not (is_name_of name)) xs ys) ∙ formed)
 
-same : (a b : List ℕ) → bytes_eq a b ≡ true → a ≡ b
-same a b e = (bytes_eq-Decides a b).0 e
-
 one_plain : (name : List ℕ) (branches : List BranchPart) → is_plain name ≡ true → is_one_named name branches ≡ true → list_all (λ (branch : BranchPart). is_plain branch.name) branches ≡ true
 one_plain name [] plain one = absurd cc
-one_plain name (branch ∷ []) plain one = let e = same branch.name name one in rw e (rw plain refl)
+one_plain name (branch ∷ []) plain one = let e = same_word branch.name name one in rw e (rw plain refl)
 one_plain name (branch ∷ next ∷ more) plain one = let none = (both (length (next ∷ more) == 0) (bytes_eq branch.name name) one).0 in absurd (grind (arith, nat_tests, none))
 
 arbiter_plain : (arbiter : ArbiterPart) → is_misgrouped arbiter ≡ false → names.has_malformed (names.arbiter_names arbiter) ≡ false → is_plain_arbiter arbiter ≡ true

@@ -10,7 +10,7 @@ use Rattle.ccr_model.specs.Legal.{IsAllowed, IsLegal}
 use Rattle.ccr_model.proofs.Pushes.{dropped-push}
 use Rattle.ccr_model.proofs.LegalParts.{along_legal}
 use Rattle.ccr_model.proofs.SameNames.{same_task-is}
-use Rattle.ccr_model.proofs.Booleans.{refuted, no_both}
+use Rattle.ccr_base.proofs.Booleans.{refuted, no_both}
 use Rattle.ccr_laws.specs.Drops.{IsDroppedByPut, times_dropped}
 use Rattle.ccr_model.proofs.TaskPlaces.{ArePlaced-legal, new_drop}
 

@@ -23,9 +23,9 @@ use Rattle.ccr_model.proofs.Quiet.{first_is}
 use Rattle.ccr_model.proofs.Allowing.{head_passes}
 use Rattle.ccr_model.proofs.TakenOnce.{FireFacts-allowed, untaken}
 use Rattle.ccr_model.proofs.Pushes.{firings-push, fired-fire, put-push, started-push, ended-push, ever_admitted-push}
-use Rattle.ccr_model.proofs.Options.{some_of, some_map, head_rest}
+use Rattle.ccr_base.proofs.Options.{some_of, some_map, head_rest}
 use Rattle.ccr_model.proofs.TasksLeft.{of_without, out_left}
-use Rattle.ccr_model.proofs.Booleans.{both}
+use Rattle.ccr_base.proofs.Booleans.{both}
 use Rattle.ccr_model.proofs.FiredTasks.{fired_has, placement_fired}
 use Rattle.ccr_laws.specs.Potential.{TakesSome, event_bound}
 use Rattle.ccr_laws.proofs.Counting.{Fits, Fits-came, Fits-gone, head_member}

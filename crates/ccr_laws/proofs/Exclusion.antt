@@ -17,10 +17,10 @@ use Rattle.ccr_model.specs.TaskData.{placement_of}
 use Rattle.ccr_model.specs.Tasks.{is_interleave, is_concurrent, is_of_domain, is_over, admitted}
 use Rattle.ccr_model.specs.Rules.{is_concurrent_task}
 use Rattle.ccr_model.specs.Legal.{IsLegal}
-use Rattle.ccr_model.proofs.Options.{some_of}
+use Rattle.ccr_base.proofs.Options.{some_of}
 use Rattle.ccr_model.proofs.SameNames.{same_task-self}
 use Rattle.ccr_model.proofs.TasksLeft.{has_task-append}
-use Rattle.ccr_model.proofs.Booleans.{not_true, both, or_left, or_right}
+use Rattle.ccr_base.proofs.Booleans.{not_true, both, or_left, or_right}
 use Rattle.ccr_model.proofs.Alone.{is_alone-legal}
 use Rattle.ccr_model.specs.AtWork.{is_at_work}
 use Rattle.ccr_model.specs.Interleaves.{is_placement_in, is_exclusive_in, is_of_interleave, is_of_exclusive}

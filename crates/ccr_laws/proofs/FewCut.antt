@@ -15,8 +15,8 @@ use Rattle.ccr_model.specs.Firings.{Firing, firings, fired, cut, ever_admitted}
 use Rattle.ccr_model.specs.Tasks.{is_branch_where, is_interleave, is_teardown, waiting}
 use Rattle.ccr_model.specs.Rules.{cuts_at}
 use Rattle.ccr_model.specs.Legal.{IsAllowed, IsLegal}
-use Rattle.ccr_model.proofs.Booleans.{or_left, or_right}
-use Rattle.ccr_model.proofs.Filters.{length-kept}
+use Rattle.ccr_base.proofs.Booleans.{or_left, or_right}
+use Rattle.ccr_base.proofs.Filters.{length-kept}
 use Rattle.ccr_model.proofs.FiringFacts.{FiresSo-allowed}
 use Rattle.ccr_model.proofs.PostNames.{along}
 use Rattle.ccr_model.proofs.Pushes.{cut-push, fired-fire, firings-push}

@@ -23,9 +23,9 @@ use Rattle.ccr_model.specs.Rules.{drop_at, drop_by}
 use Rattle.ccr_model.specs.Legal.{IsAllowed, IsLegal}
 use Rattle.ccr_model.proofs.TaskSteps.{queued-start, queued-put, queued-fire}
 use Rattle.ccr_model.proofs.LegalParts.{along_legal}
-use Rattle.ccr_model.proofs.Options.{some_of}
+use Rattle.ccr_base.proofs.Options.{some_of}
 use Rattle.ccr_model.proofs.SameNames.{same_task-self}
-use Rattle.ccr_model.proofs.Booleans.{same_number}
+use Rattle.ccr_base.proofs.Booleans.{same_number}
 use Rattle.ccr_laws.specs.Occurring.{Occurs}
 use Rattle.ccr_laws.specs.Drops.{DropsOldest}
 use Rattle.ccr_laws.proofs.Allowed.{allowed_at, legal_past}

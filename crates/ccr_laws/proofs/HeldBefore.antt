@@ -20,16 +20,12 @@ use Rattle.ccr_model.specs.Posts.{posts, posted, taken, held}
 use Rattle.ccr_model.specs.Choice.{names_of}
 use Rattle.ccr_model.specs.Legal.{IsLegal}
 use Rattle.ccr_model.proofs.SameNames.{same_message-is}
-use Rattle.ccr_model.proofs.Booleans.{either, or_assoc, same_number}
+use Rattle.ccr_base.proofs.Booleans.{either, or_assoc, same_number}
+use Rattle.ccr_model.proofs.MessageNames.{has_message-append}
 use Rattle.ccr_laws.specs.Occurring.{Occurs}
 use Rattle.ccr_laws.specs.WholePattern.{FillsSlot, FillsPattern, TakesWhole}
 use Rattle.ccr_laws.specs.OneFate.{IsHeld}
 use Rattle.ccr_laws.proofs.WholePatterns.{whole_pattern}
-
--- over plain lists: names
-pub has_message-append : (names others : List MsgId) (name : MsgId) → has_message (names ++ others) name ≡ has_message names name || has_message others name
-has_message-append [] others name = refl
-has_message-append (n ∷ names) others name = rw (has_message-append names others name) (or_assoc (same_message name n) (has_message names name) (has_message others name))
 
 name_in_either : (names others : List MsgId) (name : MsgId) → has_message (names ++ others) name ≡ true → (has_message names name ≡ true) ⊎ (has_message others name ≡ true)
 name_in_either names others name is = either (has_message names name) (has_message others name) (sym (has_message-append names others name) ∙ is) ((has_message names name ≡ true) ⊎ (has_message others name ≡ true)) (λ one. inl one) (λ other. inr other)

@@ -14,7 +14,7 @@ use Rattle.ccr_model.specs.declared.history.Event.{Event}
 use Rattle.ccr_model.specs.declared.history.Event.TheVariants as events
 use Rattle.ccr_model.specs.Posts.{posts, taken}
 use Rattle.ccr_model.specs.Legal.{IsAllowed, IsLegal}
-use Rattle.ccr_model.proofs.PostNames.{along, times, posted_once}
+use Rattle.ccr_model.proofs.PostNames.{along, times, posted_once, times_more}
 use Rattle.ccr_model.proofs.Pushes.{posts-push}
 use Rattle.ccr_model.proofs.SameNames.{same_message-is, same_message-self}
 use Rattle.ccr_model.proofs.TakenOnce.{FireFacts-allowed, named-choice, taken-push, taken_once, times-filter, times_named, untaken}
@@ -33,9 +33,6 @@ named_cons name n names = grind (arith, common_steps)
 
 pub times_cons : (name : MsgId) (x : Msg) (ms : List Msg) → times name (x ∷ ms) ≡ (if same_message x.id name then 1 else 0) + times name ms
 times_cons name x ms = grind (arith, common_steps)
-
-pub times_push : (name : MsgId) (ms : List Msg) (m : Msg) → times name (ms ++ m ∷ []) ≡ times name ms + (if same_message m.id name then 1 else 0)
-times_push name ms m = grind (arith, common_steps)
 
 -- a name that stands once stands in no rest
 pub not_in_rest : (n : MsgId) (names : List MsgId) → times_named n (n ∷ names) ≤ 1 → has_message names n ≡ false
@@ -93,7 +90,7 @@ fire_posted w apart h t spot names cs allowed old name is = by (has_message (tak
         omega (arith, some, among, all)
 
 posted_kept : (w : Parts) → HasPortsApart w → (h : List Event) (e : Event) → ArePosted h → IsAllowed w h e → ArePosted (h ++ e ∷ [])
-posted_kept w apart h (events.Post m) old allowed = rw (taken-push, posts-push, append-nil) (λ name is. (let a = old name is in let b = times_push name (posts h) m in omega (arith, a, b)))
+posted_kept w apart h (events.Post m) old allowed = rw (taken-push, posts-push, append-nil) (λ name is. (let a = old name is in let b = times_more name (posts h) m in omega (arith, a, b)))
 posted_kept w apart h (events.Fire t spot names cs) old allowed = rw (taken-push, posts-push, append-nil) (fire_posted w apart h t spot names cs allowed old)
 posted_kept w apart h (events.Admit t) old allowed = rw (taken-push, posts-push, append-nil, append-nil) old
 posted_kept w apart h (events.Put t d) old allowed = rw (taken-push, posts-push, append-nil, append-nil) old

@@ -20,8 +20,8 @@ use Rattle.ccr_model.specs.Rules.{refusal_of_post, is_post, is_script_line, is_p
 use Rattle.ccr_model.specs.Legal.{IsAllowed, IsLegal}
 use Rattle.ccr_model.proofs.PostNames.{along, refused_not}
 use Rattle.ccr_model.proofs.Pushes.{posts-push}
-use Rattle.ccr_model.proofs.Options.{some_of, some_then, some-below}
-use Rattle.ccr_model.proofs.Booleans.{both, eq-self}
+use Rattle.ccr_base.proofs.Options.{some_of, some_then, some-below}
+use Rattle.ccr_base.proofs.Booleans.{both, eq-self}
 
 -- how many posts of the poster stand among the messages
 abbrev pub lines_of : List Msg → ℕ → ℕ

@@ -21,11 +21,12 @@ use Rattle.ccr_model.proofs.Stable.{firings-append}
 use Rattle.ccr_model.proofs.Allowing.{OneName-legal}
 use Rattle.ccr_model.proofs.Members.{Among, Among-right}
 use Rattle.ccr_model.proofs.SameNames.{same_message-self}
-use Rattle.ccr_model.proofs.Booleans.{neither, eq-self}
+use Rattle.ccr_base.proofs.Booleans.{neither, eq-self}
 use Rattle.ccr_laws.specs.Occurring.{Occurs}
 use Rattle.ccr_laws.specs.OneFate.{IsHeld, IsTakenBy, HasFate, HasOneFate}
 use Rattle.ccr_model.proofs.FiringPlacements.{firing_with_placement}
-use Rattle.ccr_laws.proofs.HeldBefore.{untaken_of_held, untaken_before, has_message-append}
+use Rattle.ccr_model.proofs.MessageNames.{has_message-append}
+use Rattle.ccr_laws.proofs.HeldBefore.{untaken_of_held, untaken_before}
 use Rattle.ccr_laws.proofs.States.{is_in, only_in}
 
 -- whether the firing names the message

@@ -28,7 +28,7 @@ use Rattle.ccr_model.specs.Legal.{IsAllowed, IsLegal}
 use Rattle.ccr_model.proofs.PostNames.{along}
 use Rattle.ccr_model.proofs.TakenOnce.{FireFacts-allowed}
 use Rattle.ccr_model.proofs.Pushes.{firings-push}
-use Rattle.ccr_model.proofs.Booleans.{both, same_number}
+use Rattle.ccr_base.proofs.Booleans.{both, same_number}
 use Rattle.ccr_laws.specs.Times.{times_fired, times_any_fired, times_torn_down}
 use Rattle.ccr_model.proofs.FiringFacts.{BranchFacts-where, live_at, firings-other}
 

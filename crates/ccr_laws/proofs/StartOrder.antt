@@ -14,8 +14,8 @@ use Rattle.ccr_model.proofs.PostNames.{along}
 use Rattle.ccr_model.proofs.Pushes.{put-push, started-push, dropped-push}
 use Rattle.ccr_model.proofs.SameNames.{same_task-is}
 use Rattle.ccr_model.proofs.TasksLeft.{has_task-filter, has_task-without, of_filter, of_without, filter_on, without_both, lists_start, distinct-filter}
-use Rattle.ccr_model.proofs.Booleans.{both, or_left, or_right, and_false, refuted, no_both, same_number}
-use Rattle.ccr_model.proofs.Filters.{filter_swap}
+use Rattle.ccr_base.proofs.Booleans.{both, or_left, or_right, and_false, refuted, no_both, same_number}
+use Rattle.ccr_base.proofs.Filters.{filter_swap}
 use Rattle.ccr_model.proofs.FiredTasks.{IsFired, placement_stays}
 use Rattle.ccr_laws.specs.Queues.{put_into, started_from, stands_before}
 use Rattle.ccr_model.proofs.TaskLists.{filter_append, without-append, without_none, without_other, without_first, of_more, not_more, not_within}

@@ -23,7 +23,7 @@ use Rattle.ccr_model.specs.Choice.{names_of, choice_of_slots, are_first, are_spl
 use Rattle.ccr_model.proofs.Allowing.{filter_head}
 use Rattle.ccr_model.proofs.Members.{Among, Among-left, Among-right}
 use Rattle.ccr_model.proofs.TakenOnce.{joined_some, untaken}
-use Rattle.ccr_model.proofs.Booleans.{both, either}
+use Rattle.ccr_base.proofs.Booleans.{both, either}
 use Rattle.ccr_laws.specs.Potential.{takes_some, TakesSome}
 use Rattle.ccr_laws.proofs.Counting.{length-filter_stronger}
 

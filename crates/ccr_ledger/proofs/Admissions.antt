@@ -22,7 +22,7 @@ use Rattle.ccr_model.specs.Rules.{is_play_post, has_budget, refused}
 use Rattle.ccr_model.specs.Legal.{IsAllowed, IsLegal}
 use Rattle.ccr_model.proofs.Allowing.{OneName-legal}
 use Rattle.ccr_model.proofs.Alone.{lasts_fired, ever_admitted_fired}
-use Rattle.ccr_model.proofs.Booleans.{both, or_left, or_right, refuted, no_both}
+use Rattle.ccr_base.proofs.Booleans.{both, or_left, or_right, refuted, no_both}
 use Rattle.ccr_model.proofs.Cutting.{AdmitFacts-allowed, CutFacts-legal, waits_unput}
 use Rattle.ccr_model.proofs.Ending.{AreEnded-legal, RunningFacts-running}
 use Rattle.ccr_model.proofs.FiredTasks.{IsFired, fired_has, root_stays}

@@ -5,7 +5,7 @@ use Rattle.std.specs.Option.{option_map_or}
 use Rattle.ccr_base.specs.declared.names.TaskId.{TaskId}
 use Rattle.ccr_base.specs.Names.{same_task, has_task}
 use Rattle.ccr_model.proofs.SameNames.{same_task-is, same_task-self, same_task-sym}
-use Rattle.ccr_model.proofs.Booleans.{neither}
+use Rattle.ccr_base.proofs.Booleans.{neither}
 use Rattle.ccr_ledger.specs.declared.cards.Card.{Card}
 use Rattle.ccr_ledger.specs.declared.cards.TaskStage.{TaskStage}
 use Rattle.ccr_ledger.specs.declared.cards.TaskStage.TheVariants as stages

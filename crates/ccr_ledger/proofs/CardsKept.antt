@@ -11,7 +11,7 @@ use Rattle.ccr_model.specs.declared.history.Event.TheVariants.{Post, Fire, Admit
 use Rattle.ccr_model.specs.Choice.{is_choice_of}
 use Rattle.ccr_model.specs.Posts.{held}
 use Rattle.ccr_model.specs.Legal.{IsAllowed, IsLegal}
-use Rattle.ccr_model.proofs.Options.{some_of}
+use Rattle.ccr_base.proofs.Options.{some_of}
 use Rattle.ccr_model.proofs.Suspending.{ResumeFacts-allowed}
 use Rattle.ccr_model.proofs.TakenOnce.{FireFacts-allowed}
 use Rattle.ccr_ledger.specs.Books.{Books, card_at, suspended_at}

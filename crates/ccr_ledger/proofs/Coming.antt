@@ -20,9 +20,9 @@ use Rattle.ccr_model.specs.Legal.{IsAllowed, IsLegal}
 use Rattle.ccr_model.specs.Consequences.{are_distinct_tasks}
 use Rattle.ccr_model.specs.Interleaves.{is_placement_in}
 use Rattle.ccr_model.proofs.Allowing.{OneName-legal}
-use Rattle.ccr_model.proofs.Options.{some_of}
+use Rattle.ccr_base.proofs.Options.{some_of}
 use Rattle.ccr_model.proofs.SameNames.{same_task-is, same_task-self}
-use Rattle.ccr_model.proofs.Booleans.{not_true, both, or_left, or_right, refuted, no_both}
+use Rattle.ccr_base.proofs.Booleans.{not_true, both, or_left, or_right, refuted, no_both}
 use Rattle.ccr_model.proofs.TasksLeft.{filter_on, distinct-filter}
 use Rattle.ccr_model.proofs.TaskLists.{of_more, not_more}
 use Rattle.ccr_model.proofs.FiredTasks.{IsFired, fired_has}

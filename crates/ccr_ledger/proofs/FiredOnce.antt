@@ -4,7 +4,7 @@ use Rattle.std.specs.Prelude.{if◌then◌else◌}
 use Rattle.ccr_base.specs.declared.names.TaskId.{TaskId}
 use Rattle.ccr_base.specs.declared.names.MsgId.{MsgId}
 use Rattle.ccr_base.specs.declared.names.Spot.{Spot}
-use Rattle.ccr_base.specs.Names.{same_task, has_task}
+use Rattle.ccr_base.specs.Names.{has_task}
 use Rattle.ccr_wiring.specs.declared.parts.Parts.{Parts}
 use Rattle.ccr_model.specs.declared.history.Event.{Event}
 use Rattle.ccr_model.specs.declared.history.Event.TheVariants.{Post, Fire, Admit, Put, Start, End}
@@ -12,7 +12,7 @@ use Rattle.ccr_model.specs.Firings.{Firing, firing_of, firings, fired_where, cut
 use Rattle.ccr_model.specs.Legal.{IsAllowed, IsLegal}
 use Rattle.ccr_model.specs.Consequences.{are_distinct_tasks}
 use Rattle.ccr_model.proofs.Allowing.{OneName-legal}
-use Rattle.ccr_model.proofs.Booleans.{refuted, no_both, or_left, or_right}
+use Rattle.ccr_base.proofs.Booleans.{refuted, no_both, or_left, or_right}
 use Rattle.ccr_model.proofs.Cutting.{cut_by}
 use Rattle.ccr_model.proofs.FiredTasks.{AreFired, IsFired-append}
 use Rattle.ccr_model.proofs.FiringFacts.{FiresSo-allowed, firings-other}
@@ -20,19 +20,7 @@ use Rattle.ccr_model.proofs.LegalParts.{along_legal}
 use Rattle.ccr_model.proofs.Pushes.{firings-push, cut-push}
 use Rattle.ccr_model.proofs.TasksLeft.{distinct-push}
 use Rattle.ccr_model.proofs.TaskLists.{of_more}
-
--- who is among those that pass fired
-passed_fired : (test : Firing → Bool) (fs : List Firing) (t : TaskId) → has_task (map (λ (f : Firing). f.task) (filter test fs)) t ≡ true → has_task (map (λ (f : Firing). f.task) fs) t ≡ true
-passed_fired test [] t is = is
-passed_fired test (f ∷ fs) t is = of_test (test f) is (passed_fired test fs t)
-  where
-    of_test : (b : Bool) → has_task (map (λ (g : Firing). g.task) (if b then f ∷ filter test fs else filter test fs)) t ≡ true → (has_task (map (λ (g : Firing). g.task) (filter test fs)) t ≡ true → has_task (map (λ (g : Firing). g.task) fs) t ≡ true) → has_task (f.task ∷ map (λ (g : Firing). g.task) fs) t ≡ true
-    of_test false at rest = or_right (same_task t f.task) _ (rest at)
-    of_test true at rest = of_name (same_task t f.task) refl at
-      where
-        of_name : (c : Bool) → same_task t f.task ≡ c → has_task (f.task ∷ map (λ (g : Firing). g.task) (filter test fs)) t ≡ true → has_task (f.task ∷ map (λ (g : Firing). g.task) fs) t ≡ true
-        of_name true same at' = or_left (same_task t f.task) _ same
-        of_name false other at' = or_right (same_task t f.task) _ (rest (rw other at at'))
+use Rattle.ccr_model.proofs.TasksOnce.{some_of_all}
 
 -- one more firing, of those that pass
 passed-push : (test : Firing → Bool) (fs : List Firing) (f : Firing) → map (λ (g : Firing). g.task) (filter test (fs ++ f ∷ [])) ≡ map (λ (g : Firing). g.task) (filter test fs) ++ (if test f then f.task ∷ [] else [])
@@ -65,7 +53,7 @@ fired_once w test = along_legal w (λ h. are_distinct_tasks (fired_where test h)
     kept : (h : List Event) (e : Event) → IsLegal w h → IsAllowed w h e → are_distinct_tasks (fired_where test h) ≡ true → are_distinct_tasks (fired_where test (h ++ e ∷ [])) ≡ true
     kept h (Fire t s ms cs) legal allowed once =
         let new = (FiresSo-allowed w h t s ms cs allowed).new_name in
-        let out = refuted (has_task (fired_where test h) t) (λ is. no_both (passed_fired test (firings h) t is) new) in
+        let out = refuted (has_task (fired_where test h) t) (λ is. no_both (some_of_all test (firings h) t is) new) in
         ap are_distinct_tasks (fired_where-fire test h t s ms cs) ∙ one_more (fired_where test h) t (test (record { task = t; spot = s; messages = ms; cuts = cs })) once out
     kept h (Post m) legal allowed once = other h (Post m) refl once
     kept h (Admit t) legal allowed once = other h (Admit t) refl once

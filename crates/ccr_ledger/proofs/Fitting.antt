@@ -14,7 +14,7 @@ use Rattle.ccr_model.specs.Choice.{names_of, are_first, are_split}
 use Rattle.ccr_model.proofs.PostNames.{times}
 use Rattle.ccr_model.proofs.TakenOnce.{times-filter}
 use Rattle.ccr_model.proofs.SameNames.{same_message-self, same_message-sym, same_message-is}
-use Rattle.ccr_model.proofs.Booleans.{both}
+use Rattle.ccr_base.proofs.Booleans.{both, or_none}
 use Rattle.ccr_model.proofs.MessageNames.{any_fits}
 
 -- no name stands twice
@@ -139,8 +139,4 @@ split-names (m ∷ a) b (n ∷ names) apart is = of_test (same_message m.id n) r
         let later : are_split a b names ≡ true = rw (no_first b same apart) at at in
         let fewer : length names - shared a names ≡ length (n ∷ names) - suc (shared a names) = omega arith in
         rw same (ap (λ (ns : List MsgId). n ∷ ns) (rest later ∙ ap (λ k. names_of (take (shared a names) a) ++ names_of (take k b)) fewer))
-    of_test false other at rest = all-names b (n ∷ names) (first_of (are_first b (n ∷ names)) at)
-      where
-        first_of : (c : Bool) → c || false ≡ true → c ≡ true
-        first_of true is = refl
-        first_of false is = absurd (cc)
+    of_test false other at rest = all-names b (n ∷ names) (or_none (are_first b (n ∷ names)) at)

@@ -18,7 +18,7 @@ use Rattle.ccr_model.specs.declared.history.EndHow.{EndHow}
 use Rattle.ccr_model.specs.Firings.{Firing, firings, firing_of}
 use Rattle.ccr_model.specs.Tasks.{is_teardown, is_branch_where}
 use Rattle.ccr_model.specs.Live.{is_none_of}
-use Rattle.ccr_model.proofs.Booleans.{same_number}
+use Rattle.ccr_base.proofs.Booleans.{same_number}
 use Rattle.ccr_model.proofs.Pushes.{firings-push}
 use Rattle.ccr_model.proofs.FiringFacts.{firings-other}
 use Rattle.ccr_ledger.specs.declared.cards.Card.{Card}

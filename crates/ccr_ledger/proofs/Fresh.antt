@@ -16,7 +16,7 @@ use Rattle.ccr_model.proofs.PostNames.{along, times, posted_once}
 use Rattle.ccr_model.proofs.TakenOnce.{times_named, named-append, named-choice, taken-push, times-filter, times-two, FireFacts-allowed}
 use Rattle.ccr_model.proofs.LegalParts.{legal_push}
 use Rattle.ccr_model.proofs.SameNames.{same_message-self}
-use Rattle.ccr_model.proofs.Booleans.{refuted, not_false}
+use Rattle.ccr_base.proofs.Booleans.{refuted, not_false}
 use Rattle.ccr_model.proofs.MessageNames.{named_some}
 
 -- each name that was taken was posted

@@ -5,7 +5,7 @@ use Rattle.ccr_base.specs.declared.names.MsgId.{MsgId}
 use Rattle.ccr_base.specs.declared.messages.Msg.{Msg}
 use Rattle.ccr_base.specs.Names.{same_message}
 use Rattle.ccr_model.specs.Choice.{names_of, are_first, are_split, are_oldest}
-use Rattle.ccr_model.proofs.Booleans.{eq-self}
+use Rattle.ccr_base.proofs.Booleans.{eq-self}
 use Rattle.ccr_ledger.specs.Fronts.{are_front, are_fronts}
 
 pub front-told : (ms : List Msg) (names : List MsgId) (n : ℕ) → length names ≤ n → are_front (names_of (take n ms)) names ≡ are_first ms names

@@ -9,15 +9,15 @@ use Rattle.std.proofs.lemmas.List.Edits.{length-remove}
 use Rattle.std.proofs.lemmas.Grind.{common_steps}
 use Rattle.std.proofs.lemmas.Bool.Decides.{nat_tests}
 use Rattle.std.proofs.Math.ListN.{set, get_or}
-use Rattle.std.proofs.lemmas.Option.{get_or_from_slice_get, slice_get_within}
+use Rattle.std.proofs.lemmas.Option.{get_or_from_slice_get, slice_get_within, same_Some}
 use Rattle.ccr_base.specs.declared.names.MsgId.{MsgId}
 use Rattle.ccr_base.specs.declared.messages.Msg.{Msg}
 use Rattle.ccr_base.specs.declared.patterns.Pred.{Pred}
 use Rattle.ccr_base.specs.Choice.{holds, fitting}
 use Rattle.ccr_ledger.specs.Lanes.{Indices, present, is_here, fits, fitting_indices, name_at, names_at, entered, entered_item, lost, IsLane, AreLanes, HasLane, HasFront}
 use Rattle.ccr_ledger.specs.Taken.{without_first}
-use Rattle.std.proofs.lemmas.Bool.{and_parts as both}
-use Rattle.ccr_model.proofs.Booleans.{and_false}
+use Rattle.std.proofs.lemmas.Bool.{and_parts as both, ltb-true}
+use Rattle.ccr_base.proofs.Booleans.{and_false}
 
 -- ---- one index more
 
@@ -34,17 +34,14 @@ fitting_indices-last : (n m : ℕ) (pred : Pred) (items : List (Option Msg)) (it
 fitting_indices-last n m pred [] item is = let same : n ≡ m = omega arith in rw same refl
 fitting_indices-last n m pred (x ∷ items) item is = grind (arith, common_steps, fitting_indices-last (n + 1) m pred items item (omega arith))
 
-pub below : (k n : ℕ) → nat_lt k n ≡ true → k < n
-below k n is = grind (arith, nat_tests, is)
-
 module _ (items : List (Option Msg)) (item : Option Msg) where
   filter-below : (ks : List ℕ) → list_all (λ k. nat_lt k (length items)) ks ≡ true → filter (is_here (items ++ item ∷ [])) ks ≡ filter (is_here items) ks
   filter-below [] low = refl
-  filter-below (k ∷ ks) low = let parts = both _ _ low in rw (is_here-below items item k (below k (length items) parts.0), filter-below ks parts.1) refl
+  filter-below (k ∷ ks) low = let parts = both _ _ low in rw (is_here-below items item k (ltb-true k (length items) parts.0), filter-below ks parts.1) refl
 
 low-more : (n m : ℕ) (ks : List ℕ) → m < n → list_all (λ k. nat_lt k m) ks ≡ true → list_all (λ k. nat_lt k n) ks ≡ true
 low-more n m [] less low = refl
-low-more n m (k ∷ ks) less low = let parts = both _ _ low in let first = below k m parts.0 in grind (arith, nat_tests, first, low-more n m ks less parts.1)
+low-more n m (k ∷ ks) less low = let parts = both _ _ low in let first = ltb-true k m parts.0 in grind (arith, nat_tests, first, low-more n m ks less parts.1)
 
 low-append : (n : ℕ) (ks js : List ℕ) → list_all (λ k. nat_lt k n) ks ≡ true → list_all (λ k. nat_lt k n) js ≡ true → list_all (λ k. nat_lt k n) (ks ++ js) ≡ true
 low-append n [] js one other = other
@@ -273,9 +270,6 @@ pub record IsFirst (pred : Pred) (items : List (Option Msg)) (j : ℕ) (m : Msg)
   pub first : slice_get (fitting pred (present items)) 0 ≡ Some m
   pub rest : present (set items j None) ≡ without_first pred (present items)
 
-some_same : (n k : ℕ) → Some n ≡ Some k → n ≡ k
-some_same n k is = cc
-
 first_found : (n k : ℕ) (pred : Pred) (items : List (Option Msg)) → slice_get (fitting_indices n pred items) 0 ≡ Some k → (j : ℕ) × (n + j ≡ k) × (m : Msg) × IsFirst pred items j m
 first_found n k pred [] at = absurd (cc)
 first_found n k pred (None ∷ items) at =
@@ -286,7 +280,7 @@ first_found n k pred (Some m ∷ items) at = of_test (holds pred m.value) refl (
     of_test : (b : Bool) → holds pred m.value ≡ b
         → (slice_get (fitting_indices (n + 1) pred items) 0 ≡ Some k → (j : ℕ) × ((n + 1) + j ≡ k) × (w : Msg) × IsFirst pred items j w)
         → (j : ℕ) × (n + j ≡ k) × (w : Msg) × IsFirst pred (Some m ∷ items) j w
-    of_test true is later = let here : Some n ≡ Some k = rw is at at in (0, omega (arith, some_same n k here), m, record { at = refl; first = rw is refl; rest = rw is refl })
+    of_test true is later = let here : Some n ≡ Some k = rw is at at in (0, omega (arith, same_Some n k here), m, record { at = refl; first = rw is refl; rest = rw is refl })
     of_test false is later =
         let more = later (rw is at at) in
         (suc more.0, omega (arith, more.1), more.2, record { at = more.3.at; first = rw is more.3.first; rest = rw (is, more.3.rest) refl })

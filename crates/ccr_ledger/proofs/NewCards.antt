@@ -21,7 +21,7 @@ use Rattle.ccr_model.specs.Tasks.{is_interleave}
 use Rattle.ccr_model.specs.Rules.{needs_no_admission}
 use Rattle.ccr_model.specs.Legal.{IsAllowed, IsLegal}
 use Rattle.ccr_model.proofs.Alone.{ever_admitted_fired}
-use Rattle.ccr_model.proofs.Booleans.{refuted, no_both}
+use Rattle.ccr_base.proofs.Booleans.{refuted, no_both}
 use Rattle.ccr_model.proofs.FiredTasks.{AreFired, fired_has}
 use Rattle.ccr_model.proofs.FiringFacts.{FiresSo-allowed, firing_named-new, before-new}
 use Rattle.ccr_model.proofs.Pushes.{fired-fire}

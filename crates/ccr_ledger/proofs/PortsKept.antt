@@ -18,9 +18,9 @@ use Rattle.ccr_model.specs.declared.history.EndHow.{EndHow}
 use Rattle.ccr_model.specs.Choice.{is_choice_of, are_oldest}
 use Rattle.ccr_model.specs.Posts.{held}
 use Rattle.ccr_model.specs.Legal.{IsAllowed, IsLegal}
-use Rattle.ccr_model.proofs.Booleans.{same_number}
+use Rattle.ccr_base.proofs.Booleans.{same_number}
 use Rattle.ccr_model.proofs.HeldSteps.{held-post, held-fire, held-admit, held-put, held-start, held-end}
-use Rattle.ccr_model.proofs.Options.{some_of}
+use Rattle.ccr_base.proofs.Options.{some_of}
 use Rattle.ccr_model.proofs.Suspending.{ResumeFacts, ResumeFacts-allowed}
 use Rattle.ccr_model.proofs.TakenOnce.{FireFacts-allowed}
 use Rattle.ccr_model.proofs.MessageNames.{held_once}

@@ -2,7 +2,6 @@
 use Rattle.std.proofs.Common.{◌≡◌, ℕ, ◌+◌, ◌-◌, ◌<◌, ◌≤◌, Bool, true, false, not, List, [], ◌∷◌, ◌++◌, length, take, drop, Some, refl, sym, ap, ◌∙◌, arith, subst}
 use Rattle.std.specs.Prelude.{◌==◌, if◌then◌else◌}
 use Rattle.std.specs.List.{slice_get}
-use Rattle.std.proofs.lemmas.Bool.Decides.{nat_tests}
 use Rattle.ccr_base.specs.declared.names.MsgId.{MsgId}
 use Rattle.ccr_base.specs.declared.messages.Msg.{Msg}
 use Rattle.ccr_base.specs.declared.patterns.Slot.{Slot}
@@ -18,8 +17,8 @@ use Rattle.ccr_model.specs.Choice.{names_of, choice_of_slots, are_first, are_spl
 use Rattle.ccr_model.proofs.PostNames.{times}
 use Rattle.ccr_model.proofs.TakenOnce.{joined_some, choice_some, times-filter, times-take}
 use Rattle.ccr_model.proofs.FirstNames.{names_of-append, same_names}
-use Rattle.ccr_model.proofs.Options.{some_of}
-use Rattle.ccr_model.proofs.Booleans.{both, neither, not_true, same_number}
+use Rattle.ccr_base.proofs.Options.{some_of}
+use Rattle.ccr_base.proofs.Booleans.{both, neither, not_true, same_number, eq_turned}
 use Rattle.ccr_ledger.specs.Taking.{take_slot, take_slots, take_oldest, take_gather, take_pattern}
 use Rattle.ccr_ledger.proofs.Tables.{length-with_row, row-with_row}
 use Rattle.ccr_ledger.proofs.Fitting.{left_by, none_left, left_both, times-left, apart_left, some-named, oldest-named, first-names, split-names}
@@ -55,9 +54,6 @@ module _ (ports : List (List Msg)) (held_at : ℕ → List Msg) (are : AreHeld p
 
 -- ---- slots
 
-pub turned : (a b : ℕ) → (a == b) ≡ false → (b == a) ≡ false
-turned a b is = grind (arith, nat_tests, is)
-
 module _ (ports : List (List Msg)) (held_at : ℕ → List Msg) (are : AreHeld ports held_at) (slot : Slot) where
   abbrev chosen : List Msg
   chosen = take slot.most (fitting slot.pred (held_at slot.port))
@@ -76,7 +72,7 @@ module _ (ports : List (List Msg)) (held_at : ℕ → List Msg) (are : AreHeld p
   choice_kept [] out = refl
   choice_kept (other ∷ slots) out =
       let parts = neither (other.port == slot.port) (has_port (slot_ports slots) slot.port) out in
-      let kept = other_kept ports held_at are slot.port chosen (without_some slot.most slot.pred) few_chosen named_chosen other.port (turned other.port slot.port parts.0) in
+      let kept = other_kept ports held_at are slot.port chosen (without_some slot.most slot.pred) few_chosen named_chosen other.port (eq_turned other.port slot.port parts.0) in
       rw (kept, choice_kept slots parts.1) refl
 
 -- slot by slot

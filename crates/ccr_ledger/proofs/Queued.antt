@@ -12,8 +12,8 @@ use Rattle.ccr_model.specs.declared.history.Event.TheVariants.{Post, Fire, Admit
 use Rattle.ccr_model.specs.Firings.{firing_of, put, put_by, started, started_by, dropped, dropped_by}
 use Rattle.ccr_model.specs.Tasks.{is_for_queue, queued}
 use Rattle.ccr_model.specs.Legal.{IsAllowed, IsLegal}
-use Rattle.ccr_model.proofs.Booleans.{refuted, no_both, same_number}
-use Rattle.ccr_model.proofs.Options.{head_rest}
+use Rattle.ccr_base.proofs.Booleans.{refuted, no_both, same_number}
+use Rattle.ccr_base.proofs.Options.{head_rest}
 use Rattle.ccr_model.proofs.Pushes.{put-push, started-push, dropped-push}
 use Rattle.ccr_model.proofs.TasksLeft.{filter_on}
 use Rattle.ccr_model.proofs.TaskLists.{has_oldest, not_more, none_gone}

@@ -4,7 +4,7 @@ use Rattle.std.specs.Prelude.{◌==◌, if◌then◌else◌}
 use Rattle.ccr_base.specs.declared.names.TaskId.{TaskId}
 use Rattle.ccr_base.specs.Names.{has_task, without}
 use Rattle.ccr_model.specs.Consequences.{are_distinct_tasks}
-use Rattle.ccr_model.proofs.Booleans.{same_number}
+use Rattle.ccr_base.proofs.Booleans.{same_number}
 use Rattle.ccr_model.proofs.TaskLists.{without_first, without_other}
 use Rattle.ccr_ledger.specs.Rows.{row, with_row}
 use Rattle.ccr_ledger.proofs.Tables.{row-with_row}

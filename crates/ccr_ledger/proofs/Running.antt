@@ -21,7 +21,7 @@ use Rattle.ccr_model.proofs.TaskSteps.{running-start, running-end, running-post,
 use Rattle.ccr_model.proofs.TaskPlaces.{StartFacts-allowed, StartFacts-queued, ArePlaced-legal}
 use Rattle.ccr_model.proofs.Ending.{RunningFacts-allowed, AreEnded-legal}
 use Rattle.ccr_model.proofs.FiredTasks.{IsFired, placement_fired}
-use Rattle.ccr_model.proofs.Booleans.{refuted, no_both}
+use Rattle.ccr_base.proofs.Booleans.{refuted, no_both}
 use Rattle.ccr_ledger.specs.declared.cards.Card.{Card}
 use Rattle.ccr_ledger.specs.declared.cards.Runner.{Runner}
 use Rattle.ccr_ledger.specs.Books.{Books, card_at, runners}

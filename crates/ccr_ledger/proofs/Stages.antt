@@ -15,7 +15,7 @@ use Rattle.ccr_model.specs.Firings.{cut, ever_admitted, admitted_by, put, put_by
 use Rattle.ccr_model.specs.Rules.{needs_no_admission}
 use Rattle.ccr_model.specs.Legal.{IsAllowed, IsLegal}
 use Rattle.ccr_model.proofs.Allowing.{OneName-legal}
-use Rattle.ccr_model.proofs.Booleans.{no_both}
+use Rattle.ccr_base.proofs.Booleans.{no_both}
 use Rattle.ccr_model.proofs.Cutting.{AdmitFacts-allowed, CutFacts-legal, waits_unput}
 use Rattle.ccr_model.proofs.Ending.{AreEnded-legal}
 use Rattle.ccr_model.proofs.FiringFacts.{WaitingFacts-waiting}

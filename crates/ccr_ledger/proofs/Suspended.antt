@@ -1,9 +1,9 @@
 -- Each allowed event keeps who is suspended at each site.
-use Rattle.std.proofs.Common.{◌≡◌, ℕ, ◌+◌, ◌*◌, ◌<◌, ◌≤◌, Bool, true, false, not, ◌&&◌, List, [], ◌∷◌, ◌++◌, length, filter, drop, Some, None, refl, sym, ap, ◌∙◌, append-nil, arith, subst}
+use Rattle.std.proofs.Common.{◌≡◌, ℕ, ◌+◌, ◌*◌, ◌<◌, Bool, true, false, not, ◌&&◌, List, [], ◌∷◌, ◌++◌, length, filter, drop, Some, None, refl, sym, ap, ◌∙◌, append-nil, arith, subst}
 use Rattle.std.specs.Prelude.{◌==◌, if◌then◌else◌, nat_lt, option_and_then, option_map}
 use Rattle.std.specs.List.{slice_get}
 use Rattle.std.specs.Option.{option_map_or}
-use Rattle.std.proofs.lemmas.Bool.Decides.{nat_tests}
+use Rattle.std.proofs.lemmas.Bool.{ltb-true, ltb-false, lt-ltb}
 use Rattle.ccr_base.specs.declared.names.TaskId.{TaskId}
 use Rattle.ccr_base.specs.declared.names.MsgId.{MsgId}
 use Rattle.ccr_base.specs.declared.names.Spot.TheVariants.{Branch, Site}
@@ -22,10 +22,10 @@ use Rattle.ccr_model.specs.TaskData.{load_at, play_of, play_at}
 use Rattle.ccr_model.specs.Tasks.{has_post_left, running}
 use Rattle.ccr_model.specs.Rules.{ends_so, may_end}
 use Rattle.ccr_model.specs.Legal.{IsAllowed, IsLegal}
-use Rattle.ccr_model.proofs.Booleans.{both, and_false, refuted, no_both, same_number, eq-self}
+use Rattle.ccr_base.proofs.Booleans.{both, and_false, refuted, no_both, same_number, eq-self}
 use Rattle.ccr_model.proofs.Ending.{RunningFacts-allowed}
 use Rattle.ccr_model.proofs.FiredTasks.{none_fired}
-use Rattle.ccr_model.proofs.Options.{some-below}
+use Rattle.ccr_base.proofs.Options.{some-below}
 use Rattle.ccr_model.proofs.PlayPast.{play_at-past}
 use Rattle.ccr_model.proofs.PostNames.{refused_not}
 use Rattle.ccr_model.proofs.Suspending.{ResumeFacts, ResumeFacts-allowed, suspended-other, suspended-branch, suspended-elsewhere, suspended-here, same_site, end_fired}
@@ -39,17 +39,10 @@ use Rattle.ccr_ledger.proofs.Rest.{row-past}
 use Rattle.ccr_ledger.proofs.Tables.{length-with_row, row-with_row}
 use Rattle.ccr_ledger.proofs.TaskRows.{Rows, rows-post, rows-site, rows-yield, rows-end, rest-branch, rest-admit, rest-put, rest-start}
 use Rattle.ccr_ledger.proofs.TaskCards.{CardFacts, CardFacts-fired}
-use Rattle.ccr_ledger.proofs.Lanes.{below}
 
 -- the rows say who is suspended
 abbrev pub SaysSuspended : List Event → List (List TaskId) → Type 0
 SaysSuspended h rows = (b k : ℕ) → suspended_at rows b k ≡ suspended h (Site b k)
-
-above : (k n : ℕ) → nat_lt k n ≡ false → n ≤ k
-above k n is = grind (arith, nat_tests, is)
-
-is_below : (k n : ℕ) → k < n → nat_lt k n ≡ true
-is_below k n low = grind (arith, nat_tests, low)
 
 -- each site has a row of its own
 one_row : (n k b l : ℕ) → k < 16 → l < 16 → (n * 16 + k == b * 16 + l) ≡ (n == b) && (k == l)
@@ -65,19 +58,19 @@ row-with_low : (rows : List (List TaskId)) (n k : ℕ) (items : List TaskId) →
 row-with_low rows n k items low = of_test (nat_lt k (length rows)) refl
   where
     of_test : (b : Bool) → nat_lt k (length rows) ≡ b → row (with_row rows n items) k ≡ (if n == k then items else row rows k)
-    of_test true is = row-with_row rows n k items (below k (length rows) is)
+    of_test true is = row-with_row rows n k items (ltb-true k (length rows) is)
     of_test false is =
-        let past = above k (length rows) is in
+        let past = ltb-false k (length rows) is in
         let other : (n == k) ≡ false = refuted (n == k) (λ same. absurd (omega (arith, low, past, same_number n k same))) in
         rw other (row-past (with_row rows n items) k (omega (arith, past, length-with_row rows n items)) ∙ sym (row-past rows k past))
 
 suspended-set : (rows : List (List TaskId)) (n k b l : ℕ) (items : List TaskId) → k < 16 → n * 16 + k < length rows → suspended_at (with_suspended rows n k items) b l ≡ (if (n == b) && (k == l) then items else suspended_at rows b l)
-suspended-set rows n k b l items low within = ap (λ is. suspended_at (if is then with_row rows (n * 16 + k) items else rows) b l) (is_below k 16 low) ∙ of_site (nat_lt l 16) refl
+suspended-set rows n k b l items low within = ap (λ is. suspended_at (if is then with_row rows (n * 16 + k) items else rows) b l) (lt-ltb k 16 low) ∙ of_site (nat_lt l 16) refl
   where
     of_site : (is : Bool) → nat_lt l 16 ≡ is → (if is then row (with_row rows (n * 16 + k) items) (b * 16 + l) else []) ≡ (if (n == b) && (k == l) then items else if is then row rows (b * 16 + l) else [])
-    of_site true is = row-with_low rows (n * 16 + k) (b * 16 + l) items within ∙ ap (λ same. if same then items else row rows (b * 16 + l)) (one_row n k b l low (below l 16 is))
+    of_site true is = row-with_low rows (n * 16 + k) (b * 16 + l) items within ∙ ap (λ same. if same then items else row rows (b * 16 + l)) (one_row n k b l low (ltb-true l 16 is))
     of_site false is =
-        let past = above l 16 is in
+        let past = ltb-false l 16 is in
         let other : (k == l) ≡ false = refuted (k == l) (λ same. absurd (omega (arith, low, past, same_number k l same))) in
         rw (other, and_false (n == b)) refl
 
@@ -89,11 +82,11 @@ has_row rows n k t others is = of_site (nat_lt k 16) refl is
     of_row m found = of_test (nat_lt m (length rows)) refl
       where
         of_test : (b : Bool) → nat_lt m (length rows) ≡ b → m < length rows
-        of_test true low = below m (length rows) low
-        of_test false past = let none : row rows m ≡ [] = row-past rows m (above m (length rows) past) in absurd (cc)
+        of_test true low = ltb-true m (length rows) low
+        of_test false past = let none : row rows m ≡ [] = row-past rows m (ltb-false m (length rows) past) in absurd (cc)
 
     of_site : (b : Bool) → nat_lt k 16 ≡ b → (if b then row rows (n * 16 + k) else []) ≡ t ∷ others → (k < 16) × (n * 16 + k < length rows)
-    of_site true low found = (below k 16 low, of_row (n * 16 + k) found)
+    of_site true low found = (ltb-true k 16 low, of_row (n * 16 + k) found)
     of_site false past found = absurd (cc)
 
 -- an event that neither fires nor suspends leaves those that are suspended
@@ -137,9 +130,9 @@ yields_early w valid h t f is allowed = of_test (nat_lt (segment_of f.spot) 16) 
         ap (λ (p : Play). ends_so ends.Yield p.end) (sym played) ∙ (both (not (has_post_left w h t)) (ends_so ends.Yield (play_of w h t).end) b.0).1
 
     of_test : (b : Bool) → nat_lt (segment_of f.spot) 16 ≡ b → segment_of f.spot < 16
-    of_test true low = below (segment_of f.spot) 16 low
+    of_test true low = ltb-true (segment_of f.spot) 16 low
     of_test false past =
-        let done = play_at-past w valid (branch_of f.spot) (segment_of f.spot) (load_at w h (branch_of f.spot) (segment_of f.spot) t) (above (segment_of f.spot) 16 past) in
+        let done = play_at-past w valid (branch_of f.spot) (segment_of f.spot) (load_at w h (branch_of f.spot) (segment_of f.spot) t) (ltb-false (segment_of f.spot) 16 past) in
         let out : ends_so ends.Yield play.end ≡ false = ap (λ (p : Play). ends_so ends.Yield p.end) done in
         absurd (no_both as_played out)
 

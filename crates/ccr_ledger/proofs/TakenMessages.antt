@@ -19,37 +19,23 @@ use Rattle.ccr_model.specs.declared.history.Event.{Event}
 use Rattle.ccr_model.specs.Posts.{posts, taken, held, messages_named}
 use Rattle.ccr_model.specs.Choice.{names_of, choice_of_slots, are_first, are_split, are_oldest, is_choice_of, is_choice}
 use Rattle.ccr_model.specs.Legal.{IsLegal}
-use Rattle.ccr_model.proofs.Booleans.{both, neither, either, not_true, same_number}
+use Rattle.ccr_base.proofs.Booleans.{both, neither, either, not_true, same_number}
 use Rattle.ccr_model.proofs.Members.{Among, Among-either}
-use Rattle.ccr_model.proofs.Options.{some_of}
+use Rattle.ccr_base.proofs.Options.{some_of}
 use Rattle.ccr_model.proofs.PostNames.{times, posted_once}
-use Rattle.ccr_model.proofs.SameNames.{same_message-is, same_message-self}
+use Rattle.ccr_model.proofs.SameNames.{same_message-is}
 use Rattle.ccr_model.proofs.TakenOnce.{joined_some, choice_some, times-filter, times-two}
+use Rattle.ccr_model.proofs.MessageNames.{found_once}
 use Rattle.ccr_ledger.specs.Rows.{row, with_row}
 use Rattle.ccr_ledger.specs.Taken.{shared}
 use Rattle.ccr_ledger.specs.Books.{Books}
 use Rattle.ccr_ledger.specs.Taking.{take_slot, take_slots, take_pattern, take_site}
 use Rattle.ccr_ledger.specs.Kept.{HasSizes, KeepsPorts}
 
--- a member has its name among them, and is found by it
-times-among : (ms : List Msg) (m : Msg) → Among m ms → 0 < times m.id ms
-times-among [] m among = absurd among
-times-among (x ∷ ms) m (inl same) = rw (same, same_message-self x.id) (omega arith)
-times-among (x ∷ ms) m (inr more) = grind (arith, times-among ms m more)
-
-find-named : (ms : List Msg) (m : Msg) → Among m ms → times m.id ms ≤ 1 → find (λ (o : Msg). same_message o.id m.id) ms ≡ Some m
-find-named [] m among once = absurd among
-find-named (x ∷ ms) m (inl same) once = let here : same_message x.id m.id ≡ true = rw same (same_message-self x.id) in rw here (ap Some (sym same))
-find-named (x ∷ ms) m (inr more) once = of_test (same_message x.id m.id) refl (times-among ms m more) (find-named ms m more)
-  where
-    of_test : (b : Bool) → same_message x.id m.id ≡ b → 0 < times m.id ms → (times m.id ms ≤ 1 → find (λ (o : Msg). same_message o.id m.id) ms ≡ Some m) → (if b then Some x else find (λ (o : Msg). same_message o.id m.id) ms) ≡ Some m
-    of_test true is some rest = let two : times m.id (x ∷ ms) ≡ suc (times m.id ms) = rw is refl in absurd (omega (arith, two, some, once))
-    of_test false is some rest = let same : times m.id (x ∷ ms) ≡ times m.id ms = rw is refl in rest (omega (arith, same, once))
-
 -- some of the messages, found by their names
 named-found : (all ms : List Msg) → ((name : MsgId) → times name all ≤ 1) → ((m : Msg) → Among m ms → Among m all) → filter_map (λ name. find (λ (o : Msg). same_message o.id name) all) (names_of ms) ≡ ms
 named-found all [] once within = refl
-named-found all (m ∷ ms) once within = rw (find-named all m (within m (inl refl)) (once m.id)) (ap (λ (rest : List Msg). m ∷ rest) (named-found all ms once (λ x is. within x (inr is))))
+named-found all (m ∷ ms) once within = rw (found_once all m (within m (inl refl)) (once m.id)) (ap (λ (rest : List Msg). m ∷ rest) (named-found all ms once (λ x is. within x (inr is))))
 
 among-kept : (p : Msg → Bool) (ms : List Msg) (m : Msg) → Among m (filter p ms) → Among m ms
 among-kept p [] m among = among

@@ -35,12 +35,12 @@ use Rattle.ccr_model.specs.Choice.{names_of, choice_of_slots, is_choice, is_choi
 use Rattle.ccr_model.specs.Enough.{has_enough, can_take}
 use Rattle.ccr_model.specs.Rules.{cuts_at, may_admit, is_concurrent_task, drop_by, drop_at, has_budget}
 use Rattle.ccr_model.specs.Legal.{IsLegal}
-use Rattle.ccr_model.proofs.Options.{some-below}
+use Rattle.ccr_base.proofs.Options.{some-below}
 use Rattle.ccr_model.proofs.Members.{Among}
 use Rattle.ccr_model.proofs.Covered.{running_started}
 use Rattle.ccr_model.proofs.TaskPlaces.{ArePlaced-legal, placement_by}
 use Rattle.ccr_model.proofs.FiringPlacements.{firing_with_placement}
-use Rattle.ccr_model.proofs.Booleans.{not_not}
+use Rattle.ccr_base.proofs.Booleans.{not_not}
 use Rattle.ccr_ledger.specs.Rows.{row}
 use Rattle.ccr_ledger.specs.declared.cards.Card.{Card}
 use Rattle.ccr_ledger.specs.Books.{Books, number}

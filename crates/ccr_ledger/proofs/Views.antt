@@ -1,5 +1,5 @@
 -- What is seen of rows when one of them is changed.
-use Rattle.std.proofs.Common.{◌≡◌, ℕ, zero, suc, ◌+◌, ◌<◌, List, [], ◌∷◌, ◌++◌, length, map, refl, ap, ◌∙◌, arith, add-one}
+use Rattle.std.proofs.Common.{◌≡◌, ℕ, zero, suc, ◌+◌, ◌<◌, List, [], ◌∷◌, ◌++◌, length, map, refl, ap, ◌∙◌, add-one}
 use Rattle.std.proofs.Math.ListN.{set, get_or}
 use Rattle.std.proofs.Math.Seq.{map-set_same}
 use Rattle.std.proofs.lemmas.List.{map-set}
@@ -16,11 +16,6 @@ module _ {X T : Type 0} (f : X → List T) (rows : List X) (seen : List (List T)
   pub looked_up : map f rows ≡ seen → number < length rows → was ≡ get_or rows number was → row seen number ≡ f was
   looked_up is within here =
       rw (← is, slice_get-map, slice_get-get_or rows number was within, ← here) refl
-
--- a list without items
-pub none-of : {T : Type 0} (items : List T) → length items ≡ 0 → items ≡ []
-none-of [] none = refl
-none-of (x ∷ items) none = absurd (omega arith)
 
 -- one more empty row
 pub empty-more : {T : Type 0} (count : ℕ) → empty_rows count ++ [] ∷ [] ≡ empty_rows {T = T} (count + 1)

@@ -2,7 +2,6 @@
 use Rattle.std.proofs.Common.{◌≡◌, ℕ, ◌<◌, Bool, true, false, ◌&&◌, List, [], ◌∷◌, ◌++◌, length, map, Some, refl, sym, ap, ◌∙◌, append-nil, append_assoc, arith, subst}
 use Rattle.std.specs.Prelude.{◌==◌, if◌then◌else◌}
 use Rattle.std.specs.Option.{option_map_or}
-use Rattle.std.proofs.lemmas.Grind.{common_steps}
 use Rattle.ccr_base.specs.declared.names.TaskId.{TaskId}
 use Rattle.ccr_base.specs.declared.names.MsgId.{MsgId}
 use Rattle.ccr_base.specs.declared.names.Spot.TheVariants.{Branch, Site}
@@ -26,15 +25,15 @@ use Rattle.ccr_model.specs.Rules.{is_first, is_oldest_waiting}
 use Rattle.ccr_model.specs.Legal.{IsAllowed, IsLegal}
 use Rattle.ccr_model.proofs.Allowing.{OneName-legal}
 use Rattle.ccr_model.proofs.Alone.{ever_admitted_fired}
-use Rattle.ccr_model.proofs.Booleans.{refuted, no_both, or_left, or_right, same_number, eq-self}
+use Rattle.ccr_base.proofs.Booleans.{refuted, no_both, or_left, or_right, same_number, eq-self}
 use Rattle.ccr_model.proofs.Cutting.{fired_by-append}
 use Rattle.ccr_model.proofs.FiredTasks.{IsFired, fired_has, placement_fired}
 use Rattle.ccr_model.proofs.FiringFacts.{FiresSo-allowed, WaitingFacts-waiting}
-use Rattle.ccr_model.proofs.Options.{some_of}
+use Rattle.ccr_base.proofs.Options.{some_of}
 use Rattle.ccr_model.proofs.PostNames.{refused_not}
 use Rattle.ccr_model.proofs.Pushes.{ever_admitted-push, cut-push}
 use Rattle.ccr_model.proofs.SameNames.{same_task-self}
-use Rattle.ccr_model.proofs.TasksLeft.{without_both}
+use Rattle.ccr_model.proofs.TasksLeft.{without_both, without_middle}
 use Rattle.ccr_model.proofs.TaskLists.{first_rest, has_oldest, not_more, without-append, without_none, none_gone}
 use Rattle.ccr_model.proofs.TasksOnce.{waiting_once, waits_in_one}
 use Rattle.ccr_ledger.specs.Rows.{row, with_row}
@@ -66,11 +65,6 @@ all_gone (x ∷ ts) gone all =
 waiting-other : (w : Parts) (h : List Event) (e : Event) (i : ℕ) → fired_by w (is_placement_in i) (e ∷ []) ≡ [] → admitted_by e ≡ [] → cut (e ∷ []) ≡ [] → waiting w (h ++ e ∷ []) i ≡ waiting w h i
 waiting-other w h e i no_fire no_admit no_cut =
     rw (fired_by-append w (is_placement_in i) h (e ∷ []), ever_admitted-push h e, cut-push h e, no_fire, no_admit, no_cut, append-nil (fired_by w (is_placement_in i) h), append-nil (ever_admitted h), append-nil (cut h)) refl
-
--- over plain lists: one goes in the middle
-without_middle : (ts front back : List TaskId) (t : TaskId) → without ts ((front ++ t ∷ []) ++ back) ≡ without (without ts (front ++ back)) (t ∷ [])
-without_middle [] front back t = refl
-without_middle (x ∷ ts) front back t = grind (arith, common_steps, without_middle ts front back t)
 
 waiting-admit : (w : Parts) (h : List Event) (t : TaskId) (i : ℕ) → waiting w (h ++ Admit t ∷ []) i ≡ without (waiting w h i) (t ∷ [])
 waiting-admit w h t i =

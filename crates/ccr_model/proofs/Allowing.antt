@@ -36,11 +36,11 @@ use Rattle.ccr_model.specs.Legal.{IsAllowed, IsLegal}
 use Rattle.ccr_model.specs.Order.{post_from, script_post, fire_at, fire_from, next_attempt, put_first, run_task, run_with, task_post, how_of, admit_first, admit_from, start_from, first}
 use Rattle.ccr_model.proofs.PostNames.{along, refused_not}
 use Rattle.ccr_model.proofs.Stable.{firing_named-append, firings-append}
-use Rattle.ccr_model.proofs.Options.{some_of, IfSome-or, some-below, none-above}
+use Rattle.ccr_base.proofs.Options.{some_of, IfSome-or, some-below, none-above}
 use Rattle.ccr_model.proofs.Members.{Among}
 use Rattle.ccr_model.proofs.FirstNames.{length-names_of}
 use Rattle.ccr_model.proofs.SameNames.{same_task-self, same_message-self, same_value-self}
-use Rattle.ccr_model.proofs.Booleans.{both, or_right, eq-self}
+use Rattle.ccr_base.proofs.Booleans.{both, or_right, eq-self}
 use Rattle.ccr_model.proofs.FiredTasks.{find_last}
 
 same_list-self : {X : Type 0} (same : X → X → Bool) → ((x : X) → same x x ≡ true) → (xs : List X) → same_lists same xs xs ≡ true
@@ -74,7 +74,8 @@ first-self [] (suc n) = refl
 first-self (x ∷ xs) zero = refl
 first-self (x ∷ xs) (suc n) = rw (same_message-self x.id) (first-self xs n)
 
-are_first-is_split : (a b : List Msg) (names : List MsgId) → are_first b names ≡ true → are_split a b names ≡ true
+-- names of the first of one list are a split of both
+pub are_first-is_split : (a b : List Msg) (names : List MsgId) → are_first b names ≡ true → are_split a b names ≡ true
 are_first-is_split [] b [] is = refl
 are_first-is_split [] b (n ∷ names) is = is
 are_first-is_split (m ∷ a) b [] is = refl

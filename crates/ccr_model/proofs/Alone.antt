@@ -27,9 +27,9 @@ use Rattle.ccr_model.proofs.PostNames.{along, refused_not}
 use Rattle.ccr_model.proofs.Allowing.{head_passes}
 use Rattle.ccr_model.proofs.Covered.{AreStarted, AreStarted_kept, running_started}
 use Rattle.ccr_model.proofs.Pushes.{last-push, ever_admitted-push}
-use Rattle.ccr_model.proofs.Options.{some_of, some_then, head_rest}
+use Rattle.ccr_base.proofs.Options.{some_of, some_then, head_rest}
 use Rattle.ccr_model.proofs.SameNames.{same_task-is, same_task-self}
-use Rattle.ccr_model.proofs.Booleans.{both, or_left, or_right}
+use Rattle.ccr_base.proofs.Booleans.{both, or_left, or_right}
 use Rattle.ccr_model.proofs.FiredTasks.{IsFired, AreFired, IsFired-append, none_fired, placement_fired, placement_stays, root_stays}
 
 AreFired-append : (h es : List Event) (ts : List TaskId) → AreFired h ts → AreFired (h ++ es) ts

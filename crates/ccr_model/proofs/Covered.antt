@@ -26,10 +26,10 @@ use Rattle.ccr_model.proofs.TaskSteps.{running-post, running-fire, running-admit
 use Rattle.ccr_model.proofs.Stable.{play_of-append}
 use Rattle.ccr_model.proofs.Allowing.{head_passes}
 use Rattle.ccr_model.proofs.Pushes.{started-push}
-use Rattle.ccr_model.proofs.Options.{some_of, head_rest}
+use Rattle.ccr_base.proofs.Options.{some_of, head_rest}
 use Rattle.ccr_model.proofs.SameNames.{same_task-is, same_task-self, same_task-sym}
 use Rattle.ccr_model.proofs.TasksLeft.{of_without, filter_on, distinct-filter, distinct-push}
-use Rattle.ccr_model.proofs.Booleans.{not_true, both, or_left, or_right}
+use Rattle.ccr_base.proofs.Booleans.{not_true, both, or_left, or_right}
 use Rattle.ccr_model.proofs.FiredTasks.{IsFired, AreFired, IsFired-append, placement_fired}
 
 -- what is known of the tasks that started

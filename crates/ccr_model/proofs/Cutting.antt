@@ -30,8 +30,8 @@ use Rattle.ccr_model.proofs.Stable.{firing_named-append}
 use Rattle.ccr_model.proofs.Allowing.{OneName, OneName-legal}
 use Rattle.ccr_model.proofs.Pushes.{put-push, ever_admitted-push, cut-push}
 use Rattle.ccr_model.proofs.LegalParts.{along_legal, onward, Parted-legal}
-use Rattle.ccr_model.proofs.Options.{some_of}
-use Rattle.ccr_model.proofs.Booleans.{both, refuted, no_both, same_number}
+use Rattle.ccr_base.proofs.Options.{some_of}
+use Rattle.ccr_base.proofs.Booleans.{both, refuted, no_both, same_number}
 use Rattle.ccr_model.proofs.FiredTasks.{IsFired}
 use Rattle.ccr_model.specs.Interleaves.{is_placement_in, is_teardown_in, tears_down, fired_in}
 use Rattle.ccr_model.proofs.TaskLists.{first_rest, has_oldest, of_more, among_left, not_more, of_one, not_one, not_within}
@@ -118,7 +118,7 @@ pub record CutFacts (w : Parts) (h : List Event) : Type 0 where
   pub entered : (t : TaskId) (f : Firing) → has_task (put h) t ≡ true → firing_named h t ≡ Some f → needs_no_admission w f.spot || has_task (ever_admitted h) t ≡ true
 
 -- who is cut waited
-cuts_wait : (w : Parts) (h : List Event) (s : Spot) (t : TaskId) → has_task (cuts_at w h s) t ≡ true → (i : ℕ) × (has_task (waiting w h i) t ≡ true)
+pub cuts_wait : (w : Parts) (h : List Event) (s : Spot) (t : TaskId) → has_task (cuts_at w h s) t ≡ true → (i : ℕ) × (has_task (waiting w h i) t ≡ true)
 cuts_wait w h (Site b k) t among = absurd (cc)
 cuts_wait w h (Branch b) t among = of_option (placement w b) among
   where

@@ -20,11 +20,11 @@ use Rattle.ccr_model.specs.Legal.{IsAllowed}
 use Rattle.ccr_model.proofs.PostNames.{refused_not}
 use Rattle.ccr_model.proofs.Allowing.{OneName}
 use Rattle.ccr_model.proofs.Pushes.{firings-push}
-use Rattle.ccr_model.proofs.Options.{some_of}
+use Rattle.ccr_base.proofs.Options.{some_of}
 use Rattle.ccr_model.proofs.Members.{Among}
 use Rattle.ccr_model.proofs.SameNames.{same_task-is, same_task-self, same_task-sym}
 use Rattle.ccr_model.proofs.TasksLeft.{of_without, out_left}
-use Rattle.ccr_model.proofs.Booleans.{not_true, both, neither, or_left, or_right, refuted, no_both}
+use Rattle.ccr_base.proofs.Booleans.{not_true, both, neither, or_left, or_right, refuted, no_both}
 use Rattle.ccr_model.proofs.FiredTasks.{IsFired, find_last, fired_has}
 use Rattle.ccr_model.specs.Interleaves.{is_placement_in}
 use Rattle.ccr_model.proofs.TaskLists.{to_without, not_more, out_right}

@@ -17,7 +17,7 @@ use Rattle.ccr_model.specs.Legal.{IsAllowed, IsLegal}
 use Rattle.ccr_model.proofs.TakenOnce.{FireFacts-allowed}
 use Rattle.ccr_model.proofs.Pushes.{firings-push}
 use Rattle.ccr_model.proofs.LegalParts.{along_legal}
-use Rattle.ccr_model.proofs.Options.{some_of}
+use Rattle.ccr_base.proofs.Options.{some_of}
 use Rattle.ccr_model.proofs.Members.{Among, Among-either}
 
 spot_with_placement : (w : Parts) (h : List Event) (s : Spot) (ms : List MsgId) → is_live w h s ≡ true → is_choice w h s ms ≡ true → (r : Placement) × (placement w (branch_of s) ≡ Some r)

@@ -1,8 +1,10 @@
 -- Legal histories by their parts, and induction over the events that follow.
-use Rattle.std.proofs.Common.{◌≡◌, List, [], ◌∷◌, ◌++◌, sym, subst, append_assoc, append-nil}
+use Rattle.std.proofs.Common.{◌≡◌, ℕ, ◌+◌, List, [], ◌∷◌, ◌++◌, Option, Some, None, refl, sym, subst, append_assoc, append-nil}
 use Rattle.ccr_wiring.specs.declared.parts.Parts.{Parts}
 use Rattle.ccr_model.specs.declared.history.Event.{Event}
-use Rattle.ccr_model.specs.Legal.{IsAllowed, IsLegal, IsLegalAfter}
+use Rattle.ccr_model.specs.declared.rule.Rule.{Rule}
+use Rattle.ccr_model.specs.Rules.{refusal}
+use Rattle.ccr_model.specs.Legal.{IsAllowed, IsLegal, IsLegalAfter, first_refusal}
 use Rattle.ccr_model.proofs.PostNames.{along}
 
 -- one more event
@@ -44,3 +46,12 @@ pub Parted-legal : (w : Parts) (before : List Event) (e : Event) (after : List E
 Parted-legal w before e after legal =
     let parts = legal_split w [] before (e ∷ after) legal in
     record { legal_before = parts.0; allowed = parts.1.0; legal_then = legal_push w [] before e parts.0 parts.1.0; legal_after = parts.1.1 }
+
+-- where each is allowed, no event is refused
+pub first_refusal-legal : (w : Parts) (past : List Event) (n : ℕ) (es : List Event) → IsLegalAfter w past es → first_refusal w past n es ≡ None
+first_refusal-legal w past n [] legal = refl
+first_refusal-legal w past n (e ∷ es) legal = of_rule (refusal w past e) legal.0 (first_refusal-legal w (past ++ e ∷ []) (n + 1) es legal.1)
+  where
+    of_rule : (o : Option Rule) → o ≡ None → first_refusal w (past ++ e ∷ []) (n + 1) es ≡ None → elim o as (λ x. Option (ℕ × Rule)) [ None ↦ first_refusal w (past ++ e ∷ []) (n + 1) es | Some rule ↦ Some (n, rule) ] ≡ None
+    of_rule None is rest = rest
+    of_rule (Some rule) is rest = absurd (cc)

@@ -3,12 +3,9 @@ mod WorkedRuns
 mod WorkedTasks
 mod WorkedDomains
 mod WrongEvents
-pub mod Booleans
-pub mod Options
 pub mod Members
 pub mod SameNames
 pub mod TasksLeft
-pub mod Filters
 pub mod Pushes
 pub mod HeldSteps
 pub mod PostNames

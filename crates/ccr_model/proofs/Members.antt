@@ -1,5 +1,5 @@
 -- Who is a member of a list.
-use Rattle.std.proofs.Common.{◌≡◌, ℕ, zero, suc, Bool, true, ◌⊎◌, inl, inr, List, [], ◌∷◌, ◌++◌, Some, refl}
+use Rattle.std.proofs.Common.{◌≡◌, ℕ, zero, suc, Bool, true, ◌⊎◌, inl, inr, List, [], ◌∷◌, ◌++◌, take, Some, refl, sym, ap}
 use Rattle.std.specs.List.{slice_get, list_all}
 
 -- x is a member
@@ -25,6 +25,19 @@ pub Among-at : {X : Type 0} (xs : List X) (i : ℕ) (x : X) → slice_get xs i �
 Among-at [] i x is = absurd (cc)
 Among-at (y ∷ xs) zero x is = inl (cc)
 Among-at (y ∷ xs) (suc i) x is = inr (Among-at xs i x is)
+
+-- the place of a member
+pub place_of : {X : Type 0} (xs : List X) (x : X) → Among x xs → (i : ℕ) × (slice_get xs i ≡ Some x)
+place_of [] x among = absurd among
+place_of (y ∷ xs) x (inl same) = (0, ap Some (sym same))
+place_of (y ∷ xs) x (inr more) = let rest = place_of xs x more in (suc rest.0, rest.1)
+
+-- who is among the first is among all
+pub Among-take : {X : Type 0} (k : ℕ) (xs : List X) (x : X) → Among x (take k xs) → Among x xs
+Among-take zero xs x is = absurd is
+Among-take (suc k) [] x is = absurd is
+Among-take (suc k) (y ∷ xs) x (inl same) = inl same
+Among-take (suc k) (y ∷ xs) x (inr more) = inr (Among-take k xs x more)
 
 -- a test that each member passes
 pub all_from : {X : Type 0} (p : X → Bool) (xs : List X) → ((x : X) → Among x xs → p x ≡ true) → list_all p xs ≡ true

@@ -1,6 +1,6 @@
 -- Over lists of messages and of their names: who stands there is counted, and no port holds two messages of one name.
-use Rattle.std.proofs.Common.{◌≡◌, ℕ, ◌<◌, ◌≤◌, Bool, true, false, not, ◌||◌, List, [], ◌∷◌, ◌++◌, inl, inr, length, filter, refl, sym, ap, ◌∙◌, arith}
-use Rattle.std.specs.Prelude.{◌==◌, if◌then◌else◌}
+use Rattle.std.proofs.Common.{◌≡◌, ℕ, ◌<◌, ◌≤◌, Bool, true, false, not, ◌||◌, List, [], ◌∷◌, ◌++◌, inl, inr, length, filter, Some, refl, sym, ap, ◌∙◌, arith}
+use Rattle.std.specs.Prelude.{◌==◌, if◌then◌else◌, find}
 use Rattle.std.proofs.lemmas.Grind.{common_steps}
 use Rattle.ccr_base.specs.declared.names.MsgId.{MsgId}
 use Rattle.ccr_base.specs.declared.messages.Msg.{Msg}
@@ -34,6 +34,16 @@ times_some (x ∷ ms) m (inr more) = by_test (same_message x.id m.id) (times_som
     by_test : (b : Bool) → 1 ≤ times m.id ms → 1 ≤ length (if b then x ∷ filter (λ (y : Msg). same_message y.id m.id) ms else filter (λ (y : Msg). same_message y.id m.id) ms)
     by_test true rest = grind arith
     by_test false rest = rest
+
+-- a message is found by its name, where that stands once
+pub found_once : (ms : List Msg) (m : Msg) → Among m ms → times m.id ms ≤ 1 → find (λ (x : Msg). same_message x.id m.id) ms ≡ Some m
+found_once [] m is once = absurd is
+found_once (x ∷ ms) m (inl e) once = let here : same_message x.id m.id ≡ true = ap (λ (y : Msg). same_message y.id m.id) (sym e) ∙ same_message-self m.id in rw here (ap Some (sym e))
+found_once (x ∷ ms) m (inr more) once = by_test (same_message x.id m.id) refl once (found_once ms m more)
+  where
+    by_test : (b : Bool) → same_message x.id m.id ≡ b → length (if b then x ∷ filter (λ (y : Msg). same_message y.id m.id) ms else filter (λ (y : Msg). same_message y.id m.id) ms) ≤ 1 → (times m.id ms ≤ 1 → find (λ (y : Msg). same_message y.id m.id) ms ≡ Some m) → (if b then Some x else find (λ (y : Msg). same_message y.id m.id) ms) ≡ Some m
+    by_test true e few rest = let some = times_some ms m more in absurd (omega (arith, few, some))
+    by_test false e few rest = rest few
 
 pub has_message-append : (xs ys : List MsgId) (name : MsgId) → has_message (xs ++ ys) name ≡ has_message xs name || has_message ys name
 has_message-append xs ys name = grind (arith, common_steps)

@@ -1,5 +1,5 @@
 -- A branch's domain has the number of an arbiter.
-use Rattle.std.proofs.Common.{◌≡◌, ℕ, ◌≤◌, ◌<◌, min, Bool, true, false, List, [], ◌∷◌, length, Option, Some, None, refl, ◌∙◌, arith}
+use Rattle.std.proofs.Common.{◌≡◌, ℕ, ◌≤◌, ◌<◌, Bool, true, false, List, [], ◌∷◌, length, Option, Some, None, refl, ◌∙◌, arith}
 use Rattle.std.specs.Prelude.{option_map, if◌then◌else◌}
 use Rattle.std.specs.List.{slice_get}
 use Rattle.ccr_wiring.specs.declared.parts.DomainPart.{DomainPart}
@@ -7,13 +7,9 @@ use Rattle.ccr_wiring.specs.declared.parts.Parts.{Parts}
 use Rattle.ccr_wiring.specs.Domains.{least_with, domain_of}
 use Rattle.ccr_wiring.specs.Repeats.{has_port}
 use Rattle.ccr_wiring.specs.Wirings.{Placement, placement, placements_from, in_domain}
-use Rattle.ccr_wiring.proofs.DomainLemmas.{placement_of_arbiter}
+use Rattle.ccr_wiring.proofs.DomainLemmas.{placement_of_arbiter, least-low}
 use Rattle.ccr_wiring.proofs.Positions.{placement-domain}
-use Rattle.ccr_model.proofs.Options.{some-below}
-
-least-low : (least : ℕ) (numbers : List ℕ) → least_with least numbers ≤ least
-least-low least [] = omega arith
-least-low least (number ∷ numbers) = omega (arith, least-low (min least number) numbers)
+use Rattle.ccr_base.proofs.Options.{some-below}
 
 -- a domain has no number above that of an arbiter in it
 domain-low : (domains : List DomainPart) (arbiter : ℕ) → domain_of domains arbiter ≤ arbiter

@@ -32,10 +32,10 @@ use Rattle.ccr_model.specs.Order.{first, post_from, script_post, fire_at, fire_f
 use Rattle.ccr_wiring.specs.Valid.{HasQueues}
 use Rattle.ccr_model.proofs.PostNames.{refused_not}
 use Rattle.ccr_model.proofs.PlacementDomains.{placement-within}
-use Rattle.ccr_model.proofs.Options.{some_of, some_then, some_map, none_or, none_map, no_head}
+use Rattle.ccr_base.proofs.Options.{some_of, some_then, some_map, none_or, none_map, no_head}
 use Rattle.ccr_model.proofs.Members.{Among, Among-left, Among-right}
 use Rattle.ccr_model.proofs.SameNames.{same_task-is}
-use Rattle.ccr_model.proofs.Booleans.{both}
+use Rattle.ccr_base.proofs.Booleans.{both}
 
 -- Post of a script
 post_none : (h : List Event) (ps : List PosterPart) (n k : ℕ) (p : PosterPart) → post_from h n ps ≡ None → slice_get ps k ≡ Some p → slice_get p.posts (posts_of_poster h (n + k)) ≡ None

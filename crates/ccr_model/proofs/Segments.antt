@@ -1,8 +1,7 @@
 -- The actions of a segment.
-use Rattle.std.proofs.Common.{◌≡◌, ℕ, zero, suc, ◌-◌, ◌≤◌, Bool, true, false, List, [], ◌∷◌, ◌++◌, length, refl, arith}
+use Rattle.std.proofs.Common.{◌≡◌, ℕ, zero, suc, ◌-◌, ◌≤◌, Bool, true, false, List, [], ◌∷◌, length, refl, arith}
 use Rattle.std.specs.Prelude.{if◌then◌else◌}
 use Rattle.ccr_base.specs.declared.handlers.Action.{Action}
-use Rattle.ccr_cause.specs.Causes.{with_cause, union}
 use Rattle.ccr_handler.specs.Playing.{is_await, after_await, actions_from}
 
 after_await-shorter : (actions : List Action) → length (after_await actions) ≤ length actions - 1
@@ -24,7 +23,3 @@ none_left (action ∷ actions) few = absurd (omega arith)
 -- there are no more segments than actions
 pub actions_from-past : (segment : ℕ) (actions : List Action) → length actions ≤ segment → actions_from segment actions ≡ []
 actions_from-past segment actions past = none_left (actions_from segment actions) (omega (arith, actions_from-shorter segment actions))
-
-pub union-append : (causes more others : List ℕ) → union causes (more ++ others) ≡ union (union causes more) others
-union-append causes [] others = refl
-union-append causes (cause ∷ more) others = union-append (with_cause causes cause) more others

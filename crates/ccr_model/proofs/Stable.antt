@@ -12,7 +12,7 @@ use Rattle.ccr_model.specs.declared.history.Event.{Event}
 use Rattle.ccr_model.specs.declared.history.Event.TheVariants.{Post, Fire, Admit, Put, Start, End}
 use Rattle.ccr_base.specs.Names.{same_task, same_spot}
 use Rattle.ccr_wiring.specs.Wirings.{branch_of, segment_of, next_site}
-use Rattle.ccr_model.specs.Firings.{Firing, firings, firing_named, yielded, fired_at}
+use Rattle.ccr_model.specs.Firings.{Firing, firings, fired, firing_named, yielded, fired_at}
 use Rattle.ccr_model.specs.Sites.{before, yields_at, resumed, root_at}
 use Rattle.ccr_model.specs.TaskData.{load_at, load_after, no_load, with_messages, messages_of, play_of}
 
@@ -22,6 +22,9 @@ find-append p (y ∷ xs) ys x is = grind (arith, find-append p xs ys x)
 
 pub firings-append : (h es : List Event) → firings (h ++ es) ≡ firings h ++ firings es
 firings-append h es = grind (arith, common_steps)
+
+pub fired-append : (h es : List Event) → fired (h ++ es) ≡ fired h ++ fired es
+fired-append h es = grind (arith, common_steps)
 
 pub firing_named-append : (h es : List Event) (t : TaskId) (f : Firing) → firing_named h t ≡ Some f → firing_named (h ++ es) t ≡ Some f
 firing_named-append h es t f is = rw firings-append (find-append (λ (g : Firing). same_task g.task t) (firings h) (firings es) f is)

@@ -26,7 +26,7 @@ use Rattle.ccr_model.specs.Legal.{IsAllowed, IsLegal}
 use Rattle.ccr_wiring.specs.Valid.{has_port, are_apart, slot_ports, names_ports_once, HasPortsApart}
 use Rattle.ccr_model.proofs.PostNames.{times, along, refused_not, AreNamed, named_kept}
 use Rattle.ccr_model.proofs.SameNames.{same_message-is}
-use Rattle.ccr_model.proofs.Booleans.{both}
+use Rattle.ccr_base.proofs.Booleans.{both}
 
 -- how often the name stands in the list of names
 abbrev pub times_named : MsgId → List MsgId → ℕ

@@ -7,10 +7,10 @@ use Rattle.ccr_base.specs.Names.{same_task, has_task, without}
 use Rattle.ccr_model.specs.Consequences.{are_distinct_tasks}
 use Rattle.ccr_model.specs.Rules.{is_first}
 use Rattle.ccr_model.proofs.Quiet.{first_is}
-use Rattle.ccr_model.proofs.Options.{head_rest}
+use Rattle.ccr_base.proofs.Options.{head_rest}
 use Rattle.ccr_model.proofs.SameNames.{same_task-is, same_task-self}
 use Rattle.ccr_model.proofs.TasksLeft.{has_task-append, has_task-filter}
-use Rattle.ccr_model.proofs.Booleans.{not_true, not_false, both, neither, or_left, or_right, either, refuted, no_both}
+use Rattle.ccr_base.proofs.Booleans.{not_true, not_false, both, neither, or_left, or_right, either, refuted, no_both}
 
 -- a member that passes is a member of those that pass
 pub to_filter : (p : TaskId → Bool) (ts : List TaskId) (t : TaskId) → has_task ts t ≡ true → p t ≡ true → has_task (filter p ts) t ≡ true

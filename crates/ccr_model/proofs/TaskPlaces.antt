@@ -16,9 +16,9 @@ use Rattle.ccr_model.specs.Legal.{IsAllowed, IsLegal}
 use Rattle.ccr_model.specs.Consequences.{are_distinct_tasks}
 use Rattle.ccr_model.proofs.PostNames.{along, refused_not}
 use Rattle.ccr_model.proofs.Pushes.{put-push, started-push, dropped-push}
-use Rattle.ccr_model.proofs.Options.{some_of, some_map, head_rest}
+use Rattle.ccr_base.proofs.Options.{some_of, some_map, head_rest}
 use Rattle.ccr_model.proofs.TasksLeft.{of_filter, of_without, out_left, distinct-push}
-use Rattle.ccr_model.proofs.Booleans.{not_true, both, refuted, no_both}
+use Rattle.ccr_base.proofs.Booleans.{not_true, both, refuted, no_both}
 use Rattle.ccr_model.proofs.FiredTasks.{IsFired, AreFired, IsFired-append}
 use Rattle.ccr_model.proofs.DropFacts.{put_allowed, drop_allowed}
 use Rattle.ccr_model.proofs.TaskLists.{first_rest, has_oldest, of_more, among_left, not_more, of_one, out_right}

@@ -15,7 +15,7 @@ use Rattle.ccr_model.specs.Firings.{Firing, firings, firing_named, put, started,
 use Rattle.ccr_model.specs.Tasks.{is_for_queue, queued, running}
 use Rattle.ccr_model.proofs.Pushes.{firings-push, put-push, started-push, dropped-push}
 use Rattle.ccr_model.proofs.TasksLeft.{has_task-without, without_both, lists_start}
-use Rattle.ccr_model.proofs.Booleans.{neither}
+use Rattle.ccr_base.proofs.Booleans.{neither}
 
 -- running, one lemma an event
 pub running-start : (h : List Event) (t : TaskId) (a : ℕ) → has_task (ended h) t ≡ false → running (h ++ Start t a ∷ []) ≡ running h ++ t ∷ []

@@ -6,7 +6,7 @@ use Rattle.ccr_base.specs.declared.names.TaskId.{TaskId}
 use Rattle.ccr_base.specs.Names.{same_task, has_task, without}
 use Rattle.ccr_model.specs.Consequences.{are_distinct_tasks}
 use Rattle.ccr_model.proofs.SameNames.{same_task-is, same_task-self, same_task-sym}
-use Rattle.ccr_model.proofs.Booleans.{not_true, both, neither, or_left, or_right, or_assoc}
+use Rattle.ccr_base.proofs.Booleans.{not_true, both, neither, or_left, or_right, or_assoc}
 
 -- who stands in the list is one of it
 pub has_task-append : (ts us : List TaskId) (t : TaskId) → has_task (ts ++ us) t ≡ has_task ts t || has_task us t
@@ -48,6 +48,11 @@ filter_on p q (x ∷ ts) same =
 pub without_both : (ts gone more : List TaskId) → without ts (gone ++ more) ≡ without (without ts gone) more
 without_both [] gone more = refl
 without_both (t ∷ ts) gone more = grind (arith, common_steps, without_both ts gone more)
+
+-- one more goes, in the middle of those that go
+pub without_middle : (ts front back : List TaskId) (t : TaskId) → without ts ((front ++ t ∷ []) ++ back) ≡ without (without ts (front ++ back)) (t ∷ [])
+without_middle [] front back t = refl
+without_middle (x ∷ ts) front back t = grind (arith, common_steps, without_middle ts front back t)
 
 -- one more started
 pub lists_start : (f : TaskId → Bool) (ps ss ds : List TaskId) (t : TaskId) → filter f (without ps ((ss ++ t ∷ []) ++ ds)) ≡ without (filter f (without ps (ss ++ ds))) (t ∷ [])

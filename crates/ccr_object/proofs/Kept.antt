@@ -15,6 +15,7 @@ use Rattle.ccr_base.specs.declared.tasks.By.TheVariants.{Fired as ByFired}
 use Rattle.ccr_base.specs.declared.tasks.Commit.TheVariants.{Fired, Dead}
 use Rattle.ccr_base.specs.declared.tasks.Task.{Task}
 use Rattle.ccr_base.specs.Choice.{holds, fitting, is_choosable}
+use Rattle.ccr_base.proofs.Lists.{all_more}
 use Rattle.ccr_wiring.specs.declared.parts.Kind.{Kind}
 use Rattle.ccr_wiring.specs.declared.parts.Kind.TheVariants as kinds
 use Rattle.ccr_wiring.specs.declared.parts.Parts.{Parts}
@@ -42,7 +43,7 @@ use Rattle.ccr_claim.specs.declared.asks.Ask.{Ask}
 use Rattle.ccr_claim.specs.declared.asks.Ask.TheVariants as asks
 use Rattle.ccr_claim.specs.declared.asks.Reply.{Reply}
 use Rattle.ccr_claim.specs.declared.asks.Reply.TheVariants as replies
-use Rattle.ccr_claim.proofs.Apart.{all_both, union_all, union_apart}
+use Rattle.ccr_claim.proofs.Apart.{union_all, union_apart}
 use Rattle.ccr_object.specs.declared.object.Object.{Object}
 use Rattle.ccr_object.specs.declared.object.Object.TheVariants.{Port, Arbiter, Interleave, Site, Queue, Meter}
 use Rattle.ccr_object.specs.declared.object.Placed.{Placed}
@@ -81,10 +82,6 @@ all_filter p q (x ∷ xs) all =
     let parts = and_parts (p x) (list_all p xs) all in
     let rest = all_filter p q xs parts.1 in
     chosen (λ ys. list_all p ys ≡ true) (q x) (x ∷ filter q xs) (filter q xs) (and_from (p x) (list_all p (filter q xs)) parts.0 rest) rest
-
--- one more at the end
-all_more : {X : Type 0} (p : X → Bool) (xs : List X) (x : X) → list_all p xs ≡ true → p x ≡ true → list_all p (xs ++ x ∷ []) ≡ true
-all_more p xs x all one = all_both p xs (x ∷ []) all (and_from (p x) true one refl)
 
 module _ (known : Known) where
   -- ---- replies

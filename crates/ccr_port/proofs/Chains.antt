@@ -4,29 +4,16 @@ use Rattle.std.specs.Prelude.{if◌then◌else◌}
 use Rattle.std.specs.List.{slice_get, list_all}
 use Rattle.std.specs.Option.{option_map_or}
 use Rattle.std.proofs.lemmas.Grind.{common_steps}
-use Rattle.std.proofs.lemmas.Bool.Decides.{nat_tests}
 use Rattle.ccr_port.specs.Chains.{keys_from, IsPath, IsWayBack, has_key, are_apart, without_key, IsChain, same_point, mended}
 pub use Rattle.std.proofs.lemmas.Bool.{or_parts as neither}
 pub use Rattle.std.proofs.lemmas.Bool.{and_parts as both}
+use Rattle.ccr_base.proofs.Booleans.{eq_turned, not_true, eq-self, same_number}
 
 -- ---- tests
 
-pub not_true : (a : Bool) → not a ≡ true → a ≡ false
-not_true true is = absurd (cc)
-not_true false is = refl
-
-pub eq_self : (n : ℕ) → (n == n) ≡ true
-eq_self n = grind (arith, nat_tests)
-
-pub eq_is : (n m : ℕ) → (n == m) ≡ true → n ≡ m
-eq_is n m is = grind (arith, nat_tests, is)
-
-pub eq_turned : (n m : ℕ) → (n == m) ≡ false → (m == n) ≡ false
-eq_turned n m is = grind (arith, nat_tests, is)
-
 pub same_self : (p : Option ℕ) → same_point p p ≡ true
 same_self None = refl
-same_self (Some n) = eq_self n
+same_self (Some n) = eq-self n
 
 pub same_turned : (p q : Option ℕ) → same_point p q ≡ false → same_point q p ≡ false
 same_turned None None is = is
@@ -106,7 +93,7 @@ behind-is f key p [] is has = absurd (cc)
 behind-is f key p (k ∷ ks) is has = of_test (k == key) refl (λ later. behind-is f key (Some k) ks is.1 later)
   where
     of_test : (b : Bool) → (k == key) ≡ b → (has_key key ks ≡ true → f (Some key) ≡ point_behind key ks) → f (Some key) ≡ (if b then slice_get ks 0 else point_behind key ks)
-    of_test true same rest = ap (λ n. f (Some n)) (sym (eq_is k key same)) ∙ path-head f (Some k) ks is.1
+    of_test true same rest = ap (λ n. f (Some n)) (sym (same_number k key same)) ∙ path-head f (Some k) ks is.1
     of_test false other rest = rest (has-rest key k ks other has)
 
 pub before-is : (g : Option ℕ → Option ℕ) (key : ℕ) (p : Option ℕ) (ks : List ℕ) → IsWayBack g p ks → has_key key ks ≡ true → g (Some key) ≡ point_before key p ks
@@ -114,7 +101,7 @@ before-is g key p [] is has = absurd (cc)
 before-is g key p (k ∷ ks) is has = of_test (k == key) refl (λ later. before-is g key (Some k) ks is.1 later)
   where
     of_test : (b : Bool) → (k == key) ≡ b → (has_key key ks ≡ true → g (Some key) ≡ point_before key (Some k) ks) → g (Some key) ≡ (if b then p else point_before key (Some k) ks)
-    of_test true same rest = ap (λ n. g (Some n)) (sym (eq_is k key same)) ∙ is.0
+    of_test true same rest = ap (λ n. g (Some n)) (sym (same_number k key same)) ∙ is.0
     of_test false other rest = rest (has-rest key k ks other has)
 
 pub last-is : (g : Option ℕ → Option ℕ) (p : Option ℕ) (ks : List ℕ) → IsWayBack g p ks → g None ≡ last_point p ks
@@ -175,7 +162,7 @@ path-without f key p (k ∷ ks) apart has is = of_test (k == key) refl (λ later
         → (has_key key ks ≡ true → IsPath (mended f (point_before key (Some k) ks) (f (Some key))) (Some k) (without_key key ks))
         → IsPath (mended f (if b then p else point_before key (Some k) ks) (f (Some key))) p (if b then ks else k ∷ without_key key ks)
     of_test true same rest =
-        carried (λ n. IsPath (mended f p (f (Some n))) p ks) k key (eq_is k key same) (path-cut f p k ks (both _ _ apart).0 is.1)
+        carried (λ n. IsPath (mended f p (f (Some n))) p ks) k key (same_number k key same) (path-cut f p k ks (both _ _ apart).0 is.1)
     of_test false other rest = (
       mended-else f (point_before key (Some k) ks) (f (Some key)) p (same_turned (point_before key (Some k) ks) p (off-before key p (Some k) ks (both _ _ apart).0)) ∙ is.0,
       rest (has-rest key k ks other has),
@@ -191,7 +178,7 @@ back-off g a v p (k ∷ ks) out is =
 back-cut : (g : Option ℕ → Option ℕ) (p : Option ℕ) (key : ℕ) (ks : List ℕ) → are_apart ks ≡ true → g (Some key) ≡ p → IsWayBack g (Some key) ks → IsWayBack (mended g (slice_get ks 0) (g (Some key))) p ks
 back-cut g p key [] apart at is = at
 back-cut g p key (k ∷ ks) apart at is = (
-  mended-there g (Some k) (g (Some key)) (Some k) (eq_self k) ∙ at,
+  mended-there g (Some k) (g (Some key)) (Some k) (eq-self k) ∙ at,
   back-off g k (g (Some key)) (Some k) ks (not_true _ (both _ _ apart).0) is.1,
 )
 
@@ -215,7 +202,7 @@ back-without g key p (k ∷ ks) apart has is = of_test (k == key) refl (λ later
         → (has_key key ks ≡ true → IsWayBack (mended g (point_behind key ks) (g (Some key))) (Some k) (without_key key ks))
         → IsWayBack (mended g (if b then slice_get ks 0 else point_behind key ks) (g (Some key))) p (if b then ks else k ∷ without_key key ks)
     of_test true same rest =
-        carried (λ n. IsWayBack (mended g (slice_get ks 0) (g (Some n))) p ks) k key (eq_is k key same) (back-cut g p k ks (both _ _ apart).1 is.0 is.1)
+        carried (λ n. IsWayBack (mended g (slice_get ks 0) (g (Some n))) p ks) k key (same_number k key same) (back-cut g p k ks (both _ _ apart).1 is.0 is.1)
     of_test false other rest = (
       mended-else g (point_behind key ks) (g (Some key)) (Some k) (off-behind key k ks (not_true _ (both _ _ apart).0)) ∙ is.0,
       rest (has-rest key k ks other has),
@@ -242,7 +229,7 @@ gone-without key [] apart = refl
 gone-without key (k ∷ ks) apart = of_test (k == key) refl (gone-without key ks (both _ _ apart).1)
   where
     of_test : (b : Bool) → (k == key) ≡ b → has_key key (without_key key ks) ≡ false → has_key key (if b then ks else k ∷ without_key key ks) ≡ false
-    of_test true same later = carried (λ n. has_key n ks ≡ false) k key (eq_is k key same) (not_true _ (both _ _ apart).0)
+    of_test true same later = carried (λ n. has_key n ks ≡ false) k key (same_number k key same) (not_true _ (both _ _ apart).0)
     of_test false other later = ap (λ b. b || has_key key (without_key key ks)) other ∙ later
 
 pub length-without_key : (key : ℕ) (ks : List ℕ) → has_key key ks ≡ true → length (without_key key ks) + 1 ≡ length ks
@@ -286,7 +273,7 @@ chain-gone f g f' g' gone ks is out path back = record {
 path-more : (f : Option ℕ → Option ℕ) (key : ℕ) (p : Option ℕ) (ks : List ℕ) → same_point p (Some key) ≡ false → has_key key ks ≡ false → stand_apart p ks ≡ true → IsPath f p ks → IsPath (mended (mended f (last_point p ks) (Some key)) (Some key) None) p (ks ++ key ∷ [])
 path-more f key p [] off out apart is = (
   mended-else (mended f p (Some key)) (Some key) None p off ∙ mended-there f p (Some key) p (same_self p),
-  mended-there (mended f p (Some key)) (Some key) None (Some key) (eq_self key),
+  mended-there (mended f p (Some key)) (Some key) None (Some key) (eq-self key),
 )
 path-more f key p (k ∷ ks) off out apart is =
     let parts = both _ _ apart in
@@ -297,7 +284,7 @@ path-more f key p (k ∷ ks) off out apart is =
 
 back-more : (g : Option ℕ → Option ℕ) (key : ℕ) (v p : Option ℕ) (ks : List ℕ) → has_key key ks ≡ false → v ≡ last_point p ks → IsWayBack g p ks → IsWayBack (mended (mended g None (Some key)) (Some key) v) p (ks ++ key ∷ [])
 back-more g key v p [] out last is =
-    (mended-there (mended g None (Some key)) (Some key) v (Some key) (eq_self key) ∙ last, refl)
+    (mended-there (mended g None (Some key)) (Some key) v (Some key) (eq-self key) ∙ last, refl)
 back-more g key v p (k ∷ ks) out last is = (
   mended-else (mended g None (Some key)) (Some key) v (Some k) (neither _ _ out).0 ∙ is.0,
   back-more g key v (Some k) ks (neither _ _ out).1 last is.1,
@@ -347,7 +334,7 @@ module _ (P : ℕ → Bool) where
   all-at key (k ∷ ks) has all = of_test (k == key) refl (λ later. all-at key ks later (both _ _ all).1)
     where
       of_test : (b : Bool) → (k == key) ≡ b → (has_key key ks ≡ true → P key ≡ true) → P key ≡ true
-      of_test true same rest = carried (λ n. P n ≡ true) k key (eq_is k key same) (both _ _ all).0
+      of_test true same rest = carried (λ n. P n ≡ true) k key (same_number k key same) (both _ _ all).0
       of_test false other rest = rest (has-rest key k ks other has)
 
   pub all-more : (key : ℕ) (ks : List ℕ) → P key ≡ true → list_all P ks ≡ true → list_all P (ks ++ key ∷ []) ≡ true

@@ -1,22 +1,17 @@
 -- What the writes of a slab of linked messages leave: its messages, linked.
-use Rattle.std.proofs.Common.{◌≡◌, ◌≢◌, ℕ, suc, ◌+◌, ◌-◌, Bool, true, false, ◌==◌, ◌&&◌, List, [], ◌∷◌, ◌++◌, length, Option, Some, None, refl, sym, ap, ◌∙◌, arith, length-append, is_some}
+use Rattle.std.proofs.Common.{◌≡◌, ℕ, suc, ◌+◌, ◌-◌, Bool, true, false, ◌==◌, ◌&&◌, List, [], ◌∷◌, ◌++◌, length, Option, Some, None, refl, sym, ap, ◌∙◌, arith, length-append, is_some}
 use Rattle.std.specs.Prelude.{if◌then◌else◌, option_map}
 use Rattle.std.specs.List.{slice_get}
 use Rattle.std.specs.Option.{option_and_then, option_map_or}
 use Rattle.slab.specs.Slab.{Slab, get, Updates}
 use Rattle.ccr_base.specs.declared.messages.Msg.{Msg}
+use Rattle.ccr_base.proofs.Booleans.{eq-self, same_number, differ}
 use Rattle.ccr_port.specs.declared.links.Link.{Link}
 use Rattle.ccr_port.specs.declared.items.Entry.{Entry}
 use Rattle.ccr_port.specs.Chains.{behind_of, before_of, has_key, without_key, IsChain, same_point, mended}
 use Rattle.ccr_port.specs.Entries.{keys_of, message_under, without_entry, link_at, message_at, is_kept, are_kept, entries_at, linked_keys, AreLinked}
-use Rattle.ccr_port.proofs.Chains.{both, neither, eq_self, has-rest, keys-are, behind-place, all-more, all-without, end-holds, key-holds, behind_key-holds, before_key-holds, length-without_key, gone-without, chain-gone}
+use Rattle.ccr_port.proofs.Chains.{both, neither, has-rest, keys-are, behind-place, all-more, all-without, end-holds, key-holds, behind_key-holds, before_key-holds, length-without_key, gone-without, chain-gone}
 use Rattle.ccr_port.proofs.Linking.{chain-appended, chain-unlinked}
-
-other_key : (k key : ℕ) → (k == key) ≡ false → k ≢ key
-other_key k key is same = let self = eq_self k in let turned : (k == k) ≡ false = ap (λ n. k == n) same ∙ is in cc
-
-eq_is : (n m : ℕ) → (n == m) ≡ true → n ≡ m
-eq_is n m is = grind (arith, is)
 
 -- ---- the messages of the keys
 
@@ -47,7 +42,7 @@ module _ (slab : Slab Entry) where
       of_message (Some m) at there rest = of_test (k == key) refl
         where
           of_test : (b : Bool) → (k == key) ≡ b → (if b then Some m else message_under key (entries_at slab ks)) ≡ message_at slab key
-          of_test true same = sym at ∙ ap (message_at slab) (eq_is k key same)
+          of_test true same = sym at ∙ ap (message_at slab) (same_number k key same)
           of_test false other = rest (has-rest key k ks other has)
 
   pub entries-append : (ks : List ℕ) (key : ℕ) (message : Msg) → message_at slab key ≡ Some message → entries_at slab (ks ++ key ∷ []) ≡ entries_at slab ks ++ (key, message) ∷ []
@@ -129,11 +124,11 @@ module _ (slab : Slab Entry) (first last : Option ℕ) (count : ℕ) (is : AreLi
     written_one k = of_test (k == key) refl
       where
         of_test : (b : Bool) → (k == key) ≡ b → get slab1 k ≡ (if b then Some (record { message = message; link = record { before = last; behind = None } }) else get slab k)
-        of_test true same = ap (get slab1) (eq_is k key same) ∙ inserted.changed
-        of_test false other = inserted.others k (other_key k key other)
+        of_test true same = ap (get slab1) (same_number k key same) ∙ inserted.changed
+        of_test false other = inserted.others k (differ k key other)
 
     others : (k : ℕ) → (k == key) ≡ false → message_at slab1 k ≡ message_at slab k
-    others k other = ap (λ o. option_map (λ (entry : Entry). entry.message) o) (inserted.others k (other_key k key other))
+    others k other = ap (λ o. option_map (λ (entry : Entry). entry.message) o) (inserted.others k (differ k key other))
 
     pub last-kept : is_kept slab1 last ≡ true
     last-kept =
@@ -204,10 +199,10 @@ module _ (slab : Slab Entry) (first last : Option ℕ) (count : ℕ) (is : AreLi
           (messages2 : (k : ℕ) → message_at slab2 k ≡ message_at slab1 k)
           (removed : Updates slab2 slab3 key None) where
         left_links : (k : ℕ) → (k == key) ≡ false → link_at slab3 k ≡ link_at slab2 k
-        left_links k other = ap (λ o. option_map (λ (e : Entry). e.link) o) (removed.others k (other_key k key other))
+        left_links k other = ap (λ o. option_map (λ (e : Entry). e.link) o) (removed.others k (differ k key other))
 
         left_messages : (k : ℕ) → (k == key) ≡ false → message_at slab3 k ≡ message_at slab k
-        left_messages k other = ap (λ o. option_map (λ (e : Entry). e.message) o) (removed.others k (other_key k key other)) ∙ messages2 k ∙ messages1 k
+        left_messages k other = ap (λ o. option_map (λ (e : Entry). e.message) o) (removed.others k (differ k key other)) ∙ messages2 k ∙ messages1 k
 
         path3 : (q : Option ℕ) → same_point q (Some key) ≡ false → behind_of (link_at slab3) first1 q ≡ behind_of (link_at slab2) first1 q
         path3 None off = refl

@@ -7,17 +7,13 @@ use Rattle.std.proofs.Math.ListN.{set, get_or}
 use Rattle.std.proofs.lemmas.List.{length-set}
 use Rattle.std.proofs.lemmas.Grind.{common_steps}
 use Rattle.std.proofs.lemmas.Bool.Decides.{nat_tests}
+use Rattle.std.proofs.lemmas.Bool.{ltb-true, lt-ltb}
+use Rattle.ccr_base.proofs.Booleans.{not_true}
 use Rattle.ccr_port.specs.declared.links.Link.{Link}
 use Rattle.ccr_port.specs.Chains.{behind_of, before_of, has_key, without_key, IsChain, mended}
 use Rattle.ccr_port.specs.Lanes.{is_below, lane_keys, IsLinkedLane, LaneState, can_enter}
-use Rattle.ccr_port.proofs.Chains.{both, not_true, keys-are, behind-place, all-more, all-without, end-holds, key-holds, behind_key-holds, before_key-holds, length-without_key, chain-same}
+use Rattle.ccr_port.proofs.Chains.{both, keys-are, behind-place, all-more, all-without, end-holds, key-holds, behind_key-holds, before_key-holds, length-without_key, chain-same}
 use Rattle.ccr_port.proofs.Linking.{chain-appended, chain-unlinked}
-
-below : (k n : ℕ) → nat_lt k n ≡ true → k < n
-below k n is = grind (arith, nat_tests, is)
-
-is_below_of : (k n : ℕ) → k < n → nat_lt k n ≡ true
-is_below_of k n is = grind (arith, nat_tests, is)
 
 slice_get-at : {X : Type 0} (xs : List X) (k : ℕ) (x : X) → k < length xs → x ≡ get_or xs k x → slice_get xs k ≡ Some x
 slice_get-at [] k x low is = absurd (omega arith)
@@ -50,7 +46,7 @@ module _ (links : List Link) (first last : Option ℕ) (count : ℕ) (is : IsLin
 
   module _ (key : ℕ) (has : has_key key (lane_keys links first count) ≡ true) where
     pub key-below : key < length links
-    key-below = below key (length links) (key-holds (λ k. nat_lt k (length links)) (behind_of (slice_get links) first) (before_of (slice_get links) last) (lane_keys links first count) is.chain is.low key has)
+    key-below = ltb-true key (length links) (key-holds (λ k. nat_lt k (length links)) (behind_of (slice_get links) first) (before_of (slice_get links) last) (lane_keys links first count) is.chain is.low key has)
 
     module _ (link : Link) (read : link ≡ get_or links key link) where
       at : slice_get links key ≡ Some link
@@ -98,7 +94,7 @@ module _ (links : List Link) (first last : Option ℕ) (count : ℕ) (is : IsLin
       leads links2 first2 (Some key) (count + 1) (lane_keys links first count ++ key ∷ [])
       (chain-appended (slice_get links) (slice_get (set links key written)) (slice_get links2) first first2 last key (λ k. slice_get-set links key k written low) path back (lane_keys links first count) is.chain out)
       (length-append (lane_keys links first count) (key ∷ []) ∙ omega (arith, is.long))
-      (rw long (all-more (λ k. nat_lt k (length links)) key (lane_keys links first count) (is_below_of key (length links) low) is.low))
+      (rw long (all-more (λ k. nat_lt k (length links)) key (lane_keys links first count) (lt-ltb key (length links) low) is.low))
 
   pub lane-grown : (links1 : List Link) → ((f q : Option ℕ) → behind_of (slice_get links1) f q ≡ behind_of (slice_get links) f q) → ((l q : Option ℕ) → before_of (slice_get links1) l q ≡ before_of (slice_get links) l q) → length links ≤ length links1 → Leads links1 first last count (lane_keys links first count)
   lane-grown links1 path back more =
@@ -109,7 +105,7 @@ module _ (links : List Link) (first last : Option ℕ) (count : ℕ) (is : IsLin
     where
       low-more : (ks : List ℕ) → list_all (λ k. nat_lt k (length links)) ks ≡ true → list_all (λ k. nat_lt k (length links1)) ks ≡ true
       low-more [] low = refl
-      low-more (k ∷ ks) low = let parts = both _ _ low in ap (λ b. b && list_all (λ k. nat_lt k (length links1)) ks) (is_below_of k (length links1) (lower (below k (length links) parts.0))) ∙ low-more ks parts.1
+      low-more (k ∷ ks) low = let parts = both _ _ low in ap (λ b. b && list_all (λ k. nat_lt k (length links1)) ks) (lt-ltb k (length links1) (lower (ltb-true k (length links) parts.0))) ∙ low-more ks parts.1
         where
           lower : k < length links → k < length links1
           lower is = omega (arith, more)
@@ -139,4 +135,4 @@ pub may_enter : (key : ℕ) (lane : LaneState) → can_enter key lane ≡ true �
 may_enter key lane can =
     let parts = both _ _ can in
     let rest = both _ _ parts.1 in
-    record { room = below key lane.room parts.0; absent = not_true _ rest.0; few = below (length lane.keys + 1) (2 ^ 32) rest.1 }
+    record { room = ltb-true key lane.room parts.0; absent = not_true _ rest.0; few = ltb-true (length lane.keys + 1) (2 ^ 32) rest.1 }

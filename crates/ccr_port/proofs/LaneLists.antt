@@ -8,13 +8,15 @@ use Rattle.std.proofs.lemmas.Option.{get_or_from_slice_get}
 use Rattle.std.proofs.lemmas.List.{take_more_set, drop_more}
 use Rattle.std.proofs.lemmas.Grind.{common_steps}
 use Rattle.std.proofs.lemmas.Bool.Decides.{nat_tests}
+use Rattle.std.proofs.lemmas.Bool.{lt-ltb}
+use Rattle.std.proofs.Math.Bool.{or-true}
 use Rattle.ccr_base.specs.declared.messages.Msg.{Msg}
 use Rattle.ccr_base.specs.declared.patterns.Pred.{Pred}
 use Rattle.ccr_base.specs.Choice.{holds}
 use Rattle.ccr_port.specs.Chains.{has_key, are_apart, without_key}
 use Rattle.ccr_port.specs.Entries.{keys_of, message_under, without_entry, without_entries, can_take}
 use Rattle.ccr_port.specs.Lanes.{LaneState, fitting_keys, AreLanes, AreSame, HasLane, can_enter, can_leave, appended, unlinked, entered, left, have_room}
-use Rattle.ccr_port.proofs.Chains.{both, eq_self, eq_is, has-rest}
+use Rattle.ccr_port.proofs.Chains.{both, has-rest}
 use Rattle.ccr_port.proofs.Listing.{Stands, fitting_keys-more, fits-absent, few-fitting_keys}
 
 -- ---- room
@@ -70,9 +72,6 @@ all-here P f xs ys n lane all low is at = from xs n all low (at ∙ ap (λ l. ge
 
 -- ---- a message comes
 
-below_of : (a b : ℕ) → a < b → nat_lt a b ≡ true
-below_of a b is = grind (arith, nat_tests, is)
-
 pub can-enter-all : (es : List (ℕ × Msg)) (key : ℕ) → has_key key (keys_of es) ≡ false → length es + 1 < 2 ^ 32 → (lanes : List LaneState) → AreLanes es lanes → have_room key lanes ≡ true → list_all (can_enter key) lanes ≡ true
 can-enter-all es key out few [] are room = refl
 can-enter-all es key out few (lane ∷ lanes) are room =
@@ -81,7 +80,7 @@ can-enter-all es key out few (lane ∷ lanes) are room =
     let short : length lane.keys + 1 < 2 ^ 32 = omega (arith, few-fitting_keys lane.pred es, ap length are.0) in
     ap (λ b. (b && (not (has_key key lane.keys) && nat_lt (length lane.keys + 1) (2 ^ 32))) && list_all (can_enter key) lanes) parts.0
     ∙ ap (λ b. (not b && nat_lt (length lane.keys + 1) (2 ^ 32)) && list_all (can_enter key) lanes) absent
-    ∙ ap (λ b. b && list_all (can_enter key) lanes) (below_of (length lane.keys + 1) (2 ^ 32) short)
+    ∙ ap (λ b. b && list_all (can_enter key) lanes) (lt-ltb (length lane.keys + 1) (2 ^ 32) short)
     ∙ can-enter-all es key out few lanes are.1 parts.1
 
 lane-entered : (es : List (ℕ × Msg)) (key : ℕ) (message : Msg) (lane : LaneState) → lane.keys ≡ fitting_keys lane.pred es → (entered key message.value lane).keys ≡ fitting_keys (entered key message.value lane).pred (es ++ (key, message) ∷ [])
@@ -104,10 +103,6 @@ fits-has : (pred : Pred) (key : ℕ) (message : Msg) (es : List (ℕ × Msg)) �
 fits-has pred key message [] at holding = absurd (cc)
 fits-has pred key message (e ∷ es) at holding = of_tests (e.0 == key) (holds pred e.1.value) refl refl (λ later. fits-has pred key message es later holding)
   where
-    or_true : (b : Bool) → (b || true) ≡ true
-    or_true true = refl
-    or_true false = refl
-
     of_tests : (b c : Bool) → (e.0 == key) ≡ b → holds pred e.1.value ≡ c → (message_under key es ≡ Some message → has_key key (fitting_keys pred es) ≡ true) → has_key key (if c then e.0 ∷ fitting_keys pred es else fitting_keys pred es) ≡ true
     of_tests true true here fits rest = ap (λ b. b || has_key key (fitting_keys pred es)) here
     of_tests true false here fits rest =
@@ -115,7 +110,7 @@ fits-has pred key message (e ∷ es) at holding = of_tests (e.0 == key) (holds p
         let same = some_same e.1 message found in
         let wrong : holds pred e.1.value ≡ true = ap (λ (m : Msg). holds pred m.value) same ∙ holding in
         absurd (cc)
-    of_tests false true here fits rest = ap (λ b. (e.0 == key) || b) (rest (sym (ap (λ b. if b then Some e.1 else message_under key es) here) ∙ at)) ∙ or_true (e.0 == key)
+    of_tests false true here fits rest = ap (λ b. (e.0 == key) || b) (rest (sym (ap (λ b. if b then Some e.1 else message_under key es) here) ∙ at)) ∙ or-true (e.0 == key)
     of_tests false false here fits rest = rest (sym (ap (λ b. if b then Some e.1 else message_under key es) here) ∙ at)
 
 pub can-leave-all : (es : List (ℕ × Msg)) (key : ℕ) (message : Msg) → message_under key es ≡ Some message → (lanes : List LaneState) → AreLanes es lanes → list_all (can_leave key message.value) lanes ≡ true
@@ -210,7 +205,7 @@ module _ (es : List (ℕ × Msg)) (place key : ℕ) (stand : Stands es place key
   pub can-enter-next : (pred : Pred) → lane.pred ≡ pred → lane.keys ≡ fitting_keys pred (take place es) → key < lane.room → place + 1 < 2 ^ 32 → can_enter key lane ≡ true
   can-enter-next pred same keys room few =
       let short : length (take place es) + 1 < 2 ^ 32 = omega (arith, length-take_at_most place es) in
-      let roomy : have_room key (lane ∷ []) ≡ true = ap (λ b. b && true) (below_of key lane.room room) in
+      let roomy : have_room key (lane ∷ []) ≡ true = ap (λ b. b && true) (lt-ltb key lane.room room) in
       (both (can_enter key lane) true (can-enter-all (take place es) key (stand.before apart) short (lane ∷ []) (keys ∙ ap (λ p. fitting_keys p (take place es)) (sym same), tt) roomy)).0
 
   pub lane-next : (pred : Pred) (new : LaneState) (message : Msg) → message_under key es ≡ Some message → lane.pred ≡ pred → lane.keys ≡ fitting_keys pred (take place es) → new ≡ entered key message.value lane

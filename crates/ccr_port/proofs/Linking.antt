@@ -5,9 +5,10 @@ use Rattle.std.specs.List.{slice_get, list_all}
 use Rattle.std.specs.Option.{option_and_then}
 use Rattle.std.proofs.lemmas.Grind.{common_steps}
 use Rattle.std.proofs.lemmas.Bool.Decides.{nat_tests}
+use Rattle.ccr_base.proofs.Booleans.{eq-self, same_number}
 use Rattle.ccr_port.specs.declared.links.Link.{Link}
 use Rattle.ccr_port.specs.Chains.{behind_of, before_of, keys_from, IsPath, IsWayBack, has_key, are_apart, without_key, IsChain, same_point, mended}
-use Rattle.ccr_port.proofs.Chains.{eq_is, eq_self, same_turned, is_off, mended-there, mended-else, last-is, last_point, off_the_last, chain-more, chain-without}
+use Rattle.ccr_port.proofs.Chains.{same_turned, is_off, mended-there, mended-else, last-is, last_point, off_the_last, chain-more, chain-without}
 
 -- two writes at different points, in either order
 swapped : (f : Option ℕ → Option ℕ) (a b v w q : Option ℕ) → same_point a b ≡ false → mended (mended f b v) a w q ≡ mended (mended f a w) b v q
@@ -22,7 +23,7 @@ swapped f a b v w q apart = of_tests (same_point q a) (same_point q b) refl refl
         points None (Some x) y at_x at_y = absurd (cc)
         points (Some k) None y at_x at_y = absurd (cc)
         points (Some k) (Some x) None at_x at_y = absurd (cc)
-        points (Some k) (Some x) (Some y) at_x at_y = let e = eq_is k x at_x in let d = eq_is k y at_y in rw (← e, ← d) (eq_self k)
+        points (Some k) (Some x) (Some y) at_x at_y = let e = same_number k x at_x in let d = same_number k y at_y in rw (← e, ← d) (eq-self k)
 
     of_tests : (s t : Bool) → same_point q a ≡ s → same_point q b ≡ t → (if same_point q a then w else (if same_point q b then v else f q)) ≡ (if same_point q b then v else (if same_point q a then w else f q))
     of_tests true true at_a at_b = absurd (let e = one_point a b at_a at_b in cc)

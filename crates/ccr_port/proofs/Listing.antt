@@ -5,14 +5,17 @@ use Rattle.std.specs.List.{slice_get, list_all}
 use Rattle.std.proofs.Math.ListN.{get_or}
 use Rattle.std.proofs.lemmas.Grind.{common_steps}
 use Rattle.std.proofs.lemmas.Bool.Decides.{nat_tests}
+use Rattle.std.proofs.Math.Bool.{or-true}
+use Rattle.std.proofs.lemmas.Option.{same_Some}
 use Rattle.ccr_base.specs.declared.messages.Msg.{Msg}
 use Rattle.ccr_base.specs.declared.patterns.Pred.{Pred}
 use Rattle.ccr_base.specs.Choice.{holds, fitting}
+use Rattle.ccr_base.proofs.Booleans.{eq_turned, not_true, eq-self, same_number}
 use Rattle.ccr_places.specs.Ports.{without_first}
 use Rattle.ccr_port.specs.Chains.{has_key, are_apart, without_key}
 use Rattle.ccr_port.specs.Entries.{keys_of, messages_of, message_under, messages_under, are_under, without_entry, without_entries, can_take}
 use Rattle.ccr_port.specs.Lanes.{fitting_keys}
-use Rattle.ccr_port.proofs.Chains.{both, not_true, neither, eq_self, eq_is, eq_turned, has-rest, carried, apart-without}
+use Rattle.ccr_port.proofs.Chains.{both, neither, has-rest, carried, apart-without}
 
 -- ---- one more message
 
@@ -22,21 +25,17 @@ module _ (key : ℕ) (message : Msg) where
   messages-more (e ∷ es) = ap (λ l. e.1 ∷ l) (messages-more es)
 
   pub without-more : (es : List (ℕ × Msg)) → has_key key (keys_of es) ≡ false → without_entry key (es ++ (key, message) ∷ []) ≡ es
-  without-more [] out = ap (λ b. if b then [] else (key, message) ∷ []) (eq_self key)
+  without-more [] out = ap (λ b. if b then [] else (key, message) ∷ []) (eq-self key)
   without-more (e ∷ es) out =
       let parts = neither _ _ out in
       ap (λ b. if b then es ++ (key, message) ∷ [] else e ∷ without_entry key (es ++ (key, message) ∷ [])) parts.0 ∙ ap (λ l. e ∷ l) (without-more es parts.1)
 
   pub has-more : (es : List (ℕ × Msg)) → has_key key (keys_of (es ++ (key, message) ∷ [])) ≡ true
-  has-more [] = ap (λ b. b || false) (eq_self key)
-  has-more (e ∷ es) = ap (λ b. (e.0 == key) || b) (has-more es) ∙ or_true (e.0 == key)
-    where
-      or_true : (b : Bool) → (b || true) ≡ true
-      or_true true = refl
-      or_true false = refl
+  has-more [] = ap (λ b. b || false) (eq-self key)
+  has-more (e ∷ es) = ap (λ b. (e.0 == key) || b) (has-more es) ∙ or-true (e.0 == key)
 
   pub under-more : (es : List (ℕ × Msg)) → has_key key (keys_of es) ≡ false → message_under key (es ++ (key, message) ∷ []) ≡ Some message
-  under-more [] out = ap (λ b. if b then Some message else None) (eq_self key)
+  under-more [] out = ap (λ b. if b then Some message else None) (eq-self key)
   under-more (e ∷ es) out =
       let parts = neither _ _ out in
       ap (λ b. if b then Some e.1 else message_under key (es ++ (key, message) ∷ [])) parts.0 ∙ under-more es parts.1
@@ -163,10 +162,10 @@ is_choice pred (suc n) (e ∷ es) apart = of_test (holds pred e.1.value) refl (i
 
     of_test : (b : Bool) → holds pred e.1.value ≡ b → IsChoice pred n es → IsChoice pred (suc n) es → IsChoice pred (suc n) (e ∷ es)
     of_test true is fewer same = record {
-      there = rw (is, eq_self e.0) (are_under-off e es _ (out n) ∙ fewer.there);
-      messages = rw (is, eq_self e.0) (ap (λ l. e.1 ∷ l) (under-off e es _ (out n) ∙ fewer.messages));
-      can_go = rw (is, eq_self e.0) fewer.can_go;
-      rest = rw (is, eq_self e.0) (fewer.rest ∙ one_less);
+      there = rw (is, eq-self e.0) (are_under-off e es _ (out n) ∙ fewer.there);
+      messages = rw (is, eq-self e.0) (ap (λ l. e.1 ∷ l) (under-off e es _ (out n) ∙ fewer.messages));
+      can_go = rw (is, eq-self e.0) fewer.can_go;
+      rest = rw (is, eq-self e.0) (fewer.rest ∙ one_less);
     }
       where
         one_less : without_first n pred (messages_of es) ≡ (if true && nat_lt 0 (suc n) then without_first (suc n - 1) pred (messages_of es) else e.1 ∷ without_first (suc n) pred (messages_of es))
@@ -191,11 +190,8 @@ pub record Stands (es : List (ℕ × Msg)) (place key : ℕ) : Type 0 where
 
 pub stands : (es : List (ℕ × Msg)) (place key : ℕ) → slice_get (keys_of es) place ≡ Some key → Stands es place key
 stands [] place key is = absurd (cc)
-stands (e ∷ es) zero key is = from_key (some_same _ _ is)
+stands (e ∷ es) zero key is = from_key (same_Some _ _ is)
   where
-    some_same : (n m : ℕ) → Some n ≡ Some m → n ≡ m
-    some_same n m same = cc
-
     take_none : take 0 (e ∷ es) ≡ []
     take_none = refl
 
@@ -208,8 +204,8 @@ stands (e ∷ es) zero key is = from_key (some_same _ _ is)
       message = e.1;
       front = one es ∙ ap (λ n. (n, e.1) ∷ []) same;
       at = refl;
-      has = ap (λ b. b || has_key key (keys_of es)) (ap (λ n. n == key) same ∙ eq_self key);
-      under = λ apart. ap (λ b. if b then Some e.1 else message_under key es) (ap (λ n. n == key) same ∙ eq_self key);
+      has = ap (λ b. b || has_key key (keys_of es)) (ap (λ n. n == key) same ∙ eq-self key);
+      under = λ apart. ap (λ b. if b then Some e.1 else message_under key es) (ap (λ n. n == key) same ∙ eq-self key);
       before = λ apart. refl;
     }
 stands (e ∷ es) (suc place) key is = later (stands es place key is)
@@ -219,15 +215,11 @@ stands (e ∷ es) (suc place) key is = later (stands es place key is)
       message = rest.message;
       front = ap (λ l. e ∷ l) rest.front;
       at = rest.at;
-      has = ap (λ b. (e.0 == key) || b) rest.has ∙ or_true (e.0 == key);
+      has = ap (λ b. (e.0 == key) || b) rest.has ∙ or-true (e.0 == key);
       under = λ apart. ap (λ b. if b then Some e.1 else message_under key es) (other apart) ∙ rest.under (tails apart);
       before = λ apart. ap (λ b. b || has_key key (keys_of (take place es))) (other apart) ∙ rest.before (tails apart);
     }
       where
-        or_true : (b : Bool) → (b || true) ≡ true
-        or_true true = refl
-        or_true false = refl
-
         tails : are_apart (keys_of (e ∷ es)) ≡ true → are_apart (keys_of es) ≡ true
         tails apart = (both (not (has_key e.0 (keys_of es))) (are_apart (keys_of es)) apart).1
 
@@ -235,7 +227,7 @@ stands (e ∷ es) (suc place) key is = later (stands es place key is)
         other apart = of_test (e.0 == key) refl
           where
             of_test : (b : Bool) → (e.0 == key) ≡ b → b ≡ false
-            of_test true same = let here : has_key e.0 (keys_of es) ≡ true = ap (λ n. has_key n (keys_of es)) (eq_is e.0 key same) ∙ rest.has in let gone : has_key e.0 (keys_of es) ≡ false = not_true (has_key e.0 (keys_of es)) (both (not (has_key e.0 (keys_of es))) (are_apart (keys_of es)) apart).0 in cc
+            of_test true same = let here : has_key e.0 (keys_of es) ≡ true = ap (λ n. has_key n (keys_of es)) (same_number e.0 key same) ∙ rest.has in let gone : has_key e.0 (keys_of es) ≡ false = not_true (has_key e.0 (keys_of es)) (both (not (has_key e.0 (keys_of es))) (are_apart (keys_of es)) apart).0 in cc
             of_test false same = refl
 
 pub keys-long : (es : List (ℕ × Msg)) → length (keys_of es) ≡ length es
@@ -249,12 +241,8 @@ some_at (k ∷ ks) (suc place) low none = some_at ks place (omega arith) none
 
 pub has-at : (ks : List ℕ) (place key : ℕ) → slice_get ks place ≡ Some key → has_key key ks ≡ true
 has-at [] place key is = absurd (cc)
-has-at (k ∷ ks) zero key is = let same : k ≡ key = cc in ap (λ b. b || has_key key ks) (ap (λ n. n == key) same ∙ eq_self key)
-has-at (k ∷ ks) (suc place) key is = ap (λ b. (k == key) || b) (has-at ks place key is) ∙ or_true (k == key)
-  where
-    or_true : (b : Bool) → (b || true) ≡ true
-    or_true true = refl
-    or_true false = refl
+has-at (k ∷ ks) zero key is = let same : k ≡ key = cc in ap (λ b. b || has_key key ks) (ap (λ n. n == key) same ∙ eq-self key)
+has-at (k ∷ ks) (suc place) key is = ap (λ b. (k == key) || b) (has-at ks place key is) ∙ or-true (k == key)
 
 pub take-at : (ks : List ℕ) (place key : ℕ) → slice_get ks place ≡ Some key → take (suc place) ks ≡ take place ks ++ key ∷ []
 take-at [] place key is = absurd (cc)

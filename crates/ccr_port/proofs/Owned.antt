@@ -11,6 +11,7 @@ use Rattle.ccr_base.specs.declared.names.TaskId.{TaskId}
 use Rattle.ccr_base.specs.declared.messages.Msg.{Msg}
 use Rattle.ccr_base.specs.declared.patterns.Slot.{Slot}
 use Rattle.ccr_base.specs.Choice.{holds, fitting, is_choosable}
+use Rattle.ccr_base.proofs.Booleans.{same_number}
 use Rattle.ccr_places.specs.declared.claims.StandingClaim.{StandingClaim}
 use Rattle.ccr_places.specs.Ports.{PortState, may_post, may_claim, is_claimed_by, first_fitting}
 use Rattle.ccr_port.specs.declared.claims.Claimed.{Claimed}
@@ -63,9 +64,6 @@ module _ (slot : Slot) (ms : List Msg) (own : are_at slot.port ms ≡ true) (eve
   reply_fits : (o : Option StandingClaim) → fits_slot slot (option_map_or (λ (claim : StandingClaim). Busy claim.task) o (free_claim_reply slot ms)) ≡ true
   reply_fits (Some claim) = refl
   reply_fits None = free_fits
-
-same_number : (a b : ℕ) → (a == b) ≡ true → a ≡ b
-same_number a b is = grind (arith, nat_tests, is)
 
 pub claim_fits : (port : PortState) (task : TaskId) (slot : Slot) (reply : Claimed) → are_at port.number port.items ≡ true → may_claim port task slot ≡ true → reply ≡ claim_reply port slot → fits_slot slot reply ≡ true
 claim_fits port task slot reply own may is =

@@ -6,6 +6,7 @@ use Rattle.std.proofs.Math.ListN.{get_or}
 use Rattle.std.proofs.lemmas.Option.{get_or_from_slice_get}
 use Rattle.std.proofs.lemmas.Grind.{common_steps}
 use Rattle.std.proofs.lemmas.Bool.Decides.{nat_tests}
+use Rattle.std.proofs.lemmas.Bool.{lt-leb}
 use Rattle.ccr_base.specs.declared.names.TaskId.{TaskId}
 use Rattle.ccr_base.specs.declared.messages.Msg.{Msg}
 use Rattle.ccr_base.specs.declared.patterns.Pred.{Pred}
@@ -104,10 +105,7 @@ module _ (number : ℕ) (es : List (ℕ × Msg)) (task : TaskId) (slot : Slot) (
 
   module _ (few : n < slot.least) where
     too_few : nat_le slot.least (length (fitting slot.pred (messages_of es))) ≡ false
-    too_few = rw (← count-is) (test slot.least n few)
-      where
-        test : (a b : ℕ) → b < a → nat_le a b ≡ false
-        test a b is = grind (arith, nat_tests, is)
+    too_few = rw (← count-is) (lt-leb slot.least n few)
 
     pub short-reply : Short n ≡ claim_reply (state_of number es None) slot
     short-reply = rw (too_few, ← count-is) refl

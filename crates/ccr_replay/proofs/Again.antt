@@ -1,7 +1,8 @@
 -- The run of the schedule of a run of next steps is that run, and only of such runs.
-use Rattle.std.proofs.Common.{◌≡◌, ◌<◌, ℕ, zero, suc, ◌+◌, List, [], ◌∷◌, ◌++◌, length, Option, Some, None, refl, sym, ap, ◌∙◌, subst, arith, append_assoc, append-nil}
+use Rattle.std.proofs.Common.{◌≡◌, ◌<◌, ℕ, suc, ◌+◌, List, [], ◌∷◌, ◌++◌, length, Option, Some, None, refl, sym, ap, ◌∙◌, subst, arith, append_assoc, append-nil}
 use Rattle.std.specs.Option.{option_map, option_and_then}
 use Rattle.std.specs.List.{All}
+use Rattle.std.proofs.lemmas.List.Elements.{All-cons}
 use Rattle.ccr_wiring.specs.declared.parts.Parts.{Parts}
 use Rattle.ccr_places.specs.declared.notes.Note.{Note}
 use Rattle.ccr_claim.specs.declared.asks.Asked.{Asked}
@@ -25,13 +26,9 @@ again w n es run = again_from w n [] es run
 
 -- ---- its actors are those of the run
 
-all_onto : (count actor : ℕ) (others : List ℕ) → actor < count → All (λ a. a < count) others → All (λ a. a < count) (actor ∷ others)
-all_onto count actor others first more zero d below = first
-all_onto count actor others first more (suc k) d below = more k d (omega arith)
-
 actors_from : (w : Parts) (n : ℕ) (past es : List Entry) → IsRunAfter w n never past es → All (λ a. a < length w.posters + n) (schedule es)
 actors_from w n past [] run = λ k d below. absurd (omega arith)
-actors_from w n past (e ∷ es) run = all_onto (length w.posters + n) e.actor (schedule es) run.0 (actors_from w n (past ++ e ∷ []) es run.2)
+actors_from w n past (e ∷ es) run = All-cons (λ (a : ℕ). a < length w.posters + n) e.actor (schedule es) run.0 (actors_from w n (past ++ e ∷ []) es run.2)
 
 pub actors : (w : Parts) (n : ℕ) (es : List Entry) → IsOfNextSteps w n es → All (λ a. a < length w.posters + n) (schedule es)
 actors w n es run = actors_from w n [] es run

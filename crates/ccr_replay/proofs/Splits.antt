@@ -14,6 +14,8 @@ use Rattle.ccr_replay.specs.Reading.{part_before}
 use Rattle.ccr_text.proofs.Again.{joined_feeds}
 use Rattle.ccr_text.proofs.Decimals.{own}
 use Rattle.std.proofs.lemmas.Bool.{and_parts as both}
+use Rattle.std.proofs.Math.Seq.{take-append_seam}
+use Rattle.ccr_base.proofs.Booleans.{not_true}
 use Rattle.ccr_wiretext.proofs.PlainPosts.{digits_marks}
 
 -- how many bytes these lines have, each with its LF
@@ -38,10 +40,6 @@ passed word byte number (line ∷ lines) more none =
     ∙ passed word (byte + (length line + 1)) (number + 1) lines more parts.1
     ∙ ap (λ (n : ℕ). begin_from word n ((number + 1) + length lines) more) bytes
     ∙ ap (λ (n : ℕ). begin_from word (byte + spans (line ∷ lines)) n more) numbers
-  where
-    not_true : (t : Bool) → not t ≡ true → t ≡ false
-    not_true true e = absurd (cc)
-    not_true false e = refl
 
 -- ---- a text that ends with LF, and what stands behind it
 
@@ -146,16 +144,13 @@ ended_free word text none = go (ended_lines text)
     go (inl same) = ap (none_begins word) same ∙ none
     go (inr same) = ap (none_begins word) same ∙ none-append word (cut text) none
 
-taken : (front back : List ℕ) → take (length front) (front ++ back) ≡ front
-taken front back = grind (arith, common_steps)
-
 pub part_is : (text behind : List ℕ) → 0 < length behind → part_before (length text + 1) (text ++ 10 ∷ behind) ≡ text
 part_is text behind some =
     let inside : nat_lt (length text + 1) (length (text ++ 10 ∷ behind)) ≡ true = grind (arith, nat_tests, common_steps) in
     let place : (length text + 1) - 1 ≡ length text = omega arith in
     ap (λ (t : Bool). if t then take ((length text + 1) - 1) (text ++ 10 ∷ behind) else text ++ 10 ∷ behind) inside
     ∙ ap (λ (n : ℕ). take n (text ++ 10 ∷ behind)) place
-    ∙ taken text (10 ∷ behind)
+    ∙ take-append_seam text (10 ∷ behind)
 
 pub out_is : (text behind : List ℕ) → drop (length text + 1) (text ++ 10 ∷ behind) ≡ behind
 out_is [] behind = refl

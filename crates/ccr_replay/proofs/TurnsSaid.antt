@@ -1,6 +1,7 @@
 -- Reading finds in lines what the grammar says of them, both ways.
-use Rattle.std.proofs.Common.{◌≡◌, ◌<◌, ℕ, zero, suc, ◌+◌, arith, subst, Bool, true, false, cond, refl, sym, ap, ◌∙◌, List, [], ◌∷◌, Option, Some, None, Result, Ok, Err, inl, inr}
+use Rattle.std.proofs.Common.{◌≡◌, ◌<◌, ℕ, ◌+◌, arith, subst, Bool, true, false, cond, refl, sym, ap, ◌∙◌, List, [], ◌∷◌, Option, Some, None, Result, Ok, Err, inl, inr}
 use Rattle.std.specs.List.{All}
+use Rattle.std.proofs.lemmas.List.Elements.{All-cons}
 use Rattle.ccr_text.specs.Lines.{numbered}
 use Rattle.ccr_text.specs.Words.{is_clean, words_of}
 use Rattle.ccr_replay.specs.Turns.{onto, option_list, turn_in, turns_on}
@@ -51,12 +52,8 @@ read actors number (line ∷ lines) turns (clean, inr next) =
     ∙ ap (onto (next.0 ∷ [])) (read actors (number + 1) lines next.1 next.4)
     ∙ ap Ok (sym next.2)
 
-all_onto : (actors actor : ℕ) (others : List ℕ) → actor < actors → All (λ a. a < actors) others → All (λ a. a < actors) (actor ∷ others)
-all_onto actors actor others first more zero d below = first
-all_onto actors actor others first more (suc k) d below = more k d (omega arith)
-
 pub all_below : (actors : ℕ) (lines : List (List ℕ)) (turns : List ℕ) → AreTurns actors lines turns → All (λ a. a < actors) turns
 all_below actors [] turns none = subst (λ (ts : List ℕ). All (λ a. a < actors) ts) (sym none) (λ k d below. absurd (omega arith))
 all_below actors (line ∷ lines) turns (clean, inl skip) = all_below actors lines turns skip.1
 all_below actors (line ∷ lines) turns (clean, inr next) =
-    subst (λ (ts : List ℕ). All (λ a. a < actors) ts) (sym next.2) (all_onto actors next.0 next.1 next.3.below (all_below actors lines next.1 next.4))
+    subst (λ (ts : List ℕ). All (λ a. a < actors) ts) (sym next.2) (All-cons (λ (a : ℕ). a < actors) next.0 next.1 next.3.below (all_below actors lines next.1 next.4))

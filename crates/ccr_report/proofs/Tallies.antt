@@ -18,7 +18,7 @@ use Rattle.ccr_model.specs.declared.history.Event.{Event}
 use Rattle.ccr_model.specs.Posts.{posts, posted, taken, held}
 use Rattle.ccr_model.specs.Firings.{spot_of}
 use Rattle.ccr_model.specs.Tasks.{is_for_queue}
-use Rattle.ccr_model.proofs.Filters.{filter_swap}
+use Rattle.ccr_base.proofs.Filters.{filter_swap}
 use Rattle.ccr_report.specs.Counting.{times, taken_at, ports_of, queues_in, branch_queues}
 pub use Rattle.std.proofs.lemmas.List.{map-append as map-both}
 

@@ -9,7 +9,7 @@ use Rattle.ccr_base.specs.declared.tasks.Cut.{Cut}
 use Rattle.ccr_base.specs.Names.{same_task, has_task}
 use Rattle.ccr_wiring.specs.declared.parts.Parts.{Parts}
 use Rattle.ccr_model.specs.Firings.{fired}
-use Rattle.ccr_model.proofs.Booleans.{eq-self, no_both, or_left, or_right, refuted, same_number}
+use Rattle.ccr_base.proofs.Booleans.{eq-self, no_both, or_left, or_right, refuted, same_number}
 use Rattle.ccr_model.proofs.Members.{Among, Among-either}
 use Rattle.ccr_model.proofs.SameNames.{same_task-self}
 use Rattle.ccr_places.specs.declared.notes.Note.{Note}

@@ -8,7 +8,7 @@ use Rattle.ccr_base.specs.declared.patterns.Slot.{Slot}
 use Rattle.ccr_base.specs.Names.{same_task, has_task}
 use Rattle.ccr_wiring.specs.declared.parts.Parts.{Parts}
 use Rattle.ccr_wiring.specs.Valid.{IsValid}
-use Rattle.ccr_model.proofs.Booleans.{both, no_both, not_true}
+use Rattle.ccr_base.proofs.Booleans.{both, no_both, not_true, and_false}
 use Rattle.ccr_model.proofs.SameNames.{same_task-is}
 use Rattle.ccr_model.proofs.TaskLists.{of_one}
 use Rattle.ccr_places.specs.declared.claims.StandingClaim.{StandingClaim}
@@ -304,11 +304,7 @@ module _ (w : Parts) (n : ℕ) (lacks : Lacks) (es : List Entry) (e : Entry) (ho
               ended_apart claims_so =
                   let parts = both (same_place e.place (places.Port p)) (has_task (claimed_by e.note) t) claims_so in
                   let found = claim_noted e.note t parts.1 in
-                  rw found.2 (and_none (same_place e.place (places.Port p)))
-                where
-                  and_none : (b : Bool) → b && false ≡ false
-                  and_none true = refl
-                  and_none false = refl
+                  rw found.2 (and_false (same_place e.place (places.Port p)))
       by false at c ends = of_old (known.old p t (let all = count-push claimed_by (places.Port p) t es e in let none = ap bit at in omega (arith, all, none, some))) at c ends
 
   pub claims_known-kept : ClaimsKnown w lacks (es ++ e ∷ [])

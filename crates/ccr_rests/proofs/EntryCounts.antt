@@ -6,7 +6,7 @@ use Rattle.ccr_base.specs.declared.names.Place.{Place}
 use Rattle.ccr_base.specs.declared.names.TaskId.{TaskId}
 use Rattle.ccr_base.specs.Names.{has_task}
 use Rattle.ccr_wiring.specs.declared.parts.Parts.{Parts}
-use Rattle.ccr_model.proofs.Booleans.{both}
+use Rattle.ccr_base.proofs.Booleans.{both}
 use Rattle.ccr_model.proofs.Members.{Among, Among-either}
 use Rattle.ccr_places.specs.declared.notes.Note.{Note}
 use Rattle.ccr_runs.specs.declared.entries.Entry.{Entry}

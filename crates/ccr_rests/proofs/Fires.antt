@@ -1,7 +1,6 @@
 -- Who has fired after an entry, and what that does to the state of its actor.
 use Rattle.std.proofs.Common.{inl, inr, ◌⊎◌, ◌≡◌, ◌≤◌, ℕ, ◌+◌, Bool, true, false, List, [], ◌∷◌, ◌++◌, map, Option, Some, None, refl, sym, arith, ap, ◌∙◌, subst}
 use Rattle.std.specs.Prelude.{if◌then◌else◌}
-use Rattle.std.proofs.lemmas.Grind.{common_steps}
 use Rattle.ccr_base.specs.declared.names.MsgId.{MsgId}
 use Rattle.ccr_base.specs.declared.names.Place.{Place}
 use Rattle.ccr_base.specs.declared.names.Spot.{Spot}
@@ -10,10 +9,10 @@ use Rattle.ccr_base.specs.declared.tasks.How.TheVariants as hows
 use Rattle.ccr_base.specs.declared.tasks.Task.{Task}
 use Rattle.ccr_base.specs.Names.{has_task}
 use Rattle.ccr_wiring.specs.declared.parts.Parts.{Parts}
-use Rattle.ccr_model.specs.declared.history.Event.{Event}
 use Rattle.ccr_model.specs.Firings.{fired}
-use Rattle.ccr_model.proofs.Booleans.{both, or_left}
+use Rattle.ccr_base.proofs.Booleans.{both, or_left}
 use Rattle.ccr_model.proofs.SameNames.{same_task-self}
+use Rattle.ccr_model.proofs.Stable.{fired-append}
 use Rattle.ccr_model.proofs.TaskLists.{among_left, among_right, of_more, of_one}
 use Rattle.ccr_places.specs.declared.notes.Note.{Note}
 use Rattle.ccr_places.specs.declared.notes.Note.TheVariants as notes
@@ -59,9 +58,6 @@ shows_firing a (notes.Take (Some u)) t has = absurd (cc)
 shows_firing a (notes.Draw k) t has = absurd (cc)
 shows_firing a notes.Leave t has = absurd (cc)
 shows_firing a (notes.Left k) t has = absurd (cc)
-
-fired-append : (h evs : List Event) → fired (h ++ evs) ≡ fired h ++ fired evs
-fired-append h evs = grind (arith, common_steps)
 
 -- who has fired then fired before, or the entry is its firing
 pub fired_then : (es : List Entry) (e : Entry) (t : TaskId) → has_task (fired (visible (es ++ e ∷ []))) t ≡ true → (has_task (fired (visible es)) t ≡ true) ⊎ IsFiring e.note t

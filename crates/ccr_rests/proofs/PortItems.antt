@@ -1,5 +1,5 @@
 -- What a port keeps was posted there.
-use Rattle.std.proofs.Common.{inl, inr, ◌⊎◌, ◌≡◌, ◌<◌, ℕ, zero, suc, ◌+◌, ◌-◌, Bool, true, false, ◌&&◌, List, [], ◌∷◌, ◌++◌, length, take, Option, Some, None, refl, sym, arith, ◌∙◌, subst}
+use Rattle.std.proofs.Common.{inl, inr, ◌⊎◌, ◌≡◌, ◌<◌, ℕ, suc, ◌+◌, ◌-◌, Bool, true, false, ◌&&◌, List, [], ◌∷◌, ◌++◌, length, Option, Some, None, refl, sym, arith, ◌∙◌, subst}
 use Rattle.std.specs.Prelude.{◌==◌, if◌then◌else◌, nat_lt, ◌^◌}
 use Rattle.std.specs.List.{Contains}
 use Rattle.std.specs.Option.{option_map_or}
@@ -13,8 +13,8 @@ use Rattle.ccr_base.specs.Choice.{holds, fitting}
 use Rattle.ccr_wiring.specs.declared.parts.Parts.{Parts}
 use Rattle.ccr_model.specs.declared.history.Event.{Event}
 use Rattle.ccr_model.specs.Posts.{posted}
-use Rattle.ccr_model.proofs.Booleans.{both}
-use Rattle.ccr_model.proofs.Members.{Among, Among-either, Among-left, Among-right}
+use Rattle.ccr_base.proofs.Booleans.{both}
+use Rattle.ccr_model.proofs.Members.{Among, Among-either, Among-left, Among-right, Among-take}
 use Rattle.ccr_places.specs.declared.claims.StandingClaim.{StandingClaim}
 use Rattle.ccr_places.specs.declared.notes.ClaimNote.{ClaimNote}
 use Rattle.ccr_places.specs.declared.notes.ClaimNote.TheVariants.{Got, Busy, Short}
@@ -32,15 +32,8 @@ use Rattle.ccr_net.proofs.Parts.Noted.{filter_among, given_some}
 use Rattle.ccr_net.proofs.Played.Places.{same_place-is}
 use Rattle.ccr_net.proofs.Parts.Pushes.{Step, Step-made, along_run, port_at-push, visible-push}
 
--- who is among the first is among all
-among_take : {X : Type 0} (k : ℕ) (xs : List X) (x : X) → Among x (take k xs) → Among x xs
-among_take zero xs x is = absurd is
-among_take (suc k) [] x is = absurd is
-among_take (suc k) (y ∷ xs) x (inl same) = inl same
-among_take (suc k) (y ∷ xs) x (inr more) = inr (among_take k xs x more)
-
 pub among_fitting : (k : ℕ) (pred : Pred) (ms : List Msg) (m : Msg) → Among m (first_fitting k pred ms) → Among m ms
-among_fitting k pred ms m is = filter_among (λ (x : Msg). holds pred x.value) ms m (among_take k (fitting pred ms) m is)
+among_fitting k pred ms m is = filter_among (λ (x : Msg). holds pred x.value) ms m (Among-take k (fitting pred ms) m is)
 
 among_without : (k : ℕ) (pred : Pred) (ms : List Msg) (m : Msg) → Among m (without_first k pred ms) → Among m ms
 among_without k pred [] m is = is

@@ -27,7 +27,7 @@ use Rattle.ccr_model.specs.Firings.{cut, dropped, started}
 use Rattle.ccr_model.specs.Legal.{IsAllowed, IsLegal}
 use Rattle.ccr_model.specs.Posts.{posted, posts}
 use Rattle.ccr_model.proofs.Allowing.{OneName-legal}
-use Rattle.ccr_model.proofs.Booleans.{or_left, or_right, same_number}
+use Rattle.ccr_base.proofs.Booleans.{or_left, or_right, same_number}
 use Rattle.ccr_model.proofs.Cutting.{AdmitFacts, AdmitFacts-allowed}
 use Rattle.ccr_model.proofs.FiredTasks.{IsFired, IsFired-append, fired_has}
 use Rattle.ccr_model.proofs.FiringFacts.{FiresSo-allowed, WaitingFacts, WaitingFacts-waiting, fired_by_named, firing_named-new}

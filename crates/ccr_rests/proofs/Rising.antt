@@ -1,12 +1,14 @@
 -- What an entry's ask is when it settles something, and how the attempts of its actor rise.
 use Rattle.std.proofs.Common.{inl, inr, ◌⊎◌, ◌≡◌, ◌≤◌, ◌<◌, ℕ, Bool, true, false, List, [], ◌∷◌, ◌++◌, Some, refl, sym, arith, ap, ◌∙◌, subst}
 use Rattle.std.specs.Prelude.{◌==◌}
+use Rattle.ccr_attempts.proofs.Hands.{one_ask}
 use Rattle.ccr_base.specs.declared.names.MsgId.{MsgId}
 use Rattle.ccr_base.specs.declared.names.Place.TheVariants as places
 use Rattle.ccr_base.specs.declared.names.Spot.{Spot}
 use Rattle.ccr_base.specs.declared.names.TaskId.{TaskId}
 use Rattle.ccr_wiring.specs.declared.parts.Parts.{Parts}
-use Rattle.ccr_model.proofs.Booleans.{same_number, eq-self, no_both}
+use Rattle.ccr_base.proofs.Booleans.{same_number, eq-self, no_both}
+use Rattle.ccr_base.proofs.Options.{no_some}
 use Rattle.ccr_model.proofs.Members.{Among}
 use Rattle.ccr_places.specs.declared.notes.Note.TheVariants as notes
 use Rattle.ccr_claim.specs.declared.asks.Ask.TheVariants as asks
@@ -22,15 +24,12 @@ use Rattle.ccr_net.proofs.Kept.Assembly.{Holds, hand_settles}
 use Rattle.ccr_net.proofs.Owed.GoingOn.{Worked, worked}
 use Rattle.ccr_net.proofs.Parts.Invariant.{IsOwed}
 use Rattle.ccr_net.proofs.Owed.Moves.{Move, settles, drops, admits, strikes, books, claims, fires, gives_up, goes, moved, IsCommitNote, commit_notes}
-use Rattle.ccr_net.proofs.Parts.Noted.{Given, no_some}
+use Rattle.ccr_net.proofs.Parts.Noted.{Given}
 use Rattle.ccr_net.proofs.Owed.NotedOvers.{is_over_ask}
 use Rattle.ccr_net.proofs.Owed.Owing.{is_quiet, work_asks, WorkAsks}
 use Rattle.ccr_net.proofs.Parts.Pushes.{IsNextState, Step, state_of-own, state_of-other}
 use Rattle.ccr_rests.proofs.NoteKinds.{kind_asked, kind_noted}
 use Rattle.ccr_rests.proofs.Turned.{Turned, quietly, admitting, driving, turned}
-
-inside : {x y : Asked} → Some x ≡ Some y → x ≡ y
-inside is = cc
 
 attempt_quiet : (w : Parts) (spot : Spot) (name : TaskId) (ph : Phase) → is_quiet (attempt_ask (plan_of w spot) name ph).ask ≡ true
 attempt_quiet w spot name booking = refl
@@ -53,10 +52,10 @@ from_hand w n lacks es e holds step loud other = by (turn (state_of w lacks es e
 
     by : (tu : Turn) → turn (state_of w lacks es e.actor) ≡ tu → ask_in w e.actor (state_of w lacks es e.actor) (turn (state_of w lacks es e.actor)) ≡ Some step.asking → Found
     by (settle x more) turns asks_so =
-        let same : x ≡ step.asking = inside (sym (ap (ask_in w e.actor (state_of w lacks es e.actor)) turns) ∙ asks_so) in
+        let same : x ≡ step.asking = one_ask (sym (ap (ask_in w e.actor (state_of w lacks es e.actor)) turns) ∙ asks_so) in
         owed more (hand_settles (state_of w lacks es e.actor).is_short (state_of w lacks es e.actor).hand (state_of w lacks es e.actor).arbiters (spots_left (state_of w lacks es e.actor)) x more turns ∙ ap (λ (y : Asked). y ∷ more) same)
-    by (admit i more) turns asks_so = absurd (let same : at_place (places.Arbiter i) asks.Admit ≡ step.asking = inside (sym (ap (ask_in w e.actor (state_of w lacks es e.actor)) turns) ∙ asks_so) in no_both (ap (λ (y : Asked). is_quiet y.ask) (sym same)) loud)
-    by (drive spot more) turns asks_so = absurd (let same : attempt_ask (plan_of w spot) (name_at e.actor (state_of w lacks es e.actor)) (state_of w lacks es e.actor).phase ≡ step.asking = inside (sym (ap (ask_in w e.actor (state_of w lacks es e.actor)) turns) ∙ asks_so) in no_both (ap (λ (y : Asked). is_quiet y.ask) (sym same) ∙ attempt_quiet w spot (name_at e.actor (state_of w lacks es e.actor)) (state_of w lacks es e.actor).phase) loud)
+    by (admit i more) turns asks_so = absurd (let same : at_place (places.Arbiter i) asks.Admit ≡ step.asking = one_ask (sym (ap (ask_in w e.actor (state_of w lacks es e.actor)) turns) ∙ asks_so) in no_both (ap (λ (y : Asked). is_quiet y.ask) (sym same)) loud)
+    by (drive spot more) turns asks_so = absurd (let same : attempt_ask (plan_of w spot) (name_at e.actor (state_of w lacks es e.actor)) (state_of w lacks es e.actor).phase ≡ step.asking = one_ask (sym (ap (ask_in w e.actor (state_of w lacks es e.actor)) turns) ∙ asks_so) in no_both (ap (λ (y : Asked). is_quiet y.ask) (sym same) ∙ attempt_quiet w spot (name_at e.actor (state_of w lacks es e.actor)) (state_of w lacks es e.actor).phase) loud)
     by go_on turns asks_so = of_work (work_asks w (visible es) e.actor (state_of w lacks es e.actor).work step.asking (holds.actors e.actor).work (sym (ap (ask_in w e.actor (state_of w lacks es e.actor)) turns) ∙ asks_so))
     by stop turns asks_so = absurd (no_some _ step.asking refl (sym (ap (ask_in w e.actor (state_of w lacks es e.actor)) turns) ∙ asks_so))
 

@@ -18,7 +18,7 @@ use Rattle.ccr_wiring.specs.Wirings.{Placement, placement, branch_of}
 use Rattle.ccr_model.specs.Firings.{Firing, fired, firing_named}
 use Rattle.ccr_model.specs.Tasks.{is_branch_where}
 use Rattle.ccr_model.proofs.Allowing.{OneName-legal}
-use Rattle.ccr_model.proofs.Booleans.{both, eq-self, no_both, or_left, same_number}
+use Rattle.ccr_base.proofs.Booleans.{both, eq-self, no_both, or_left, same_number}
 use Rattle.ccr_model.proofs.FiringFacts.{BranchFacts, BranchFacts-where, fired_by_named}
 use Rattle.ccr_model.proofs.FiredTasks.{IsFired, IsFired-append, placement_stays}
 use Rattle.ccr_model.proofs.Members.{Among, Among-either, Among-left, Among-right}

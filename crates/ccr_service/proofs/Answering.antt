@@ -1,5 +1,5 @@
 -- Each request of an expansion has one answer, once all is still.
-use Rattle.std.proofs.Common.{◌≡◌, ◌⊎◌, inl, inr, ℕ, zero, suc, ◌<◌, ◌≤◌, Bool, true, false, not, ◌&&◌, ◌||◌, List, [], ◌∷◌, ◌++◌, length, filter, Option, Some, None, find, refl, sym, ap, ◌∙◌, arith, subst}
+use Rattle.std.proofs.Common.{◌≡◌, ◌⊎◌, inl, inr, ℕ, zero, suc, ◌<◌, ◌≤◌, Bool, true, false, not, ◌&&◌, List, [], ◌∷◌, ◌++◌, length, filter, Option, Some, None, find, refl, sym, ap, ◌∙◌, arith, subst}
 use Rattle.std.specs.Prelude.{◌==◌, if◌then◌else◌, nat_lt, option_map, Contains}
 use Rattle.std.specs.List.{slice_get}
 use Rattle.std.specs.Option.{option_map_or}
@@ -32,8 +32,8 @@ use Rattle.ccr_model.specs.Rules.{may_end, may_shed, ends_so, is_shed}
 use Rattle.ccr_model.specs.Fates.{state_of, taker, fate, fate_of}
 use Rattle.ccr_model.specs.Legal.{IsLegal, IsQuiet, is_complete, has_shed, is_shed_end}
 use Rattle.ccr_model.proofs.Allowing.{OneName-legal}
-use Rattle.ccr_model.proofs.Booleans.{both, no_both, or_left, or_right, refuted, eq-self, not_true, same_number}
-use Rattle.ccr_model.proofs.Options.{some-below}
+use Rattle.ccr_base.proofs.Booleans.{both, no_both, or_left, or_right, refuted, eq-self, not_true, same_number, or_none}
+use Rattle.ccr_base.proofs.Options.{some-below}
 use Rattle.ccr_model.proofs.Members.{Among, Among-right}
 use Rattle.ccr_model.proofs.PostNames.{refused_not}
 use Rattle.ccr_model.proofs.SameNames.{same_message-is}
@@ -99,11 +99,7 @@ takes_it s h legal client index t is =
     record { firing = f; is_firing = named; asks = asks; client_so = cc; place_so = cc }
   where
     only : (m n : MsgId) → has_message (n ∷ []) m ≡ true → m ≡ n
-    only m n has = same_message-is m n (front (same_message m n) has)
-      where
-        front : (b : Bool) → b || false ≡ true → b ≡ true
-        front true is = refl
-        front false is = absurd (cc)
+    only m n has = same_message-is m n (or_none (same_message m n) has)
 
 -- what the task of a request plays
 pub its_play : (s : ServiceParts) (h : List Event) → IsLegal (expansion s) h → (client index : ℕ) (part : ClientPart) (ask : AskPart) (op : OpPart) → slice_get s.clients client ≡ Some part → slice_get part.asks index ≡ Some ask → slice_get s.ops ask.op ≡ Some op → (t : TaskId) → TakesIt s h client index t → play_of (expansion s) h t ≡ reply s ask.op op client ask.value

@@ -36,9 +36,9 @@ use Rattle.ccr_model.specs.Fates.{state_of}
 use Rattle.ccr_model.specs.Order.{fire_at, fire_from}
 use Rattle.ccr_model.specs.Legal.{IsLegal}
 use Rattle.ccr_model.proofs.Allowing.{OneName-legal}
-use Rattle.ccr_model.proofs.Booleans.{no_both, or_left}
+use Rattle.ccr_base.proofs.Booleans.{no_both, or_left}
 use Rattle.ccr_model.proofs.Quiet.{fire_none, branch_among}
-use Rattle.ccr_model.proofs.Options.{none_or}
+use Rattle.ccr_base.proofs.Options.{none_or}
 use Rattle.ccr_model.proofs.Members.{Among, Among-right}
 use Rattle.ccr_model.proofs.CanFire.{some_fire_at}
 use Rattle.ccr_model.proofs.TasksLeft.{of_without, out_left}

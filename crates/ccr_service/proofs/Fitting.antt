@@ -2,9 +2,10 @@
 use Rattle.std.proofs.Common.{◌≡◌, inl, inr, ℕ, suc, ◌+◌, ◌<◌, ◌≤◌, Bool, true, false, not, ◌||◌, List, [], ◌∷◌, ◌++◌, length, map, flat_map, cond, Option, Some, None, refl, sym, ap, ◌∙◌, arith, subst, append-nil}
 use Rattle.std.specs.Prelude.{◌==◌, codes, if◌then◌else◌, nat_lt}
 use Rattle.std.specs.List.{list_any, list_all, slice_get}
-use Rattle.std.proofs.lemmas.List.{length-append}
+use Rattle.std.proofs.lemmas.List.{length-append, length-map}
 use Rattle.std.proofs.lemmas.Bool.Decides.{nat_tests}
 use Rattle.std.proofs.lemmas.Grind.{common_steps}
+use Rattle.std.proofs.lemmas.Bool.{le-ltb}
 use Rattle.ccr_base.specs.declared.handlers.Action.TheVariants as actions
 use Rattle.ccr_base.specs.declared.messages.Sent.{Sent}
 use Rattle.ccr_base.specs.declared.patterns.Pred.{Pred}
@@ -23,10 +24,11 @@ use Rattle.ccr_wiring.specs.Limits.{has_outside, posts_in_all, has_branches_abov
 use Rattle.ccr_wiring.specs.Versions.{has_strange_version, has_newer, expr_is_newer, handler_is_newer, poster_is_newer, is_long}
 use Rattle.ccr_wiring.specs.Spots.{has_crowded_port, named_ports, branch_named, branches_named, pattern_ports, times}
 use Rattle.ccr_wiring.specs.Valid.{IsValid}
+use Rattle.ccr_wiring.proofs.Validity.{no_code}
 use Rattle.ccr_wiring.specs.Wirings.{actions_of, awaited}
 use Rattle.ccr_wiring.proofs.Crowds.{times_append}
-use Rattle.ccr_model.proofs.Booleans.{both, no_both, same_number, not_true, eq-self}
-use Rattle.ccr_model.proofs.Options.{some-below}
+use Rattle.ccr_base.proofs.Booleans.{both, no_both, same_number, not_true, eq-self}
+use Rattle.ccr_base.proofs.Options.{some-below}
 use Rattle.ccr_model.proofs.Members.{Among, Among-at}
 use Rattle.ccr_service.specs.declared.parts.AskPart.{AskPart}
 use Rattle.ccr_service.specs.declared.parts.ClientPart.{ClientPart}
@@ -51,14 +53,10 @@ op_ports_length : (ops : List OpPart) → length (op_ports ops) ≡ length ops +
 op_ports_length [] = refl
 op_ports_length (op ∷ ops) = let rest = op_ports_length ops in omega (arith, rest)
 
-mapped_length : {X Y : Type 0} (f : X → Y) (xs : List X) → length (map f xs) ≡ length xs
-mapped_length f [] = refl
-mapped_length f (x ∷ xs) = ap suc (mapped_length f xs)
-
 ports_length : (s : ServiceParts) → length (ports s) ≡ (length s.ops + length s.ops) + length s.clients
 ports_length s =
     let a = op_ports_length s.ops in
-    let b = mapped_length (λ (c : ClientPart). c.name ++ codes "-f") s.clients in
+    let b = length-map s.clients (λ (c : ClientPart). c.name ++ codes "-f") in
     let c = length-append (op_ports s.ops) (map (λ (c : ClientPart). c.name ++ codes "-f") s.clients) in
     omega (arith, a, b, c)
 
@@ -88,7 +86,7 @@ few_more false = omega arith
 posts_all : (n : ℕ) (cs : List ClientPart) → posts_in_all (posters_from n cs) ≡ asks_in_all cs
 posts_all n [] = refl
 posts_all n (c ∷ cs) =
-    let here = mapped_length (request n) c.asks in
+    let here = length-map c.asks (request n) in
     let rest = posts_all (n + 1) cs in
     let all : posts_in_all (posters_from n (c ∷ cs)) ≡ length (map (request n) c.asks) + posts_in_all (posters_from (n + 1) cs) = grind (arith, common_steps) in
     omega (arith, here, rest, all)
@@ -272,16 +270,13 @@ many s is =
     let fo : length (posters_from 0 s.clients) ≤ 16 = omega (arith, o, clients) in
     let fb : length (branches_from (length s.ops) 0 s.ops) ≤ 256 = omega (arith, b, ops) in
     let fa : posts_in_all (posters_from 0 s.clients) ≤ 10000 = omega (arith, a, asks) in
-    let tp = below 256 (length (ports s)) fp in
-    let tc = below 32 (length (causes_from (length s.ops + length s.ops) s.clients)) fc in
-    let th = below 256 (length (handlers s.ops)) fh in
-    let to = below 16 (length (posters_from 0 s.clients)) fo in
+    let tp = le-ltb 256 (length (ports s)) fp in
+    let tc = le-ltb 32 (length (causes_from (length s.ops + length s.ops) s.clients)) fc in
+    let th = le-ltb 256 (length (handlers s.ops)) fh in
+    let to = le-ltb 16 (length (posters_from 0 s.clients)) fo in
     let tb : has_branches_above 256 (expansion s).arbiters ≡ false = grind (arith, nat_tests, fb) in
-    let ta : has_posts_above 10000 (expansion s).posters ≡ false = below 10000 (posts_in_all (posters_from 0 s.clients)) fa in
+    let ta : has_posts_above 10000 (expansion s).posters ≡ false = le-ltb 10000 (posts_in_all (posters_from 0 s.clients)) fa in
     rw (tp, tc, th, to, tb, ta) refl
-  where
-    below : (most n : ℕ) → n ≤ most → nat_lt most n ≡ false
-    below most n le = grind (arith, nat_tests, le)
 
 outside : (s : ServiceParts) → IsService s → has_outside (expansion s) ≡ false
 outside s is = rw (many s is, is.policy, in_handlers, in_branches) refl
@@ -382,12 +377,6 @@ uncrowded s is = none_any (λ port. nat_lt 16 (times port (named_ports (expansio
         let few = (few_from s 0 port s.ops (λ k part at. let e : k ≡ 0 + k = omega arith in subst (λ i. slice_get s.ops i ≡ Some part) e at)).most in
         let all : times port (named_ports (expansion s)) ≡ times port (branches_named (expansion s) (branches_from (length s.ops) 0 s.ops)) = ap (times port) (append-nil (branches_named (expansion s) (branches_from (length s.ops) 0 s.ops))) in
         omega (arith, few, all)
-
-abbrev first_code : Bool → Bool → Bool → Bool → Bool → Bool → Bool → Bool → Bool → Bool → Option ℕ
-first_code a b c d e f g h i j = if a then Some 2 else if b then Some 3 else if c then Some 5 else if d then Some 6 else if e then Some 7 else if f then Some 8 else if g then Some 10 else if h then Some 11 else if i then Some 12 else if j then Some 14 else None
-
-no_code : (a b c d e f g h i j : Bool) → a ≡ false → b ≡ false → c ≡ false → d ≡ false → e ≡ false → f ≡ false → g ≡ false → h ≡ false → i ≡ false → j ≡ false → first_code a b c d e f g h i j ≡ None
-no_code a b c d e f g h i j ea eb ec ed ee ef eg eh ei ej = rw (ea, eb, ec, ed, ee, ef, eg, eh, ei, ej) refl
 
 pub valid : (s : ServiceParts) → IsService s → IsValid (expansion s)
 unfolding code_of

@@ -17,11 +17,14 @@ use Rattle.ccr_text.specs.declared.lines.Line.{Line}
 use Rattle.ccr_text.specs.Names.{meaning_of}
 use Rattle.ccr_text.specs.Fields.{Words, ◌>>=◌, unless, or_code, limited, word, no_more, number, number_within, policy}
 use Rattle.ccr_text.specs.Words.{number_of, is_comment}
+use Rattle.ccr_text.proofs.Steps.{unless_ok, or_code_ok, limit_ok}
 use Rattle.ccr_wiring.specs.declared.parts.Kind.TheVariants as kinds
 use Rattle.ccr_wiring.specs.Groups.{may_have}
 use Rattle.ccr_wiring.specs.Limits.{policy_is_outside, is_outside}
 use Rattle.ccr_wiretext.specs.Reading.{at_line}
-use Rattle.ccr_model.proofs.Booleans.{both, no_both}
+use Rattle.ccr_wiretext.proofs.Steps.{bind_ok as then_ok}
+use Rattle.ccr_base.proofs.Booleans.{both, no_both}
+use Rattle.ccr_base.proofs.Lists.{all_more}
 use Rattle.ccr_model.proofs.Members.{Among, Among-either, all_from}
 use Rattle.ccr_service.specs.declared.names.Named.{Named}
 use Rattle.ccr_service.specs.declared.names.Named.TheVariants as named
@@ -39,21 +42,6 @@ use Rattle.ccr_service.proofs.Pigeons.{Apart}
 use Rattle.ccr_service.proofs.Naming.{apart_append, not_repeated}
 
 -- ---- steps
-
-pub then_ok : {A B : Type 0} (r : Result A ℕ) (f : A → Result B ℕ) (b : B) → (r >>= f) ≡ Ok b → (a : A) × (r ≡ Ok a) × (f a ≡ Ok b)
-then_ok (Ok a) f b e = (a, refl, e)
-then_ok (Err code) f b e = absurd (cc)
-
-pub unless_ok : (test : Bool) (code : ℕ) (u : Unit {0}) → unless test code ≡ Ok u → test ≡ true
-unless_ok true code u e = refl
-unless_ok false code u e = absurd (cc)
-
-pub or_ok : {A : Type 0} (o : Option A) (code : ℕ) (a : A) → or_code o code ≡ Ok a → o ≡ Some a
-or_ok (Some x) code a e = cc
-or_ok None code a e = absurd (cc)
-
-pub limited_ok : (limit count : ℕ) (u : Unit {0}) → limited limit count ≡ Ok u → count < limit
-limited_ok limit count u e = let is = unless_ok (nat_lt count limit) 10 u e in grind (arith, nat_tests, is)
 
 abbrev pub okay : {A : Type 0} → A → Result A ℕ
 okay a = Ok a
@@ -86,7 +74,7 @@ op_name_ok names words p e =
     let a = then_ok (word words) _ p e in
     let b = then_ok (or_code (option_and_then as_op (meaning_of names a.0.0)) 7) _ p a.2 in
     let same : b.0 ≡ p.0 = ap (λ (q : ℕ × Words). q.0) (same_ok b.2) in
-    (a.0.0, of_op (meaning_of names a.0.0) p.0 (or_ok _ 7 b.0 b.1 ∙ ap Some same))
+    (a.0.0, of_op (meaning_of names a.0.0) p.0 (or_code_ok _ 7 b.0 b.1 ∙ ap Some same))
   where
     of_op : (o : Option Named) (k : ℕ) → option_and_then as_op o ≡ Some k → o ≡ Some (named.Op k)
     of_op None k is = absurd (cc)
@@ -191,10 +179,6 @@ record IsKept (rule : Policy) (ops : List OpPart) (clients : List ClientPart) (n
   fresh : (n : List ℕ) → meaning_of names n ≡ None → (Among n (op_names ops) → ⊥) × (Among n (client_names clients) → ⊥)
   numbered : (n : List ℕ) (k : ℕ) → meaning_of names n ≡ Some (named.Op k) → k < length ops
 
-all_append : {X : Type 0} (p : X → Bool) (xs : List X) (x : X) → list_all p xs ≡ true → p x ≡ true → list_all p (xs ++ x ∷ []) ≡ true
-all_append p [] x all is = rw is refl
-all_append p (y ∷ xs) x all is = let parts = both (p y) (list_all p xs) all in rw (parts.0, all_append p xs x parts.1 is) refl
-
 all_front : {X : Type 0} (p : X → Bool) (xs : List X) (x : X) → list_all p (xs ++ x ∷ []) ≡ true → (list_all p xs ≡ true) × (p x ≡ true)
 all_front p [] x all = (refl, (both (p x) true all).0)
 all_front p (y ∷ xs) x all = let parts = both (p y) (list_all p (xs ++ x ∷ [])) all in let rest = all_front p xs x parts.1 in (rw (parts.0, rest.0) refl, rest.1)
@@ -242,7 +226,7 @@ kept_op rule ops cs names asks part kept room name is_op =
       clients_apart = kept.clients_apart;
       crossed = λ n is there. of_side (λ m. Among m (client_names cs) → ⊥) n (one_more part.name n (op_names ops) (subst (Among n) all is)) (kept.crossed n) new.1 there;
       inside_so = kept.inside_so;
-      ops_so = all_append is_service_op ops part kept.ops_so is_op;
+      ops_so = all_more is_service_op ops part kept.ops_so is_op;
       asked = subst (λ k. list_all (λ (c : ClientPart). are_asked k c.asks) cs ≡ true) (sym long) (all_asked_more (length ops) cs kept.asked);
       fresh = λ n none. let parts = meaning_none names part.name n (named.Op (length ops)) none in let old = kept.fresh n parts.0 in ((λ is. of_new n (one_more part.name n (op_names ops) (subst (Among n) all is)) old.0 parts.1), old.1);
       numbered = λ n k is. of_number k n (meaning_some names part.name n (named.Op (length ops)) (named.Op k) is) (kept.numbered n k) long;
@@ -280,7 +264,7 @@ kept_client rule ops cs names asks name kept room is_new =
       crossed = λ n is there. of_side (λ m. Among m (op_names ops) → ⊥) n (one_more name n (client_names cs) (subst (Among n) all there)) (λ here op. kept.crossed n op here) new.0 is;
       inside_so = kept.inside_so;
       ops_so = kept.ops_so;
-      asked = all_append (λ (c : ClientPart). are_asked (length ops) c.asks) cs part kept.asked refl;
+      asked = all_more (λ (c : ClientPart). are_asked (length ops) c.asks) cs part kept.asked refl;
       fresh = λ n none. let parts = meaning_none names name n named.Client none in let old = kept.fresh n parts.0 in (old.0, (λ is. of_new n (one_more name n (client_names cs) (subst (Among n) all is)) old.1 parts.1));
       numbered = λ n k is. of_number k n (meaning_some names name n named.Client (named.Op k) is) (kept.numbered n k);
     }
@@ -321,7 +305,7 @@ kept_ask rule ops cs names asks part ask kept room lt =
       crossed = subst (λ ns. (n : List ℕ) → Among n (op_names ops) → Among n ns → ⊥) same kept.crossed;
       inside_so = kept.inside_so;
       ops_so = kept.ops_so;
-      asked = all_append (λ (c : ClientPart). are_asked (length ops) c.asks) cs more asked_so.0 (all_append (λ (a : AskPart). nat_lt a.op (length ops)) part.asks ask asked_so.1 now);
+      asked = all_more (λ (c : ClientPart). are_asked (length ops) c.asks) cs more asked_so.0 (all_more (λ (a : AskPart). nat_lt a.op (length ops)) part.asks ask asked_so.1 now);
       fresh = subst (λ ns. (n : List ℕ) → meaning_of names n ≡ None → (Among n (op_names ops) → ⊥) × (Among n ns → ⊥)) same kept.fresh;
       numbered = kept.numbered;
     }
@@ -381,7 +365,7 @@ op_form_ok d words part e =
     let h = then_ok (no_more g.0.1) _ part g.2 in
     let same : record { name = b.0.0; group = c.0.0; expr = f.0.0; below = g.0.0 } ≡ part = same_ok h.2 in
     let fits : is_service_op (record { name = b.0.0; group = c.0.0; expr = f.0.0; below = g.0.0 }) ≡ true = rw (group_ok b.0.1 c.0 c.1, expr_ok c.0.1 f.0 f.1) refl in
-    (limited_ok 32 (length d.parts.ops) a.0 a.1, subst (λ (p : OpPart). IsNewName d.names p.name) same (new_name_ok d.names words b.0 b.1), subst (λ (p : OpPart). is_service_op p ≡ true) same fits)
+    (limit_ok 32 (length d.parts.ops) a.0 a.1, subst (λ (p : OpPart). IsNewName d.names p.name) same (new_name_ok d.names words b.0 b.1), subst (λ (p : OpPart). is_service_op p ≡ true) same fits)
 
 client_form_ok : (d : Drafted) (words : Words) (name : List ℕ) → client_form d words ≡ Ok name → (length d.parts.clients < 16) × IsNewName d.names name
 unfolding client_form
@@ -390,7 +374,7 @@ client_form_ok d words name e =
     let b = then_ok (new_name d.names words) _ name a.2 in
     let c = then_ok (no_more b.0.1) _ name b.2 in
     let same : b.0.0 ≡ name = same_ok c.2 in
-    (limited_ok 16 (length d.parts.clients) a.0 a.1, subst (IsNewName d.names) same (new_name_ok d.names words b.0 b.1))
+    (limit_ok 16 (length d.parts.clients) a.0 a.1, subst (IsNewName d.names) same (new_name_ok d.names words b.0 b.1))
 
 ask_form_ok : (d : Drafted) (words : Words) (ask : AskPart) → ask_form d words ≡ Ok ask → (d.asks < 10000) × ((name : List ℕ) × (meaning_of d.names name ≡ Some (named.Op ask.op)))
 unfolding ask_form
@@ -401,7 +385,7 @@ ask_form_ok d words ask e =
     let f = then_ok (no_more c.0.1) _ ask c.2 in
     let same : b.0.0 ≡ ask.op = ap (λ (x : AskPart). x.op) (same_ok f.2) in
     let found = op_name_ok d.names words b.0 b.1 in
-    (limited_ok 10000 d.asks a.0 a.1, (found.0, found.1 ∙ ap (λ i. Some (named.Op i)) same))
+    (limit_ok 10000 d.asks a.0 a.1, (found.0, found.1 ∙ ap (λ i. Some (named.Op i)) same))
 
 policy_form_ok : (d : Drafted) (words : Words) (rule : Policy) → policy_form d words ≡ Ok rule → policy_is_outside rule ≡ false
 unfolding policy_form

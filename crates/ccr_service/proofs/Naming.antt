@@ -12,7 +12,7 @@ use Rattle.ccr_text.specs.Words.{is_name_of, may_be_in_name}
 use Rattle.ccr_wiring.specs.declared.parts.BranchPart.{BranchPart}
 use Rattle.ccr_wiring.specs.declared.parts.HandlerPart.{HandlerPart}
 use Rattle.ccr_wiring.specs.Names.{branch_names, cause_names, handler_names, poster_names, declared_names, has_name, has_repeated, has_malformed, has_repeated_name, has_malformed_name}
-use Rattle.ccr_model.proofs.Booleans.{both, neither, either, no_both, or_left, or_right, refuted, same_number}
+use Rattle.ccr_base.proofs.Booleans.{both, neither, either, no_both, or_left, or_right, refuted, same_number, not_true}
 use Rattle.ccr_model.proofs.Members.{Among, Among-left, Among-right, Among-either}
 use Rattle.ccr_service.specs.declared.parts.ClientPart.{ClientPart}
 use Rattle.ccr_service.specs.declared.parts.OpPart.{OpPart}
@@ -53,11 +53,7 @@ plain_name (c ∷ cs) is =
     rw (no_dash c (alphabetic_too c first), plain_others cs parts.1) refl
 
 dash_off : (c : ℕ) (cs : List ℕ) → IsPlain (c ∷ cs) → ((c == 45) ≡ false) × IsPlain cs
-dash_off c cs is = let parts = both (not (c == 45)) (list_all (λ d. not (d == 45)) cs) is in (off (c == 45) parts.0, parts.1)
-  where
-    off : (b : Bool) → not b ≡ true → b ≡ false
-    off true e = absurd (cc)
-    off false e = refl
+dash_off c cs is = let parts = both (not (c == 45)) (list_all (λ d. not (d == 45)) cs) is in (not_true (c == 45) parts.0, parts.1)
 
 base_plain : (cs : List ℕ) → IsPlain cs → base cs ≡ cs
 base_plain [] is = refl

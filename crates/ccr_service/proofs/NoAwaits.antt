@@ -23,8 +23,8 @@ use Rattle.ccr_model.specs.Tasks.{running, has_post_left}
 use Rattle.ccr_model.specs.Rules.{is_new, may_end, ends_so}
 use Rattle.ccr_model.specs.Live.{is_live}
 use Rattle.ccr_model.specs.Legal.{IsAllowed, IsLegal}
-use Rattle.ccr_model.proofs.Booleans.{both, no_both, or_left, or_right, either}
-use Rattle.ccr_model.proofs.Options.{some_of}
+use Rattle.ccr_base.proofs.Booleans.{both, no_both, or_left, or_right, either}
+use Rattle.ccr_base.proofs.Options.{some_of}
 use Rattle.ccr_model.proofs.PostNames.{along, refused_not}
 use Rattle.ccr_model.proofs.Pushes.{yielded-push}
 use Rattle.ccr_model.proofs.FiringFacts.{FiresSo-allowed}

@@ -21,7 +21,7 @@ use Rattle.ccr_model.specs.declared.history.Event.{Event}
 use Rattle.ccr_model.specs.Firings.{Firing, firing_named}
 use Rattle.ccr_model.specs.TaskData.{play_of, play_at, load_at, with_messages, no_load, messages_of}
 use Rattle.ccr_model.specs.Legal.{IsLegal}
-use Rattle.ccr_model.proofs.Options.{some-below}
+use Rattle.ccr_base.proofs.Options.{some-below}
 use Rattle.ccr_service.specs.declared.parts.ClientPart.{ClientPart}
 use Rattle.ccr_service.specs.declared.parts.OpPart.{OpPart}
 use Rattle.ccr_service.specs.declared.parts.ServiceParts.{ServiceParts}

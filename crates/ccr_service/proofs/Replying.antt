@@ -19,8 +19,8 @@ use Rattle.ccr_model.specs.TaskData.{play_of}
 use Rattle.ccr_model.specs.Tasks.{running}
 use Rattle.ccr_model.specs.Rules.{refusal_of_post, is_play_post, is_post}
 use Rattle.ccr_model.specs.Legal.{IsAllowed, IsLegal}
-use Rattle.ccr_model.proofs.Booleans.{both, no_both}
-use Rattle.ccr_model.proofs.Options.{some_of}
+use Rattle.ccr_base.proofs.Booleans.{both, no_both}
+use Rattle.ccr_base.proofs.Options.{some_of}
 use Rattle.ccr_model.proofs.Members.{Among, Among-either}
 use Rattle.ccr_model.proofs.PostNames.{refused_not, times, posted_once}
 use Rattle.ccr_model.proofs.LegalParts.{along_legal}

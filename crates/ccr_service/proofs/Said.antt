@@ -3,7 +3,6 @@ use Rattle.std.proofs.Common.{◌≡◌, ◌⊎◌, inl, inr, ℕ, ◌+◌, ◌<
 use Rattle.std.specs.Prelude.{◌==◌, codes, if◌then◌else◌, nat_lt, is_some, max}
 use Rattle.std.specs.Option.{option_and_then}
 use Rattle.std.specs.Str.{bytes_eq}
-use Rattle.std.specs.Cmp.Lexicographic.{bytes_decides}
 use Rattle.std.proofs.lemmas.Bool.Decides.{nat_tests}
 use Rattle.ccr_base.specs.declared.policies.Policy.{Policy}
 use Rattle.ccr_base.specs.declared.policies.Group.{Group}
@@ -15,11 +14,14 @@ use Rattle.ccr_text.specs.Lines.{cut, numbered}
 use Rattle.ccr_text.specs.Names.{meaning_of}
 use Rattle.ccr_text.specs.Fields.{Words, ◌>>=◌, unless, or_code, limited, word, no_more, number, number_within, policy}
 use Rattle.ccr_text.specs.Words.{number_of, is_clean, is_comment, words_of}
+use Rattle.ccr_text.proofs.Steps.{unless_ok, or_code_ok, word_ok, no_more_ok, limit_ok}
 use Rattle.ccr_wiretext.specs.declared.refused.ReadRefused.{ReadRefused}
 use Rattle.ccr_wiretext.specs.declared.refused.ReadRefused.TheVariants as refusals
 use Rattle.ccr_wiretext.specs.Grammar.{IsNumber}
 use Rattle.ccr_wiretext.specs.Reading.{at_line}
-use Rattle.ccr_model.proofs.Booleans.{both, not_true, refuted}
+use Rattle.ccr_base.proofs.Booleans.{both, not_true, refuted}
+use Rattle.ccr_base.proofs.Texts.{same_word as keyed}
+use Rattle.ccr_wiretext.proofs.FieldsRead.{number_said, number_read, within_said, within_read, policy_said, policy_read}
 use Rattle.ccr_service.specs.declared.names.Named.{Named}
 use Rattle.ccr_service.specs.declared.names.Named.TheVariants as named
 use Rattle.ccr_service.specs.declared.parts.AskPart.{AskPart}
@@ -31,23 +33,12 @@ use Rattle.ccr_service.specs.Fields.{new_name, op_name, group, expr, bound}
 use Rattle.ccr_service.specs.Drafts.{Drafted, with_policy, with_op, with_client, with_ask, end_client, policy_form, op_form, client_form, ask_form, outside_line, client_line, apart, line_in}
 use Rattle.ccr_service.specs.Reading.{So, is_version, after_words, after_all, after_line, closed, at_end, reading_after, reading_text}
 use Rattle.ccr_wiretext.specs.Answers.{IsReading}
+use Rattle.ccr_wiretext.proofs.Steps.{bind_ok as then_ok}
 use Rattle.ccr_service.specs.Services.{is_service_name}
 use Rattle.ccr_service.specs.Grammar.{IsNew, IsGroup, IsExpr, IsBound, IsOp, IsAsk, IsPolicyLine, IsClient, IsLine, IsSkipped, Declares, IsWhole, Says, IsText, IsNoText}
-use Rattle.ccr_service.proofs.FieldsSaid.{number_said, number_read, within_said, within_read, policy_said, policy_read}
-use Rattle.ccr_service.proofs.Keeping.{then_ok, unless_ok, or_ok, limited_ok, same_ok, reading_on}
+use Rattle.ccr_service.proofs.Keeping.{same_ok, reading_on}
 
 -- ---- what is read is said: places
-
-word_said : (words : Words) (p : List ℕ × Words) → word words ≡ Ok p → words ≡ p.0 ∷ p.1
-word_said [] p e = absurd (cc)
-word_said (first ∷ words) p e = let same : (first, words) ≡ p = same_ok e in ap (λ (q : List ℕ × Words). q.0 ∷ q.1) same
-
-no_more_said : (words : Words) (u : Unit {0}) → no_more words ≡ Ok u → words ≡ []
-no_more_said [] u e = refl
-no_more_said (first ∷ words) u e = absurd (cc)
-
-keyed : (word key : List ℕ) → bytes_eq word key ≡ true → word ≡ key
-keyed word key is = (bytes_decides word key).0 is
 
 record NewSaid (names : Naming) (words : Words) (p : List ℕ × Words) : Type 0 where
   spelled : words ≡ p.0 ∷ p.1
@@ -60,7 +51,7 @@ new_said names words p e =
     let b = then_ok (unless (is_service_name a.0.0) 14) _ p a.2 in
     let c = then_ok (unless (not (is_some (meaning_of names a.0.0))) 6) _ p b.2 in
     let same : a.0 ≡ p = same_ok c.2 in
-    subst (NewSaid names words) same (record { spelled = word_said words a.0 a.1; new = record { formed = unless_ok (is_service_name a.0.0) 14 b.0 b.1; new = none (meaning_of names a.0.0) (unless_ok _ 6 c.0 c.1) } })
+    subst (NewSaid names words) same (record { spelled = word_ok words a.0 a.1; new = record { formed = unless_ok (is_service_name a.0.0) 14 b.0 b.1; new = none (meaning_of names a.0.0) (unless_ok _ 6 c.0 c.1) } })
   where
     none : (o : Option Named) → not (is_some o) ≡ true → o ≡ None
     none None is = refl
@@ -77,7 +68,7 @@ op_said names words p e =
     let a = then_ok (word words) _ p e in
     let b = then_ok (or_code (option_and_then as_op (meaning_of names a.0.0)) 7) _ p a.2 in
     let same : (b.0, a.0.1) ≡ p = same_ok b.2 in
-    subst (OpSaid names words) same (record { name = a.0.0; spelled = word_said words a.0 a.1; refers = of_op (meaning_of names a.0.0) b.0 (or_ok _ 7 b.0 b.1) })
+    subst (OpSaid names words) same (record { name = a.0.0; spelled = word_ok words a.0 a.1; refers = of_op (meaning_of names a.0.0) b.0 (or_code_ok _ 7 b.0 b.1) })
   where
     of_op : (o : Option Named) (k : ℕ) → option_and_then as_op o ≡ Some k → o ≡ Some (named.Op k)
     of_op None k is = absurd (cc)
@@ -96,7 +87,7 @@ group_said : (words : Words) (p : Group × Words) → group words ≡ Ok p → G
 unfolding group
 group_said words p e =
     let a = then_ok (word words) _ p e in
-    by_first a.0.0 a.0.1 (word_said words a.0 a.1) (bytes_eq a.0.0 (codes "teardown")) refl (bytes_eq a.0.0 (codes "exclusive")) refl (bytes_eq a.0.0 (codes "concurrent")) refl a.2
+    by_first a.0.0 a.0.1 (word_ok words a.0 a.1) (bytes_eq a.0.0 (codes "teardown")) refl (bytes_eq a.0.0 (codes "exclusive")) refl (bytes_eq a.0.0 (codes "concurrent")) refl a.2
   where
     by_first : (name : List ℕ) (rest : Words) → words ≡ name ∷ rest → (x : Bool) → bytes_eq name (codes "teardown") ≡ x → (y : Bool) → bytes_eq name (codes "exclusive") ≡ y → (z : Bool) → bytes_eq name (codes "concurrent") ≡ z → group_by x y z rest ≡ Ok p → GroupSaid words p
     by_first name rest whole true ex y ey z ez is = subst (GroupSaid words) (same_ok is) (record { word = name; spelled = whole; is = keyed name (codes "teardown") ex })
@@ -116,7 +107,7 @@ expr_said : (words : Words) (p : Expr × Words) → expr words ≡ Ok p → Expr
 unfolding expr
 expr_said words p e =
     let a = then_ok (word words) _ p e in
-    by_first a.0.0 a.0.1 (word_said words a.0 a.1) (bytes_eq a.0.0 (codes "sum")) refl (bytes_eq a.0.0 (codes "count")) refl (bytes_eq a.0.0 (codes "arg")) refl a.2
+    by_first a.0.0 a.0.1 (word_ok words a.0 a.1) (bytes_eq a.0.0 (codes "sum")) refl (bytes_eq a.0.0 (codes "count")) refl (bytes_eq a.0.0 (codes "arg")) refl a.2
   where
     by_first : (name : List ℕ) (rest : Words) → words ≡ name ∷ rest → (x : Bool) → bytes_eq name (codes "sum") ≡ x → (y : Bool) → bytes_eq name (codes "count") ≡ y → (z : Bool) → bytes_eq name (codes "arg") ≡ z → expr_by x y z name rest ≡ Ok p → ExprSaid words p
     by_first name rest whole true ex y ey z ez is = subst (ExprSaid words) (same_ok is) (record { front = name ∷ []; spelled = whole; is = ap (λ w. w ∷ []) (keyed name (codes "sum") ex) })
@@ -127,7 +118,7 @@ expr_said words p e =
         subst (ExprSaid words) (same_ok n.2) (record { front = name ∷ said.0 ∷ []; spelled = whole ∙ ap (λ (ws : Words). name ∷ ws) said.1; is = (said.0, ap (λ w. w ∷ said.0 ∷ []) (keyed name (codes "arg") ez), said.2) })
     by_first name rest whole false ex false ey false ez is =
         let n = then_ok (or_code (number_of name) 5) _ p is in
-        subst (ExprSaid words) (same_ok n.2) (record { front = name ∷ []; spelled = whole; is = (name, n.0, refl, refl, or_ok (number_of name) 5 n.0 n.1) })
+        subst (ExprSaid words) (same_ok n.2) (record { front = name ∷ []; spelled = whole; is = (name, n.0, refl, refl, or_code_ok (number_of name) 5 n.0 n.1) })
 
 record BoundSaid (words : Words) (p : Option ℕ × Words) : Type 0 where
   front : Words
@@ -163,9 +154,9 @@ op_line_said d words part e =
     let kind = group_said b.0.1 c.0 c.1 in
     let value = expr_said c.0.1 f.0 f.1 in
     let most = bound_said f.0.1 g.0 g.1 in
-    let last : f.0.1 ≡ most.front = most.spelled ∙ ap (λ (ws : Words). most.front ++ ws) (no_more_said g.0.1 h.0 h.1) ∙ append-nil most.front in
+    let last : f.0.1 ≡ most.front = most.spelled ∙ ap (λ (ws : Words). most.front ++ ws) (no_more_ok g.0.1 h.0 h.1) ∙ append-nil most.front in
     let whole : codes "op" ∷ words ≡ codes "op" ∷ b.0.0 ∷ kind.word ∷ (value.front ++ most.front) = ap (λ (ws : Words). codes "op" ∷ ws) (name.spelled ∙ ap (λ (ws : Words). b.0.0 ∷ ws) (kind.spelled ∙ ap (λ (ws : Words). kind.word ∷ ws) (value.spelled ∙ ap (λ (ws : Words). value.front ++ ws) last))) in
-    subst (IsOp d (codes "op" ∷ words)) same (record { kind = kind.word; value = value.front; most = most.front; spelled = whole; room = limited_ok 32 (length d.parts.ops) a.0 a.1; new = name.new; group = kind.is; expr = value.is; bound = most.is })
+    subst (IsOp d (codes "op" ∷ words)) same (record { kind = kind.word; value = value.front; most = most.front; spelled = whole; room = limit_ok 32 (length d.parts.ops) a.0 a.1; new = name.new; group = kind.is; expr = value.is; bound = most.is })
 
 client_said : (d : Drafted) (words : Words) (name : List ℕ) → client_form d words ≡ Ok name → IsClient d (codes "client" ∷ words) name
 unfolding client_form
@@ -174,8 +165,8 @@ client_said d words name e =
     let b = then_ok (new_name d.names words) _ name a.2 in
     let c = then_ok (no_more b.0.1) _ name b.2 in
     let said = new_said d.names words b.0 b.1 in
-    let whole : codes "client" ∷ words ≡ codes "client" ∷ b.0.0 ∷ [] = ap (λ (ws : Words). codes "client" ∷ ws) (said.spelled ∙ ap (λ (ws : Words). b.0.0 ∷ ws) (no_more_said b.0.1 c.0 c.1)) in
-    subst (IsClient d (codes "client" ∷ words)) (same_ok c.2) (record { spelled = whole; room = limited_ok 16 (length d.parts.clients) a.0 a.1; new = said.new })
+    let whole : codes "client" ∷ words ≡ codes "client" ∷ b.0.0 ∷ [] = ap (λ (ws : Words). codes "client" ∷ ws) (said.spelled ∙ ap (λ (ws : Words). b.0.0 ∷ ws) (no_more_ok b.0.1 c.0 c.1)) in
+    subst (IsClient d (codes "client" ∷ words)) (same_ok c.2) (record { spelled = whole; room = limit_ok 16 (length d.parts.clients) a.0 a.1; new = said.new })
 
 ask_said : (d : Drafted) (words : Words) (ask : AskPart) → ask_form d words ≡ Ok ask → IsAsk d (codes "ask" ∷ words) ask
 unfolding ask_form
@@ -186,10 +177,10 @@ ask_said d words ask e =
     let f = then_ok (no_more c.0.1) _ ask c.2 in
     let op = op_said d.names words b.0 b.1 in
     let value = number_said b.0.1 c.0 c.1 in
-    let whole : codes "ask" ∷ words ≡ codes "ask" ∷ op.name ∷ value.0 ∷ [] = ap (λ (ws : Words). codes "ask" ∷ ws) (op.spelled ∙ ap (λ (ws : Words). op.name ∷ ws) (value.1 ∙ ap (λ (ws : Words). value.0 ∷ ws) (no_more_said c.0.1 f.0 f.1))) in
+    let whole : codes "ask" ∷ words ≡ codes "ask" ∷ op.name ∷ value.0 ∷ [] = ap (λ (ws : Words). codes "ask" ∷ ws) (op.spelled ∙ ap (λ (ws : Words). op.name ∷ ws) (value.1 ∙ ap (λ (ws : Words). value.0 ∷ ws) (no_more_ok c.0.1 f.0 f.1))) in
     let made : AskPart = record { op = b.0.0; value = c.0.0 } in
     let same : made ≡ ask = same_ok f.2 in
-    subst (IsAsk d (codes "ask" ∷ words)) same (record { name = op.name; digits = value.0; spelled = whole; room = limited_ok 10000 d.asks a.0 a.1; refers = op.refers; value = value.2 })
+    subst (IsAsk d (codes "ask" ∷ words)) same (record { name = op.name; digits = value.0; spelled = whole; room = limit_ok 10000 d.asks a.0 a.1; refers = op.refers; value = value.2 })
 
 rule_said : (d : Drafted) (words : Words) (rule : Policy) → policy_form d words ≡ Ok rule → IsPolicyLine d (codes "policy" ∷ words) rule
 unfolding policy_form
@@ -198,7 +189,7 @@ rule_said d words rule e =
     let b = then_ok (policy 1000 words) _ rule a.2 in
     let c = then_ok (no_more b.0.1) _ rule b.2 in
     let said = policy_said words b.0 b.1 in
-    let whole : codes "policy" ∷ words ≡ codes "policy" ∷ said.0 = ap (λ (ws : Words). codes "policy" ∷ ws) (said.1 ∙ ap (λ (ws : Words). said.0 ++ ws) (no_more_said b.0.1 c.0 c.1) ∙ append-nil said.0) in
+    let whole : codes "policy" ∷ words ≡ codes "policy" ∷ said.0 = ap (λ (ws : Words). codes "policy" ∷ ws) (said.1 ∙ ap (λ (ws : Words). said.0 ++ ws) (no_more_ok b.0.1 c.0 c.1) ∙ append-nil said.0) in
     subst (IsPolicyLine d (codes "policy" ∷ words)) (same_ok c.2) (record { rest = said.0; spelled = whole; once = not_true d.policied (unless_ok (not d.policied) 13 a.0 a.1); says = said.2 })
 
 outside_said : (d e : Drafted) (first : List ℕ) (words : Words) → outside_line d first words ≡ Ok e → IsLine None d (first ∷ words) e
@@ -217,7 +208,7 @@ block_said d e part first words is = by_first (bytes_eq first (codes "ask")) ref
   where
     by_first : (x : Bool) → bytes_eq first (codes "ask") ≡ x → (y : Bool) → bytes_eq first (codes "end") ≡ y → (if x then (ask_form d words >>= λ ask. Ok (with_ask d part ask)) else if y then (no_more words >>= λ done. Ok (end_client d part)) else Err 3) ≡ Ok e → IsLine (Some part) d (first ∷ words) e
     by_first true ex y ey at = let a = then_ok (ask_form d words) _ e at in inl (a.0, subst (λ w. IsAsk d (w ∷ words) a.0) (sym (keyed first (codes "ask") ex)) (ask_said d words a.0 a.1), sym (same_ok a.2))
-    by_first false ex true ey at = let a = then_ok (no_more words) _ e at in inr (ap (λ w. w ∷ words) (keyed first (codes "end") ey) ∙ ap (λ (ws : Words). codes "end" ∷ ws) (no_more_said words a.0 a.1), sym (same_ok a.2))
+    by_first false ex true ey at = let a = then_ok (no_more words) _ e at in inr (ap (λ w. w ∷ words) (keyed first (codes "end") ey) ∙ ap (λ (ws : Words). codes "end" ∷ ws) (no_more_ok words a.0 a.1), sym (same_ok a.2))
     by_first false ex false ey at = absurd (cc)
 
 line_said : (d e : Drafted) (o : Option ClientPart) (first : List ℕ) (words : Words) → line_in o d first words ≡ Ok e → IsLine o (apart d) (first ∷ words) e

@@ -1,6 +1,6 @@
 -- Which messages an expansion's history has: requests, as the clients ask, and what tasks post elsewhere.
-use Rattle.std.proofs.Common.{◌≡◌, ◌⊎◌, inl, inr, ℕ, zero, suc, ◌+◌, ◌<◌, ◌≤◌, Bool, true, false, ◌&&◌, List, [], ◌∷◌, ◌++◌, length, map, filter, Option, Some, None, find, refl, sym, ap, ◌∙◌, arith, subst, append-nil, option_to_list}
-use Rattle.std.specs.Prelude.{◌==◌, option_map, option_and_then, if◌then◌else◌}
+use Rattle.std.proofs.Common.{◌≡◌, ◌⊎◌, inl, inr, ℕ, zero, suc, ◌+◌, ◌<◌, true, false, ◌&&◌, List, [], ◌∷◌, ◌++◌, length, map, Option, Some, None, refl, sym, ap, ◌∙◌, arith, subst, append-nil, option_to_list}
+use Rattle.std.specs.Prelude.{◌==◌, option_map, option_and_then}
 use Rattle.std.specs.List.{slice_get}
 use Rattle.std.specs.Option.{option_map_or}
 use Rattle.ccr_base.specs.declared.names.TaskId.{TaskId}
@@ -12,7 +12,7 @@ use Rattle.ccr_base.specs.declared.messages.Sent.{Sent}
 use Rattle.ccr_base.specs.declared.handlers.Action.{Action}
 use Rattle.ccr_base.specs.declared.handlers.Action.TheVariants as actions
 use Rattle.ccr_base.specs.declared.handlers.Expr.TheVariants.{Arg}
-use Rattle.ccr_base.specs.Names.{same_message, has_task, same_lists}
+use Rattle.ccr_base.specs.Names.{has_task, same_lists}
 use Rattle.ccr_base.specs.Values.{same_value}
 use Rattle.ccr_handler.specs.Playing.{play, exceptions}
 use Rattle.ccr_handler.specs.Evaluating.{value_of}
@@ -28,14 +28,13 @@ use Rattle.ccr_model.specs.TaskData.{Load, play_of, play_at, load_at, no_play}
 use Rattle.ccr_model.specs.Tasks.{running}
 use Rattle.ccr_model.specs.Rules.{refusal_of_post, is_script_line, is_play_post, is_post}
 use Rattle.ccr_model.specs.Legal.{IsAllowed, IsLegal}
-use Rattle.ccr_model.proofs.Booleans.{both, same_number}
-use Rattle.ccr_model.proofs.Options.{some_of, some_then}
+use Rattle.ccr_base.proofs.Booleans.{both, same_number}
+use Rattle.ccr_base.proofs.Options.{some_of, some_then}
 use Rattle.ccr_model.proofs.Members.{Among, Among-either}
-use Rattle.ccr_model.proofs.PostNames.{refused_not, times, posted_once}
+use Rattle.ccr_model.proofs.PostNames.{refused_not, posted_once}
 use Rattle.ccr_model.proofs.LegalParts.{along_legal}
 use Rattle.ccr_model.proofs.Pushes.{posts-push}
-use Rattle.ccr_model.proofs.SameNames.{same_message-self}
-use Rattle.ccr_model.proofs.MessageNames.{times_some}
+use Rattle.ccr_model.proofs.MessageNames.{found_once}
 use Rattle.ccr_service.specs.declared.parts.AskPart.{AskPart}
 use Rattle.ccr_service.specs.declared.parts.ClientPart.{ClientPart}
 use Rattle.ccr_service.specs.declared.parts.ServiceParts.{ServiceParts}
@@ -204,15 +203,6 @@ pub all_known : (s : ServiceParts) (h : List Event) → IsLegal (expansion s) h 
 all_known s h legal = along_legal (expansion s) (AreKnown s) (λ g e l a k. known_kept s g e l a k) (λ m is. absurd is) h legal
 
 -- ---- a message is found by its name
-
-found_once : (ms : List Msg) (m : Msg) → Among m ms → times m.id ms ≤ 1 → find (λ (x : Msg). same_message x.id m.id) ms ≡ Some m
-found_once [] m is once = absurd is
-found_once (x ∷ ms) m (inl e) once = let here : same_message x.id m.id ≡ true = ap (λ (y : Msg). same_message y.id m.id) (sym e) ∙ same_message-self m.id in rw here (ap Some (sym e))
-found_once (x ∷ ms) m (inr more) once = by_test (same_message x.id m.id) refl once (found_once ms m more)
-  where
-    by_test : (b : Bool) → same_message x.id m.id ≡ b → length (if b then x ∷ filter (λ (y : Msg). same_message y.id m.id) ms else filter (λ (y : Msg). same_message y.id m.id) ms) ≤ 1 → (times m.id ms ≤ 1 → find (λ (y : Msg). same_message y.id m.id) ms ≡ Some m) → (if b then Some x else find (λ (y : Msg). same_message y.id m.id) ms) ≡ Some m
-    by_test true e few rest = let some = times_some ms m more in absurd (omega (arith, few, some))
-    by_test false e few rest = rest few
 
 pub named_so : (w : Parts) (h : List Event) → IsLegal w h → (m : Msg) → Among m (posts h) → message_named h m.id ≡ Some m
 named_so w h legal m is = found_once (posts h) m is (posted_once w h legal m.id)

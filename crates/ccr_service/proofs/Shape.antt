@@ -1,8 +1,9 @@
 -- What the branches and handlers of an expansion are.
-use Rattle.std.proofs.Common.{◌≡◌, ◌⊎◌, inl, inr, ℕ, zero, suc, ◌+◌, ◌-◌, Bool, true, false, ◌||◌, List, [], ◌∷◌, ◌++◌, length, map, Option, Some, None, refl, sym, ap, ◌∙◌, arith, subst, append-nil}
+use Rattle.std.proofs.Common.{◌≡◌, ◌⊎◌, inl, inr, ℕ, zero, suc, ◌+◌, ◌-◌, Bool, true, false, List, [], ◌∷◌, ◌++◌, length, map, Option, Some, None, refl, sym, ap, ◌∙◌, arith, subst, append-nil}
 use Rattle.std.specs.Prelude.{codes, if◌then◌else◌, nat_lt}
 use Rattle.std.specs.List.{slice_get, list_any}
 use Rattle.std.proofs.lemmas.Bool.Decides.{nat_tests}
+use Rattle.std.proofs.Math.Bool.{or-true}
 use Rattle.ccr_base.specs.declared.handlers.Action.TheVariants.{Post, Fail}
 use Rattle.ccr_base.specs.declared.handlers.Expr.TheVariants.{Arg}
 use Rattle.ccr_base.specs.declared.patterns.Pred.{Pred}
@@ -14,17 +15,12 @@ use Rattle.ccr_wiring.specs.declared.parts.BranchPart.{BranchPart}
 use Rattle.ccr_wiring.specs.declared.parts.Kind.TheVariants as kinds
 use Rattle.ccr_wiring.specs.Wirings.{Placement, placement, placements, in_domain, actions_of, awaited}
 use Rattle.ccr_wiring.specs.Valid.{HasQueues}
-use Rattle.ccr_model.proofs.Members.{Among, Among-left, Among-right, Among-either, Among-at}
+use Rattle.ccr_model.proofs.Members.{Among, Among-left, Among-right, Among-either, Among-at, place_of}
 use Rattle.ccr_wiring.proofs.Positions.{get-front, get-back}
 use Rattle.ccr_service.specs.declared.parts.OpPart.{OpPart}
 use Rattle.ccr_service.specs.declared.parts.ServiceParts.{ServiceParts}
 use Rattle.ccr_service.specs.Expansion.{request_port, response_port, one_action, handlers_from, handlers, fault_handler, is_bounded, takes_one, op_branches, branches_from, expansion}
 use Rattle.ccr_service.specs.Stillness.{HasNoAwaits}
-
-pub place_of : {X : Type 0} (xs : List X) (x : X) → Among x xs → (i : ℕ) × (slice_get xs i ≡ Some x)
-place_of [] x among = absurd among
-place_of (y ∷ xs) x (inl same) = (0, ap Some (sym same))
-place_of (y ∷ xs) x (inr more) = let rest = place_of xs x more in (suc rest.0, rest.1)
 
 -- ---- branches
 
@@ -161,11 +157,7 @@ handlers_length n (op ∷ ops) = ap suc (handlers_length (n + 1) ops)
 pub some_bounded : (ops : List OpPart) (k : ℕ) (part : OpPart) → slice_get ops k ≡ Some part → is_bounded part ≡ true → list_any is_bounded ops ≡ true
 some_bounded [] k part at is = absurd (cc)
 some_bounded (op ∷ ops) zero part at is = let same : op ≡ part = cc in rw (same, is) refl
-some_bounded (op ∷ ops) (suc k) part at is = rw (some_bounded ops k part at is) (or_true (is_bounded op))
-  where
-    or_true : (b : Bool) → b || true ≡ true
-    or_true true = refl
-    or_true false = refl
+some_bounded (op ∷ ops) (suc k) part at is = rw (some_bounded ops k part at is) (or-true (is_bounded op))
 
 -- an operation's handler posts its response
 pub op_actions : (s : ServiceParts) (k : ℕ) (part : OpPart) → slice_get s.ops k ≡ Some part → actions_of (expansion s) k ≡ Post (response_port k) part.expr ∷ []

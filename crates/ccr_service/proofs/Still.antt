@@ -18,9 +18,9 @@ use Rattle.ccr_model.specs.Rules.{may_put, may_admit, drop_at, is_oldest_waiting
 use Rattle.ccr_model.specs.Order.{first, post_from, fire_from, admit_from, put_first, run_task, start_from}
 use Rattle.ccr_model.specs.Legal.{IsAllowed, IsLegal, IsQuiet}
 use Rattle.ccr_model.proofs.Allowing.{first_allowed, same_option-self}
-use Rattle.ccr_model.proofs.Booleans.{both, no_both, or_left, or_right, refuted, same_number, eq-self}
+use Rattle.ccr_base.proofs.Booleans.{both, no_both, or_left, or_right, refuted, same_number, eq-self}
 use Rattle.ccr_model.proofs.Quiet.{start_none}
-use Rattle.ccr_model.proofs.Options.{none_or, none_map, no_head, some_of}
+use Rattle.ccr_base.proofs.Options.{none_or, none_map, no_head, some_of}
 use Rattle.ccr_model.proofs.FiredTasks.{IsFired, placement_fired}
 use Rattle.ccr_model.proofs.SameNames.{same_task-self, same_task-is}
 use Rattle.ccr_model.specs.Interleaves.{is_placement_in}

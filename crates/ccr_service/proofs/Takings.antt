@@ -19,8 +19,8 @@ use Rattle.ccr_model.specs.Choice.{names_of, choice_of_slots, is_choice_of}
 use Rattle.ccr_model.specs.Firings.{Firing, firing_of, firing_named}
 use Rattle.ccr_model.specs.TaskData.{messages_of}
 use Rattle.ccr_model.specs.Legal.{IsAllowed, IsLegal}
-use Rattle.ccr_model.proofs.Booleans.{same_number}
-use Rattle.ccr_model.proofs.Options.{some_of}
+use Rattle.ccr_base.proofs.Booleans.{same_number}
+use Rattle.ccr_base.proofs.Options.{some_of}
 use Rattle.ccr_model.proofs.Members.{Among, Among-left}
 use Rattle.ccr_model.proofs.LegalParts.{along_legal}
 use Rattle.ccr_model.proofs.Stable.{messages_of-append}

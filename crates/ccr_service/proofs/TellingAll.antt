@@ -10,6 +10,7 @@ use Rattle.indexmap.specs.IndexSet.{contains}
 use Rattle.ccr_base.specs.declared.names.TaskId.{TaskId}
 use Rattle.ccr_base.specs.declared.messages.Msg.{Msg}
 use Rattle.ccr_base.specs.Names.{same_task, has_task}
+use Rattle.ccr_base.proofs.Options.{get-some}
 use Rattle.ccr_model.specs.declared.history.Event.{Event}
 use Rattle.ccr_model.specs.Firings.{cut, dropped}
 use Rattle.ccr_model.specs.Fates.{taker}
@@ -45,17 +46,12 @@ tells_so h t tells faults r = ap (λ o. option_map_or (λ task. told_by faults (
     by_taker None = refl
     by_taker (Some u) = ap (λ b. told_by faults b (contains same_task t.drops u) (option_map (λ (m : Bor Msg). m.now) (get same_task t.posts u))) (tells.cuts u) ∙ ap (λ b. told_by faults (has_task (cut h) u) b (option_map (λ (m : Bor Msg). m.now) (get same_task t.posts u))) (tells.drops u) ∙ ap (told_by faults (has_task (cut h) u) (has_task (dropped h) u)) (tells.posts u)
 
-some-at : {X : Type 0} (xs : List X) (n : ℕ) → n < length xs → (x : X) × (slice_get xs n ≡ Some x)
-some-at [] n lt = absurd (omega (arith, lt))
-some-at (x ∷ xs) zero lt = (x, refl)
-some-at (x ∷ xs) (suc n) lt = some-at xs n (omega (arith, lt))
-
 -- the operation of a request
 asked_op : (s : ServiceParts) → IsService s → (client place : ℕ) (part : ClientPart) (ask : AskPart) → slice_get s.clients client ≡ Some part → slice_get part.asks place ≡ Some ask → (op : OpPart) × (slice_get s.ops ask.op ≡ Some op)
 asked_op s is client place part ask is_client is_ask =
     let all = all_pass (λ (c : ClientPart). are_asked (length s.ops) c.asks) s.clients part is.asked (Among-at s.clients client part is_client) in
     let one = all_pass (λ (a : AskPart). nat_lt a.op (length s.ops)) part.asks ask all (Among-at part.asks place ask is_ask) in
-    some-at s.ops ask.op (grind (arith, nat_tests, one))
+    get-some s.ops ask.op (grind (arith, nat_tests, one))
 
 asks_so : (s : ServiceParts) (h : List Event) (t : Tables) (faults client k : ℕ) (asks : List AskPart) → ((j : ℕ) (ask : AskPart) → slice_get asks j ≡ Some ask → told_from t faults (record { client = client; place = k + j }) ≡ answer_of s h client (k + j) ask.op) → told_asks t faults client k asks ≡ answers_from s h client k asks
 asks_so s h t faults client k [] each = refl

@@ -22,7 +22,7 @@ use Rattle.ccr_model.specs.Tasks.{running, has_post_left}
 use Rattle.ccr_model.specs.Rules.{refusal_of_post, is_play_post, may_end}
 use Rattle.ccr_model.specs.Legal.{IsAllowed, IsLegal, has_shed, is_complete, are_whole_from}
 use Rattle.ccr_model.proofs.Allowing.{OneName-legal}
-use Rattle.ccr_model.proofs.Booleans.{both, either, no_both, or_left, or_right, refuted, same_number}
+use Rattle.ccr_base.proofs.Booleans.{both, either, no_both, or_left, or_right, refuted, same_number}
 use Rattle.ccr_model.proofs.Members.{Among, Among-left, Among-right, Among-either}
 use Rattle.ccr_model.proofs.PostNames.{refused_not, times, posted_once}
 use Rattle.ccr_model.proofs.LegalParts.{along_legal}

@@ -16,7 +16,7 @@ use Rattle.ccr_turns.specs.Lists.{Rises, Each, total}
 use Rattle.ccr_turns.specs.Locks.{IsLeft, Agrees, full_log, keep_of, log_of, number_of, sifted_of, starts}
 use Rattle.ccr_turns.specs.declared.kept.Keep.{Keep}
 use Rattle.ccr_turns.specs.declared.kept.Keep.TheVariants.{Every}
-use Rattle.ccr_turns.proofs.Ends.{sifts_nothing}
+use Rattle.ccr_turns.proofs.Ends.{sifts_nothing, at-map}
 use Rattle.ccr_turns.specs.declared.turns.Seat.{Seat}
 use Rattle.ccr_turns.specs.declared.history.Held.{Held}
 use Rattle.ccr_turns.specs.declared.history.Mark.{Mark}
@@ -63,18 +63,9 @@ map_at f [] i x at = absurd (some-ne-none x (sym at))
 map_at f (y ∷ ys) zero x at = ap (λ z. some (f z)) (some-injective y x at)
 map_at f (y ∷ ys) (suc i) x at = map_at f ys i x at
 
-pub mapped_at : {P S : Type 0} (f : P → S) (xs : List P) (i : ℕ) (s : S) → get_elem? (map f xs) i ≡ some s → (x : P) × (get_elem? xs i ≡ some x) × (f x ≡ s)
-mapped_at f [] i s at = absurd (some-ne-none s (sym at))
-mapped_at f (x ∷ xs) zero s at = (x, refl, some-injective (f x) s at)
-mapped_at f (x ∷ xs) (suc i) s at = mapped_at f xs i s at
-
 pub all_mapped : {P S : Type 0} (Q : S → Type 0) (f : P → S) (xs : List P) → All (λ x. Q (f x)) xs → All Q (map f xs)
 all_mapped Q f [] all = All-nil Q
 all_mapped Q f (x ∷ xs) all = All-cons Q (f x) (map f xs) (all 0 x (omega arith)) (all_mapped Q f xs (All-tail (λ x. Q (f x)) x xs all))
-
-pub map_length : {X Y : Type 0} (f : X → Y) (xs : List X) → length (map f xs) ≡ length xs
-map_length f [] = refl
-map_length f (x ∷ xs) = ap suc (map_length f xs)
 
 -- lists that look the same have the same at each place
 alike_at : {A B X : Type 0} (f : A → X) (g : B → X) (z : X) (xs : List A) (ys : List B) (p : ℕ) (x : A) → map f xs ≡ map g ys → slice_get xs p ≡ Some x → option_map_or g (slice_get ys p) z ≡ f x
@@ -214,7 +205,7 @@ closed_by space passes seats acts entries stands passed these locks numbers told
       played = run_of_logs (rules w never) n (scene w) _ acts whole_run (λ k low.
           let (i, seat, at, is) = numbers k low in
           let at' = there_by_slice seats i seat at in
-          let (pass, here, same) = mapped_at (λ (pass : Pass). pass.seat) passes i seat (ap (λ (l : List _). get_elem? l i) (sym these) ∙ at') in
+          let (pass, here, same) = at-map (λ (pass : Pass). pass.seat) passes i seat (ap (λ (l : List _). get_elem? l i) (sym these) ∙ at') in
           let one = all_at (λ pass. IsPassOf space pass) passes i pass passed here in (
             log_of seat,
             subst (λ n. IsLog after_deed (scene w) n acts (log_of seat)) is (its i seat at'),
@@ -227,6 +218,6 @@ closed_by space passes seats acts entries stands passed these locks numbers told
           story_is after_deed (number pass) (scene w) acts (log pass) whole_run.sorted l.rising l.same);
       actors = λ k low.
           let (i, seat, at, is) = numbers k low in
-          let (pass, here, same) = mapped_at (λ (pass : Pass). pass.seat) passes i seat (ap (λ (l : List _). get_elem? l i) (sym these) ∙ there_by_slice seats i seat at) in
+          let (pass, here, same) = at-map (λ (pass : Pass). pass.seat) passes i seat (ap (λ (l : List _). get_elem? l i) (sym these) ∙ there_by_slice seats i seat at) in
           (i, pass, read_slice passes i pass here, ap number_of same ∙ is);
     }

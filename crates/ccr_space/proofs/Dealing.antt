@@ -1,6 +1,7 @@
 -- The passes before their first steps.
-use Rattle.std.proofs.Common.{◌≡◌, ℕ, zero, suc, ◌+◌, List, [], ◌∷◌, map, length, sym, refl, ap, ◌∙◌, subst, arith}
+use Rattle.std.proofs.Common.{◌≡◌, ℕ, zero, suc, ◌+◌, List, [], map, length, sym, refl, ap, ◌∙◌, subst, arith}
 use Rattle.std.specs.List.{range_with_len}
+use Rattle.std.proofs.lemmas.List.{length-map}
 use Rattle.ccr_wiring.specs.declared.parts.Parts.{Parts}
 use Rattle.ccr_turns.specs.declared.history.Mark.{Mark}
 use Rattle.ccr_object.specs.declared.deed.Deed.{Deed}
@@ -21,9 +22,5 @@ range_length : (q n : ℕ) → length (range_with_len q n) ≡ n
 range_length q zero = refl
 range_length q (suc n) = ap suc (range_length (q + 1) n)
 
-map_length : {X Y : Type 0} (f : X → Y) (xs : List X) → length (map f xs) ≡ length xs
-map_length f [] = refl
-map_length f (x ∷ xs) = ap suc (map_length f xs)
-
 pub length_by_number : {S : Type 0} (number : S → ℕ) (n : ℕ) (xs : List S) → map number xs ≡ range_with_len 0 n → length xs ≡ n
-length_by_number number n xs is = sym (map_length number xs) ∙ (ap length is ∙ range_length 0 n)
+length_by_number number n xs is = sym (length-map xs number) ∙ (ap length is ∙ range_length 0 n)

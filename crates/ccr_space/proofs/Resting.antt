@@ -3,6 +3,7 @@ use Rattle.std.proofs.Common.{Bool, true, false, ◌≡◌, ℕ, zero, suc, ◌+
 use Rattle.std.specs.Prelude.{◌==◌, ◌&&◌, ◌||◌, filter, if◌then◌else◌}
 use Rattle.std.specs.List.{list_any, range_with_len}
 use Rattle.std.proofs.lemmas.Grind.{common_steps}
+use Rattle.std.proofs.Math.Bool.{or-true}
 use mathlib.Core.Option.{some, some-injective, some-ne-none}
 use lib.ListN.{get_elem?}
 use Rattle.ccr_wiring.specs.declared.parts.Parts.{Parts}
@@ -28,15 +29,11 @@ any_in test actor q zero is low = absurd (omega arith)
 any_in test zero q (suc n) is low = let here : test q ≡ true = ap test (let z : q ≡ q + 0 = omega arith in z) ∙ is in rw here (let hit : (q == q + 0) ≡ true = eq-eqb q (q + 0) (omega arith) in rw hit refl)
 any_in test (suc actor) q (suc n) is low = by (test q) refl (any_in test actor (q + 1) n (ap test (let z : q + 1 + actor ≡ q + suc actor = omega arith in z) ∙ is) (omega arith))
   where
-    also : (b : Bool) → b || true ≡ true
-    also true = refl
-    also false = refl
-
     by : (b : Bool) → test q ≡ b → list_any (λ m. m == q + 1 + actor) (filter test (range_with_len (q + 1) n)) ≡ true → list_any (λ m. m == q + suc actor) (filter test (range_with_len q (suc n))) ≡ true
     by b tests again = subst (λ k. list_any (λ m. m == k) (filter test (range_with_len q (suc n))) ≡ true) (let z : q + 1 + actor ≡ q + suc actor = omega arith in z) (of b tests)
       where
         of : (b : Bool) → test q ≡ b → list_any (λ m. m == q + 1 + actor) (filter test (range_with_len q (suc n))) ≡ true
-        of true in_it = rw in_it (ap (λ r. (q == q + 1 + actor) || r) again ∙ also (q == q + 1 + actor))
+        of true in_it = rw in_it (ap (λ r. (q == q + 1 + actor) || r) again ∙ or-true (q == q + 1 + actor))
         of false out = rw out again
 
 stopped_here : (passes : List Pass) (i : ℕ) (pass : Pass) (actor : ℕ) → get_elem? passes i ≡ some pass → number pass ≡ actor → pass.stopped ≡ true → is_stopped_in passes actor ≡ true
@@ -46,11 +43,7 @@ stopped_here (x ∷ xs) zero pass actor at is stops =
     let stopped : x.stopped ≡ true = ap (λ (p : Pass). p.stopped) same ∙ stops in
     let hit : (number x == actor) ≡ true = eq-eqb (number x) actor (ap number same ∙ is) in
     rw (stopped, hit) refl
-stopped_here (x ∷ xs) (suc i) pass actor at is stops = let again = stopped_here xs i pass actor at is stops in ap (λ r. (x.stopped && (number x == actor)) || r) again ∙ also (x.stopped && (number x == actor))
-  where
-    also : (b : Bool) → b || true ≡ true
-    also true = refl
-    also false = refl
+stopped_here (x ∷ xs) (suc i) pass actor at is stops = let again = stopped_here xs i pass actor at is stops in ap (λ r. (x.stopped && (number x == actor)) || r) again ∙ or-true (x.stopped && (number x == actor))
 
 -- the actor of a stopped pass is among them
 pub stopped_among : (passes : List Pass) (count i : ℕ) (pass : Pass) (actor : ℕ) → get_elem? passes i ≡ some pass → number pass ≡ actor → pass.stopped ≡ true → actor < count → list_any (λ n. n == actor) (stopped_of passes count) ≡ true

@@ -42,7 +42,7 @@ use Rattle.ccr_model.specs.Enough.{can_fire, can_take, has_enough}
 use Rattle.ccr_model.specs.Order.{fire_at}
 use Rattle.ccr_model.specs.Legal.{IsAllowed, IsLegal, IsQuiet, has_shed, is_complete, is_shed_end, are_whole_from}
 use Rattle.ccr_model.proofs.Allowing.{OneName-legal}
-use Rattle.ccr_model.proofs.Booleans.{both, no_both, not_true, neither}
+use Rattle.ccr_base.proofs.Booleans.{both, no_both, not_true, neither, or_none}
 use Rattle.ccr_model.proofs.CanFire.{some_fire_at}
 use Rattle.ccr_model.proofs.FiredTasks.{IsFired}
 use Rattle.ccr_model.proofs.LegalParts.{along_legal}
@@ -116,7 +116,7 @@ end_done w h t how legal allowed old unshed u is = by (has_task (ended h) u) ref
     by true e any = stays_done w h (events.End t how) u (ended_fired w h legal u ((AreEnded-legal w h legal).started_ended u e)) (old parts.0 u e)
     by false e any =
         let own : has_task (t ∷ []) u ≡ true = subst (λ (b : Bool). b || has_task (t ∷ []) u ≡ true) e any in
-        let mine : same_task u t ≡ true = one (same_task u t) own in
+        let mine : same_task u t ≡ true = or_none (same_task u t) own in
         let same : u ≡ t = same_task-is u t mine in
         let a = refused_not (has_task (running h) t) _ _ allowed in
         let may = (refused_not (may_end w h t how) _ None a.1).0 in
@@ -124,10 +124,6 @@ end_done w h t how legal allowed old unshed u is = by (has_task (ended h) u) ref
         let none = not_true (has_post_left w h t) (both (not (has_post_left w h t)) _ ways).0 in
         let runs = RunningFacts-running h t a.0 in
         subst (λ (x : TaskId). has_post_left w (h ++ events.End t how ∷ []) x ≡ false) (sym same) (stays_done w h (events.End t how) t (ended_fired w h legal t runs.started_so) none)
-      where
-        one : (b : Bool) → b || false ≡ true → b ≡ true
-        one true is = refl
-        one false is = absurd cc
 
 done_kept : (w : Parts) (h : List Event) (e : Event) → IsLegal w h → IsAllowed w h e → AreDone w h → AreDone w (h ++ e ∷ [])
 done_kept w h (events.End t how) legal allowed old = end_done w h t how legal allowed old

@@ -28,9 +28,9 @@ use Rattle.ccr_model.specs.Order.{first, admit_first}
 use Rattle.ccr_model.specs.Legal.{IsAllowed, IsLegal, IsQuiet}
 use Rattle.ccr_model.proofs.Allowing.{first_allowed, OneName-legal}
 use Rattle.ccr_model.proofs.Alone.{ever_admitted_fired}
-use Rattle.ccr_model.proofs.Booleans.{no_both}
+use Rattle.ccr_base.proofs.Booleans.{no_both}
 use Rattle.ccr_model.proofs.Members.{Among}
-use Rattle.ccr_model.proofs.Options.{no_head, none_map}
+use Rattle.ccr_base.proofs.Options.{no_head, none_map}
 use Rattle.ccr_model.proofs.PlacementDomains.{placement-within}
 use Rattle.ccr_model.proofs.SameNames.{same_task-is, same_task-self}
 use Rattle.ccr_laws.specs.OneFate.{IsIn, Waits, IsQueued}
@@ -73,8 +73,8 @@ ended_has (e ∷ past) more t how = later (ended_by e) (ended_has past more t ho
 none_queued : (w : Parts) → IsSound w → (h : List Event) → NoneFirst w (length w.posters) h → (t : TaskId) → IsQueued w h t → ⊥
 none_queued w sound h none t is =
     let facts = QueuedFacts-queued w h is.queue t is.among in
-    let its = Rattle.ccr_model.proofs.Options.some_of (λ (s : Placement). s.branch.queue == is.queue) (placement_of w h t) facts.for_queue in
-    let placed = Rattle.ccr_model.proofs.Options.some_then (λ spot. placement w (branch_of spot)) (Rattle.ccr_model.specs.Firings.spot_of h t) its.0 its.1 in
+    let its = Rattle.ccr_base.proofs.Options.some_of (λ (s : Placement). s.branch.queue == is.queue) (placement_of w h t) facts.for_queue in
+    let placed = Rattle.ccr_base.proofs.Options.some_then (λ spot. placement w (branch_of spot)) (Rattle.ccr_model.specs.Firings.spot_of h t) its.0 its.1 in
     let below = sound.queues (branch_of placed.0) its.0 placed.2 in
     let same : its.0.branch.queue ≡ is.queue = grind (arith, nat_tests, its.2) in
     let nothing = start_none w (length w.posters) h 0 its.0.branch.queue w.queues none.start below in
@@ -147,7 +147,7 @@ none_waits w sound steady h legal none t waits = by (waiting w h waits.interleav
         at_interleave (Site b k) s known is = absurd cc
         at_interleave (Branch b) s known is =
             let so : Rattle.ccr_model.specs.Tasks.is_interleave s.kind && (s.domain == waits.interleave) ≡ true = subst (λ (o : Option Placement). option_map_or (λ (r : Placement). Rattle.ccr_model.specs.Tasks.is_interleave r.kind && (r.domain == waits.interleave)) o false ≡ true) known is in
-            Rattle.ccr_model.proofs.Booleans.same_number s.domain waits.interleave (Rattle.ccr_model.proofs.Booleans.both (Rattle.ccr_model.specs.Tasks.is_interleave s.kind) (s.domain == waits.interleave) so).1
+            Rattle.ccr_base.proofs.Booleans.same_number s.domain waits.interleave (Rattle.ccr_base.proofs.Booleans.both (Rattle.ccr_model.specs.Tasks.is_interleave s.kind) (s.domain == waits.interleave) so).1
 
     by : (ts : List TaskId) → waiting w h waits.interleave ≡ ts → has_task ts t ≡ true → ⊥
     by [] e among = absurd cc

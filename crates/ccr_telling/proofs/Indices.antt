@@ -7,7 +7,7 @@ use Rattle.ccr_base.specs.declared.names.Spot.{Spot}
 use Rattle.ccr_base.specs.declared.names.Spot.TheVariants.{Branch, Site}
 use Rattle.ccr_base.specs.Names.{same_spot}
 use Rattle.ccr_wiring.specs.Wirings.{branch_of, segment_of}
-use Rattle.ccr_model.proofs.Booleans.{eq-self, no_both, refuted, same_number}
+use Rattle.ccr_base.proofs.Booleans.{eq-self, no_both, refuted, same_number}
 use Rattle.ccr_telling.specs.Tallies.{index_of}
 
 -- a number of a branch and one of its indices

@@ -13,15 +13,13 @@ use Rattle.ccr_text.specs.Exact.{where_spelled, exact_number_of, parts, number_f
 use Rattle.ccr_text.proofs.Digits.{read_after, read_word}
 use Rattle.ccr_text.proofs.Decimals.{own}
 use Rattle.std.proofs.lemmas.Bool.{and_parts as both}
+use Rattle.ccr_base.proofs.Texts.{same_text}
 
 abbrev one : ℕ → Option ℕ
 one x = Some x
 
 some_is : (x y : ℕ) → one x ≡ one y → x ≡ y
 some_is x y e = cc
-
-pub same_text : (text : List ℕ) → bytes_eq text text ≡ true
-same_text text = (bytes_eq-Decides text text).1 refl
 
 -- decimal digits whose first may begin a number
 begins_some : (word : List ℕ) → may_begin word ≡ true → (length word == 0) ≡ false

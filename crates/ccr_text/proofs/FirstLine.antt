@@ -1,11 +1,13 @@
 -- The first line of a text, run by run.
-use Rattle.std.proofs.Common.{◌≡◌, ◌≢◌, ℕ, ◌<◌, ◌≤◌, Bool, true, false, List, [], ◌∷◌, ◌++◌, Bor, Option, Some, None, length, refl, sym, ap, subst, ◌∙◌, append_assoc, append-nil, arith}
+use Rattle.std.proofs.Common.{◌≡◌, ◌≢◌, ℕ, ◌≤◌, Bool, true, false, List, [], ◌∷◌, ◌++◌, Bor, Option, Some, None, length, refl, sym, ap, subst, ◌∙◌, append_assoc, append-nil, arith}
 use Rattle.std.specs.Prelude.{◌==◌, ◌&&◌, ◌||◌, not, filter, IfSome, IfNone, if◌then◌else◌}
 use Rattle.std.specs.List.{list_all, onto_first}
 use Rattle.std.proofs.lemmas.Bool.Decides.{nat_tests}
 use Rattle.ccr_text.specs.Words.{is_blank, is_mark, is_clean, pieces, words_of}
 use Rattle.ccr_text.specs.Lines.{cut, first_line}
 use Rattle.std.proofs.lemmas.Bool.{and_parts as both}
+use Rattle.std.proofs.Math.Bool.{and-true}
+use Rattle.ccr_base.proofs.Lists.{length_behind}
 
 abbrev pub AreMarks : List ℕ → Type 0
 AreMarks word = list_all is_mark word ≡ true
@@ -90,10 +92,6 @@ IsTaken so clean rest text = record {
   short : length rest ≤ length text;
 }
 
-length_run : (word : List ℕ) (c : ℕ) (after : List ℕ) → length after < length (word ++ c ∷ after)
-length_run [] c after = omega arith
-length_run (b ∷ word) c after = omega (arith, length_run word c after)
-
 other_feed : (c : ℕ) → c ≢ 10 → (c == 10) ≡ false
 other_feed c other = grind (arith, nat_tests, other)
 
@@ -121,7 +119,7 @@ taken_more so clean rest text word c after taken is marks other line =
       words = append_assoc so (alone word) (words_of (first_line after)) ∙ ap (λ (ws : List (List ℕ)). so ++ ws) (sym words) ∙ taken.words;
       clean = sym (and_last clean (is_blank c) (is_clean (first_line after))) ∙ ap (λ t. clean && t) (sym tidy) ∙ taken.clean;
       behind = sym behind ∙ taken.behind;
-      short = omega (arith, length_run word c after, ap (λ (t : List ℕ). length t) is, taken.short);
+      short = omega (arith, length_behind word c after, ap (λ (t : List ℕ). length t) is, taken.short);
     }
 
 -- what the first line is, where these bytes of it are left
@@ -132,16 +130,12 @@ IsLast words clean after text = record {
   lines : cut text ≡ first_line text ∷ cut after;
 }
 
-and_true : (clean : Bool) → (clean && true) ≡ clean
-and_true true = refl
-and_true false = refl
-
 last_run : (so : List (List ℕ)) (clean : Bool) (rest text word after : List ℕ) → text ≢ [] → IsTaken so clean rest text → first_line rest ≡ word → behind_line rest ≡ after → AreMarks word → IsLast (so ++ alone word) clean after text
 last_run so clean rest text word after some taken first behind marks =
     let tidy : is_clean (first_line rest) ≡ true = ap is_clean first ∙ sym (ap is_clean (append-nil word)) ∙ clean_run word [] marks in
     record {
       words = ap (λ (ws : List (List ℕ)). so ++ ws) (sym (ap words_of first ∙ words_end word marks)) ∙ taken.words;
-      clean = sym (and_true clean) ∙ ap (λ t. clean && t) (sym tidy) ∙ taken.clean;
+      clean = sym (and-true clean) ∙ ap (λ t. clean && t) (sym tidy) ∙ taken.clean;
       lines = cut_first text some ∙ ap (λ (t : List ℕ). first_line text ∷ cut t) (sym taken.behind ∙ behind);
     }
 

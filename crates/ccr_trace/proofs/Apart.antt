@@ -1,5 +1,5 @@
 -- In a valid wiring no two ports share a name, nor two causes, nor two branches.
-use Rattle.std.proofs.Common.{◌≡◌, ℕ, ◌+◌, Bool, true, false, cond, List, [], ◌∷◌, ◌++◌, map, flat_map, length, Option, Some, None, refl, sym, ap, ◌∙◌, length-append, append_assoc, arith}
+use Rattle.std.proofs.Common.{◌≡◌, ℕ, ◌+◌, Bool, true, false, cond, List, [], ◌∷◌, ◌++◌, map, flat_map, length, refl, sym, ap, ◌∙◌, length-append, append_assoc, arith}
 use Rattle.std.specs.Prelude.{◌||◌, ◌&&◌, ◌==◌, not}
 use Rattle.std.specs.List.{list_any}
 use Rattle.std.specs.Str.{bytes_eq}
@@ -22,13 +22,11 @@ use Rattle.ccr_text.specs.Words.{is_name_of}
 use Rattle.ccr_wiring.specs.Valid.{IsValid}
 use Rattle.ccr_wiring.specs.Versions.{has_strange_version, has_newer}
 use Rattle.ccr_wiring.specs.Wirings.{Placement, placements_of, placements_from, placements, in_domain}
+use Rattle.ccr_wiring.proofs.NameLemmas.{apart_left}
 use Rattle.ccr_trace.specs.Words.{branch_names, branch_names_of, cause_names}
 use Rattle.std.proofs.lemmas.Bool.{and_parts as both, or_parts as neither}
-use Rattle.ccr_model.proofs.Booleans.{not_refuted}
-
-no_code : (test : Bool) (code : ℕ) (rest : Option ℕ) → cond test (Some code) rest ≡ None → (test ≡ false) × (rest ≡ None)
-no_code true code rest e = absurd cc
-no_code false code rest e = (refl, e)
+use Rattle.ccr_base.proofs.Booleans.{not_refuted}
+use Rattle.ccr_base.proofs.Options.{none_cond as no_code}
 
 -- the codes before that of a name that stands twice
 codes_before : (parts : Parts) → IsValid parts → (has_misgrouped parts ≡ false) × (has_repeated_name parts ≡ false)
@@ -62,12 +60,6 @@ lacks_right xs ys name e = none_right (λ other. bytes_eq other name) xs ys e
 
 lacks_both : (xs ys : List (List ℕ)) (name : List ℕ) → has_name xs name ≡ false → has_name ys name ≡ false → has_name (xs ++ ys) name ≡ false
 lacks_both xs ys name e f = none_both (λ other. bytes_eq other name) xs ys e f
-
-apart_left : (xs ys : List (List ℕ)) → has_repeated (xs ++ ys) ≡ false → has_repeated xs ≡ false
-apart_left [] ys e = refl
-apart_left (x ∷ xs) ys e =
-    let parts = neither (has_name (xs ++ ys) x) (has_repeated (xs ++ ys)) e in
-    rw (lacks_left xs ys x parts.0, apart_left xs ys parts.1) refl
 
 apart_right : (xs ys : List (List ℕ)) → has_repeated (xs ++ ys) ≡ false → has_repeated ys ≡ false
 apart_right [] ys e = e

@@ -9,8 +9,9 @@ use Rattle.ccr_wiring.specs.Names.{has_name, has_repeated}
 use Rattle.ccr_trace.specs.Words.{name_at}
 use Rattle.ccr_trace.specs.Said.{IsName}
 use Rattle.ccr_trace.specs.Known.{number_in}
-use Rattle.ccr_trace.proofs.Steps.{some_is, same_word, same_text}
+use Rattle.ccr_trace.proofs.Steps.{some_is}
 use Rattle.std.proofs.lemmas.Bool.{or_parts as neither}
+use Rattle.ccr_base.proofs.Texts.{same_word, same_text}
 
 abbrev index_of : List (List ℕ) → List ℕ → ℕ
 index_of names word = position_or_len (λ name. bytes_eq word name) names

@@ -7,6 +7,7 @@ use Rattle.std.proofs.lemmas.List.Elements.{recursion_from_All, All-nil, All-con
 use Rattle.std.proofs.lemmas.Option.{slice_get_within}
 use Rattle.ccr_base.specs.declared.names.Spot.{Spot}
 use Rattle.ccr_base.specs.declared.names.Spot.TheVariants.{Branch, Site}
+use Rattle.ccr_base.proofs.Booleans.{chosen}
 use Rattle.ccr_wiring.specs.declared.parts.CausePart.{CausePart}
 use Rattle.ccr_wiring.specs.declared.parts.Parts.{Parts}
 use Rattle.ccr_wiring.specs.Valid.{IsValid}
@@ -21,7 +22,7 @@ use Rattle.ccr_trace.specs.Said.{SpotName, Said, Post, Fire, Admit, Put, Start, 
 use Rattle.ccr_trace.specs.Fields.{◌>>=◌, each}
 use Rattle.ccr_trace.specs.Forms.{Words}
 use Rattle.ccr_trace.specs.Known.{number_in, spot_at, spot_known, known, IsKnownSpot, IsKnownEnd, IsKnown, HasMessages, IsShortSpot, IsShortEnd, IsShort}
-use Rattle.ccr_trace.proofs.Steps.{bind_some, some_is, chosen, only_one}
+use Rattle.ccr_trace.proofs.Steps.{bind_some, some_is, only_one}
 use Rattle.ccr_trace.proofs.Apart.{ports_apart, causes_apart, branches_apart, length-branch_names, are_formed}
 use Rattle.ccr_trace.proofs.ByNumber.{name_at-number, number_in-name, name_formed}
 use Rattle.ccr_trace.proofs.WordsRead.{each_read}

@@ -7,6 +7,8 @@ use Rattle.std.proofs.lemmas.List.Elements.{All-nil, All-cons}
 use Rattle.std.proofs.lemmas.List.Splits.{join_with_byte-slice_split}
 use Rattle.ccr_base.specs.declared.names.TaskId.{TaskId}
 use Rattle.ccr_base.specs.declared.names.MsgId.{MsgId}
+use Rattle.ccr_base.proofs.Texts.{same_word}
+use Rattle.ccr_base.proofs.Booleans.{chosen}
 use Rattle.ccr_model.specs.declared.history.EndHow.{EndHow}
 use Rattle.ccr_model.specs.declared.history.EndHow.TheVariants as ends
 use Rattle.ccr_text.specs.Words.{is_name_of}
@@ -17,7 +19,7 @@ use Rattle.ccr_trace.specs.Pieces.{pieces}
 use Rattle.ccr_trace.specs.Said.{SpotName, Said, Post, Fire, Admit, Put, Start, End, said_words, spelled, spot_name_word, IsSaid, IsTask, IsMessage, IsName, IsDropped, IsEnd}
 use Rattle.ccr_trace.specs.Fields.{◌>>=◌, each, exact_number, short_number, value_of, name_of, task_of, message_of, spot_of}
 use Rattle.ccr_trace.specs.Forms.{Words, word, no_more, only, field, is_some_of, cuts, fired, post_said, fire_said, admit_said, dropped_said, put_said, start_said, plain_end, failed, how_said, end_said, form_said, said_on}
-use Rattle.ccr_trace.proofs.Steps.{bind_some, some_is, only_one, only_some, word_some, no_more_some, field_some, chosen, same_word, some_of}
+use Rattle.ccr_trace.proofs.Steps.{bind_some, some_is, only_one, only_some, word_some, no_more_some, field_some, some_of}
 use Rattle.ccr_trace.proofs.WordsSaid.{value_said, short_said, task_said, message_said, name_said, spot_said, each_said}
 use Rattle.std.proofs.lemmas.Bool.{and_parts as both}
 

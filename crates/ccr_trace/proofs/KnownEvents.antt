@@ -9,6 +9,7 @@ use Rattle.std.proofs.lemmas.List.Elements.{All-nil, All-cons}
 use Rattle.std.proofs.lemmas.Option.{slice_get-get_or}
 use Rattle.ccr_base.specs.declared.names.Spot.{Spot}
 use Rattle.ccr_base.specs.declared.names.Spot.TheVariants.{Branch, Site}
+use Rattle.ccr_base.proofs.Booleans.{chosen}
 use Rattle.ccr_wiring.specs.declared.parts.CausePart.{CausePart}
 use Rattle.ccr_wiring.specs.declared.parts.Parts.{Parts}
 use Rattle.ccr_wiring.specs.Wirings.{Placement, placement, placements, site_port}
@@ -22,7 +23,7 @@ use Rattle.ccr_trace.specs.Fields.{◌>>=◌, each}
 use Rattle.ccr_trace.specs.Forms.{Words, said_on}
 use Rattle.ccr_trace.specs.Known.{number_in, spot_at, spot_known, known, IsKnownSpot, IsKnownEnd, IsKnown, HasMessages}
 use Rattle.ccr_trace.specs.Reading.{or_code, event_of, event_on}
-use Rattle.ccr_trace.proofs.Steps.{bind_some, some_is, only_one, chosen}
+use Rattle.ccr_trace.proofs.Steps.{bind_some, some_is, only_one}
 use Rattle.ccr_trace.proofs.Apart.{length-branch_names}
 use Rattle.ccr_trace.proofs.FormsSaid.{line_told}
 

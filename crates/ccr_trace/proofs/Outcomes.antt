@@ -4,6 +4,8 @@ use Rattle.std.specs.Prelude.{codes, IfOk}
 use Rattle.std.specs.List.{All}
 use Rattle.std.specs.Str.{bytes_eq}
 use Rattle.std.proofs.lemmas.List.Elements.{All-nil, All-push}
+use Rattle.ccr_base.proofs.Texts.{same_word}
+use Rattle.ccr_base.proofs.Booleans.{chosen}
 use Rattle.ccr_wiring.specs.declared.parts.Parts.{Parts}
 use Rattle.ccr_model.specs.declared.history.Event.{Event}
 use Rattle.ccr_trace.specs.declared.refused.HistoryRefused.{HistoryRefused}
@@ -12,7 +14,6 @@ use Rattle.ccr_trace.specs.Pieces.{pieces, bytes_in}
 use Rattle.ccr_trace.specs.Known.{IsKnown, AreKnown, HasMessages, HaveMessages}
 use Rattle.ccr_trace.specs.Reading.{event_on, first_line, head, with_event, reading_from, reading_lines, reading}
 use Rattle.ccr_trace.specs.Answers.{IsReading}
-use Rattle.ccr_trace.proofs.Steps.{chosen, same_word}
 use Rattle.ccr_trace.proofs.LineSteps.{bytes_more, bytes-pieces, first_bytes}
 use Rattle.ccr_trace.proofs.KnownEvents.{event_is_known, event_has_messages}
 

@@ -8,6 +8,7 @@ use Rattle.ccr_text.specs.Words.{is_mark}
 use Rattle.ccr_text.specs.Spelling.{joined}
 use Rattle.ccr_trace.specs.Pieces.{pieces}
 use Rattle.std.proofs.lemmas.Bool.{and_parts as both}
+use Rattle.ccr_base.proofs.Booleans.{eq-self}
 
 -- no byte is the separator
 abbrev pub lacks : ℕ → List ℕ → Bool
@@ -16,11 +17,8 @@ lacks separator bytes = list_all (λ b. not (b == separator)) bytes
 pub other : (b separator : ℕ) → not (b == separator) ≡ true → (b == separator) ≡ false
 other b separator e = grind (arith, nat_tests, e)
 
-same_byte : (separator : ℕ) → (separator == separator) ≡ true
-same_byte separator = grind (arith, nat_tests)
-
 pub pieces_first : (separator : ℕ) (word rest : List ℕ) → lacks separator word ≡ true → pieces separator (word ++ separator ∷ rest) ≡ word ∷ pieces separator rest
-pieces_first separator [] rest e = rw (same_byte separator) refl
+pieces_first separator [] rest e = rw (eq-self separator) refl
 pieces_first separator (b ∷ word) rest e =
     let parts = both (not (b == separator)) (lacks separator word) e in
     rw (other b separator parts.0, pieces_first separator word rest parts.1) refl

@@ -6,6 +6,8 @@ use Rattle.std.specs.Str.{bytes_eq}
 use Rattle.std.proofs.lemmas.List.Concat.{flat_map-cons}
 use Rattle.std.proofs.lemmas.List.Elements.{recursion_from_All}
 use Rattle.std.proofs.lemmas.List.Splits.{join_with_byte-slice_split}
+use Rattle.ccr_base.proofs.Texts.{same_word, same_text}
+use Rattle.ccr_base.proofs.Booleans.{chosen}
 use Rattle.ccr_wiring.specs.declared.parts.Parts.{Parts}
 use Rattle.ccr_wiring.specs.Valid.{IsValid}
 use Rattle.ccr_model.specs.declared.history.Event.{Event}
@@ -19,7 +21,6 @@ use Rattle.ccr_trace.specs.Forms.{said_on}
 use Rattle.ccr_trace.specs.Known.{known, IsKnown, HasMessages, IsShort, AreKnown, HaveMessages, AreShort}
 use Rattle.ccr_trace.specs.Reading.{event_of, event_on, first_line, head, with_event, reading_from, reading_lines, reading}
 use Rattle.ccr_trace.proofs.Cutting.{pieces_some}
-use Rattle.ccr_trace.proofs.Steps.{chosen, same_word, same_text}
 use Rattle.ccr_trace.proofs.Parting.{AreMarked, lacks, pieces_first, joined_lacks}
 use Rattle.ccr_trace.proofs.WordsRead.{AreNumbers}
 use Rattle.ccr_trace.proofs.FormsSaid.{line_told}

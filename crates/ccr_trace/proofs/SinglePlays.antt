@@ -13,7 +13,7 @@ use Rattle.ccr_handler.specs.Evaluating.{value_of}
 use Rattle.ccr_handler.specs.Playing.{exceptions, play}
 use Rattle.ccr_wiring.specs.Versions.{action_is_newer, expr_is_newer}
 use Rattle.ccr_model.specs.TaskData.{no_play}
-use Rattle.ccr_model.proofs.Booleans.{neither}
+use Rattle.ccr_base.proofs.Booleans.{neither}
 use Rattle.ccr_model.proofs.Members.{Among, Among-either}
 use Rattle.ccr_trace.specs.Values.{IsSingle}
 use Rattle.ccr_trace.proofs.SingleValues.{AreSingle, value_single}

@@ -14,7 +14,7 @@ use Rattle.ccr_wiring.specs.declared.parts.Parts.{Parts}
 use Rattle.ccr_wiring.specs.Valid.{IsValid}
 use Rattle.ccr_wiring.specs.Versions.{expr_is_newer, is_long, is_newer}
 use Rattle.ccr_wiring.proofs.Validity.{no_codes}
-use Rattle.ccr_model.proofs.Booleans.{both}
+use Rattle.ccr_base.proofs.Booleans.{both}
 use Rattle.ccr_model.proofs.Members.{Among, Among-at}
 use Rattle.ccr_trace.specs.Known.{IsOfVersion}
 use Rattle.ccr_trace.specs.Values.{IsSingle, IsSmallValue}

@@ -1,15 +1,14 @@
 -- What a place or form that was read tells of its steps.
-use Rattle.std.proofs.Common.{◌≡◌, ℕ, ◌<◌, ◌≤◌, Bool, true, false, cond, List, [], ◌∷◌, length, map, Option, Some, None, ◌⊎◌, inl, inr, refl, sym, ap, ◌∙◌, ◌^◌, arith}
+use Rattle.std.proofs.Common.{◌≡◌, ℕ, ◌<◌, ◌≤◌, Bool, true, false, cond, List, [], ◌∷◌, length, map, Option, Some, None, refl, sym, ap, ◌∙◌, ◌^◌, arith}
 use Rattle.std.specs.Prelude.{◌==◌, not, nat_lt, nat_le, decimal}
 use Rattle.std.specs.Str.{bytes_eq}
 use Rattle.std.proofs.lemmas.Bool.Decides.{nat_tests}
 use Rattle.std.proofs.lemmas.List.{length-map}
-use Rattle.std.proofs.lemmas.Slice.Eq.{bytes_eq-Decides}
+use Rattle.ccr_base.proofs.Texts.{same_word}
 use Rattle.ccr_trace.specs.Fields.{◌>>=◌, where_spelled, where_short, where_few}
 use Rattle.ccr_trace.specs.Pieces.{pieces}
 use Rattle.ccr_trace.proofs.Cutting.{pieces_some}
 use Rattle.ccr_trace.specs.Forms.{Words, word, no_more, only, field, is_some_of}
-pub use Rattle.ccr_text.proofs.Exact.{same_text}
 
 -- the value of a step that found something
 pub bind_some : {A B : Type 0} (found : Option A) (next : A → Option B) (y : B) → (found >>= next) ≡ Some y → (x : A) × (found ≡ Some x) × (next x ≡ Some y)
@@ -41,13 +40,6 @@ field_some read (w ∷ words) x e =
     let found = bind_some (read w) _ x e in
     let same = some_is (found.0, words) x found.2 in
     (w, ap (λ (p : _ × Words). w ∷ p.1) same, found.1 ∙ ap (λ (p : _ × Words). Some p.0) same)
-
-pub chosen : {A : Type 0} (test : Bool) (x y z : A) → cond test x y ≡ z → ((test ≡ true) × (x ≡ z)) ⊎ ((test ≡ false) × (y ≡ z))
-chosen true x y z e = inl (refl, e)
-chosen false x y z e = inr (refl, e)
-
-pub same_word : (w text : List ℕ) → bytes_eq w text ≡ true → w ≡ text
-same_word w text e = (bytes_eq-Decides w text).0 e
 
 pub some_of : {A : Type 0} (values : List A) → is_some_of values ≡ true → 0 < length values
 some_of [] e = absurd cc

@@ -9,13 +9,13 @@ use Rattle.std.proofs.lemmas.List.Elements.{recursion_from_All}
 use Rattle.ccr_base.specs.declared.names.TaskId.{TaskId}
 use Rattle.ccr_base.specs.declared.names.MsgId.{MsgId}
 use Rattle.ccr_base.specs.declared.names.MsgId.TheVariants as ids
+use Rattle.ccr_base.proofs.Texts.{same_text}
 use Rattle.ccr_text.specs.Words.{is_digits, is_mark, value_after, number_of, may_be_in_name, is_name_of}
 use Rattle.ccr_trace.specs.Words.{task_word, message_word, value_word}
 use Rattle.ccr_trace.specs.Pieces.{pieces}
 use Rattle.ccr_trace.specs.Said.{SpotName, spot_name_word, site_word, most_numbers, IsTask, IsMessage, IsName, IsSite, IsValue}
 use Rattle.ccr_trace.specs.Fields.{◌>>=◌, each, where_spelled, where_short, where_few, exact_number, short_number, value_of, name_of, task_in, task_of, script_in, answer_in, message_of, spot_with, spot_in, spot_of}
 use Rattle.ccr_trace.specs.Forms.{Words}
-use Rattle.ccr_trace.proofs.Steps.{same_text}
 use Rattle.ccr_trace.proofs.Parting.{lacks, AreLacking, pieces_first, pieces_only, pieces_join, lacks_tested, tested_by, marked, marked-append}
 use Rattle.std.proofs.lemmas.Bool.{and_parts as both}
 

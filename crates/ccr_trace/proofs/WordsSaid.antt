@@ -9,13 +9,14 @@ use Rattle.std.proofs.lemmas.List.Splits.{join_with_byte-slice_split}
 use Rattle.ccr_base.specs.declared.names.TaskId.{TaskId}
 use Rattle.ccr_base.specs.declared.names.MsgId.{MsgId}
 use Rattle.ccr_base.specs.declared.names.MsgId.TheVariants as ids
+use Rattle.ccr_base.proofs.Booleans.{same_number, chosen}
 use Rattle.ccr_text.specs.Words.{is_digits, value_after, number_of, is_name_of}
 use Rattle.ccr_trace.specs.Words.{task_word, message_word, value_word}
 use Rattle.ccr_trace.specs.Pieces.{pieces}
 use Rattle.ccr_trace.specs.Said.{SpotName, spot_name_word, site_word, most_numbers, IsTask, IsMessage, IsName, IsSite, IsValue}
 use Rattle.ccr_trace.specs.Fields.{◌>>=◌, each, where_spelled, where_short, where_few, exact_number, short_number, value_of, name_of, task_in, task_of, script_in, answer_in, message_of, spot_with, spot_in, spot_of}
 use Rattle.ccr_trace.specs.Forms.{Words}
-use Rattle.ccr_trace.proofs.Steps.{bind_some, some_is, only_one, chosen, spelled_is, short_is, few_is, some_pieces}
+use Rattle.ccr_trace.proofs.Steps.{bind_some, some_is, only_one, spelled_is, short_is, few_is, some_pieces}
 
 number_fits : (w : List ℕ) (n : ℕ) → number_of w ≡ Some n → n < 2 ^ 64
 number_fits w n e = by (is_digits w) (nat_lt (value_after 0 w) (2 ^ 64)) refl e
@@ -60,9 +61,6 @@ task_parts numbers (a ∷ k ∷ []) task is e =
     ((first.0, second.0), rw (first.1, second.1) (joined_of 46 numbers (a ∷ k ∷ []) is))
 task_parts numbers (a ∷ k ∷ i ∷ more) task is e = absurd cc
 
-eq_true : (b n : ℕ) → (b == n) ≡ true → b ≡ n
-eq_true b n e = grind (arith, nat_tests, e)
-
 -- tA.K
 pub task_said : (w : List ℕ) (task : TaskId) → task_of w ≡ Some task → IsTask task × (task_word task ≡ w)
 unfolding task_of
@@ -72,7 +70,7 @@ task_said (b ∷ numbers) task e = by (chosen (b == 116) (task_in (pieces 46 num
     by : (((b == 116) ≡ true) × (task_in (pieces 46 numbers) ≡ Some task)) ⊎ (((b == 116) ≡ false) × (None ≡ Some task)) → IsTask task × (task_word task ≡ b ∷ numbers)
     by (inl h) =
         let parts = task_parts numbers (pieces 46 numbers) task refl h.1 in
-        let first : b ≡ 116 = eq_true b 116 h.0 in
+        let first : b ≡ 116 = same_number b 116 h.0 in
         (parts.0, rw first (ap (λ (v : List ℕ). 116 ∷ v) parts.1))
     by (inr h) = absurd cc
 
@@ -112,11 +110,11 @@ message_said [] message e = absurd cc
 message_said (b ∷ numbers) message e = by (chosen (b == 115) (script_in (pieces 46 numbers)) _ (Some message) e)
   where
     other : (((b == 116) ≡ true) × (answer_in (pieces 46 numbers) ≡ Some message)) ⊎ (((b == 116) ≡ false) × (None ≡ Some message)) → IsMessage message × (message_word message ≡ b ∷ numbers)
-    other (inl h) = let first : b ≡ 116 = eq_true b 116 h.0 in rw first (answer_parts numbers (pieces 46 numbers) message refl h.1)
+    other (inl h) = let first : b ≡ 116 = same_number b 116 h.0 in rw first (answer_parts numbers (pieces 46 numbers) message refl h.1)
     other (inr h) = absurd cc
 
     by : (((b == 115) ≡ true) × (script_in (pieces 46 numbers) ≡ Some message)) ⊎ (((b == 115) ≡ false) × (cond (b == 116) (answer_in (pieces 46 numbers)) None ≡ Some message)) → IsMessage message × (message_word message ≡ b ∷ numbers)
-    by (inl h) = let first : b ≡ 115 = eq_true b 115 h.0 in rw first (script_parts numbers (pieces 46 numbers) message refl h.1)
+    by (inl h) = let first : b ≡ 115 = same_number b 115 h.0 in rw first (script_parts numbers (pieces 46 numbers) message refl h.1)
     by (inr h) = other (chosen (b == 116) (answer_in (pieces 46 numbers)) None (Some message) h.1)
 
 -- a name

@@ -3,6 +3,7 @@ use Rattle.std.proofs.Common.{Bool, replicate, ◌≡◌, ◌≢◌, ℕ, zero, 
 use Rattle.std.specs.List.{AllZip}
 use Rattle.std.specs.Prelude.{All}
 use Rattle.std.proofs.lemmas.List.{length-map, length-replicate}
+use Rattle.ccr_base.proofs.Options.{no_some}
 use mathlib.Core.Logic.{dite}
 use mathlib.Core.Option.{some, some-injective, some-ne-none}
 use native.Mathlib.Decide.{ℕ_discrete}
@@ -24,7 +25,7 @@ use Rattle.ccr_turns.specs.declared.history.Hold.{Hold}
 use Rattle.ccr_turns.specs.declared.history.View.{View}
 use Rattle.ccr_turns.specs.declared.kept.Keep.{Keep}
 use Rattle.ccr_turns.specs.declared.kept.Keep.TheVariants.{Every}
-use Rattle.ccr_turns.proofs.Rows.{all_from, there_by_slice, stamps_rise, zip_from, zip_at, zip_length, all_from_each, below-only-one, only, total-set, total-append, total-one, below-one, there, within, none-some, Some-at, terms_le, at_append, one-counts, no-total, only-one}
+use Rattle.ccr_turns.proofs.Rows.{all_from, there_by_slice, stamps_rise, zip_from, zip_at, zip_length, all_from_each, below-only-one, only, total-set, total-append, total-one, below-one, there, within, Some-at, terms_le, at_append, one-counts, no-total, only-one}
 
 module _ {N X : Type 0} where
   cut-total : (f : Log N X → ℕ) (ls : List (Log N X)) → total f (later_logs ls) + total f (first_logs ls) ≡ total f ls
@@ -65,7 +66,7 @@ map-pair : (N : Type 0) {O X : Type 0} (value : O → X) (objects : List O) → 
 map-pair N value [] = refl
 map-pair N value (x ∷ xs) = ap (λ l. value x ∷ l) (map-pair N value xs)
 
-at-map : {A B : Type 0} (f : A → B) (l : List A) (i : ℕ) (b : B) → get_elem? (map f l) i ≡ some b → (a : A) × (get_elem? l i ≡ some a) × (f a ≡ b)
+pub at-map : {A B : Type 0} (f : A → B) (l : List A) (i : ℕ) (b : B) → get_elem? (map f l) i ≡ some b → (a : A) × (get_elem? l i ≡ some a) × (f a ≡ b)
 at-map f [] i b e = absurd (some-ne-none b (sym e))
 at-map f (x ∷ xs) zero b e = (x, refl, some-injective (f x) b e)
 at-map f (x ∷ xs) (suc i) b e = at-map f xs i b e
@@ -132,7 +133,7 @@ module _ {O N X A R : Type 0} (value : O → X) (after : X → N → X) (may : X
   }
 
   idle-hold : (v : V) (u : V) (h : Hold N X) → v ≡ u → v.hold ≡ None → u.hold ≡ Some h → ⊥
-  idle-hold v u h e free is = none-some v.hold h free (ap (λ (y : V). y.hold) e ∙ is)
+  idle-hold v u h e free is = no_some v.hold h free (ap (λ (y : V). y.hold) e ∙ is)
 
   pub splits : (id : ℕ) (v : V) → v.hold ≡ None → Splits Rule id v (cut_left v) (cut_right v)
   splits id v free s o me = let w : V = cut_left v in let x : V = cut_right v in let vs : List V = set s.views id w in
@@ -213,8 +214,8 @@ module _ {O N X A R : Type 0} (value : O → X) (after : X → N → X) (may : X
           sifted = (c.4 ∙ sym (ap (sifted (keeps c.0.keep seen)) none-past), c.5 ∙ sym (ap (λ (l : List (Held N)). last_of 0 (history_stamps l)) none-past), ap length none-past ∙ sym c.6);
         };
         held = λ i inside busy. absurd (busy (quiet i));
-        holds = λ j u h e is. absurd (none-some None h refl (ap (λ (y : V). y.hold) (only-one (opening_view seats) j u e) ∙ is));
-        one = λ j k u w h g at1 at2 is1 is2 e. absurd (none-some None h refl (ap (λ (y : V). y.hold) (only-one (opening_view seats) j u at1) ∙ is1));
+        holds = λ j u h e is. absurd (no_some None h refl (ap (λ (y : V). y.hold) (only-one (opening_view seats) j u e) ∙ is));
+        one = λ j k u w h g at1 at2 is1 is2 e. absurd (no_some None h refl (ap (λ (y : V). y.hold) (only-one (opening_view seats) j u at1) ∙ is1));
         right = λ i p e. empty p (sym (ap (λ (y : Place N X). y.1) (at i p e).2)) (entries places);
         logs = λ j u k l e in-log. let blank : l.marks ≡ [] = in-fresh 0 seats k l (ap (λ (y : V). get_elem? y.logs k) (only-one (opening_view seats) j u e) ∙ in-log) in
             subst (λ (ms : List (Mark N X)). FitsLog after places (entries places) (log l.number ms)) (sym blank) record {

@@ -6,6 +6,8 @@ use native.Mathlib.Decide.{ℕ_discrete, dec_le}
 use lib.ListN.{get_elem?}
 use lib.Seq.{map-set}
 use Rattle.std.proofs.lemmas.List.{map-append}
+use Rattle.std.proofs.lemmas.Option.{same_Some}
+use Rattle.ccr_base.proofs.Options.{no_some}
 use prog.Atomic.{either}
 use Rattle.atomic_table.specs.Table.{State, step, Act, keeps, takes, gives, Valid, carried_after, stepped, Allows, rest}
 use Rattle.atomic_table.proofs.Lists.{at_set, set_here, set_else, set_again, at_map, exchanged}
@@ -22,7 +24,7 @@ use Rattle.ccr_turns.specs.declared.history.Log.{Log}
 use Rattle.ccr_turns.specs.declared.history.Hold.{Hold}
 use Rattle.ccr_turns.specs.declared.history.View.{View}
 use Rattle.ccr_turns.specs.declared.kept.Keep.{Keep}
-use Rattle.ccr_turns.proofs.Rows.{total-set, there, within, few_entries, none-some, Some-injective, Some-at, term_le, terms_le, only, only-same, below-only, rises_more, last_more, each_more, stamped_more, at_place_here, at_place_else, left_by_more, told_here, told_else, given_more, only-one, first_of, last_same}
+use Rattle.ccr_turns.proofs.Rows.{total-set, there, within, few_entries, Some-at, term_le, terms_le, only, only-same, below-only, rises_more, last_more, each_more, stamped_more, at_place_here, at_place_else, left_by_more, told_here, told_else, given_more, only-one, first_of, last_same}
 
 module _ {O N X A R : Type 0} (value : O → X) (after : X → N → X) (may : X → A → R → N → Type 0) (seen : N → Bool) (keep : Keep) (objects : List O) (seats : ℕ) where
   abbrev S : Type 0
@@ -101,9 +103,9 @@ module _ {O N X A R : Type 0} (value : O → X) (after : X → N → X) (may : X
           held = λ i inside-i busy. dite (ℕ_discrete i place)
               (λ e. (id, w, h, set_here s.views id w (within s.views id m.0 me), refl, sym e))
               (λ ne. let x = o.held i (let l = length-set s.homes place none in omega arith) (λ z. busy (get_or-set_other s.words place i b 0 ne ∙ z)) in
-              (x.0, x.1, x.2, set_else s.views id x.0 w (λ same. none-some m.0.hold x.2 free (ap (λ (v : V). v.hold) (Some-at s.views id x.0 m.0 x.1 me same x.3) ∙ x.4)) ∙ x.3, x.4, x.5));
+              (x.0, x.1, x.2, set_else s.views id x.0 w (λ same. no_some m.0.hold x.2 free (ap (λ (v : V). v.hold) (Some-at s.views id x.0 m.0 x.1 me same x.3) ∙ x.4)) ∙ x.3, x.4, x.5));
           holds = λ j v g at is. ⊎_elim
-              (λ (q : (j ≡ id) × (w ≡ v)). let e : h ≡ g = Some-injective h g (ap (λ (u : V). u.hold) q.1 ∙ is) in
+              (λ (q : (j ≡ id) × (w ≡ v)). let e : h ≡ g = same_Some h g (ap (λ (u : V). u.hold) q.1 ∙ is) in
               subst (λ (z : V × Hold N X). Holds after keep o.places (set s.words place b) z.0 z.1) (λ k. (q.1 k, e k)) record {
                 place = t.0;
                 at = t.1;
@@ -117,12 +119,12 @@ module _ {O N X A R : Type 0} (value : O → X) (after : X → N → X) (may : X
               record { place = old.place; at = old.at; locked = λ z. old.locked (sym (get_or-set_other s.words place g.place b 0 (λ e. theirs j v g q.1 is e)) ∙ z); history = old.history; now = old.now; kept = old.kept; seated = old.seated })
               (at_set s.views id j w v at);
           one = λ j k v u g f at1 at2 is1 is2 e. ⊎_elim
-              (λ (q : (j ≡ id) × (w ≡ v)). let mine : h ≡ g = Some-injective h g (ap (λ (u : V). u.hold) q.1 ∙ is1) in ⊎_elim
+              (λ (q : (j ≡ id) × (w ≡ v)). let mine : h ≡ g = same_Some h g (ap (λ (u : V). u.hold) q.1 ∙ is1) in ⊎_elim
               (λ (r : (k ≡ id) × (w ≡ u)). q.0 ∙ sym r.0)
               (λ (r : (k ≢ id) × (get_elem? s.views k ≡ some u)). absurd (theirs k u f r.1 is2 (sym e ∙ sym (ap (λ (x : Hold N X). x.place) mine))))
               (at_set s.views id k w u at2))
               (λ (q : (j ≢ id) × (get_elem? s.views j ≡ some v)). ⊎_elim
-              (λ (r : (k ≡ id) × (w ≡ u)). let mine : h ≡ f = Some-injective h f (ap (λ (u : V). u.hold) r.1 ∙ is2) in absurd (theirs j v g q.1 is1 (e ∙ sym (ap (λ (x : Hold N X). x.place) mine))))
+              (λ (r : (k ≡ id) × (w ≡ u)). let mine : h ≡ f = same_Some h f (ap (λ (u : V). u.hold) r.1 ∙ is2) in absurd (theirs j v g q.1 is1 (e ∙ sym (ap (λ (x : Hold N X). x.place) mine))))
               (λ (r : (k ≢ id) × (get_elem? s.views k ≡ some u)). o.one j k v u g f q.1 r.1 is1 is2 e)
               (at_set s.views id k w u at2))
               (at_set s.views id j w v at1);
@@ -178,7 +180,7 @@ module _ {O N X A R : Type 0} (value : O → X) (after : X → N → X) (may : X
       let here : place < length s.words = let a = o.same in omega arith in
       let zero-now : get_or (set s.words place 0) place 0 ≡ 0 = get_or-set_same s.words place 0 0 here in
       let idle : (j : ℕ) (u : V) (g : Hold N X) → get_elem? (set s.views id w) j ≡ some u → u.hold ≡ Some g → (j ≢ id) × (get_elem? s.views j ≡ some u) × (g.place ≢ place) = λ j u g at' is'. ⊎_elim
-      (λ (q : (j ≡ id) × (w ≡ u)). absurd (none-some w.hold g over (ap (λ (x : V). x.hold) q.1 ∙ is')))
+      (λ (q : (j ≡ id) × (w ≡ u)). absurd (no_some w.hold g over (ap (λ (x : V). x.hold) q.1 ∙ is')))
       (λ (q : (j ≢ id) × (get_elem? s.views j ≡ some u)). (q.0, q.1, λ e. q.0 (o.one j id u v g h q.1 me is' mine (e ∙ sym is))))
       (at_set s.views id j w u at') in
       record {
@@ -194,7 +196,7 @@ module _ {O N X A R : Type 0} (value : O → X) (after : X → N → X) (may : X
         held = λ i inside-i busy. dite (ℕ_discrete i place)
             (λ e. absurd (busy (ap (λ k. get_or (set s.words place 0) k 0) e ∙ zero-now)))
             (λ ne. let x = o.held i (let l = length-set s.homes place (some (Some c)) in omega arith) (λ z. busy (get_or-set_other s.words place i 0 0 ne ∙ z)) in
-            (x.0, x.1, x.2, set_else s.views id x.0 w (λ same. ne (sym x.5 ∙ (ap (λ (y : Hold N X). y.place) (Some-injective x.2 h (sym x.4 ∙ (sym (ap (λ (u : V). u.hold) (Some-at s.views id x.0 v x.1 me same x.3)) ∙ mine))) ∙ is))) ∙ x.3, x.4, x.5));
+            (x.0, x.1, x.2, set_else s.views id x.0 w (λ same. ne (sym x.5 ∙ (ap (λ (y : Hold N X). y.place) (same_Some x.2 h (sym x.4 ∙ (sym (ap (λ (u : V). u.hold) (Some-at s.views id x.0 v x.1 me same x.3)) ∙ mine))) ∙ is))) ∙ x.3, x.4, x.5));
         holds = λ j u g at' is'. let t = idle j u g at' is' in let old = o.holds j u g t.1 is' in
             record { place = old.place; at = others g.place t.2 ∙ old.at; locked = λ z. old.locked (sym (get_or-set_other s.words place g.place 0 0 t.2) ∙ z); history = old.history; now = old.now; kept = old.kept; seated = old.seated };
         one = λ j k u x g f at1 at2 is1 is2 e. o.one j k u x g f (idle j u g at1 is1).1 (idle k x f at2 is2).1 is1 is2 e;
@@ -311,8 +313,8 @@ module _ {O N X A R : Type 0} (value : O → X) (after : X → N → X) (may : X
         (
           refl,
           λ c' e' h' is-h is-c is-e.
-              let same-h : h ≡ h' = Some-injective h h' is-h in
-              let same-c : c ≡ c' = Some-injective c c' (ap (λ (l : List (ℕ × S)). (first_of (Some c) l)) is-c) in
+              let same-h : h ≡ h' = same_Some h h' is-h in
+              let same-c : c ≡ c' = same_Some c c' (ap (λ (l : List (ℕ × S)). (first_of (Some c) l)) is-c) in
               let same-e : e ≡ e' = last_same es e e' (sym is ∙ (ap (λ (y : Cell O N). past y) same-c ∙ (is-e ∙ ap (λ (y : Hold N X). y.history ++ e' ∷ []) (sym same-h)))) in
               λ d. view (log number (marks ++ mark ((same-h d).place) ((same-e d).stamp) ((same-e d).note) ((same-h d).now) (last_of 0 (history_stamps ((same-h d).history))) ∷ []) ∷ []) None,
         ),

@@ -1,10 +1,12 @@
 -- Lists, weights and places.
-use Rattle.std.proofs.Common.{Bool, true, false, ◌≡◌, ◌≢◌, ℕ, zero, suc, ◌+◌, ◌-◌, ◌*◌, ◌^◌, ◌<◌, ◌≤◌, max, cond, eqb, eq-eqb, ne_eqb, List, [], ◌∷◌, ◌++◌, map, length, take, get_or, set, sym, refl, ap, ◌∙◌, subst, inl, inr, ◌⊎◌, arith, Option, Some, None}
+use Rattle.std.proofs.Common.{Bool, true, false, ◌≡◌, ◌≢◌, ℕ, zero, suc, ◌+◌, ◌-◌, ◌*◌, ◌^◌, ◌<◌, ◌≤◌, max, cond, eqb, eq-eqb, ne_eqb, List, [], ◌∷◌, ◌++◌, map, length, take, get_or, set, sym, refl, ap, ◌∙◌, subst, inl, inr, ◌⊎◌, arith, Some, None}
 use mathlib.Core.Option.{some, some-injective, some-ne-none}
 use Rattle.std.specs.Prelude.{slice_get, All}
 use Rattle.std.specs.List.{AllZip, count_by, range_with_len}
 use Rattle.std.proofs.lemmas.List.Elements.{All-nil, All-cons}
 use Rattle.std.proofs.lemmas.List.Recursion.{is_count_by}
+use Rattle.std.proofs.lemmas.Option.{same_Some}
+use Rattle.ccr_base.proofs.Options.{no_some}
 use mathlib.Core.Logic.{dite}
 use native.Mathlib.Decide.{ℕ_discrete}
 use lib.ListN.{get_elem?}
@@ -37,13 +39,6 @@ within (x ∷ xs) (suc i) a e = let h = within xs i a e in omega arith
 pub few_entries : {N X : Type 0} (places : List (Place N X)) → ((i : ℕ) (p : Place N X) → get_elem? places i ≡ some p → length p.1 < 2 ^ 64) → entries places ≤ length places * 2 ^ 64
 few_entries [] h = omega arith
 few_entries (p ∷ ps) h = let a = h 0 p refl in let b = few_entries ps (λ i q e. h (suc i) q e) in omega arith
-
-pub none-some : {A : Type 0} (o : Option A) (a : A) → o ≡ None → o ≡ Some a → ⊥
-none-some None a n s = cc
-none-some (Some b) a n s = cc
-
-pub Some-injective : {A : Type 0} (a b : A) → Some a ≡ Some b → a ≡ b
-Some-injective a b e = cc
 
 -- what two reads at one place find is the same
 pub Some-at : {A : Type 0} (l : List A) (i j : ℕ) (a b : A) → get_elem? l i ≡ some a → j ≡ i → get_elem? l j ≡ some b → a ≡ b
@@ -171,20 +166,10 @@ pub no-total : {A : Type 0} (g : A → ℕ) (xs : List A) → length xs ≡ 0 �
 no-total g [] e = refl
 no-total g (x ∷ xs) e = absurd (omega arith)
 
-pub none_left : {A : Type 0} (l : List A) → length l ≡ 0 → l ≡ []
-none_left [] e = refl
-none_left (x ∷ xs) e = absurd (omega arith)
-
 pub take_more : {A : Type 0} (l : List A) (i : ℕ) (a : A) → get_elem? l i ≡ some a → take (suc i) l ≡ take i l ++ a ∷ []
 take_more [] i a e = absurd (some-ne-none a (sym e))
 take_more (x ∷ xs) zero a e = ap (λ (y : _). y ∷ []) (some-injective x a e)
 take_more (x ∷ xs) (suc i) a e = ap (λ (l : List _). x ∷ l) (take_more xs i a e)
-
-pub take_all : {A : Type 0} (l : List A) (n : ℕ) → length l ≤ n → take n l ≡ l
-take_all [] zero h = refl
-take_all [] (suc n) h = refl
-take_all (x ∷ xs) zero h = absurd (omega arith)
-take_all (x ∷ xs) (suc n) h = ap (λ (l : List _). x ∷ l) (take_all xs n (omega arith))
 
 -- what holds of each element holds of one that was read
 pub all_at : {A : Type 0} (P : A → Type 0) (xs : List A) (i : ℕ) (a : A) → All P xs → get_elem? xs i ≡ some a → P a
@@ -225,8 +210,8 @@ zip_more R (a ∷ xs) (b ∷ ys) x y all r = (all.0, zip_more R xs ys x y all.1 
 
 -- a read by `slice_get`
 pub there_by_slice : {A : Type 0} (xs : List A) (i : ℕ) (a : A) → slice_get xs i ≡ Some a → get_elem? xs i ≡ some a
-there_by_slice [] i a at = absurd (none-some None a refl at)
-there_by_slice (x ∷ xs) zero a at = ap some (Some-injective x a at)
+there_by_slice [] i a at = absurd (no_some None a refl at)
+there_by_slice (x ∷ xs) zero a at = ap some (same_Some x a at)
 there_by_slice (x ∷ xs) (suc i) a at = there_by_slice xs i a at
 
 pub below-only-one : (k n : ℕ) → k < n → below (only k) n ≡ 1

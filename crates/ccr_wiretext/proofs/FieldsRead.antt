@@ -10,6 +10,8 @@ use Rattle.ccr_base.specs.declared.policies.Group.{Group}
 use Rattle.ccr_base.specs.declared.policies.Group.TheVariants as groups
 use Rattle.ccr_base.specs.declared.handlers.Expr.{Expr}
 use Rattle.ccr_base.specs.declared.handlers.Expr.TheVariants as exprs
+use Rattle.ccr_base.proofs.Texts.{same_word}
+use Rattle.ccr_base.proofs.Booleans.{not_true, chosen}
 use Rattle.ccr_text.specs.Words.{number_of, is_name_of}
 use Rattle.ccr_text.specs.Names.{meaning_of}
 use Rattle.ccr_text.specs.Fields.{Words, ◌>>=◌, unless, or_code, word, number, number_within, policy}
@@ -19,7 +21,7 @@ use Rattle.ccr_wiretext.specs.Names.{Naming, as_arbiter}
 use Rattle.ccr_wiretext.specs.Drafts.{Declared}
 use Rattle.ccr_wiretext.specs.Fields.{new_name, reference, numbers_after, several, single, value_in, value, part, group, expr, interleave}
 use Rattle.ccr_wiretext.specs.Grammar.{IsNew, Refers, IsNumber, IsWithin, IsPolicy, IsGroup, IsValueWord, IsExpr, IsInterleave}
-use Rattle.ccr_wiretext.proofs.Steps.{bind_ok, ok_is, unless_ok, or_code_ok, word_ok, none_is, not_true, chosen, same_word}
+use Rattle.ccr_wiretext.proofs.Steps.{bind_ok, ok_is, unless_ok, or_code_ok, word_ok, none_is}
 use Rattle.ccr_wiretext.proofs.Each.{both}
 use Rattle.ccr_wiretext.proofs.ValuesRead.{value_in_said, value_in_read, no_value}
 

@@ -2,7 +2,7 @@
 use Rattle.std.proofs.Common.{◌≡◌, ℕ, ◌<◌, Bool, true, false, List, [], ◌∷◌, ◌++◌, length, Option, Some, inl, inr, refl, sym, ap, subst, ◌∙◌, arith, append_assoc, append-nil}
 use Rattle.std.specs.Prelude.{◌==◌, ◌&&◌, ◌||◌, not}
 use Rattle.std.specs.List.{list_any}
-use Rattle.std.proofs.lemmas.Bool.Decides.{nat_tests}
+use Rattle.std.proofs.lemmas.Bool.{and_parts}
 use Rattle.ccr_base.specs.declared.handlers.Action.{Action}
 use Rattle.ccr_base.specs.declared.handlers.Action.TheVariants as actions
 use Rattle.ccr_base.specs.declared.handlers.Expr.{Expr}
@@ -14,6 +14,8 @@ use Rattle.ccr_base.specs.declared.policies.Policy.TheVariants as policies
 use Rattle.ccr_base.specs.declared.patterns.Slot.{Slot}
 use Rattle.ccr_base.specs.declared.patterns.Pattern.{Pattern}
 use Rattle.ccr_base.specs.declared.patterns.Pattern.TheVariants as patterns
+use Rattle.ccr_base.proofs.Options.{some_then}
+use Rattle.ccr_base.proofs.Booleans.{eq_turned, not_true}
 use Rattle.ccr_text.specs.Names.{meaning_of}
 use Rattle.ccr_text.specs.Fields.{Words}
 use Rattle.ccr_wiring.specs.declared.parts.Parts.{Parts}
@@ -24,6 +26,7 @@ use Rattle.ccr_wiring.specs.declared.parts.Kind.TheVariants as arbiters
 use Rattle.ccr_wiring.specs.Groups.{may_have}
 use Rattle.ccr_wiring.specs.Repeats.{has_port, are_apart, slot_ports, members_in_all}
 use Rattle.ccr_wiring.specs.Versions.{is_long}
+use Rattle.ccr_wiring.proofs.Apart.{apart_snoc}
 use Rattle.ccr_wiretext.specs.declared.keyword.Keyword.{Keyword}
 use Rattle.ccr_wiretext.specs.declared.keyword.Keyword.TheVariants as keywords
 use Rattle.ccr_wiretext.specs.declared.named.Named.{Named}
@@ -34,7 +37,6 @@ use Rattle.ccr_wiretext.specs.Grammar.{Refers, IsPort, IsPolicy, IsValueWord, Is
 use Rattle.ccr_wiretext.specs.Patterns.{is_combined}
 use Rattle.ccr_wiretext.specs.Blocks.{group_of}
 use Rattle.ccr_wiretext.specs.Lines.{IsAction, IsBranchTail}
-use Rattle.ccr_wiretext.proofs.Steps.{then_some}
 use Rattle.ccr_wiretext.proofs.Each.{Each, neither}
 use Rattle.ccr_wiretext.proofs.Fit.{PolicyFit, OldFit, ExprFit, PortsFit, ActionFit, SlotFit, PatternFit, BranchFit, InterleaveFit}
 use Rattle.ccr_wiretext.proofs.NamesApart.{named_each}
@@ -88,7 +90,7 @@ kind_handler parts handlers n kinds.Poster fit e = absurd cc
 referred : (as_kind : Named → Option ℕ) (P : Named → Type 0) (Q : ℕ → Type 0) → ((n : ℕ) (what : Named) → P what → as_kind what ≡ Some n → Q n)
     → (names : Naming) (word : List ℕ) (n : ℕ) → Each (λ (entry : List ℕ × Named). P entry.1) names → Refers as_kind names word n → Q n
 referred as_kind P Q kind names word n known refers =
-    let what = then_some as_kind (meaning_of names word) n refers in
+    let what = some_then as_kind (meaning_of names word) n refers in
     kind n what.0 (named_each P names word what.0 known what.1) what.2
 
 pub port_there : (draft : Declared) (handlers : ℕ) (word : List ℕ) (n : ℕ) → Known draft.parts handlers draft.names → IsPort draft word n → n < length draft.parts.ports
@@ -120,33 +122,11 @@ expr_fit version words exprs.Count said = tt
 
 -- ---- numbers of which each is none of those found before it
 
-apart_push : (xs : List ℕ) (x : ℕ) → are_apart xs ≡ true → has_port xs x ≡ false → are_apart (xs ++ x ∷ []) ≡ true
-apart_push [] x apart new = refl
-apart_push (y ∷ ys) x apart new =
-    let parts = neither (y == x) (has_port ys x) new in
-    let both = halves (not (has_port ys y)) (are_apart ys) apart in
-    rw (still_none ys x y (negated (has_port ys y) both.0) (turned y x parts.0), apart_push ys x both.1 parts.1) refl
-  where
-    halves : (a b : Bool) → (a && b) ≡ true → (a ≡ true) × (b ≡ true)
-    halves true b e = (refl, e)
-    halves false b e = absurd cc
-
-    negated : (a : Bool) → not a ≡ true → a ≡ false
-    negated true e = absurd cc
-    negated false e = refl
-
-    turned : (a b : ℕ) → (a == b) ≡ false → (b == a) ≡ false
-    turned a b e = grind (arith, nat_tests, e)
-
-    still_none : (zs : List ℕ) (z w : ℕ) → has_port zs w ≡ false → (z == w) ≡ false → has_port (zs ++ z ∷ []) w ≡ false
-    still_none [] z w none differ = rw differ refl
-    still_none (v ∷ zs) z w none differ = let parts = neither (v == w) (has_port zs w) none in rw (parts.0, still_none zs z w parts.1 differ) refl
-
 ports_fit : (draft : Declared) (handlers : ℕ) → Known draft.parts handlers draft.names → (found ports : List ℕ) (words : Words) → are_apart found ≡ true → ArePorts draft found ports words
     → PortsFit (length draft.parts.ports) ports × (are_apart (found ++ ports) ≡ true)
 ports_fit draft handlers known found [] words apart said = (tt, rw (append-nil found) apart)
 ports_fit draft handlers known found (port ∷ ports) words apart said =
-    let rest = ports_fit draft handlers known (found ++ port ∷ []) ports said.1 (apart_push found port apart said.4) said.5 in
+    let rest = ports_fit draft handlers known (found ++ port ∷ []) ports said.1 (apart_snoc found port apart said.4) said.5 in
     ((port_there draft handlers said.0 port known said.3, rest.0), subst (λ all. are_apart all ≡ true) (append_assoc found (port ∷ []) ports) rest.1)
 
 pub members_fit : (draft : Declared) (handlers : ℕ) → Known draft.parts handlers draft.names → (ports : List ℕ) (words : Words) → ArePorts draft [] ports words
@@ -170,7 +150,7 @@ interleaves_fit draft found [] words apart said = (tt, rw (append-nil found) apa
 interleaves_fit draft found (n ∷ members) words apart said =
     let earlier : List ℕ = members_in_all draft.parts.domains in
     let new : has_port (earlier ++ found) n ≡ false = any_on (λ other. other == n) earlier found (free_all draft.parts.domains n said.4) said.5 in
-    let next : are_apart (earlier ++ (found ++ n ∷ [])) ≡ true = subst (λ all. are_apart all ≡ true) (append_assoc earlier found (n ∷ [])) (apart_push (earlier ++ found) n apart new) in
+    let next : are_apart (earlier ++ (found ++ n ∷ [])) ≡ true = subst (λ all. are_apart all ≡ true) (append_assoc earlier found (n ∷ [])) (apart_snoc (earlier ++ found) n apart new) in
     let rest = interleaves_fit draft (found ++ n ∷ []) members said.1 next said.6 in
     ((said.3.1, rest.0), subst (λ all. are_apart (earlier ++ all) ≡ true) (append_assoc found (n ∷ []) members) rest.1)
 
@@ -178,7 +158,7 @@ causes_go : (draft : Declared) (handlers : ℕ) → Known draft.parts handlers d
     → PortsFit (length draft.parts.causes) causes × (are_apart (found ++ causes) ≡ true)
 causes_go draft handlers known found [] words apart said = (tt, rw (append-nil found) apart)
 causes_go draft handlers known found (cause ∷ causes) words apart said =
-    let rest = causes_go draft handlers known (found ++ cause ∷ []) causes said.1 (apart_push found cause apart said.4) said.5 in
+    let rest = causes_go draft handlers known (found ++ cause ∷ []) causes said.1 (apart_snoc found cause apart said.4) said.5 in
     ((cause_there draft handlers said.0 cause known said.3, rest.0), subst (λ all. are_apart all ≡ true) (append_assoc found (cause ∷ []) causes) rest.1)
 
 pub causes_fit : (draft : Declared) (handlers : ℕ) → Known draft.parts handlers draft.names → (causes : List ℕ) (words : Words) → AreCauses draft.names [] causes words
@@ -197,7 +177,7 @@ slots_fit : (draft : Declared) (handlers : ℕ) → Known draft.parts handlers d
     → Each (SlotFit (length draft.parts.ports)) slots × (are_apart (slot_ports (found ++ slots)) ≡ true)
 slots_fit draft handlers known found [] words apart said = (tt, rw (append-nil found) apart)
 slots_fit draft handlers known found (slot ∷ slots) words apart said =
-    let new : are_apart (slot_ports (found ++ slot ∷ [])) ≡ true = rw (ports_push found slot) (apart_push (slot_ports found) slot.port apart (sym (same_ports found slot.port) ∙ said.4)) in
+    let new : are_apart (slot_ports (found ++ slot ∷ [])) ≡ true = rw (ports_push found slot) (apart_snoc (slot_ports found) slot.port apart (sym (same_ports found slot.port) ∙ said.4)) in
     let rest = slots_fit draft handlers known (found ++ slot ∷ []) slots said.1 new said.5 in (
       ((port_there draft handlers said.3.port slot.port known said.3.refers, said.3.exact, said.3.counted.above, said.3.counted.below), rest.0),
       subst (λ all. are_apart (slot_ports all) ≡ true) (append_assoc found (slot ∷ []) slots) rest.1,

@@ -34,10 +34,6 @@ sum_push f xs x =
     let one : sum (f x ∷ []) ≡ f x = omega arith in
     rw (map_snoc f xs x) (omega (arith, split, one))
 
-pub one_more : {X : Type 0} (xs : List X) (x : X) → length (xs ++ x ∷ []) ≡ length xs + 1
-one_more [] x = omega arith
-one_more (y ∷ ys) x = let rest = one_more ys x in omega arith
-
 pub flat_push : {X Y : Type 0} (f : X → List Y) (xs : List X) (x : X) → flat_map f (xs ++ x ∷ []) ≡ flat_map f xs ++ f x
 flat_push f [] x = append-nil (f x)
 flat_push f (y ∷ ys) x = rw (flat_push f ys x) (sym (append_assoc (f y) (flat_map f ys) (f x)))

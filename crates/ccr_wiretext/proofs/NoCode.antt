@@ -4,6 +4,7 @@ use Rattle.std.specs.Prelude.{◌==◌, ◌&&◌, not, nat_lt, codes}
 use Rattle.std.specs.List.{list_any}
 use Rattle.std.specs.Str.{bytes_eq}
 use Rattle.std.proofs.lemmas.Bool.Decides.{nat_tests}
+use Rattle.std.proofs.lemmas.Bool.{le-ltb as within}
 use Rattle.ccr_base.specs.declared.policies.Policy.{Policy}
 use Rattle.ccr_base.specs.declared.policies.Policy.TheVariants as policies
 use Rattle.ccr_base.specs.declared.handlers.Action.{Action}
@@ -44,9 +45,6 @@ use Rattle.ccr_wiretext.proofs.SoundLines.{SoundDraft, line_sound}
 
 below : (count n : ℕ) → n < count → is_beyond count n ≡ false
 below count n less = grind (arith, nat_tests, less)
-
-within : (most n : ℕ) → n ≤ most → nat_lt most n ≡ false
-within most n less = grind (arith, nat_tests, less)
 
 above : (least n : ℕ) → least ≤ n → nat_lt n least ≡ false
 above least n more = grind (arith, nat_tests, more)

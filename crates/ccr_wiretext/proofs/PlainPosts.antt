@@ -9,6 +9,7 @@ use Rattle.std.proofs.lemmas.List.Splits.{join_with_byte-slice_split, length-sli
 use Rattle.ccr_text.specs.Words.{is_digits, is_mark, number_of, value_after, words_of, is_clean}
 use Rattle.ccr_text.specs.Lines.{cut, first_line}
 use Rattle.ccr_text.specs.Exact.{exact_number_of, number_first, parts, where_spelled}
+use Rattle.ccr_text.proofs.Digits.{digit_mark}
 use Rattle.ccr_text.proofs.FirstLine.{IsTaken, alone, taken_more, taken_feed}
 use Rattle.ccr_wiring.specs.declared.parts.PosterPart.{PosterPart}
 use Rattle.ccr_wiretext.specs.declared.draft.Block.TheVariants as blocks
@@ -24,6 +25,8 @@ use Rattle.ccr_wiretext.specs.Scanning.{MayPost, IsLineTaken}
 use Rattle.ccr_wiretext.specs.Reading.{after_all, after_words}
 use Rattle.ccr_wiretext.proofs.ValuesRead.{value_in_read}
 use Rattle.std.proofs.lemmas.Bool.{and_parts as both}
+use Rattle.ccr_base.proofs.Lists.{length_behind}
+use Rattle.ccr_base.proofs.Booleans.{not_true}
 
 -- ---- the number before the LF
 
@@ -77,15 +80,8 @@ digits_alone : (digits : List ℕ) (n : ℕ) → number_of digits ≡ Some n →
 digits_alone digits n e = by (is_digits digits) (nat_lt (value_after 0 digits) (2 ^ 64)) refl e
   where
     by : (a b : Bool) → is_digits digits ≡ a → cond (a && b) (Some (value_after 0 digits)) None ≡ Some n → ((length digits == 0) ≡ false) × (list_all is_ascii_digit digits ≡ true)
-    by true b is some = let parts = both (not (length digits == 0)) (list_all is_ascii_digit digits) is in (some_bytes (length digits == 0) parts.0, parts.1)
-      where
-        some_bytes : (test : Bool) → not test ≡ true → test ≡ false
-        some_bytes true e = absurd cc
-        some_bytes false e = refl
+    by true b is some = let parts = both (not (length digits == 0)) (list_all is_ascii_digit digits) is in (not_true (length digits == 0) parts.0, parts.1)
     by false b is some = absurd cc
-
-digit_mark : (b : ℕ) → is_ascii_digit b ≡ true → is_mark b ≡ true
-digit_mark b e = grind (arith, nat_tests, e)
 
 pub digits_marks : (digits : List ℕ) → list_all is_ascii_digit digits ≡ true → list_all is_mark digits ≡ true
 digits_marks [] e = refl
@@ -135,10 +131,6 @@ indented_some : (text : List ℕ) (b : ℕ) (bytes : List ℕ) → IsIndented te
 indented_some text b bytes (inl same) = subst (λ (t : List ℕ). t ≢ []) (sym same) (some_text b bytes)
 indented_some text b bytes (inr spaced) = subst (λ (t : List ℕ). t ≢ []) (sym spaced) (some_text 32 (codes " " ++ b ∷ bytes))
 
-behind_word : (word : List ℕ) (b : ℕ) (after : List ℕ) → length after < length (word ++ b ∷ after)
-behind_word [] b after = omega arith
-behind_word (x ∷ word) b after = omega (arith, behind_word word b after)
-
 -- what one scan finds is the line's
 pub post_found : (text rest words port numbers behind : List ℕ) (n : ℕ) → IsIndented text rest → rest ≡ codes "post " ++ words → words ≡ port ++ 32 ∷ numbers → list_all is_mark port ≡ true → port ≢ [] → number_first (parts 10 numbers) ≡ Some (n, parts 10 behind)
     → (digits : List ℕ) × (number_of digits ≡ Some n) × (words_of (first_line text) ≡ codes "post" ∷ port ∷ digits ∷ []) × (is_clean (first_line text) ≡ true) × (cut text ≡ first_line text ∷ cut behind) × (length behind < length text)
@@ -156,7 +148,7 @@ post_found text rest words port numbers behind n indented begins named marks som
       sym last.words ∙ ap (λ (ws : List (List ℕ)). codes "post" ∷ port ∷ ws) all,
       sym last.clean,
       last.lines,
-      omega (arith, behind_word digits 10 behind, ap (λ (t : List ℕ). length t) found.1, four.short),
+      omega (arith, length_behind digits 10 behind, ap (λ (t : List ℕ). length t) found.1, four.short),
     )
 
 -- ---- what the line declares

@@ -4,6 +4,9 @@ use Rattle.std.specs.Prelude.{nat_lt, ◌==◌, ◌||◌}
 use Rattle.std.specs.Option.{option_and_then}
 use Rattle.std.specs.List.{list_any, position_or_len}
 use Rattle.std.proofs.lemmas.Bool.Decides.{nat_tests}
+use Rattle.std.proofs.Math.Seq.{take-append_seam}
+use Rattle.ccr_base.proofs.Options.{some_then}
+use Rattle.ccr_base.proofs.Booleans.{chosen}
 use Rattle.ccr_text.specs.Names.{meaning_of}
 use Rattle.ccr_text.specs.Fields.{Words, or_code, word}
 use Rattle.ccr_wiring.specs.Repeats.{has_port}
@@ -11,7 +14,7 @@ use Rattle.ccr_wiretext.specs.Names.{as_port, as_set}
 use Rattle.ccr_wiretext.specs.Drafts.{Declared, members_of}
 use Rattle.ccr_wiretext.specs.Fields.{slash_index, member, set_port, port_at, port_of, port}
 use Rattle.ccr_wiretext.specs.Grammar.{IsPlain, IsPort}
-use Rattle.ccr_wiretext.proofs.Steps.{bind_ok, ok_is, or_code_ok, chosen, then_some}
+use Rattle.ccr_wiretext.proofs.Steps.{bind_ok, ok_is, or_code_ok}
 
 abbrev is_slash : ℕ → Bool
 is_slash b = b == 47
@@ -80,10 +83,6 @@ index_cut word place e = elim (cut_at word) [
   | inr cut ↦ (cut, (let h : Some (length cut.set) ≡ Some place = sym (cut_index word cut) ∙ e in cc))
 ]
 
-take_front : (set rest : List ℕ) → take (length set) (set ++ rest) ≡ set
-take_front [] rest = refl
-take_front (b ∷ set) rest = ap (λ (v : List ℕ). b ∷ v) (take_front set rest)
-
 drop_behind : (set name : List ℕ) → drop (suc (length set)) (set ++ 47 ∷ name) ≡ name
 drop_behind [] name = refl
 drop_behind (b ∷ set) name = drop_behind set name
@@ -101,9 +100,9 @@ port_is draft word n e = by (slash_index word) refl e
         unslashed = elim (cut_at word) [ inl parts ↦ parts.0 | inr cut ↦ absurd (let found : slash_index word ≡ Some (length cut.set) = cut_index word cut in let h2 : None ≡ Some (length cut.set) = sym at ∙ found in cc) ]
     by (Some place) at h =
         let cut = index_cut word place at in
-        let set = then_some (set_port draft (drop (place + 1) word)) (option_and_then as_set (meaning_of draft.names (take place word))) n h in
-        let other = then_some (member draft set.0) (option_and_then as_port (meaning_of draft.names (drop (place + 1) word))) n set.2 in
-        let front : take place word ≡ cut.0.set = ap (λ k. take k word) cut.1 ∙ ap (take (length cut.0.set)) cut.0.spelled ∙ take_front cut.0.set (47 ∷ cut.0.name) in
+        let set = some_then (set_port draft (drop (place + 1) word)) (option_and_then as_set (meaning_of draft.names (take place word))) n h in
+        let other = some_then (member draft set.0) (option_and_then as_port (meaning_of draft.names (drop (place + 1) word))) n set.2 in
+        let front : take place word ≡ cut.0.set = ap (λ k. take k word) cut.1 ∙ ap (take (length cut.0.set)) cut.0.spelled ∙ take-append_seam cut.0.set (47 ∷ cut.0.name) in
         let behind : drop (place + 1) word ≡ cut.0.name = ap (λ k. drop (k + 1) word) cut.1 ∙ ap (drop (length cut.0.set + 1)) cut.0.spelled ∙ drop_front cut.0.set cut.0.name in
         elim (chosen (has_port (members_of draft set.0) other.0) (Some other.0) None (Some n) other.2) [
           | inl is ↦
@@ -124,7 +123,7 @@ port_is draft word n e = by (slash_index word) refl e
 port_means : (draft : Declared) (word : List ℕ) (n : ℕ) → IsPort draft word n → port_of draft word ≡ Some n
 port_means draft word n (inl (plain, refers)) = rw (plain_none word plain) refers
 port_means draft word n (inr said) =
-    rw (said.spelled, slash_at said.set said.name said.plain, take_front said.set (47 ∷ said.name), drop_front said.set said.name, said.in_set, said.in_names, said.member) refl
+    rw (said.spelled, slash_at said.set said.name said.plain, take-append_seam said.set (47 ∷ said.name), drop_front said.set said.name, said.in_set, said.in_names, said.member) refl
 
 -- PORT
 pub port_said : (draft : Declared) (words : Words) (x : ℕ × Words) → port draft words ≡ Ok x → (name : List ℕ) × (words ≡ name ∷ x.1) × IsPort draft name x.0

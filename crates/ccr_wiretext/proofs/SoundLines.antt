@@ -1,9 +1,11 @@
 -- A line leaves what is declared sound.
 use Rattle.std.proofs.Common.{◌≡◌, ℕ, ◌+◌, ◌<◌, true, false, List, [], ◌∷◌, ◌++◌, length, Some, inl, inr, refl, sym, ap, subst, ◌∙◌, arith, append_assoc, append-nil}
 use Rattle.std.specs.Prelude.{◌==◌, flat_map}
+use Rattle.std.proofs.lemmas.List.{length_push as one_more}
 use Rattle.ccr_base.specs.declared.policies.Group.{Group}
 use Rattle.ccr_base.specs.declared.handlers.Action.{Action}
 use Rattle.ccr_base.specs.declared.messages.Sent.{Sent}
+use Rattle.ccr_base.proofs.Texts.{same_text}
 use Rattle.ccr_text.specs.Fields.{Words}
 use Rattle.ccr_wiring.specs.declared.parts.Parts.{Parts}
 use Rattle.ccr_wiring.specs.declared.parts.SetPart.{SetPart}
@@ -29,13 +31,12 @@ use Rattle.ccr_wiretext.specs.Names.{Naming}
 use Rattle.ccr_wiretext.specs.Drafts.{Declared, receiver}
 use Rattle.ccr_wiretext.specs.Blocks.{group_of, apart}
 use Rattle.ccr_wiretext.specs.Lines.{IsBudget, IsQueue, IsName, IsSet, IsCause, IsCombine, IsReceive, IsBranch, IsAction, IsPost, SaysOutside, SaysInPoster, Says}
-use Rattle.ccr_wiretext.proofs.Steps.{same_name}
 use Rattle.ccr_wiretext.proofs.Each.{each_push}
 use Rattle.ccr_wiretext.proofs.Fit.{ActionFit, BranchFit, PostFit}
 use Rattle.ccr_wiretext.proofs.SpotCounts.{uncrowded_more, arbiters_same}
 use Rattle.ccr_wiretext.proofs.Sound.{KindFit, Sound, queue_fits, port_fits, set_fits, cause_fits, handler_fits, arbiter_fits, poster_fits, domain_fits}
 use Rattle.ccr_wiretext.proofs.LineFacts.{policy_fit, members_fit, causes_fit, branch_fit, action_fit, value_fit, interleaves_fit, port_there, receive_group, group_may}
-use Rattle.ccr_wiretext.proofs.NamesAdded.{sum_push, one_more, flat_push, known_more, queue_adds, port_adds, set_adds, cause_adds, handler_adds, arbiter_adds, branch_adds, poster_adds, names_same, posters_same}
+use Rattle.ccr_wiretext.proofs.NamesAdded.{sum_push, flat_push, known_more, queue_adds, port_adds, set_adds, cause_adds, handler_adds, arbiter_adds, branch_adds, poster_adds, names_same, posters_same}
 
 -- the ports that an arbiter's spots name
 abbrev arbiter_named : Parts → ArbiterPart → List ℕ
@@ -148,7 +149,7 @@ receive_sound draft words branch s said =
     let h : ℕ = length draft.parts.handlers in
     record {
       counts = record { budget = c.budget; queues = c.queues; ports = c.ports; sets = c.sets; causes = c.causes; handlers = c.handlers; arbiters = omega arith; branches = omega (arith, counted); posters = c.posters; posts = c.posts; domains = c.domains };
-      fits = arbiter_fits draft.parts (receiver branch) s.fits (((branch_fit draft h s.known said.rest branch said.tail, receive_group said.group branch.group said.grouped), tt), inl (refl, same_name branch.name));
+      fits = arbiter_fits draft.parts (receiver branch) s.fits (((branch_fit draft h s.known said.rest branch said.tail, receive_group said.group branch.group said.grouped), tt), inl (refl, same_text branch.name));
       version = s.version;
       known = each_push (λ (entry : List ℕ × Named). KindFit new h entry.1) draft.names (branch.name, kinds.Branch)
           (known_more draft.parts new h h (omega arith) (omega arith) (omega arith) (omega arith) draft.names s.known) tt;

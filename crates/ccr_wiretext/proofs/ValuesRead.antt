@@ -8,13 +8,15 @@ use Rattle.std.proofs.lemmas.Bool.Decides.{nat_tests}
 use Rattle.std.proofs.lemmas.List.Elements.{All-cons}
 use Rattle.std.proofs.lemmas.List.Splits.{join_with_byte-slice_split}
 use Rattle.ccr_base.specs.Values.{value_of_numbers}
+use Rattle.ccr_base.proofs.Texts.{same_word}
+use Rattle.ccr_base.proofs.Booleans.{chosen}
 use Rattle.ccr_text.specs.Words.{value_after, is_digits, number_of}
 use Rattle.ccr_text.specs.Fields.{or_code}
 use Rattle.ccr_wiretext.specs.Fields.{pieces, numbers_after, several, single, value_in}
 use Rattle.ccr_wiretext.specs.Grammar.{IsNumber, AreNumbers, IsList, IsOne, IsValueWord}
 use Rattle.ccr_wiretext.specs.Spelling.{value_word}
 use Rattle.ccr_wiretext.specs.Values.{IsNumeral}
-use Rattle.ccr_wiretext.proofs.Steps.{bind_ok, ok_is, or_code_ok, chosen, same_word}
+use Rattle.ccr_wiretext.proofs.Steps.{bind_ok, ok_is, or_code_ok}
 use Rattle.ccr_wiretext.proofs.Each.{both, neither}
 
 abbrev is_comma : ℕ → Bool

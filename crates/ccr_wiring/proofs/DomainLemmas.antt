@@ -55,6 +55,11 @@ no_less p a b fails other = by_test (nat_le a b) refl
     by_test true less = let below : a ≤ b = grind (arith, nat_tests, less) in let e : min a b ≡ a = omega arith in rw e fails
     by_test false more = let above : b ≤ a = grind (arith, nat_tests, more) in let e : min a b ≡ b = omega arith in rw e other
 
+-- the least is none above the first
+pub least-low : (least : ℕ) (numbers : List ℕ) → least_with least numbers ≤ least
+least-low least [] = omega arith
+least-low least (number ∷ numbers) = omega (arith, least-low (min least number) numbers)
+
 -- what none of the numbers passes, the least doesn't
 pub least_fails : (p : ℕ → Bool) (least : ℕ) (numbers : List ℕ) → p least ≡ false → list_any p numbers ≡ false → p (least_with least numbers) ≡ false
 least_fails p least [] fails none = fails

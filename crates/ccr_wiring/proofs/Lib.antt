@@ -8,3 +8,4 @@ pub mod Noted
 pub mod Untaken
 pub mod DomainLemmas
 pub mod Soundness
+pub mod Apart

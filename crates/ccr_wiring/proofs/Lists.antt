@@ -2,17 +2,14 @@
 use Rattle.std.proofs.Common.{◌≡◌, ℕ, zero, suc, ◌<◌, Bool, true, false, List, [], ◌∷◌, get_or, length, refl, ap, sym, ◌∙◌, Some, arith}
 use Rattle.std.specs.Prelude.{◌||◌}
 use Rattle.std.specs.List.{list_any, slice_get}
+use Rattle.std.proofs.Math.Bool.{or-true}
 pub use Rattle.std.proofs.lemmas.Bool.{or_parts as neither}
-
-pub or_true : (a : Bool) → (a || true) ≡ true
-or_true true = refl
-or_true false = refl
 
 -- an element that passes the test
 pub any_at : {X : Type 0} (p : X → Bool) (xs : List X) (i : ℕ) (d : X) → i < length xs → p (get_or xs i d) ≡ true → list_any p xs ≡ true
 any_at p [] i d below here = absurd (omega arith)
 any_at p (x ∷ xs) zero d below here = ap (λ b. b || list_any p xs) here
-any_at p (x ∷ xs) (suc i) d below here = ap (λ b. p x || b) (any_at p xs i d (omega arith) here) ∙ or_true (p x)
+any_at p (x ∷ xs) (suc i) d below here = ap (λ b. p x || b) (any_at p xs i d (omega arith) here) ∙ or-true (p x)
 
 -- no element passes it
 pub any_none : {X : Type 0} (p : X → Bool) (xs : List X) → ((x : X) → p x ≡ false) → list_any p xs ≡ false

@@ -5,6 +5,8 @@ use Rattle.std.specs.Prelude.{◌||◌, not}
 use Rattle.std.specs.List.{list_any}
 use Rattle.std.specs.Str.{bytes_eq}
 use Rattle.std.proofs.lemmas.List.Folds.{list_any-append}
+use Rattle.std.proofs.Math.Bool.{or-false}
+use Rattle.std.proofs.lemmas.Bool.{or_parts as neither}
 use Rattle.ccr_wiring.specs.Names.{has_name, has_repeated}
 
 -- whether the name is one of those that were seen
@@ -30,12 +32,8 @@ or_regroup true b c d = refl
 or_regroup false true c d = refl
 or_regroup false false c d = refl
 
-or_none : (a : Bool) → (a || false) ≡ a
-or_none true = refl
-or_none false = refl
-
 seen_push : (seen : List (List ℕ)) (name other : List ℕ) → was_seen (seen ++ name ∷ []) other ≡ (was_seen seen other || bytes_eq other name)
-seen_push seen name other = list_any-append (bytes_eq other) seen (name ∷ []) ∙ ap (λ b. was_seen seen other || b) (or_none (bytes_eq other name))
+seen_push seen name other = list_any-append (bytes_eq other) seen (name ∷ []) ∙ ap (λ b. was_seen seen other || b) (or-false (bytes_eq other name))
 
 any_seen_push : (seen : List (List ℕ)) (name : List ℕ) (names : List (List ℕ)) → any_seen (seen ++ name ∷ []) names ≡ (any_seen seen names || has_name names name)
 any_seen_push seen name [] = refl
@@ -57,6 +55,14 @@ none_seen (name ∷ names) = none_seen names
 -- where none was seen yet, it says whether one stands twice
 pub repeated_from_none : (names : List (List ℕ)) → repeated_after [] names ≡ has_repeated names
 repeated_from_none names = seen_or_twice [] names ∙ ap (λ b. b || has_repeated names) (none_seen names)
+
+-- of names none of which stands twice, none stands twice in a first part
+pub apart_left : (xs ys : List (List ℕ)) → has_repeated (xs ++ ys) ≡ false → has_repeated xs ≡ false
+apart_left [] ys e = refl
+apart_left (x ∷ xs) ys e =
+    let parts = neither (has_name (xs ++ ys) x) (has_repeated (xs ++ ys)) e in
+    let lacks = neither (has_name xs x) (has_name ys x) (sym (list_any-append (λ other. bytes_eq other x) xs ys) ∙ parts.0) in
+    rw (lacks.0, apart_left xs ys parts.1) refl
 
 any_mapped : (test : List ℕ → Bool) (keys : List (Bor (List ℕ))) → list_any test (map (λ key. key.now) keys) ≡ list_any (λ key. test key.now) keys
 any_mapped test [] = refl

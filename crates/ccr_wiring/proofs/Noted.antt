@@ -7,6 +7,7 @@ use Rattle.std.proofs.lemmas.Bool.Decides.{nat_tests}
 use Rattle.std.proofs.lemmas.Option.{slice_get-get_or}
 use Rattle.ccr_base.specs.declared.names.Spot.{Spot}
 use Rattle.ccr_base.specs.declared.patterns.Slot.{Slot}
+use Rattle.ccr_base.proofs.Booleans.{and_false, or_assoc}
 use Rattle.ccr_wiring.specs.Repeats.{has_port, are_apart, slot_ports}
 use Rattle.ccr_wiring.specs.Takers.{more_for, IsNoted}
 
@@ -76,10 +77,6 @@ any_more : (ports : List ℕ) (i port n : ℕ) → slice_get ports i ≡ Some po
 any_more [] i port n there = grind (arith, there)
 any_more (other ∷ ports) zero port n there = grind (arith, there)
 any_more (other ∷ ports) (suc i) port n there = ap (λ b. (other == n) || b) (any_more ports i port n there) ∙ or_assoc (other == n) (has_port (take i ports) n) (port == n)
-  where
-    or_assoc : (a b c : Bool) → a || (b || c) ≡ (a || b) || c
-    or_assoc true b c = refl
-    or_assoc false b c = refl
 
 -- a number that comes later isn't among those before it
 never_before : (ports : List ℕ) (i port : ℕ) → are_apart ports ≡ true → slice_get ports i ≡ Some port → has_port (take i ports) port ≡ false
@@ -109,10 +106,6 @@ slots_next ports i port spot old mid new apart there first second =
         let never : has_port (take i ports) n ≡ false = ap (λ m. has_port (take i ports) m) (sym one) ∙ never_before ports i port apart there in
         rw never refl
     once n false differs = and_false (has_port (take i ports) n)
-      where
-        and_false : (a : Bool) → a && false ≡ false
-        and_false true = refl
-        and_false false = refl
 
 -- the same of the port of a slot
 pub slot_next : (slots : List Slot) (i : ℕ) (d : Slot) (spot : Spot) (old mid new : List (List Spot)) → are_apart (slot_ports slots) ≡ true → i < length slots → IsNoted (has_port (take i (slot_ports slots))) spot old mid → IsNoted (λ n. (get_or slots i d).port == n) spot mid new → IsNoted (has_port (take (i + 1) (slot_ports slots))) spot old new

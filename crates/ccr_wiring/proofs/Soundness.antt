@@ -5,12 +5,14 @@ use Rattle.std.specs.List.{list_any, slice_get}
 use Rattle.std.proofs.lemmas.Bool.Decides.{nat_tests}
 use Rattle.std.proofs.lemmas.List.Folds.{list_any-append}
 use Rattle.std.proofs.lemmas.List.Sums.{sum_by-cons}
+use Rattle.std.proofs.lemmas.Bool.{ltb-false as at_most}
 use Rattle.ccr_base.specs.declared.handlers.Action.{Action}
 use Rattle.ccr_base.specs.declared.handlers.Action.TheVariants.{Post, Fail, Add, Remove, Await}
 use Rattle.ccr_base.specs.declared.messages.Sent.{Sent}
 use Rattle.ccr_base.specs.declared.patterns.Pattern.{Pattern}
 use Rattle.ccr_base.specs.declared.patterns.Pattern.TheVariants.{Slots, Gather}
 use Rattle.ccr_base.specs.declared.patterns.Slot.{Slot}
+use Rattle.ccr_base.proofs.Booleans.{not_refuted}
 use Rattle.ccr_wiring.specs.declared.parts.ArbiterPart.{ArbiterPart}
 use Rattle.ccr_wiring.specs.declared.parts.BranchPart.{BranchPart}
 use Rattle.ccr_wiring.specs.declared.parts.CausePart.{CausePart}
@@ -30,15 +32,9 @@ use Rattle.ccr_wiring.proofs.SpotLemmas.{length-placements}
 use Rattle.ccr_wiring.proofs.DomainLemmas.{kept_domain}
 use Rattle.ccr_wiring.proofs.Validity.{no_codes, within, few_branches, few_actions}
 
-not_not : (b : Bool) → not b ≡ false → b ≡ true
-not_not true e = refl
-not_not false e = absurd cc
-
-below : (count number : ℕ) → is_beyond count number ≡ false → number < count
+-- a number that is not beyond the count is below it
+pub below : (count number : ℕ) → is_beyond count number ≡ false → number < count
 below count number none = grind (arith, nat_tests, none)
-
-at_most : (most n : ℕ) → nat_lt most n ≡ false → n ≤ most
-at_most most n none = grind (arith, nat_tests, none)
 
 -- tests of the branches of arbiters are tests of the placements
 placement_any : (q : Kind → BranchPart → Bool) (number : ℕ) (kind : Kind) (branches : List BranchPart) → list_any (λ (s : Placement). q s.kind s.branch) (map (λ branch. record { domain = number; kind = kind; branch = branch }) branches) ≡ list_any (q kind) branches
@@ -117,7 +113,7 @@ slot_filled : (slot : Slot) → slot_is_outside slot ≡ false → IsSlotFilled 
 slot_filled slot none =
     let two = neither (not (slot.least == slot.most)) (is_outside 1 1000 slot.least) none in
     let one = neither (nat_lt slot.least 1) (nat_lt 1000 slot.least) two.1 in
-    let same : (slot.least == slot.most) ≡ true = not_not (slot.least == slot.most) two.0 in
+    let same : (slot.least == slot.most) ≡ true = not_refuted (slot.least == slot.most) two.0 in
     let least : slot.least ≡ slot.most = grind (arith, nat_tests, same) in
     let low : 1 ≤ slot.least = at_most slot.least 1 one.0 in
     (least, omega arith, at_most 1000 slot.least one.1)
@@ -189,7 +185,7 @@ post_named parts post none once =
     record {
       port = below (length parts.ports) post.port both.0;
       causes = λ index cause at. below (length parts.causes) cause (none_at (is_beyond (length parts.causes)) post.causes index cause both.1 at);
-      apart = not_not (are_apart post.causes) once;
+      apart = not_refuted (are_apart post.causes) once;
     }
 
 none_more : (b : Bool) (n : ℕ) → b ≡ false → n ≡ 0 → cond b 1 0 + n ≡ 0
@@ -260,10 +256,10 @@ sound parts valid =
     let twice = neither (has_repeating_set parts || has_repeating_arbiter parts) (has_repeating_poster parts) all.0 in
     let branches = placement_none (λ kind branch. branch_is_dangling parts branch) parts numbers.arbiters in
     record {
-      apart = λ branch s at. not_not (names_ports_once s.branch.pattern) (placement_none (λ kind branch. branch_repeats branch) parts (neither (has_repeating_set parts) (has_repeating_arbiter parts) twice.0).1 branch s at);
+      apart = λ branch s at. not_refuted (names_ports_once s.branch.pattern) (placement_none (λ kind branch. branch_repeats branch) parts (neither (has_repeating_set parts) (has_repeating_arbiter parts) twice.0).1 branch s at);
       queues = λ branch s at. (branch_named parts s.branch (branches branch s at)).queue;
       handlers = λ branch s at. (branch_named parts s.branch (branches branch s at)).handler;
-      groups = λ branch s at. not_not (may_have s.kind s.branch.group) (placement_none (λ kind branch. not (may_have kind branch.group)) parts (any_first has_strange_group _ parts.arbiters none.groups) branch s at);
+      groups = λ branch s at. not_refuted (may_have s.kind s.branch.group) (placement_none (λ kind branch. not (may_have kind branch.group)) parts (any_first has_strange_group _ parts.arbiters none.groups) branch s at);
       pattern_ports = λ branch s index port at there. pattern_port parts s.branch.pattern index port (branch_named parts s.branch (branches branch s at)).pattern there;
       patterns = λ branch s at. pattern_filled s.branch.pattern (placement_none (λ kind branch. branch_is_outside branch) parts inside.arbiters branch s at);
       actions = λ handler index action at. actions_named parts handler index action (slice_get parts.handlers handler) refl numbers.handlers at;

@@ -109,3 +109,11 @@ no_codes parts valid =
     let spots = not_first (has_crowded_port parts) 12 _ branches.1 in
     let forms = not_first (has_malformed_name parts) 14 _ spots.1 in
     record { version = version.0; groups = groups.0; newer = newer.0; names = names.0; references = references.0; repeats = repeats.0; limits = limits.0; branches = branches.0; spots = spots.0; forms = forms.0 }
+
+-- the code of the first test that is met, where these are all
+abbrev pub first_code : Bool → Bool → Bool → Bool → Bool → Bool → Bool → Bool → Bool → Bool → Option ℕ
+first_code a b c d e f g h i j = if a then Some 2 else if b then Some 3 else if c then Some 5 else if d then Some 6 else if e then Some 7 else if f then Some 8 else if g then Some 10 else if h then Some 11 else if i then Some 12 else if j then Some 14 else None
+
+-- no code stands where none is met
+pub no_code : (a b c d e f g h i j : Bool) → a ≡ false → b ≡ false → c ≡ false → d ≡ false → e ≡ false → f ≡ false → g ≡ false → h ≡ false → i ≡ false → j ≡ false → first_code a b c d e f g h i j ≡ None
+no_code a b c d e f g h i j ea eb ec ed ee ef eg eh ei ej = rw (ea, eb, ec, ed, ee, ef, eg, eh, ei, ej) refl

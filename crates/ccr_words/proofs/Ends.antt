@@ -10,6 +10,7 @@ use Rattle.clap.specs.Facts.{explicit_source}
 use Rattle.clap.specs.declared.error.kind.ErrorKind.{ErrorKind}
 use Rattle.clap.proofs.FaultLemmas.{leaf_fault}
 use Rattle.std.proofs.lemmas.List.Folds.{list_any-append}
+use Rattle.std.proofs.Math.Bool.{or-false}
 use Rattle.clap.specs.Takes.{is_given}
 use Rattle.clap.specs.Simple.{App, matches_of, names_of}
 use Rattle.clap.specs.Faults.{built_fault, check_fault, default_fault, defaults_fault, fault_of, settle_fault, turn_fault, walk_fault}
@@ -23,7 +24,7 @@ use Rattle.clap.specs.declared.parser.matches.ArgMatches.{ArgMatches}
 use Rattle.clap.proofs.WalkLemmas.{first_value-rows, one_text-rows}
 use Rattle.ccr_words.proofs.Rules.{built-app, rule_for, rules, top}
 use Rattle.ccr_words.proofs.Rows.{has-rows, put_row, row, row_of_given, rows_of_given, shown}
-use Rattle.ccr_words.proofs.Turns.{AreBundles, Follows, IsFit, IsSettled, Stand, cond_false, cond_same, cond_true, or_false, dead_end, held, waiting_bad, clean, clean-first, end_fault, end_rows, follows, idle_at, run, state_of, waits_at, walk_of}
+use Rattle.ccr_words.proofs.Turns.{AreBundles, Follows, IsFit, IsSettled, Stand, cond_false, cond_same, cond_true, dead_end, held, waiting_bad, clean, clean-first, end_fault, end_rows, follows, idle_at, run, state_of, waits_at, walk_of}
 
 abbrev parts : List Part
 parts = word ∷ workers ∷ size ∷ schedule ∷ json ∷ []
@@ -200,7 +201,7 @@ has_row-flag part id rows other = go (has_row (name_of part) rows)
   where
     go : (b : Bool) → has_row id (cond b rows (rows ++ row DefaultValue part (codes "false") ∷ [])) ≡ has_row id rows
     go true = refl
-    go false = list_any-append (λ (r : Row). bytes_eq r.id id) rows (row DefaultValue part (codes "false") ∷ []) ∙ ap (λ b. has_row id rows || (b || false)) other ∙ or_false (has_row id rows)
+    go false = list_any-append (λ (r : Row). bytes_eq r.id id) rows (row DefaultValue part (codes "false") ∷ []) ∙ ap (λ b. has_row id rows || (b || false)) other ∙ or-false (has_row id rows)
 
 -- the flag among its own rows
 flag_here : (part : Part) (given : Given) (rows : List Row) → takes_value part ≡ false → row_at (name_of part) rows ≡ row_at (name_of part) (rows_of_given given) → has_row (name_of part) rows ≡ has part given

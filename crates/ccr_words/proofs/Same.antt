@@ -21,6 +21,7 @@ use Rattle.ccr_words.specs.declared.requests.Request.TheVariants.{Read}
 use Rattle.ccr_words.specs.declared.requests.Command.{Command}
 use Rattle.ccr_words.specs.declared.requests.Command.TheVariants.{Run, Verify, Record, Replay, Steps, Steady, Service, Expand}
 use Rattle.std.proofs.lemmas.Bool.{and_parts}
+use Rattle.std.proofs.Math.Bool.{and-false}
 
 -- ---- texts that no meaning takes
 
@@ -321,14 +322,10 @@ bad_left s text bad = go (has word s.given) refl
 
 -- ---- a word that begins with a hyphen
 
-and_none : (b : Bool) → (b && false) ≡ false
-and_none true = refl
-and_none false = refl
-
 hyphen_bad : (p : Part) (xs : Text) → takes_value p ≡ true → fine p (45 ∷ xs) ≡ false
 hyphen_bad word xs takes = refl
-hyphen_bad workers xs takes = and_none (nat_lt 0 (length (45 ∷ xs)))
-hyphen_bad size xs takes = and_none (nat_lt 0 (length (45 ∷ xs)))
+hyphen_bad workers xs takes = and-false (nat_lt 0 (length (45 ∷ xs)))
+hyphen_bad size xs takes = and-false (nat_lt 0 (length (45 ∷ xs)))
 hyphen_bad schedule xs takes = absurd (cc)
 hyphen_bad json xs takes = absurd (cc)
 

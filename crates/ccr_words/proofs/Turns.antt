@@ -5,6 +5,7 @@ use Rattle.std.specs.Option.{option_map_or}
 use Rattle.std.proofs.lemmas.List.Folds.{list_any-append}
 use Rattle.clap.specs.Walk.{takes_values}
 use Rattle.std.specs.Str.{bytes_eq, chars}
+use Rattle.std.proofs.Math.Bool.{or-false, or-true, and-false}
 use Rattle.clap.specs.Lexer.{long_of, short_of}
 use Rattle.clap.specs.Walk.{Row, Rule, Text, Walk, Waiting, Held, idle, option, value, arg_by_index, arg_by_id, arg_by_long, has_row, used, settled, settled_rows, walked, finished, positional_held, to_positional, after_step, long_or_other, short_or_plain, is_pending, pushed, used_by_id, plain_word, trailing, after_flag, long_met, option_word, pending_count, most_values}
 use Rattle.clap.specs.Faults.{bundle_step_fault, short_fault}
@@ -82,10 +83,6 @@ abbrev pub position_of : Bool → ℕ
 position_of true = 2
 position_of false = 1
 
-and_false : (b : Bool) → (b && false) ≡ false
-and_false true = refl
-and_false false = refl
-
 pub cond_false : {X : Type 0} (b : Bool) (x y : X) → b ≡ false → cond b x y ≡ y
 cond_false b x y e = ap (λ c. cond c x y) e
 
@@ -97,10 +94,10 @@ cond_same true x y e = e
 cond_same false x y e = refl
 
 positional_fault-word : (h : Held) → positional_fault rules false (rule_for word) h ≡ settle_fault rules false h
-positional_fault-word h = ap (λ b. cond b [] (settle_fault rules false h)) (and_false (is_pending (rule_for word) h.pending))
+positional_fault-word h = ap (λ b. cond b [] (settle_fault rules false h)) (and-false (is_pending (rule_for word) h.pending))
 
 positional_held-word : (text : Text) (h : Held) → positional_held rules (rule_for word) text h ≡ record (settled rules h) { pending = Some (name_of word, text ∷ []) }
-positional_held-word text h = ap (λ b. pushed (name_of word) text (cond b h (settled rules h))) (and_false (is_pending (rule_for word) h.pending))
+positional_held-word text h = ap (λ b. pushed (name_of word) text (cond b h (settled rules h))) (and-false (is_pending (rule_for word) h.pending))
 
 -- a word that goes to a positional
 step_fault-word : (h : Held) → step_fault top 1 h value ≡ settle_fault rules false h
@@ -218,20 +215,12 @@ abbrev pub Follows : Kinds → Walk → Option State → Type 0
 Follows fault w None = (clean fault ≡ false) ⊎ IsDead w
 Follows fault w (Some s) = (clean fault ≡ true) × Reaches w s
 
-pub or_false : (b : Bool) → (b || false) ≡ b
-or_false true = refl
-or_false false = refl
-
-or_true : (b : Bool) → (b || true) ≡ true
-or_true true = refl
-or_true false = refl
-
 has-with : (part : Part) (text : Text) (given : Given) (sought : Part) → has sought (with_part part text given) ≡ (has sought given || bytes_eq (name_of part) (name_of sought))
 has-with part text given sought = list_any-append (λ (g : Part × Text). bytes_eq (name_of g.0) (name_of sought)) given ((part, text) ∷ [])
-    ∙ ap (λ b. has sought given || b) (or_false (bytes_eq (name_of part) (name_of sought)))
+    ∙ ap (λ b. has sought given || b) (or-false (bytes_eq (name_of part) (name_of sought)))
 
 has_word-kept : (part : Part) (text : Text) (given : Given) → bytes_eq (name_of part) (name_of word) ≡ false → has word (with_part part text given) ≡ has word given
-has_word-kept part text given other = has-with part text given word ∙ ap (λ b. has word given || b) other ∙ or_false (has word given)
+has_word-kept part text given other = has-with part text given word ∙ ap (λ b. has word given || b) other ∙ or-false (has word given)
 
 -- a word that is left over
 left_over_follows : (rows : List Row) (pending : Option (Text × List Text)) (given : Given) (ended : Bool) (text : Text) → IsSettled rows pending given → (b : Bool) → has word given ≡ b
@@ -249,9 +238,9 @@ left_over_follows rows pending given ended text fit false e = (
     walk =
         let held_is : positional_held rules (rule_for word) text (held rows pending) ≡ held (rows_of_given given) (Some (name_of word, text ∷ [])) =
         positional_held-word text (held rows pending) ∙ ap (λ rs. held rs (Some (name_of word, text ∷ []))) fit.same in
-        let position_is : 2 ≡ position_of (has word (with_part word text given)) = sym (ap position_of (has-with word text given word ∙ or_true (has word given))) in
+        let position_is : 2 ≡ position_of (has word (with_part word text given)) = sym (ap position_of (has-with word text given word ∙ or-true (has word given))) in
         let placed : ◌≡◌ {A = Walk} (to_positional rules (Some (rule_for word)) text (at rows pending idle 1 ended) (held rows pending)) (walk_of (idle_at (rows_of_given given) (Some (name_of word, text ∷ [])) (with_part word text given) ended)) =
-        λ i. record { held = held_is i; waiting = idle; position = position_is i; is_trailing = or_false ended i; stopped = None } in
+        λ i. record { held = held_is i; waiting = idle; position = position_is i; is_trailing = or-false ended i; stopped = None } in
         ap (λ (o : Option Rule). to_positional rules o text (at rows pending idle 1 ended) (held rows pending)) by_index-1 ∙ placed;
     state = refl;
   },

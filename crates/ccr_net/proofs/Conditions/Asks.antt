@@ -25,15 +25,13 @@ use Rattle.ccr_wiring.specs.declared.parts.Parts.{Parts}
 use Rattle.ccr_wiring.specs.Valid.{IsValid, IsSound}
 use Rattle.ccr_wiring.proofs.Soundness.{sound}
 use Rattle.ccr_model.specs.Firings.{fired}
-use Rattle.ccr_model.proofs.Booleans.{eq-self, or_left, refuted}
+use Rattle.ccr_base.proofs.Booleans.{eq-self, or_left, refuted}
 use Rattle.ccr_model.proofs.Members.{Among, Among-left}
 use Rattle.ccr_model.proofs.Roots.{running_works}
 use Rattle.ccr_model.proofs.SameNames.{same_task-is, same_task-self}
 use Rattle.ccr_places.specs.declared.claims.StandingClaim.{StandingClaim}
-use Rattle.ccr_places.specs.declared.notes.ClaimNote.TheVariants.{Got, Busy, Short}
 use Rattle.ccr_places.specs.declared.notes.Note.{Note}
-use Rattle.ccr_places.specs.declared.notes.Note.TheVariants as notes
-use Rattle.ccr_places.specs.Ports.{PortState, is_claimed_by}
+use Rattle.ccr_places.specs.Ports.{is_claimed_by}
 use Rattle.ccr_places.specs.Ports as ports
 use Rattle.ccr_places.specs.Queues as queues
 use Rattle.ccr_claim.specs.declared.asks.Ask.{Ask}
@@ -72,34 +70,11 @@ use Rattle.ccr_net.proofs.Owed.Names.{is_known, ReachedIn}
 use Rattle.ccr_net.proofs.Conditions.SlotPorts.{next_slot}
 use Rattle.ccr_net.proofs.Conditions.Commits.{commit_met, is_given}
 use Rattle.ccr_net.proofs.Conditions.Ready.{Ready, ready}
+use Rattle.ccr_net.proofs.Played.Ports.{kept_number}
 
 -- a port keeps its number
-number_one : (st : PortState) (note : Note) → (ports.after st note).number ≡ st.number
-number_one st (notes.Post m) = refl
-number_one st (notes.Claim t s (Got k)) = refl
-number_one st (notes.Claim t s (Busy u)) = refl
-number_one st (notes.Claim t s (Short k)) = refl
-number_one st (notes.Consume t) = refl
-number_one st (notes.Free t) = refl
-number_one st (notes.Fired t s ms cs) = refl
-number_one st (notes.Dead t s by) = refl
-number_one st (notes.Admit t) = refl
-number_one st (notes.Over t r how) = refl
-number_one st (notes.Suspend t) = refl
-number_one st (notes.Book t r f) = refl
-number_one st (notes.Unbook t) = refl
-number_one st (notes.Put t d) = refl
-number_one st (notes.Take t) = refl
-number_one st (notes.Draw k) = refl
-number_one st notes.Leave = refl
-number_one st (notes.Left k) = refl
-
 number_so : (p : ℕ) (earlier : List Note) → (port_after p earlier).number ≡ p
-number_so p earlier = kept (ports.start p) earlier
-  where
-    kept : (st : PortState) (earlier : List Note) → (ports.kept st earlier).number ≡ st.number
-    kept st [] = refl
-    kept st (note ∷ earlier) = kept (ports.after st note) earlier ∙ number_one st note
+number_so p earlier = kept_number (ports.start p) earlier
 
 -- an end may be noted where the condition holds
 over_met : (w : Parts) (i : ℕ) (o : Option ArbiterPart) (earlier : List Note) (t r : TaskId) (how : How) → over_of w i o earlier r ≡ true → is_some (note_at_arbiter w i o earlier (asks.Over t r how)) ≡ true

@@ -19,11 +19,11 @@ use Rattle.ccr_wiring.specs.declared.parts.Kind.TheVariants as kinds
 use Rattle.ccr_wiring.specs.declared.parts.Parts.{Parts}
 use Rattle.ccr_wiring.specs.Valid.{IsValid, HasDomains}
 use Rattle.ccr_wiring.specs.Wirings.{Placement, placement}
-use Rattle.ccr_model.specs.declared.history.Event.{Event}
 use Rattle.ccr_model.specs.Firings.{fired}
 use Rattle.ccr_model.specs.Interleaves.{is_placement_in}
 use Rattle.ccr_model.specs.Tasks.{is_interleave}
-use Rattle.ccr_model.proofs.Booleans.{eq-self, no_both, refuted}
+use Rattle.ccr_base.proofs.Booleans.{eq-self, no_both, refuted}
+use Rattle.ccr_model.proofs.Stable.{fired-append}
 use Rattle.ccr_model.proofs.TaskLists.{of_more, among_left, among_right}
 use Rattle.ccr_places.specs.declared.notes.Note.{Note}
 use Rattle.ccr_places.specs.declared.notes.Note.TheVariants as notes
@@ -72,12 +72,9 @@ shows_fired a (notes.Draw n) t is = absurd (cc)
 shows_fired a notes.Leave t is = absurd (cc)
 shows_fired a (notes.Left n) t is = absurd (cc)
 
-fired_append : (g evs : List Event) → fired (g ++ evs) ≡ fired g ++ fired evs
-fired_append g evs = grind (arith, common_steps)
-
 noted_fired : (es : List Entry) (place : Place) (t : TaskId) → has_task (fired_there (notes_at es place)) t ≡ true → has_task (fired (visible es)) t ≡ true
 noted_fired [] place t is = absurd (cc)
-noted_fired (e ∷ es) place t is = subst (λ ts. has_task ts t ≡ true) (sym (fired_append (event_of e) (visible es))) (of_more (fired_there (note_at place e)) (fired_there (notes_at es place)) t _ (subst (λ ts. has_task ts t ≡ true) (split (note_at place e) (notes_at es place)) is) (λ now. among_left (fired (event_of e)) (fired (visible es)) t (here (same_place e.place place) now)) (λ now. among_right (fired (event_of e)) (fired (visible es)) t (noted_fired es place t now)))
+noted_fired (e ∷ es) place t is = subst (λ ts. has_task ts t ≡ true) (sym (fired-append (event_of e) (visible es))) (of_more (fired_there (note_at place e)) (fired_there (notes_at es place)) t _ (subst (λ ts. has_task ts t ≡ true) (split (note_at place e) (notes_at es place)) is) (λ now. among_left (fired (event_of e)) (fired (visible es)) t (here (same_place e.place place) now)) (λ now. among_right (fired (event_of e)) (fired (visible es)) t (noted_fired es place t now)))
   where
     split : (xs ys : List Note) → fired_there (xs ++ ys) ≡ fired_there xs ++ fired_there ys
     split xs ys = grind (arith, common_steps)

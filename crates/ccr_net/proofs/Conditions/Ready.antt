@@ -8,7 +8,7 @@ use Rattle.ccr_wiring.specs.declared.parts.Parts.{Parts}
 use Rattle.ccr_wiring.specs.Valid.{HasDomains}
 use Rattle.ccr_claim.specs.declared.asks.Ask.{Ask}
 use Rattle.ccr_actor.specs.Actors.{State}
-use Rattle.ccr_model.proofs.Booleans.{no_both}
+use Rattle.ccr_base.proofs.Booleans.{no_both}
 use Rattle.ccr_model.proofs.Members.{Among}
 use Rattle.ccr_places.specs.TaskSets.{task_cmp}
 use Rattle.ccr_runs.specs.declared.entries.Entry.{Entry}

@@ -1,6 +1,6 @@
 -- Where a branch stands among those of its arbiter, and that the ports of an attempt's slots differ.
-use Rattle.std.proofs.Common.{◌≡◌, ◌≤◌, ◌<◌, ℕ, zero, suc, ◌+◌, ◌-◌, Bool, true, false, ◌&&◌, ◌||◌, List, [], ◌∷◌, length, Option, option_map, Some, None, refl, sym, arith, ap, ◌∙◌, subst}
-use Rattle.std.specs.Prelude.{◌==◌, nat_lt, nat_le}
+use Rattle.std.proofs.Common.{◌≡◌, ◌≤◌, ◌<◌, ℕ, suc, ◌+◌, ◌-◌, Bool, true, false, ◌&&◌, ◌||◌, List, [], ◌∷◌, length, Option, option_map, Some, None, refl, sym, arith, ap, ◌∙◌, subst}
+use Rattle.std.specs.Prelude.{nat_lt, nat_le}
 use Rattle.std.specs.List.{slice_get, list_any}
 use Rattle.std.proofs.lemmas.Bool.Decides.{nat_tests}
 use Rattle.ccr_base.specs.declared.names.Spot.TheVariants.{Branch}
@@ -16,8 +16,10 @@ use Rattle.ccr_wiring.specs.References.{has_dangling_set, has_dangling_cause, ha
 use Rattle.ccr_wiring.specs.Valid.{IsValid, has_port}
 use Rattle.ccr_wiring.specs.Wirings.{Placement, placement, placements_from, in_domain}
 use Rattle.ccr_wiring.proofs.Positions.{placement-here, placement-later, placement-domain}
+use Rattle.ccr_wiring.proofs.DomainLemmas.{member_fails}
 use Rattle.ccr_wiring.proofs.Validity.{no_codes}
-use Rattle.ccr_model.proofs.Booleans.{neither, no_both}
+use Rattle.ccr_base.proofs.Booleans.{neither, no_both}
+use Rattle.ccr_base.proofs.Options.{get-some}
 use Rattle.ccr_places.specs.Arbiters as arbiters
 use Rattle.ccr_runs.specs.Places.{arbiter_after, branches_before, first_branch}
 use Rattle.ccr_net.proofs.Kept.PlainWirings.{one_branch}
@@ -33,11 +35,6 @@ record InPlace (n : ℕ) (parts : List ArbiterPart) (b : ℕ) (r : Placement) : 
   kind : r.kind ≡ part.kind
   low : branches_before place parts ≤ b
   high : b < branches_before place parts + length part.branches
-
-get-some : {X : Type 0} (xs : List X) (k : ℕ) → k < length xs → (x : X) × (slice_get xs k ≡ Some x)
-get-some [] k low = absurd (omega (arith, low))
-get-some (x ∷ xs) zero low = (x, refl)
-get-some (x ∷ xs) (suc k) low = get-some xs k (omega (arith, low))
 
 in_place : (n : ℕ) (parts : List ArbiterPart) (b : ℕ) (r : Placement) → slice_get (placements_from n parts) b ≡ Some r → InPlace n parts b r
 in_place n [] b r at = absurd (nobody at)
@@ -69,16 +66,6 @@ in_place n (a ∷ parts) b r at = by (nat_lt b (length a.branches)) refl (λ k l
         record { place = suc there.place; part = there.part; number = omega (arith, number); at = there.at; kind = there.kind; low = omega (arith, above, low); high = omega (arith, above, high) }
 
 -- ---- domains
-
-member_fails : (p : ℕ → Bool) (numbers : List ℕ) (number : ℕ) → has_port numbers number ≡ true → list_any p numbers ≡ false → p number ≡ false
-member_fails p [] number there none = absurd cc
-member_fails p (other ∷ numbers) number there none =
-    let both = neither (p other) (list_any p numbers) none in
-    by_test (other == number) refl (λ among. member_fails p numbers number among both.1)
-  where
-    by_test : (t : Bool) → (other == number) ≡ t → (has_port numbers number ≡ true → p number ≡ false) → p number ≡ false
-    by_test true same others = let e : other ≡ number = grind (arith, nat_tests, same) in ap p (sym e) ∙ (neither (p other) (list_any p numbers) none).0
-    by_test false apart others = others (ap (λ b. b || has_port numbers number) (sym apart) ∙ there)
 
 -- what isn't an Interleave is combined with none
 own_domain : (w : Parts) (number : ℕ) (part : ArbiterPart) (domains : List DomainPart) → list_any (domain_is_dangling w) domains ≡ false → slice_get w.arbiters number ≡ Some part → is_interleave part.kind ≡ false → domain_of domains number ≡ number

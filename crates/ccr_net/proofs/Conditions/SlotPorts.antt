@@ -10,7 +10,7 @@ use Rattle.ccr_base.specs.declared.patterns.Slot.{Slot}
 use Rattle.ccr_wiring.specs.declared.parts.Parts.{Parts}
 use Rattle.ccr_wiring.specs.Valid.{HasPortsApart, has_port, are_apart, slot_ports, names_ports_once}
 use Rattle.ccr_wiring.specs.Wirings.{Placement}
-use Rattle.ccr_model.proofs.Booleans.{same_number, eq-self, both, neither, not_true, no_both}
+use Rattle.ccr_base.proofs.Booleans.{same_number, eq-self, both, neither, not_true, no_both}
 use Rattle.ccr_model.proofs.Members.{Among, Among-right}
 use Rattle.ccr_claim.specs.declared.plan.Had.{Had}
 use Rattle.ccr_claim.specs.Plans.{insert_slot, any_slot}

@@ -16,7 +16,7 @@ use Rattle.ccr_model.specs.declared.history.Event.TheVariants as events
 use Rattle.ccr_model.specs.Firings.{Firing, fired, put, cut, ever_admitted}
 use Rattle.ccr_model.specs.Posts.{taken}
 use Rattle.ccr_model.specs.Rules.{needs_no_admission}
-use Rattle.ccr_model.proofs.Booleans.{refuted, no_both, or_right}
+use Rattle.ccr_base.proofs.Booleans.{refuted, no_both, or_right}
 use Rattle.ccr_model.proofs.Cutting.{CutFacts-legal, waits_unput}
 use Rattle.ccr_model.proofs.FiringFacts.{waits_outside}
 use Rattle.ccr_model.proofs.LegalParts.{legal_push}

@@ -27,8 +27,9 @@ use Rattle.ccr_model.specs.Posts.{posts_of_poster, posts_of_task, posts_of_tasks
 use Rattle.ccr_model.specs.Rules.{refused, is_new, cuts_at, is_script_line, is_play_post, is_post, has_budget, may_put, drop_at, is_oldest_queued, may_start, may_end, ends_so, is_shed}
 use Rattle.ccr_model.specs.TaskData.{placement_of, play_of}
 use Rattle.ccr_model.specs.Tasks.{queued, running, running_by, has_post_left, count_unfinished}
-use Rattle.ccr_model.proofs.Booleans.{eq-self}
+use Rattle.ccr_base.proofs.Booleans.{eq-self}
 use Rattle.ccr_model.proofs.SameNames.{same_task-self, same_value-self}
+use Rattle.ccr_model.proofs.Allowing.{same_option-self}
 use Rattle.ccr_net.proofs.Parts.Invariant.{IsToPut}
 pub use Rattle.ccr_model.proofs.Allowing.{passed as refused_pass}
 
@@ -70,14 +71,10 @@ play_allowed w h t place sent runs line next room =
     let left : has_budget w h ≡ true = grind (arith, nat_tests, room) in
     refused_pass (is_play_post w h t place (record { id = names.Task t place; port = sent.port; value = sent.value; causes = sent.causes })) _ _ (rw (runs, counts, line, same) refl) (refused_pass (has_budget w h) _ None left refl)
 
-same_drop : (d : Option TaskId) → same_options same_task d d ≡ true
-same_drop None = refl
-same_drop (Some x) = same_task-self x
-
 pub put_allowed : (w : Parts) (h : List Event) (t : TaskId) (d : Option TaskId) → IsToPut w h t → drop_at w h t ≡ d → IsAllowed w h (events.Put t d)
 put_allowed w h t d is drops =
     let may : may_put w h t ≡ true = rw (is.unput, is.uncut, is.fires.1) is.entered in
-    let drop : same_options same_task d (drop_at w h t) ≡ true = subst (λ o. same_options same_task d o ≡ true) (sym drops) (same_drop d) in
+    let drop : same_options same_task d (drop_at w h t) ≡ true = subst (λ o. same_options same_task d o ≡ true) (sym drops) (same_option-self d) in
     refused_pass (may_put w h t) _ _ may (refused_pass (same_options same_task d (drop_at w h t)) _ None drop refl)
 
 pub start_allowed : (w : Parts) (h : List Event) (t : TaskId) (a : ℕ) (s : Placement) (rest : List TaskId) → placement_of w h t ≡ Some s → queued w h s.branch.queue ≡ t ∷ rest → length w.posters ≤ a → a ≤ 32 → running_by h a ≡ [] → IsAllowed w h (events.Start t a)

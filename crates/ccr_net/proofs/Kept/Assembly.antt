@@ -11,7 +11,7 @@ use Rattle.ccr_base.specs.Names.{has_task}
 use Rattle.ccr_wiring.specs.declared.parts.Parts.{Parts}
 use Rattle.ccr_model.specs.declared.history.Event.{Event}
 use Rattle.ccr_model.specs.Legal.{IsLegal}
-use Rattle.ccr_model.proofs.Booleans.{same_number, eq-self, refuted, no_both}
+use Rattle.ccr_base.proofs.Booleans.{same_number, eq-self, refuted, no_both, differ}
 use Rattle.ccr_model.proofs.Members.{Among}
 use Rattle.ccr_places.specs.Ports.{PortState}
 use Rattle.ccr_places.specs.Queues.{QueueState}
@@ -144,9 +144,6 @@ pub record Keeps (w : Parts) (n : ℕ) (lacks : Lacks) (es : List Entry) (e : En
   pub sites : SitesMatch h (es ++ e ∷ [])
   pub domains : DomainsMatch w h (es ++ e ∷ [])
   pub apart : (a : ℕ) → e.actor ≢ a → (t : TaskId) → has_task (puts_in next.hand) t ≡ true → has_task (puts_in (state_of w lacks es a).hand) t ≡ false
-
-pub differ : (a b : ℕ) → (a == b) ≡ false → a ≢ b
-differ a b is same = let k : (a == b) ≡ true = subst (λ r. (a == r) ≡ true) same (eq-self a) in absurd (cc)
 
 pub Holds-kept : (w : Parts) (n : ℕ) (lacks : Lacks) (es : List Entry) (e : Entry) (next : State) (h : List Event) → Holds w n lacks es → Keeps w n lacks es e next h → Holds w n lacks (es ++ e ∷ [])
 Holds-kept w n lacks es e next h holds keeps = record {

@@ -10,7 +10,7 @@ use Rattle.ccr_wiring.specs.Valid.{IsValid}
 use Rattle.ccr_wiring.proofs.Soundness.{sound}
 use Rattle.ccr_model.specs.Firings.{fired}
 use Rattle.ccr_model.specs.Order.{next_attempt}
-use Rattle.ccr_model.proofs.Booleans.{same_number}
+use Rattle.ccr_base.proofs.Booleans.{same_number}
 use Rattle.ccr_model.proofs.SameNames.{same_task-self}
 use Rattle.ccr_claim.specs.declared.asks.Reply.{Reply}
 use Rattle.ccr_actor.specs.Actors.{State, state_after, start, shorten}

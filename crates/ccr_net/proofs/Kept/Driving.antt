@@ -37,8 +37,8 @@ use Rattle.ccr_base.specs.declared.policies.Group.TheVariants as groups
 use Rattle.ccr_base.specs.declared.tasks.By.TheVariants.{Fired as ByFired}
 use Rattle.ccr_places.specs.Interleaves.{InterleaveState}
 use Rattle.ccr_places.specs.Interleaves as interleaves
-use Rattle.ccr_model.proofs.Booleans.{both, same_number, eq-self, not_false}
-use Rattle.ccr_model.proofs.Options.{none_map}
+use Rattle.ccr_base.proofs.Booleans.{both, same_number, eq-self, not_false}
+use Rattle.ccr_base.proofs.Options.{none_map, no_some}
 use Rattle.ccr_model.proofs.Members.{Among}
 use Rattle.ccr_places.specs.declared.claims.StandingClaim.{StandingClaim}
 use Rattle.ccr_places.specs.declared.notes.ClaimNote.TheVariants.{Got, Busy, Short}
@@ -78,7 +78,7 @@ use Rattle.ccr_net.proofs.Kept.Silent.{step_consume, step_free, step_unbook, ste
 use Rattle.ccr_net.proofs.Kept.PlainFacts.{PlainFacts, Retires, IsEven}
 use Rattle.ccr_net.proofs.Kept.Allowed.{fire_allowed, resume_allowed}
 use Rattle.ccr_net.proofs.Kept.Firings.{chosen_now, oldest_now, step_fire, step_put}
-use Rattle.ccr_net.proofs.Parts.Noted.{given_some, none_at, over_note, no_some, Given, given_to}
+use Rattle.ccr_net.proofs.Parts.Noted.{given_some, none_at, over_note, Given, given_to}
 
 module _ (w : Parts) (n : ℕ) (first : PlainFacts w) (few : n ≤ 33) (lacks : Lacks) (es : List Entry) (e : Entry) (low : e.actor < n) (holds : Holds w n lacks es) (step : Step w lacks es e) where
   abbrev before : State

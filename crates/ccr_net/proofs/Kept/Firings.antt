@@ -31,11 +31,11 @@ use Rattle.ccr_model.specs.Legal.{IsAllowed}
 use Rattle.ccr_model.specs.Posts.{posts, posts_of_task, held, taken}
 use Rattle.ccr_model.specs.TaskData.{placement_of}
 use Rattle.ccr_model.specs.Tasks.{queued, is_for_queue, is_branch_where, running_by}
-use Rattle.ccr_model.proofs.Booleans.{same_number, eq-self, refuted, no_both, or_left, or_right}
+use Rattle.ccr_base.proofs.Booleans.{same_number, eq-self, refuted, no_both, or_left, or_right}
 use Rattle.ccr_model.proofs.FiredTasks.{IsFired, IsFired-append, fired_has}
 use Rattle.ccr_model.proofs.LegalParts.{legal_push}
 use Rattle.ccr_model.proofs.Members.{Among}
-use Rattle.ccr_model.proofs.Options.{some_of}
+use Rattle.ccr_base.proofs.Options.{some_of}
 use Rattle.ccr_model.proofs.PostNames.{AreNamed}
 use Rattle.ccr_model.proofs.Pushes.{posts-push, put-push, cut-push}
 use Rattle.ccr_model.proofs.SameNames.{same_task-self}

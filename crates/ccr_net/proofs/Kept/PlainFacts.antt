@@ -27,7 +27,7 @@ use Rattle.ccr_model.specs.Legal.{IsAllowed, IsLegal}
 use Rattle.ccr_model.specs.Posts.{posts, posts_of_task, is_message_of}
 use Rattle.ccr_model.specs.Rules.{is_play_post, refusal_of_post}
 use Rattle.ccr_model.specs.Tasks.{is_interleave, running}
-use Rattle.ccr_model.proofs.Booleans.{both}
+use Rattle.ccr_base.proofs.Booleans.{both}
 use Rattle.ccr_model.proofs.Members.{Among}
 use Rattle.ccr_model.proofs.PostNames.{along, refused_not}
 use Rattle.ccr_model.proofs.Pushes.{posts-push, started-push}

@@ -28,15 +28,14 @@ use Rattle.ccr_wiring.proofs.Positions.{placement-here, placement-later, placeme
 use Rattle.ccr_wiring.proofs.Soundness.{sound}
 use Rattle.ccr_wiring.proofs.Validity.{no_codes}
 use Rattle.ccr_model.specs.Tasks.{is_interleave}
-use Rattle.ccr_model.proofs.Booleans.{both}
-use Rattle.ccr_model.proofs.Members.{Among, Among-either}
+use Rattle.ccr_base.proofs.Booleans.{both}
+use Rattle.ccr_model.proofs.Members.{Among, Among-either, place_of}
 use Rattle.ccr_actor.specs.Actors.{play_in}
 use Rattle.ccr_places.specs.Arbiters as arbiters
 use Rattle.ccr_runs.specs.Places.{arbiter_after, branches_before, first_branch, is_once}
 use Rattle.ccr_net.proofs.Parts.Phases.{SpotFits}
 use Rattle.ccr_net.proofs.Parts.Work.{drop-next}
 use Rattle.ccr_net.proofs.Kept.PlainFacts.{PlainFacts, IsEven, Retires}
-use Rattle.ccr_net.proofs.Known.Places.{place_of}
 
 even_filled : (pattern : Pattern) → IsPatternFilled pattern → IsEven pattern
 even_filled (Gather total first second) filled = tt

@@ -13,7 +13,7 @@ use Rattle.ccr_wiring.proofs.Soundness.{sound}
 use Rattle.ccr_model.specs.Legal.{IsLegal, has_shed, is_covered}
 use Rattle.ccr_model.specs.Posts.{posts_of_tasks}
 use Rattle.ccr_model.specs.Tasks.{count_unfinished}
-use Rattle.ccr_model.proofs.Options.{none-above}
+use Rattle.ccr_base.proofs.Options.{none-above}
 use Rattle.ccr_model.proofs.Covered.{IsCovered-legal}
 use Rattle.ccr_actor.specs.Actors.{State, Work, lines, round, work_of, fresh_state}
 use Rattle.ccr_runs.specs.declared.entries.Entry.{Entry}

@@ -20,7 +20,7 @@ use Rattle.ccr_model.specs.Firings.{fired, cut}
 use Rattle.ccr_model.specs.Tasks.{is_over}
 use Rattle.ccr_model.proofs.FiredTasks.{fired_has}
 use Rattle.ccr_model.proofs.TaskLists.{among_right}
-use Rattle.ccr_model.proofs.Booleans.{same_number, no_both}
+use Rattle.ccr_base.proofs.Booleans.{same_number, no_both}
 use Rattle.ccr_model.proofs.Members.{Among}
 use Rattle.ccr_model.proofs.SameNames.{same_task-is}
 use Rattle.ccr_places.specs.declared.claims.StandingClaim.{StandingClaim}

@@ -1,5 +1,6 @@
 -- What is visible of a run is legal: the case split over the turns.
 use Rattle.std.proofs.Common.{◌≡◌, ◌≤◌, ◌<◌, ℕ, List, [], ◌∷◌, ◌++◌, Some, refl, subst}
+use Rattle.ccr_base.proofs.Options.{no_some}
 use Rattle.ccr_wiring.specs.declared.parts.Parts.{Parts}
 use Rattle.ccr_model.specs.declared.history.Event.{Event}
 use Rattle.ccr_actor.specs.Actors.{State, Turn, settle, admit, drive, go_on, stop, turn, ask_in}
@@ -9,7 +10,6 @@ use Rattle.ccr_runs.specs.Visible.{visible}
 use Rattle.ccr_net.proofs.Parts.Pushes.{Step}
 use Rattle.ccr_net.proofs.Kept.Assembly.{ActorHolds, Holds}
 use Rattle.ccr_net.proofs.Kept.PlainFacts.{PlainFacts}
-use Rattle.ccr_net.proofs.Parts.Noted.{no_some}
 use Rattle.ccr_net.proofs.Kept.Driving.{settle_kept, drive_kept}
 use Rattle.ccr_net.proofs.Kept.Working.{go_on_kept}
 use Rattle.ccr_net.proofs.Kept.Admits.{admit_kept}

@@ -27,7 +27,8 @@ use Rattle.ccr_model.specs.TaskData.{play_of}
 use Rattle.ccr_model.specs.Firings.{ended, yielded_by}
 use Rattle.ccr_model.proofs.FiredTasks.{IsFired, IsFired-append}
 use Rattle.ccr_model.specs.Tasks.{running, running_by, has_post_left, unfinished, count_unfinished}
-use Rattle.ccr_model.proofs.Booleans.{same_number, eq-self, or_right}
+use Rattle.ccr_base.proofs.Booleans.{same_number, eq-self, or_right}
+use Rattle.ccr_base.proofs.Options.{no_some}
 use Rattle.ccr_model.proofs.Pushes.{posts-push}
 use Rattle.ccr_model.proofs.SameNames.{same_value-self}
 use Rattle.ccr_model.proofs.TaskLists.{to_filter}
@@ -58,7 +59,7 @@ use Rattle.ccr_net.proofs.Kept.PlainFacts.{PlainFacts}
 use Rattle.ccr_net.proofs.Kept.Allowed.{script_allowed, play_allowed, end_allowed, shed_allowed}
 use Rattle.ccr_net.proofs.Kept.Shown.{GoesOn, goes_fits, goes_booked, goes_under_way, step_post}
 use Rattle.ccr_net.proofs.Kept.Firings.{step_start, step_end, step_suspend}
-use Rattle.ccr_net.proofs.Parts.Noted.{given_some, over_note, filter_among, no_some, posts_script, posts_task, Given, given_to}
+use Rattle.ccr_net.proofs.Parts.Noted.{given_some, over_note, filter_among, posts_script, posts_task, Given, given_to}
 
 module _ (w : Parts) (n : ℕ) (first : PlainFacts w) (few : n ≤ 33) (lacks : Lacks) (es : List Entry) (e : Entry) (low : e.actor < n) (holds : Holds w n lacks es) (step : Step w lacks es e) where
   abbrev before : State

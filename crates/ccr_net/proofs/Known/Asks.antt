@@ -16,6 +16,7 @@ use Rattle.ccr_base.specs.declared.patterns.Slot.{Slot}
 use Rattle.ccr_base.specs.declared.tasks.How.{How}
 use Rattle.ccr_base.specs.declared.tasks.Task.{Task}
 use Rattle.ccr_base.specs.Names.{has_task}
+use Rattle.ccr_base.proofs.Options.{no_some}
 use Rattle.ccr_handler.specs.declared.segments.Play.{Play}
 use Rattle.ccr_handler.specs.declared.segments.PlayEnd.{PlayEnd}
 use Rattle.ccr_handler.specs.declared.segments.PlayEnd.TheVariants as plays
@@ -56,7 +57,7 @@ use Rattle.ccr_net.proofs.Known.Causes.{IsSentFine, fine_causes, play_of-fine, p
 use Rattle.ccr_net.proofs.Known.Places.{IsPlaceOf}
 use Rattle.ccr_net.proofs.Known.States.{Reaches, WorkReaches}
 use Rattle.ccr_net.proofs.Known.Tasks.{IsDomain, built_known, domain_low, domain_own, spot_domain, spot_queue, suspended_known, view_domain, view_known, view_queue}
-use Rattle.ccr_net.proofs.Parts.Noted.{no_some, none_at}
+use Rattle.ccr_net.proofs.Parts.Noted.{none_at}
 use Rattle.ccr_net.proofs.Parts.Patterns.{sorted_among}
 use Rattle.ccr_net.proofs.Parts.Phases.{Fits, PhaseFits, SpotFits}
 use Rattle.ccr_net.proofs.Kept.PlainFacts.{PlainFacts}

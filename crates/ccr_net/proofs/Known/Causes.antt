@@ -25,6 +25,7 @@ use Rattle.ccr_wiring.specs.declared.parts.PosterPart.{PosterPart}
 use Rattle.ccr_wiring.specs.Repeats.{are_apart, has_port}
 use Rattle.ccr_wiring.specs.Valid.{IsActionNamed, IsSound}
 use Rattle.ccr_wiring.specs.Wirings.{Placement, actions_of, branch_of, exception_port, placement, segment_of, actions_at}
+use Rattle.ccr_wiring.proofs.Apart.{apart_snoc}
 use Rattle.ccr_model.specs.declared.history.Event.{Event}
 use Rattle.ccr_model.specs.declared.history.Event.TheVariants as events
 use Rattle.ccr_model.specs.Firings.{Firing, firing_named, spot_of}
@@ -34,13 +35,12 @@ use Rattle.ccr_model.specs.Rules.{is_play_post, is_post, is_script_line, refusal
 use Rattle.ccr_model.specs.Sites.{before, is_firing_of, resumed}
 use Rattle.ccr_model.specs.TaskData.{Load, load_after, load_at, load_of, messages_of, no_load, no_play, play_at, play_of, with_messages}
 use Rattle.ccr_model.specs.Tasks.{running}
-use Rattle.ccr_model.proofs.Booleans.{both, same_number}
+use Rattle.ccr_base.proofs.Booleans.{both, same_number, not_true}
 use Rattle.ccr_model.proofs.Members.{Among, Among-either, Among-at, Among-left, Among-right}
-use Rattle.ccr_model.proofs.Options.{some_of, some_then}
+use Rattle.ccr_base.proofs.Options.{some_of, some_then}
 use Rattle.ccr_model.proofs.PostNames.{along, refused_not}
 use Rattle.ccr_model.proofs.Pushes.{posts-push}
 use Rattle.ccr_claim.specs.Wired.{AreCausesOf}
-use Rattle.ccr_claim.proofs.Apart.{apart_snoc}
 use Rattle.ccr_net.proofs.Parts.Noted.{filter_among}
 
 -- ---- lists of causes
@@ -85,12 +85,8 @@ filter_apart : (p : ℕ → Bool) (xs : List ℕ) → are_apart xs ≡ true → 
 filter_apart p [] apart = refl
 filter_apart p (x ∷ xs) apart = by (p x) (both (not (has_port xs x)) (are_apart xs) apart).0 (filter_apart p xs (both (not (has_port xs x)) (are_apart xs) apart).1)
   where
-    of_first : (b : Bool) → not b ≡ true → b ≡ false
-    of_first false e = refl
-    of_first true e = absurd (cc)
-
     by : (b : Bool) → not (has_port xs x) ≡ true → are_apart (filter p xs) ≡ true → are_apart (if b then x ∷ filter p xs else filter p xs) ≡ true
-    by true here rest = rw (filter_out p xs x (of_first (has_port xs x) here)) rest
+    by true here rest = rw (filter_out p xs x (not_true (has_port xs x) here)) rest
     by false here rest = rest
 
 without_fine : (n : ℕ) (causes : List ℕ) (c : ℕ) → AreFine n causes → AreFine n (without_cause causes c)

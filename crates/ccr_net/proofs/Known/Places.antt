@@ -11,7 +11,7 @@ use Rattle.ccr_wiring.specs.declared.parts.DomainPart.{DomainPart}
 use Rattle.ccr_wiring.specs.declared.parts.Parts.{Parts}
 use Rattle.ccr_wiring.specs.Domains.{domain_of}
 use Rattle.ccr_wiring.specs.Wirings.{Placement, actions_of, awaited, placements, sites_from, spots, spots_from}
-use Rattle.ccr_model.proofs.Members.{Among, Among-left, Among-right}
+use Rattle.ccr_model.proofs.Members.{Among, Among-left, Among-right, place_of}
 use Rattle.ccr_object.specs.Starts.{arbiter_places, places_of, port_places, queue_places, site_places}
 use Rattle.ccr_net.proofs.Known.Tasks.{seat_of}
 use Rattle.ccr_net.proofs.Parts.Phases.{SpotFits}
@@ -92,11 +92,6 @@ site_among w b k fits =
     site_place_among (spots w) b k (subst (λ m. Among (Site m k) (spots w)) (let e : 0 + b ≡ b = omega arith in e) (spot_here w 0 b (placements w) seat.0 k fits.0 seat.1 port))
 
 -- ---- all places
-
-pub place_of : {X : Type 0} (xs : List X) (x : X) → Among x xs → (k : ℕ) × (slice_get xs k ≡ Some x)
-place_of [] x is = absurd is
-place_of (y ∷ xs) x (inl e) = (0, ap Some (sym e))
-place_of (y ∷ xs) x (inr more) = let found = place_of xs x more in (suc found.0, found.1)
 
 pub place_among : (w : Parts) (place : Place) → IsPlaceOf w place → Among place (places_of w)
 place_among w place is = by place is

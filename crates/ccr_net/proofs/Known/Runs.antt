@@ -8,7 +8,7 @@ use Rattle.ccr_wiring.proofs.Soundness.{sound}
 use Rattle.ccr_model.specs.declared.history.Event.{Event}
 use Rattle.ccr_model.specs.declared.history.Event.TheVariants as events
 use Rattle.ccr_model.specs.Legal.{IsLegal}
-use Rattle.ccr_model.proofs.Booleans.{eq-self, same_number}
+use Rattle.ccr_base.proofs.Booleans.{eq-self, same_number}
 use Rattle.ccr_model.proofs.Members.{Among, Among-either}
 use Rattle.ccr_places.specs.declared.notes.Note.{Note}
 use Rattle.ccr_places.specs.declared.notes.Note.TheVariants as notes

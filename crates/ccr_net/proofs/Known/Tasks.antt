@@ -16,6 +16,7 @@ use Rattle.ccr_wiring.specs.Repeats.{are_apart, has_port, has_repeating_domain, 
 use Rattle.ccr_wiring.specs.Valid.{IsSound, IsValid}
 use Rattle.ccr_wiring.specs.Wirings.{Placement, actions_of, awaited, branch_of, in_domain, placement, placements_from, site_port}
 use Rattle.ccr_wiring.proofs.Lists.{neither}
+use Rattle.ccr_wiring.proofs.DomainLemmas.{least-low}
 use Rattle.ccr_wiring.proofs.Positions.{placement-domain}
 use Rattle.ccr_wiring.proofs.Validity.{no_codes}
 use Rattle.ccr_model.specs.declared.history.Event.{Event}
@@ -25,10 +26,10 @@ use Rattle.ccr_model.specs.Firings.{Firing, firing_of, firings}
 use Rattle.ccr_model.specs.Legal.{IsAllowed, IsLegal}
 use Rattle.ccr_model.specs.Posts.{held}
 use Rattle.ccr_model.specs.TaskData.{placement_of}
-use Rattle.ccr_model.proofs.Booleans.{both, eq-self, same_number}
+use Rattle.ccr_base.proofs.Booleans.{both, eq-self, same_number, not_true, or_right}
 use Rattle.ccr_model.proofs.FiredTasks.{IsFired}
 use Rattle.ccr_model.proofs.Members.{Among, Among-either}
-use Rattle.ccr_model.proofs.Options.{some-below, some_of}
+use Rattle.ccr_base.proofs.Options.{some-below, some_of}
 use Rattle.ccr_model.proofs.PlacementDomains.{placement-within}
 use Rattle.ccr_model.proofs.PostNames.{along}
 use Rattle.ccr_model.proofs.Pushes.{firings-push}
@@ -43,10 +44,6 @@ use Rattle.ccr_net.proofs.Played.Objects.{suspended_view}
 
 -- ---- domains
 
-least-low : (least : ℕ) (xs : List ℕ) → least_with least xs ≤ least
-least-low least [] = omega arith
-least-low least (x ∷ xs) = let rest = least-low (min least x) xs in omega (arith, rest)
-
 least-below : (least : ℕ) (xs : List ℕ) (x : ℕ) → has_port xs x ≡ true → least_with least xs ≤ x
 least-below least [] x is = absurd (cc)
 least-below least (y ∷ xs) x is = by (y == x) refl is (least-below (min least y) xs x)
@@ -60,17 +57,13 @@ least-either : (least : ℕ) (xs : List ℕ) → (least_with least xs ≡ least)
 least-either least [] = inl refl
 least-either least (x ∷ xs) = by (least-either (min least x) xs)
   where
-    or_more : (a b : Bool) → b ≡ true → a || b ≡ true
-    or_more true b is = refl
-    or_more false b is = is
-
     of_min : (t : Bool) → nat_le least x ≡ t → least_with (min least x) xs ≡ min least x → (least_with (min least x) xs ≡ least) ⊎ ((x == least_with (min least x) xs) || has_port xs (least_with (min least x) xs) ≡ true)
     of_min true le is = inl (is ∙ (let low : least ≤ x = grind (arith, nat_tests, le) in let e : min least x ≡ least = omega arith in e))
     of_min false le is = inr (let high : x ≤ least = grind (arith, nat_tests, le) in let e : min least x ≡ x = omega arith in let same : (x == least_with (min least x) xs) ≡ true = ap (λ k. x == k) (is ∙ e) ∙ eq-self x in ap (λ b. b || has_port xs (least_with (min least x) xs)) same)
 
     by : (least_with (min least x) xs ≡ min least x) ⊎ (has_port xs (least_with (min least x) xs) ≡ true) → (least_with (min least x) xs ≡ least) ⊎ ((x == least_with (min least x) xs) || has_port xs (least_with (min least x) xs) ≡ true)
     by (inl is) = of_min (nat_le least x) refl is
-    by (inr there) = inr (or_more (x == least_with (min least x) xs) (has_port xs (least_with (min least x) xs)) there)
+    by (inr there) = inr (or_right (x == least_with (min least x) xs) (has_port xs (least_with (min least x) xs)) there)
 
 least-there : (least : ℕ) (xs : List ℕ) → has_port xs least ≡ true → has_port xs (least_with least xs) ≡ true
 least-there least xs there = by (least-either least xs)
@@ -114,12 +107,8 @@ apart-split : (xs ys : List ℕ) (m : ℕ) → are_apart (xs ++ ys) ≡ true →
 apart-split [] ys m apart is = absurd (cc)
 apart-split (x ∷ xs) ys m apart is = by (x == m) refl is (apart-split xs ys m (both (not (has_port (xs ++ ys) x)) (are_apart (xs ++ ys)) apart).1)
   where
-    of_not : (b : Bool) → not b ≡ true → b ≡ false
-    of_not false e = refl
-    of_not true e = absurd (cc)
-
     by : (b : Bool) → (x == m) ≡ b → b || has_port xs m ≡ true → (has_port xs m ≡ true → has_port ys m ≡ false) → has_port ys m ≡ false
-    by true same there rest = subst (λ k. has_port ys k ≡ false) (same_number x m same) (port-right xs ys x (of_not (has_port (xs ++ ys) x) (both (not (has_port (xs ++ ys) x)) (are_apart (xs ++ ys)) apart).0))
+    by true same there rest = subst (λ k. has_port ys k ≡ false) (same_number x m same) (port-right xs ys x (not_true (has_port (xs ++ ys) x) (both (not (has_port (xs ++ ys) x)) (are_apart (xs ++ ys)) apart).0))
     by false other there rest = rest there
 
 domain-either : (ds : List DomainPart) (j : ℕ) → (domain_of ds j ≡ j) ⊎ (has_port (members_in_all ds) (domain_of ds j) ≡ true)

@@ -23,7 +23,7 @@ use Rattle.ccr_model.specs.Rules.{cuts_at, needs_no_admission}
 use Rattle.ccr_model.specs.TaskData.{placement_of}
 use Rattle.ccr_model.specs.Tasks.{waiting, is_teardown, is_branch_where}
 use Rattle.ccr_model.proofs.Allowing.{OneName-legal}
-use Rattle.ccr_model.proofs.Booleans.{same_number, eq-self, no_both, both, or_left, or_right, not_true}
+use Rattle.ccr_base.proofs.Booleans.{same_number, eq-self, no_both, both, or_left, or_right, not_true, and_false}
 use Rattle.ccr_model.proofs.Cutting.{AdmitFacts, AdmitFacts-allowed, CutFacts-legal, waits_unput, cut_by}
 use Rattle.ccr_model.proofs.FiredTasks.{fired_has}
 use Rattle.ccr_model.proofs.FiringFacts.{FiresSo-allowed, BranchFacts, BranchFacts-where, WaitingFacts, WaitingFacts-waiting, waits_outside, fired_by_has, firing_named-new}
@@ -226,12 +226,8 @@ module _ (w : Parts) (n : ℕ) (lacks : Lacks) (es : List Entry) (holds : Holds 
   owes_none : (i : ℕ) (t : TaskId) → WaitingFacts w h i t → (a q : ℕ) → many q t (owed_by w lacks es a) ≡ 0
   owes_none i t facts a q = owed.many-zero places.Queue unbooks q t (owed_by w lacks es a) (λ x is. of_owed x (owed_each w n lacks es holds a x is))
     where
-      none : (b : Bool) → b && false ≡ false
-      none true = refl
-      none false = refl
-
       of_owed : (x : Asked) → (bound : ℕ) × IsOwed w h a bound x.place x.ask → is_about q t x ≡ false
-      of_owed x is = rw (unowed i t facts a is.0 x.place x.ask is.1) (none (same_place x.place (places.Queue q)))
+      of_owed x is = rw (unowed i t facts a is.0 x.place x.ask is.1) (and_false (same_place x.place (places.Queue q)))
 
 -- how many of the bookings of the cut tasks are about a task
 cuts_many : (w : Parts) (g : List Event) (q : ℕ) (t : TaskId) (cs : List TaskId) → are_distinct_tasks cs ≡ true → (many q t (map cut_ask (map (cut_view w g) cs)) ≡ 0) ⊎ ((many q t (map cut_ask (map (cut_view w g) cs)) ≡ 1) × (has_task cs t ≡ true) × (queue_of w g t ≡ q))
@@ -303,11 +299,7 @@ module _ (w : Parts) (n : ℕ) (lacks : Lacks) (es : List Entry) (e : Entry) (st
           of_kept (inr is) = inr is
 
   about_quiet : (x : Asked) (q : ℕ) (t : TaskId) → is_quiet x.ask ≡ true → is_about q t x ≡ false
-  about_quiet x q t quiet = rw (unbooks-quiet x.ask quiet) (none (same_place x.place (places.Queue q)))
-    where
-      none : (b : Bool) → b && false ≡ false
-      none true = refl
-      none false = refl
+  about_quiet x q t quiet = rw (unbooks-quiet x.ask quiet) (and_false (same_place x.place (places.Queue q)))
 
   abbrev On : Type 0
   On = owed.OwesOn places.Queue unbooks w lacks (is_booked_at w) es e

@@ -11,7 +11,7 @@ use Rattle.ccr_base.specs.declared.tasks.Cut.{Cut}
 use Rattle.ccr_base.specs.declared.tasks.Task.{Task}
 use Rattle.ccr_base.specs.Names.{same_task, has_task}
 use Rattle.ccr_wiring.specs.declared.parts.Parts.{Parts}
-use Rattle.ccr_model.proofs.Booleans.{same_number, eq-self, no_both, or_left}
+use Rattle.ccr_base.proofs.Booleans.{same_number, eq-self, no_both, or_left, and_false}
 use Rattle.ccr_model.proofs.SameNames.{same_task-is, same_task-self}
 use Rattle.ccr_places.specs.declared.claims.StandingClaim.{StandingClaim}
 use Rattle.ccr_places.specs.declared.notes.ClaimNote.TheVariants.{Got}
@@ -152,11 +152,7 @@ module _ (w : Parts) (n : ℕ) (lacks : Lacks) (es : List Entry) (e : Entry) (st
           of_kept (inr is) = inr is
 
   about_quiet : (x : Asked) (p : ℕ) (t : TaskId) → is_quiet x.ask ≡ true → is_about p t x ≡ false
-  about_quiet x p t quiet = rw (unclaims-quiet x.ask quiet) (none (same_place x.place (places.Port p)))
-    where
-      none : (b : Bool) → b && false ≡ false
-      none true = refl
-      none false = refl
+  about_quiet x p t quiet = rw (unclaims-quiet x.ask quiet) (and_false (same_place x.place (places.Port p)))
 
   -- the same ports are consumed that would be freed
   same_ports : (p : ℕ) (t : TaskId) (had : List Had) → many p t (map (free_ask name) (reverse had)) ≡ many p t (map (consume_ask name) had)

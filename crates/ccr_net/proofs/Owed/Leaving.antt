@@ -8,7 +8,7 @@ use Rattle.ccr_base.specs.declared.names.Place.TheVariants as places
 use Rattle.ccr_handler.specs.declared.segments.PlayEnd.{PlayEnd}
 use Rattle.ccr_handler.specs.declared.segments.PlayEnd.TheVariants as plays
 use Rattle.ccr_wiring.specs.declared.parts.Parts.{Parts}
-use Rattle.ccr_model.proofs.Booleans.{same_number, eq-self}
+use Rattle.ccr_base.proofs.Booleans.{same_number, eq-self, differ}
 use Rattle.ccr_model.proofs.Members.{Among}
 use Rattle.ccr_places.specs.declared.notes.Note.{Note}
 use Rattle.ccr_places.specs.declared.notes.Note.TheVariants as notes
@@ -28,7 +28,7 @@ use Rattle.ccr_net.proofs.Parts.Pushes.{Step, state_of-own, state_of-other}
 use Rattle.ccr_net.proofs.Parts.Invariant.{IsOwed}
 use Rattle.ccr_net.proofs.Parts.Meter.{bit, count, count-one, count-same}
 use Rattle.ccr_net.proofs.Parts.Work.{WorkMatches}
-use Rattle.ccr_net.proofs.Kept.Assembly.{Holds, works_of, meter_at, meter_at-push, next_work, differ}
+use Rattle.ccr_net.proofs.Kept.Assembly.{Holds, works_of, meter_at, meter_at-push, next_work}
 use Rattle.ccr_net.proofs.Owed.GoingOn.{is_scripted, LeavesBy, worked}
 use Rattle.ccr_net.proofs.Owed.Moves.{Move, settles, drops, admits, strikes, books, claims, fires, gives_up, goes, moved}
 use Rattle.ccr_net.proofs.Parts.Noted.{Given}

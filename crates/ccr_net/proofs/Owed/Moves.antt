@@ -10,6 +10,7 @@ use Rattle.ccr_base.specs.declared.names.TaskId.{TaskId}
 use Rattle.ccr_base.specs.declared.patterns.Slot.{Slot}
 use Rattle.ccr_base.specs.declared.tasks.By.{By}
 use Rattle.ccr_base.specs.declared.tasks.Task.{Task}
+use Rattle.ccr_base.proofs.Options.{no_some}
 use Rattle.ccr_wiring.specs.declared.parts.ArbiterPart.{ArbiterPart}
 use Rattle.ccr_wiring.specs.declared.parts.Kind.{Kind}
 use Rattle.ccr_wiring.specs.declared.parts.Kind.TheVariants as kinds
@@ -38,7 +39,7 @@ use Rattle.ccr_runs.specs.Views.{view, cut_view}
 use Rattle.ccr_runs.specs.Visible.{visible}
 use Rattle.ccr_net.proofs.Parts.Pushes.{Step, queue_at}
 use Rattle.ccr_net.proofs.Kept.Assembly.{hand_settles, spots_drive}
-use Rattle.ccr_net.proofs.Parts.Noted.{Given, given_to, given_some, no_some}
+use Rattle.ccr_net.proofs.Parts.Noted.{Given, given_to, given_some}
 
 -- a booking that isn't refused
 abbrev pub is_booked_by : Note → Bool

@@ -11,7 +11,7 @@ use Rattle.ccr_base.specs.Names.{same_task}
 use Rattle.ccr_handler.specs.declared.segments.PlayEnd.{PlayEnd}
 use Rattle.ccr_handler.specs.declared.segments.PlayEnd.TheVariants as plays
 use Rattle.ccr_wiring.specs.declared.parts.Parts.{Parts}
-use Rattle.ccr_model.proofs.Booleans.{same_number, eq-self, no_both, both, or_left, or_right}
+use Rattle.ccr_base.proofs.Booleans.{same_number, eq-self, no_both, both, or_left, or_right}
 use Rattle.ccr_model.proofs.Members.{Among}
 use Rattle.ccr_model.proofs.SameNames.{same_task-is}
 use Rattle.ccr_places.specs.declared.notes.Note.{Note}

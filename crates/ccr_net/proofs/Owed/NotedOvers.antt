@@ -23,7 +23,8 @@ use Rattle.ccr_model.specs.Firings.{last_by}
 use Rattle.ccr_model.specs.Sites.{root_of}
 use Rattle.ccr_model.specs.Tasks.{is_over}
 use Rattle.ccr_model.proofs.Alone.{over_stays, lasts_fired}
-use Rattle.ccr_model.proofs.Booleans.{no_both, or_left}
+use Rattle.ccr_base.proofs.Booleans.{no_both, or_left}
+use Rattle.ccr_base.proofs.Options.{no_some}
 use Rattle.ccr_model.proofs.FiredTasks.{root_stays}
 use Rattle.ccr_model.proofs.Members.{Among}
 use Rattle.ccr_model.proofs.SameNames.{same_task-self}
@@ -46,7 +47,7 @@ use Rattle.ccr_net.proofs.Parts.Invariant.{IsOwed}
 use Rattle.ccr_net.proofs.Parts.DomainHistory.{over_now}
 use Rattle.ccr_net.proofs.Kept.Assembly.{Holds}
 use Rattle.ccr_net.proofs.Owed.Moves.{commit_notes, IsCommitNote}
-use Rattle.ccr_net.proofs.Parts.Noted.{Given, given_some, no_some, none_at, over_note}
+use Rattle.ccr_net.proofs.Parts.Noted.{Given, given_some, none_at, over_note}
 use Rattle.ccr_net.proofs.Owed.Owing.{Owes, less, dropped, admitted, booked, got, fired, same, ended, owes, is_quiet, is_run_end, Runs}
 use Rattle.ccr_net.proofs.Owed.Once.{owed_by, owed_each}
 

@@ -5,7 +5,7 @@ use Rattle.ccr_base.specs.declared.names.Place.{Place}
 use Rattle.ccr_base.specs.declared.names.TaskId.{TaskId}
 use Rattle.ccr_base.specs.Names.{has_task}
 use Rattle.ccr_wiring.specs.declared.parts.Parts.{Parts}
-use Rattle.ccr_model.proofs.Booleans.{same_number}
+use Rattle.ccr_base.proofs.Booleans.{same_number, differ}
 use Rattle.ccr_model.proofs.Members.{Among, Among-either}
 use Rattle.ccr_claim.specs.declared.asks.Ask.{Ask}
 use Rattle.ccr_claim.specs.declared.asks.Asked.{Asked}
@@ -22,7 +22,7 @@ use Rattle.ccr_net.proofs.Parts.Invariant.{IsOwed}
 use Rattle.ccr_net.proofs.Parts.ActorSteps.{release_owed}
 use Rattle.ccr_net.proofs.Parts.Pushes.{state_of-other}
 use Rattle.ccr_net.proofs.Parts.Meter.{bit}
-use Rattle.ccr_net.proofs.Kept.Assembly.{Holds, differ}
+use Rattle.ccr_net.proofs.Kept.Assembly.{Holds}
 use Rattle.ccr_net.proofs.Owed.Owing.{owing}
 
 -- what an actor owes after these entries

@@ -21,24 +21,21 @@ use Rattle.ccr_wiring.specs.Valid.{HasDomains}
 use Rattle.ccr_wiring.specs.Wirings.{Placement, placement, branch_of}
 use Rattle.ccr_model.specs.declared.history.Event.{Event}
 use Rattle.ccr_model.specs.declared.history.Event.TheVariants as events
-use Rattle.ccr_model.specs.Firings.{Firing, firings, firing_named, last_segments, yielded}
+use Rattle.ccr_model.specs.Firings.{Firing, firings, firing_named}
 use Rattle.ccr_model.specs.Interleaves.{is_placement_in, is_of_interleave}
 use Rattle.ccr_model.specs.Legal.{IsLegal}
 use Rattle.ccr_model.specs.Rules.{is_concurrent_task}
 use Rattle.ccr_model.specs.Sites.{root_of}
 use Rattle.ccr_model.specs.TaskData.{placement_of}
 use Rattle.ccr_model.specs.Tasks.{queued, is_interleave, is_over, is_branch_where}
-use Rattle.ccr_model.proofs.Alone.{lasts_fired}
-use Rattle.ccr_model.proofs.Booleans.{same_number, eq-self, no_both, both, or_left, or_right, refuted, not_true}
+use Rattle.ccr_base.proofs.Booleans.{same_number, eq-self, no_both, both, or_left, or_right, refuted, not_true, and_false}
 use Rattle.ccr_model.proofs.DropFacts.{DropFacts, drop_allowed}
-use Rattle.ccr_model.proofs.Ending.{AreEnded-legal}
 use Rattle.ccr_model.proofs.FiredTasks.{IsFired, placement_stays, root_stays}
 use Rattle.ccr_model.proofs.FiringFacts.{fired_by_has}
 use Rattle.ccr_model.proofs.FiringPlacements.{firing_with_placement}
-use Rattle.ccr_model.proofs.Roots.{AreRooted-legal, IsOneEach-legal, IsAtWork, at_work_admitted, running_works, queued_works}
+use Rattle.ccr_model.proofs.Roots.{AreRooted-legal, IsAtWork, at_work_admitted, running_works, queued_works, not_over}
 use Rattle.ccr_model.proofs.SameNames.{same_task-is, same_task-self}
-use Rattle.ccr_model.proofs.Suspending.{is_gone_on}
-use Rattle.ccr_model.proofs.TaskLists.{any_named, among_left, of_one}
+use Rattle.ccr_model.proofs.TaskLists.{among_left, of_one}
 use Rattle.ccr_model.proofs.TaskPlaces.{ArePlaced-legal, placement_by}
 use Rattle.ccr_model.proofs.TasksLeft.{has_task-append}
 use Rattle.ccr_places.specs.declared.notes.Note.{Note}
@@ -246,19 +243,6 @@ part_kept w i (Some part) earlier ask note r is stands = by part.kind is stands
 
 -- ---- who is at work
 
--- the root of who is at work isn't over
-not_over : (w : Parts) (h : List Event) → IsLegal w h → (t : TaskId) → IsAtWork h t → is_over h (root_of h t) ≡ false
-not_over w h legal t work = refuted (is_over h (root_of h t)) over
-  where
-    over : is_over h (root_of h t) ≡ true → ⊥
-    over is =
-        let last = any_named (λ u. same_task (root_of h u) (root_of h t)) (last_segments h) is in
-        let fires = (ArePlaced-legal w h legal).all_fired t work.put_so in
-        let unyielded : has_task (yielded h) last.0 ≡ false = refuted (has_task (yielded h) last.0) (λ yields. no_both last.1 ((AreEnded-legal w h legal).not_both last.0 yields)) in
-        let latest : is_gone_on h last.0 ≡ false = rw unyielded refl in
-        let one : last.0 ≡ t = IsOneEach-legal w h legal last.0 t (lasts_fired w h legal last.0 last.1) fires latest work.latest (same_task-is (root_of h last.0) (root_of h t) last.2) in
-        no_both (subst (λ u. has_task (last_segments h) u ≡ true) one last.1) work.not_last
-
 none_over_first : (first : ℕ) (part : ArbiterPart) → (arbiter_after first part []).over ≡ []
 none_over_first first part = by part.kind refl
   where
@@ -365,18 +349,10 @@ module _ (w : Parts) (domains : HasDomains w) (n : ℕ) (lacks : Lacks) (es : Li
   lasts_none : (r : TaskId) → is_over h r ≡ false → (a i : ℕ) → many i r (owed_by w lacks es a) ≡ 0
   lasts_none r out a i = owed.many-zero places.Arbiter ends_root i r (owed_by w lacks es a) (λ x is. of_owed x (owed_each w n lacks es holds a x is))
     where
-      none : (b : Bool) → b && false ≡ false
-      none true = refl
-      none false = refl
-
       of_owed : (x : Asked) → (bound : ℕ) × IsOwed w h a bound x.place x.ask → is_about i r x ≡ false
-      of_owed x is = rw (lasts r out a is.0 x.place x.ask is.1) (none (same_place x.place (places.Arbiter i)))
+      of_owed x is = rw (lasts r out a is.0 x.place x.ask is.1) (and_false (same_place x.place (places.Arbiter i)))
 
 -- ---- one entry
-
-none_about : (b : Bool) → b && false ≡ false
-none_about true = refl
-none_about false = refl
 
 -- a put is noted for no such ask
 put_no_over : (w : Parts) (earlier : List Note) (place : Place) (ask : Ask) (note : Note) (t : TaskId) (d : Option TaskId) (i : ℕ) (r : TaskId) → note_of w place earlier ask ≡ Some note → note ≡ notes.Put t d → (same_place place (places.Arbiter i) && has_task (ends_root ask) r) ≡ false
@@ -385,20 +361,20 @@ put_no_over w earlier (places.Port j) (asks.Over u v how) note t d i r gives is 
 put_no_over w earlier (places.Site j k) (asks.Over u v how) note t d i r gives is = refl
 put_no_over w earlier (places.Queue j) (asks.Over u v how) note t d i r gives is = refl
 put_no_over w earlier places.Meter (asks.Over u v how) note t d i r gives is = refl
-put_no_over w earlier place (asks.Post m) note t d i r gives is = none_about (same_place place (places.Arbiter i))
-put_no_over w earlier place (asks.Claim u s) note t d i r gives is = none_about (same_place place (places.Arbiter i))
-put_no_over w earlier place (asks.Consume u) note t d i r gives is = none_about (same_place place (places.Arbiter i))
-put_no_over w earlier place (asks.Free u) note t d i r gives is = none_about (same_place place (places.Arbiter i))
-put_no_over w earlier place (asks.Commit u ms) note t d i r gives is = none_about (same_place place (places.Arbiter i))
-put_no_over w earlier place asks.Admit note t d i r gives is = none_about (same_place place (places.Arbiter i))
-put_no_over w earlier place (asks.Suspend u) note t d i r gives is = none_about (same_place place (places.Arbiter i))
-put_no_over w earlier place (asks.Book u b) note t d i r gives is = none_about (same_place place (places.Arbiter i))
-put_no_over w earlier place (asks.Unbook u) note t d i r gives is = none_about (same_place place (places.Arbiter i))
-put_no_over w earlier place (asks.Put u) note t d i r gives is = none_about (same_place place (places.Arbiter i))
-put_no_over w earlier place asks.Take note t d i r gives is = none_about (same_place place (places.Arbiter i))
-put_no_over w earlier place asks.Draw note t d i r gives is = none_about (same_place place (places.Arbiter i))
-put_no_over w earlier place asks.Leave note t d i r gives is = none_about (same_place place (places.Arbiter i))
-put_no_over w earlier place asks.Left note t d i r gives is = none_about (same_place place (places.Arbiter i))
+put_no_over w earlier place (asks.Post m) note t d i r gives is = and_false (same_place place (places.Arbiter i))
+put_no_over w earlier place (asks.Claim u s) note t d i r gives is = and_false (same_place place (places.Arbiter i))
+put_no_over w earlier place (asks.Consume u) note t d i r gives is = and_false (same_place place (places.Arbiter i))
+put_no_over w earlier place (asks.Free u) note t d i r gives is = and_false (same_place place (places.Arbiter i))
+put_no_over w earlier place (asks.Commit u ms) note t d i r gives is = and_false (same_place place (places.Arbiter i))
+put_no_over w earlier place asks.Admit note t d i r gives is = and_false (same_place place (places.Arbiter i))
+put_no_over w earlier place (asks.Suspend u) note t d i r gives is = and_false (same_place place (places.Arbiter i))
+put_no_over w earlier place (asks.Book u b) note t d i r gives is = and_false (same_place place (places.Arbiter i))
+put_no_over w earlier place (asks.Unbook u) note t d i r gives is = and_false (same_place place (places.Arbiter i))
+put_no_over w earlier place (asks.Put u) note t d i r gives is = and_false (same_place place (places.Arbiter i))
+put_no_over w earlier place asks.Take note t d i r gives is = and_false (same_place place (places.Arbiter i))
+put_no_over w earlier place asks.Draw note t d i r gives is = and_false (same_place place (places.Arbiter i))
+put_no_over w earlier place asks.Leave note t d i r gives is = and_false (same_place place (places.Arbiter i))
+put_no_over w earlier place asks.Left note t d i r gives is = and_false (same_place place (places.Arbiter i))
 
 module _ (w : Parts) (domains : HasDomains w) (n : ℕ) (lacks : Lacks) (es : List Entry) (e : Entry) (step : Step w lacks es e) (holds : Holds w n lacks es) (holds' : Holds w n lacks (es ++ e ∷ [])) (noted : OversNoted es) where
   abbrev st : State
@@ -444,7 +420,7 @@ module _ (w : Parts) (domains : HasDomains w) (n : ℕ) (lacks : Lacks) (es : Li
           of_kept (inr is) = inr is
 
   about_quiet : (x : Asked) (i : ℕ) (r : TaskId) → is_quiet x.ask ≡ true → is_about i r x ≡ false
-  about_quiet x i r quiet = rw (ends_root-quiet x.ask quiet) (none_about (same_place x.place (places.Arbiter i)))
+  about_quiet x i r quiet = rw (ends_root-quiet x.ask quiet) (and_false (same_place x.place (places.Arbiter i)))
 
   abbrev On : Type 0
   On = owed.OwesOn places.Arbiter ends_root w lacks (may_over_at w) es e

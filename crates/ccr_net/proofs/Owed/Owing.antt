@@ -16,7 +16,7 @@ use Rattle.ccr_wiring.specs.declared.parts.Parts.{Parts}
 use Rattle.ccr_model.specs.declared.history.Event.{Event}
 use Rattle.ccr_model.specs.Tasks.{running_by}
 use Rattle.ccr_model.proofs.FiredTasks.{IsFired}
-use Rattle.ccr_model.proofs.Booleans.{eq-self}
+use Rattle.ccr_base.proofs.Booleans.{eq-self}
 use Rattle.ccr_places.specs.declared.notes.ClaimNote.TheVariants.{Got}
 use Rattle.ccr_places.specs.declared.notes.Note.TheVariants as notes
 use Rattle.ccr_places.specs.Ports.{first_fitting}
@@ -29,6 +29,7 @@ use Rattle.ccr_claim.specs.Plans.{in_pattern, names_of, resumes}
 use Rattle.ccr_claim.specs.Attempts.{at_place, Phase, booking, claiming, attempt_ask, release, free_ask, unbook_ask, firing_hand, put_ask, over_dropped}
 use Rattle.ccr_actor.specs.Plans.{plan_of}
 use Rattle.ccr_actor.specs.Actors.{State, Work, lines, round, taking, playing, posting, shedding, resting, go_on, turn, after, after_work, in_attempt, shorten, fire, give_up, driven_on, admit_too, put_admitted, work_ask, play_ask, end_ask, name_at, spots_left}
+use Rattle.ccr_actor.proofs.Steps.{none-owed}
 use Rattle.ccr_runs.specs.declared.entries.Entry.{Entry}
 use Rattle.ccr_runs.specs.EntryRuns.{Lacks, state_of, port_at, reply_of}
 use Rattle.ccr_runs.specs.Views.{view, cut_view}
@@ -97,10 +98,6 @@ pub data Owes (w : Parts) (es : List Entry) (e : Entry) (st : State) (xs ys : Li
 attempt_same : (w : Parts) (a : ℕ) (st st' : State) (spots : List Spot) → st'.phase ≡ st.phase → st'.attempt ≡ st.attempt → in_attempt w a st' spots ≡ in_attempt w a st spots
 attempt_same w a st st' [] phase attempt = refl
 attempt_same w a st st' (spot ∷ more) phase attempt = λ i. release (plan_of w spot) (record { actor = a; attempt = attempt i }) (phase i)
-
-pub attempt_none : (w : Parts) (a : ℕ) (st : State) (spots : List Spot) → st.phase ≡ booking → in_attempt w a st spots ≡ []
-attempt_none w a st [] phase = refl
-attempt_none w a st (spot ∷ more) phase = ap (release (plan_of w spot) (name_at a st)) phase
 
 owing_short : (w : Parts) (a : ℕ) (st : State) → owing w a (shorten w a st) ≡ owing w a st
 owing_short w a st = append-nil (st.hand ++ in_attempt w a st st.spots)
@@ -179,14 +176,14 @@ module _ (w : Parts) (n : ℕ) (lacks : Lacks) (es : List Entry) (e : Entry) (ho
     where
       d : Had
       d = record { slot = slot; messages = first_fitting k slot.pred (port_at es slot.port).items }
-  of_move next (fires spot more had cs hand spots phase given note is) = fired spot more had cs spots phase given note (under_way spot more (claiming [] had) hand spots phase) (ap (owing w e.actor) is ∙ rw phase (ap (λ xs. firing_hand name had task cuts ++ xs) (attempt_none w e.actor (fire w e.actor st spot more task cuts) (driven_on st spot more) refl) ∙ append-nil (firing_hand name had task cuts)))
+  of_move next (fires spot more had cs hand spots phase given note is) = fired spot more had cs spots phase given note (under_way spot more (claiming [] had) hand spots phase) (ap (owing w e.actor) is ∙ rw phase (ap (λ xs. firing_hand name had task cuts ++ xs) (none-owed w e.actor (fire w e.actor st spot more task cuts) (driven_on st spot more) refl) ∙ append-nil (firing_hand name had task cuts)))
     where
       task : Option Task
       task = handed w es e name spot
 
       cuts : List Cut
       cuts = map (cut_view w (visible (es ++ e ∷ []))) cs
-  of_move next (gives_up spot more hand spots given quiet is) = same _ given (asks_quiet st.phase) (ap (owing w e.actor) is ∙ ap (λ xs. release (plan_of w spot) name st.phase ++ xs) (attempt_none w e.actor (give_up w e.actor st spot more) more refl) ∙ append-nil (release (plan_of w spot) name st.phase) ∙ sym (under_way spot more st.phase hand spots refl))
+  of_move next (gives_up spot more hand spots given quiet is) = same _ given (asks_quiet st.phase) (ap (owing w e.actor) is ∙ ap (λ xs. release (plan_of w spot) name st.phase ++ xs) (none-owed w e.actor (give_up w e.actor st spot more) more refl) ∙ append-nil (release (plan_of w spot) name st.phase) ∙ sym (under_way spot more st.phase hand spots refl))
     where
       asks_quiet : (ph : Phase) → is_quiet (attempt_ask (plan_of w spot) name ph).ask ≡ true
       asks_quiet booking = refl
@@ -201,7 +198,7 @@ module _ (w : Parts) (n : ℕ) (lacks : Lacks) (es : List Entry) (e : Entry) (ho
       idle = idle_booking w st (holds.actors e.actor).fits turns
 
       stays : owing w e.actor next ≡ owing w e.actor st
-      stays = ap (owing w e.actor) is ∙ (λ i. went.hand i ++ (attempt_none w e.actor (after_work w st st.work (reply_of w es e)) (after_work w st st.work (reply_of w es e)).spots (went.phase ∙ idle) ∙ sym (attempt_none w e.actor st st.spots idle)) i)
+      stays = ap (owing w e.actor) is ∙ (λ i. went.hand i ++ (none-owed w e.actor (after_work w st st.work (reply_of w es e)) (after_work w st st.work (reply_of w es e)).spots (went.phase ∙ idle) ∙ sym (none-owed w e.actor st st.spots idle)) i)
 
       by : WorkAsks w (visible es) e.actor x → Owes w es e st (owing w e.actor st) (owing w e.actor next)
       by (inl quiet) = same x given quiet stays

@@ -15,7 +15,7 @@ use Rattle.ccr_wiring.specs.declared.parts.Parts.{Parts}
 use Rattle.ccr_wiring.specs.Valid.{HasDomains}
 use Rattle.ccr_wiring.specs.Wirings.{Placement, placement}
 use Rattle.ccr_model.specs.Tasks.{is_interleave}
-use Rattle.ccr_model.proofs.Booleans.{same_number, eq-self}
+use Rattle.ccr_base.proofs.Booleans.{same_number, eq-self, differ}
 use Rattle.ccr_model.proofs.Members.{Among, Among-either}
 use Rattle.ccr_claim.specs.declared.asks.Ask.{Ask}
 use Rattle.ccr_claim.specs.declared.asks.Ask.TheVariants as asks
@@ -29,7 +29,7 @@ use Rattle.ccr_runs.specs.EntryRuns.{Lacks, state_of, reply_of, waits}
 use Rattle.ccr_runs.specs.Views.{view, cut_view}
 use Rattle.ccr_runs.specs.Visible.{visible}
 use Rattle.ccr_net.proofs.Parts.Pushes.{Step, IsNextState, state_of-own, state_of-other}
-use Rattle.ccr_net.proofs.Kept.Assembly.{Holds, differ}
+use Rattle.ccr_net.proofs.Kept.Assembly.{Holds}
 use Rattle.ccr_net.proofs.Owed.GoingOn.{AreInterleaves, worked, add_interleave}
 use Rattle.ccr_net.proofs.Owed.Moves.{Move, settles, drops, admits, strikes, books, claims, fires, gives_up, goes, moved, handed}
 use Rattle.ccr_net.proofs.Owed.Owing.{Owes, less, dropped, admitted, booked, got, fired, same, ended, owes}

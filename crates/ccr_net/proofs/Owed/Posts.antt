@@ -1,5 +1,5 @@
 -- A legal history has at most as many posts as the scripts have lines and the tasks have made, and a port no more messages.
-use Rattle.std.proofs.Common.{inl, inr, ◌≡◌, ◌≤◌, ◌<◌, ℕ, zero, suc, ◌+◌, ◌-◌, Bool, true, false, ◌&&◌, List, [], ◌∷◌, ◌++◌, length, filter, Option, Some, None, refl, sym, arith, ap, ◌∙◌, subst, append-nil, length-append}
+use Rattle.std.proofs.Common.{inl, inr, ◌≡◌, ◌≤◌, ◌<◌, ℕ, suc, ◌+◌, ◌-◌, Bool, true, false, ◌&&◌, List, [], ◌∷◌, ◌++◌, length, filter, Option, Some, None, refl, sym, arith, ap, ◌∙◌, subst, append-nil, length-append}
 use Rattle.std.specs.Prelude.{◌==◌, if◌then◌else◌, nat_lt}
 use Rattle.std.specs.List.{slice_get}
 use Rattle.std.specs.Option.{option_map_or, option_and_then}
@@ -21,7 +21,8 @@ use Rattle.ccr_model.specs.declared.history.Event.TheVariants as events
 use Rattle.ccr_model.specs.Legal.{IsLegal, IsAllowed}
 use Rattle.ccr_model.specs.Posts.{posts, posts_of_poster, posts_of_tasks, is_script_of, is_task_message}
 use Rattle.ccr_model.specs.Rules.{is_script_line, is_post, refusal_of_post}
-use Rattle.ccr_model.proofs.Booleans.{same_number, eq-self, both}
+use Rattle.ccr_base.proofs.Booleans.{same_number, eq-self, both}
+use Rattle.ccr_base.proofs.Options.{some-below}
 use Rattle.ccr_model.proofs.Members.{Among}
 use Rattle.ccr_model.proofs.PostNames.{along, refused_not}
 use Rattle.ccr_model.proofs.Pushes.{posts-push}
@@ -64,11 +65,6 @@ by_poster-first a m ms = by (is_script_of a m.id) refl
 abbrev FewLines : Parts → List Event → Type 0
 FewLines w h = (a : ℕ) → by_poster a (posts h) ≤ script_lines w a
 
-get-below : {X : Type 0} (xs : List X) (k : ℕ) (x : X) → slice_get xs k ≡ Some x → k < length xs
-get-below [] k x at = absurd (cc)
-get-below (y ∷ xs) zero x at = omega arith
-get-below (y ∷ xs) (suc k) x at = let rest = get-below xs k x at in omega (arith, rest)
-
 -- a line of a script that isn't there yet
 next_line : (w : Parts) (h : List Event) (a k : ℕ) (m : Msg) → is_script_line w h a k m ≡ true → posts_of_poster h a + 1 ≤ script_lines w a
 next_line w h a k m is = by (slice_get w.posters a) refl (both (k == posts_of_poster h a) _ is).1
@@ -78,7 +74,7 @@ next_line w h a k m is = by (slice_get w.posters a) refl (both (k == posts_of_po
 
     of_line : (p : PosterPart) (o : Option Sent) → slice_get p.posts k ≡ o → option_map_or (is_post m) o false ≡ true → k < length p.posts
     of_line p None at there = absurd (cc)
-    of_line p (Some sent) at there = get-below p.posts k sent at
+    of_line p (Some sent) at there = some-below p.posts k sent at
 
     by : (o : Option PosterPart) → slice_get w.posters a ≡ o → option_map_or (is_post m) (option_and_then (λ (p : PosterPart). slice_get p.posts k) o) false ≡ true → posts_of_poster h a + 1 ≤ option_map_or (λ (p : PosterPart). length p.posts) o 0
     by None at there = absurd (cc)
@@ -192,7 +188,7 @@ posts_bounded w h legal =
 
         by : (o : Option PosterPart) → slice_get w.posters actor ≡ o → actor < length w.posters
         by None at = absurd (let none : script_lines w actor ≡ 0 = ap (λ o. option_map_or (λ (q : PosterPart). length q.posts) o 0) at in omega (arith, some, none))
-        by (Some p) at = get-below w.posters actor p at
+        by (Some p) at = some-below w.posters actor p at
 
 -- ---- what a port keeps
 

@@ -10,7 +10,7 @@ use Rattle.ccr_base.specs.declared.names.Place.{Place}
 use Rattle.ccr_wiring.specs.declared.parts.Parts.{Parts}
 use Rattle.ccr_wiring.specs.Valid.{IsValid}
 use Rattle.ccr_wiring.proofs.Soundness.{sound}
-use Rattle.ccr_model.proofs.Booleans.{eq-self, same_number}
+use Rattle.ccr_base.proofs.Booleans.{eq-self, same_number, above_differs}
 use Rattle.ccr_claim.specs.declared.asks.Ask.{Ask}
 use Rattle.ccr_claim.specs.declared.asks.Asked.{Asked}
 use Rattle.ccr_claim.specs.declared.asks.Reply.{Reply}
@@ -61,9 +61,6 @@ sum-same : (w : Parts) (acts more : List (Act Deed)) (n : ℕ) → ((j : ℕ) �
 sum-same w acts more zero same = refl
 sum-same w acts more (suc n) same = λ i. sum-same w acts more n (λ j low. same j (omega (arith, low))) i + owed_by (same n (omega arith) i)
 
-differ : (k j : ℕ) → j < k → (k == j) ≡ false
-differ k j low = grind (arith, nat_tests, low)
-
 sum-step : (w : Parts) (acts more : List (Act Deed)) (k n c g : ℕ) → k < n → ((j : ℕ) → (k == j) ≡ false → steps_in w more j ≡ steps_in w acts j) → owed_by (steps_in w more k) + c ≡ owed_by (steps_in w acts k) + g → owed_to w more n + c ≡ owed_to w acts n + g
 sum-step w acts more k zero c g low same own = absurd (omega (arith, low))
 sum-step w acts more k (suc n) c g low same own = by (λ less. sum-step w acts more k n c g less same own) (k == n) refl
@@ -71,7 +68,7 @@ sum-step w acts more k (suc n) c g low same own = by (λ less. sum-step w acts m
     by : (k < n → owed_to w more n + c ≡ owed_to w acts n + g) → (b : Bool) → (k == n) ≡ b → owed_to w more (suc n) + c ≡ owed_to w acts (suc n) + g
     by rest true is =
         let here = same_number k n is in
-        let below = sum-same w acts more n (λ j less. same j (differ k j (subst (λ m. j < m) (sym here) less))) in
+        let below = sum-same w acts more n (λ j less. same j (above_differs k j (subst (λ m. j < m) (sym here) less))) in
         let last : owed_by (steps_in w more n) + c ≡ owed_by (steps_in w acts n) + g = subst (λ m. owed_by (steps_in w more m) + c ≡ owed_by (steps_in w acts m) + g) here own in
         omega (arith, below, last)
     by rest false is =

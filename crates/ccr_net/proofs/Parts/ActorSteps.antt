@@ -26,7 +26,8 @@ use Rattle.ccr_model.proofs.Cutting.{cut_by}
 use Rattle.ccr_model.proofs.FiringFacts.{firing_named-new, waits_outside}
 use Rattle.ccr_model.proofs.Stable.{firing_named-append}
 use Rattle.ccr_model.proofs.TaskLists.{among_left, among_right, not_more, not_within, of_more, of_one}
-use Rattle.ccr_model.proofs.Booleans.{same_number, eq-self, refuted, no_both}
+use Rattle.ccr_base.proofs.Booleans.{same_number, eq-self, refuted, no_both}
+use Rattle.ccr_model.proofs.TasksLeft.{has_task-append}
 use Rattle.ccr_model.proofs.FiredTasks.{IsFired, fired_has, placement_stays}
 use Rattle.ccr_model.proofs.Members.{Among, Among-left, Among-right, Among-either}
 use Rattle.ccr_model.proofs.Pushes.{firings-push, fired-fire, put-push, cut-push, ever_admitted-push}
@@ -369,9 +370,6 @@ ActorMatches-got w h port port' a st slots d none marked enough changes match = 
     enough_for x (inr (inr none)) = absurd none
 
 -- ---- the actor's own firing
-
-has_task-append : (xs ys : List TaskId) (t : TaskId) → has_task (xs ++ ys) t ≡ has_task xs t || has_task ys t
-has_task-append xs ys t = grind (arith, common_steps)
 
 -- a state like the fired one in what the invariant reads
 pub ActorMatches-fire : (w : Parts) (h : List Event) (port : ℕ → PortState) (a : ℕ) (st : State) (spot s : Spot) (more : List Spot) (names : List MsgId) (task : Option Task) (cuts : List Cut) (cs : List TaskId) → IsLegal w h → ((c : Cut) → Among c cuts → has_task cs c.task ≡ true) → ((t : Task) → task ≡ Some t → (t.id ≡ name_at a st) × (t.queue ≡ queue_of w (h ++ events.Fire (name_at a st) s names cs ∷ []) (name_at a st)) × (needs_no_admission w s ≡ true)) → IsAllowed w h (events.Fire (name_at a st) s names cs) → has_task (put h) (name_at a st) ≡ false → ActorMatches w h port a st → ActorMatches w (h ++ events.Fire (name_at a st) s names cs ∷ []) port a (fire w a st spot more task cuts)

@@ -18,7 +18,7 @@ use Rattle.ccr_wiring.specs.Wirings.{Placement, placement}
 use Rattle.ccr_model.specs.declared.history.Event.{Event}
 use Rattle.ccr_model.specs.Firings.{Firing, firings, firing_of, fired_at}
 use Rattle.ccr_model.specs.Tasks.{fired_by, is_branch_where}
-use Rattle.ccr_model.proofs.Booleans.{same_number}
+use Rattle.ccr_base.proofs.Booleans.{same_number, eq-self}
 use Rattle.ccr_places.specs.declared.notes.Note.{Note}
 use Rattle.ccr_places.specs.declared.notes.Note.TheVariants as notes
 use Rattle.ccr_places.specs.Arbiters.{ArbiterState}
@@ -186,8 +186,5 @@ pub none_at_branch : (w : Parts) (h : List Event) (b i : ℕ) (s : Placement) �
 none_at_branch w h b i s sits at_i none = none_among (λ (f : Firing). is_branch_where w (is_of i) f.spot) (λ (f : Firing). same_spot f.spot (Branch b)) (firings h) (λ f is. here f.spot is) none
   where
     here : (spot : Spot) → same_spot spot (Branch b) ≡ true → is_branch_where w (is_of i) spot ≡ true
-    here (Branch c) is = let same : c ≡ b = same_number c b is in rw (same, sits, at_i) (self i)
-      where
-        self : (k : ℕ) → (k == k) ≡ true
-        self k = grind (arith, common_steps)
+    here (Branch c) is = let same : c ≡ b = same_number c b is in rw (same, sits, at_i) (eq-self i)
     here (Site c k) is = absurd (cc)

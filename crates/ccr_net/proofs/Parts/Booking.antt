@@ -9,7 +9,7 @@ use Rattle.ccr_base.specs.declared.policies.Policy.{Policy}
 use Rattle.ccr_base.specs.declared.policies.Policy.TheVariants.{Throttle}
 use Rattle.ccr_base.specs.Names.{same_task, has_task}
 use Rattle.ccr_model.specs.Consequences.{are_distinct_tasks}
-use Rattle.ccr_model.proofs.Booleans.{both, neither, not_true}
+use Rattle.ccr_base.proofs.Booleans.{both, neither, not_true, or_right, and_false}
 use Rattle.ccr_model.proofs.Members.{Among}
 use Rattle.ccr_model.proofs.SameNames.{same_task-is, same_task-self}
 use Rattle.ccr_places.specs.Queues.{QueueState, Queued}
@@ -90,11 +90,7 @@ QueueSound-book queue t resumes may room sound = by resumes room
 removed_apart : (queue : QueueState) (t u : TaskId) → QueueSound queue → set.contains (set.remove queue.fresh t) u ≡ true → set.contains (set.remove queue.resuming t) u ≡ false
 removed_apart queue t u sound is =
     let parts = both (not (same_task u t)) (set.contains queue.fresh u) (sym (in-less queue.fresh t u) ∙ is) in
-    in-less queue.resuming t u ∙ rw (sound.apart u parts.1) (none (not (same_task u t)))
-  where
-    none : (b : Bool) → b && false ≡ false
-    none true = refl
-    none false = refl
+    in-less queue.resuming t u ∙ rw (sound.apart u parts.1) (and_false (not (same_task u t)))
 
 pub QueueSound-unbook : (queue : QueueState) (t : TaskId) → QueueSound queue → QueueSound (queues.after_unbook queue t)
 QueueSound-unbook queue t sound = record {
@@ -208,11 +204,7 @@ kept_within (t ∷ tasks) fresh queued distinct all = by (all t (ap (λ b. b || 
         of_test true e = absurd (let there : has_task tasks t ≡ true = subst (λ v. has_task tasks v ≡ true) (same_task-is u t e) is in let out = not_true (has_task tasks t) parts.0 in cc)
 
     later : (u : TaskId) → has_task tasks u ≡ true → IsKept fresh queued u
-    later u is = all u (or_last (same_task u t) (has_task tasks u) is)
-      where
-        or_last : (a b : Bool) → b ≡ true → a || b ≡ true
-        or_last true b is' = refl
-        or_last false b is' = is'
+    later u is = all u (or_right (same_task u t) (has_task tasks u) is)
 
     by : IsKept fresh queued t → ((fresh' : TaskSet) (queued' : List Queued) → ((u : TaskId) → has_task tasks u ≡ true → IsKept fresh' queued' u) → length tasks ≤ set.len fresh' + count_by is_fresh queued') → length (t ∷ tasks) ≤ set.len fresh + count_by is_fresh queued
     by (inl booked) rest =

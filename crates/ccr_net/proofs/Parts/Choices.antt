@@ -1,9 +1,10 @@
 -- What an attempt got is a choice of its pattern; and what others' firings and puts leave.
-use Rattle.std.proofs.Common.{◌⊎◌, inl, inr, ◌≡◌, ◌≢◌, ◌≤◌, ℕ, zero, suc, ◌+◌, ◌-◌, Bool, true, false, ◌&&◌, List, [], ◌∷◌, ◌++◌, length, map, flat_map, take, refl, sym, arith, ap, ◌∙◌, subst, append-nil, length-append}
+use Rattle.std.proofs.Common.{◌⊎◌, inl, inr, ◌≡◌, ◌≢◌, ◌≤◌, ℕ, zero, suc, ◌+◌, ◌-◌, Bool, true, false, List, [], ◌∷◌, ◌++◌, length, map, flat_map, take, refl, sym, arith, ap, ◌∙◌, subst, append-nil, length-append}
 use Rattle.std.specs.Prelude.{◌==◌, nat_lt}
 use Rattle.std.proofs.lemmas.Grind.{common_steps}
 use Rattle.std.proofs.lemmas.List.{length-map}
 use Rattle.std.proofs.lemmas.Bool.Decides.{nat_tests}
+use Rattle.std.proofs.lemmas.Bool.{and_from}
 use Rattle.ccr_base.specs.declared.messages.Msg.{Msg}
 use Rattle.ccr_base.specs.declared.names.MsgId.{MsgId}
 use Rattle.ccr_base.specs.declared.names.Spot.{Spot}
@@ -21,12 +22,13 @@ use Rattle.ccr_model.specs.declared.history.Event.TheVariants as events
 use Rattle.ccr_model.specs.Choice.{is_choice_of, are_first, are_split}
 use Rattle.ccr_model.specs.Firings.{fired}
 use Rattle.ccr_model.specs.Posts.{posts, held}
-use Rattle.ccr_model.proofs.Booleans.{or_left, or_right}
+use Rattle.ccr_base.proofs.Booleans.{or_left, or_right}
 use Rattle.ccr_model.proofs.Members.{Among}
 use Rattle.ccr_model.proofs.PostNames.{AreNamed}
 use Rattle.ccr_model.proofs.Pushes.{fired-fire}
 use Rattle.ccr_model.proofs.SameNames.{same_task-is, same_message-self}
 use Rattle.ccr_model.proofs.MessageNames.{any_fits}
+use Rattle.ccr_model.proofs.Allowing.{are_first-is_split}
 use Rattle.ccr_places.specs.Ports.{PortState}
 use Rattle.ccr_claim.specs.declared.plan.Had.{Had}
 use Rattle.ccr_claim.specs.Plans.{had_at, ports_in, in_slots, in_pattern, names_of, sort_slots}
@@ -47,18 +49,9 @@ first_takes zero (b ∷ bs) = refl
 first_takes (suc m) [] = refl
 first_takes (suc m) (b ∷ bs) = rw (same_message-self b.id, first_takes m bs) refl
 
-split_first : (as' bs : List Msg) (names : List MsgId) → are_first bs names ≡ true → are_split as' bs names ≡ true
-split_first as' bs [] is = of_nothing as'
-  where
-    of_nothing : (xs : List Msg) → are_split xs bs [] ≡ true
-    of_nothing [] = refl
-    of_nothing (x ∷ xs) = refl
-split_first [] bs (name ∷ names) is = is
-split_first (x ∷ as') bs (name ∷ names) is = or_left (are_first bs (name ∷ names)) _ is
-
 split_takes : (k m : ℕ) (as' bs : List Msg) → are_split as' bs (names_of (take k as' ++ take m bs)) ≡ true
-split_takes zero m as' bs = split_first as' bs (names_of (take m bs)) (first_takes m bs)
-split_takes (suc k) m [] bs = split_first [] bs (names_of (take m bs)) (first_takes m bs)
+split_takes zero m as' bs = are_first-is_split as' bs (names_of (take m bs)) (first_takes m bs)
+split_takes (suc k) m [] bs = are_first-is_split [] bs (names_of (take m bs)) (first_takes m bs)
 split_takes (suc k) m (x ∷ as') bs = or_right (are_first bs (x.id ∷ names_of (take k as' ++ take m bs))) _ (rw (same_message-self x.id, split_takes k m as' bs) refl)
 
 pub all_fit : (pred : Pred) (ms : List Msg) → pred ≡ Any → fitting pred ms ≡ ms
@@ -124,7 +117,7 @@ in_ports (Slots slots) had = by_slots slots
 in_ports (Gather total first second) had = ap (λ rest. had_at had first ++ rest) (sym (append-nil (had_at had second)))
 
 chosen_ports : (w : Parts) (h : List Event) (port : ℕ → PortState) (a : ℕ) (st : State) → AreNamed (posts h) → PortsMatch h port → ActorMatches w h port a st → has_task (fired h) (name_at a st) ≡ false → (pattern : Pattern) → IsEven pattern → Fits pattern [] (had_in st.phase) → is_choice_of (held h) pattern (names_of (flat_map (had_at (had_in st.phase)) (ports_in pattern))) ≡ true
-chosen_ports w h port a st named match own fresh (Gather total first second) even fits = rw (front, back, append-nil got.other.messages) (and_both (length (names_of (got.one.messages ++ got.other.messages)) == total) _ count split)
+chosen_ports w h port a st named match own fresh (Gather total first second) even fits = rw (front, back, append-nil got.other.messages) (and_from (length (names_of (got.one.messages ++ got.other.messages)) == total) _ count split)
   where
     got : BothGot first second total (had_in st.phase)
     got = both_got first second total (had_in st.phase) fits
@@ -143,9 +136,6 @@ chosen_ports w h port a st named match own fresh (Gather total first second) eve
 
     split : are_split (held h first) (held h second) (names_of (got.one.messages ++ got.other.messages)) ≡ true
     split = subst (λ xs. are_split (held h first) (held h second) (names_of (xs ++ got.other.messages)) ≡ true) (taken_first got.one got.is_one got.one_any first got.one_port) (subst (λ ys. are_split (held h first) (held h second) (names_of (take (length got.one.messages) (held h first) ++ ys)) ≡ true) (taken_first got.other got.is_other got.other_any second got.other_port) (split_takes (length got.one.messages) (length got.other.messages) (held h first) (held h second)))
-
-    and_both : (x y : Bool) → x ≡ true → y ≡ true → x && y ≡ true
-    and_both x y p q = rw (p, q) refl
 chosen_ports w h port a st named match own fresh (Slots all) even fits = rw (choice_slots w h port a st named match own fresh all (λ slot is. (from_sorted slot (among_sorted all slot is), even slot is))) (same_lists-self (names_of (flat_map (had_at (had_in st.phase)) (ports_in (Slots all)))))
   where
     from_sorted : (slot : Slot) → Among slot (sort_slots all) → (d : Had) × Among d (had_in st.phase) × (d.slot ≡ slot)

@@ -29,7 +29,7 @@ use Rattle.ccr_model.specs.Rules.{is_concurrent_task, is_oldest_waiting, may_adm
 use Rattle.ccr_model.specs.TaskData.{placement_of}
 use Rattle.ccr_model.specs.Tasks.{is_interleave, is_teardown, is_concurrent, is_branch_where, fired_by, waiting, admitted, is_over, is_of_domain}
 use Rattle.ccr_model.proofs.Allowing.{OneName-legal}
-use Rattle.ccr_model.proofs.Booleans.{both, refuted, no_both, same_number, eq-self}
+use Rattle.ccr_base.proofs.Booleans.{both, refuted, no_both, same_number, eq-self, and_false, or_right}
 use Rattle.ccr_model.proofs.FiredTasks.{IsFired, placement_stays}
 use Rattle.ccr_model.proofs.FiringFacts.{firing_named-new, FiresSo-allowed, BranchFacts-where, WaitingFacts, WaitingFacts-waiting}
 use Rattle.ccr_model.proofs.Members.{Among, Among-either}
@@ -247,12 +247,8 @@ DomainMatches-fire w h t b ms i s place legal allowed sits within match = record
     torn false is true e none = absurd (cc)
     torn false is false e none = fired_by-fire w (tears i) h t (Branch b) ms cs ∙ ap (λ c. fired_by w (tears i) h ++ (if c then t ∷ [] else [])) untorn ∙ append-nil (fired_by w (tears i) h) ∙ match.torn_so none
       where
-        no_and : (c : Bool) → c && false ≡ false
-        no_and true = refl
-        no_and false = refl
-
         untorn : is_branch_where w (tears i) (Branch b) ≡ false
-        untorn = rw (sits, is) (no_and (s.domain == i))
+        untorn = rw (sits, is) (and_false (s.domain == i))
 
 -- ---- the oldest waiting task
 
@@ -296,11 +292,7 @@ oldest w h i place x others legal list match =
 
 all_pass : (p : TaskId → Bool) (ts : List TaskId) → ((u : TaskId) → has_task ts u ≡ true → p u ≡ true) → list_all p ts ≡ true
 all_pass p [] all = refl
-all_pass p (t ∷ ts) all = rw (all t (ap (λ b. b || has_task ts t) (same_task-self t))) (all_pass p ts (λ u is. all u (later (same_task u t) (has_task ts u) is)))
-  where
-    later : (a b : Bool) → b ≡ true → a || b ≡ true
-    later true b is = refl
-    later false b is = is
+all_pass p (t ∷ ts) all = rw (all t (ap (λ b. b || has_task ts t) (same_task-self t))) (all_pass p ts (λ u is. all u (or_right (same_task u t) (has_task ts u) is)))
 
 nobody : (ts : List TaskId) → ((u : TaskId) → has_task ts u ≡ true → ⊥) → is_none_of ts ≡ true
 nobody [] none = refl
@@ -386,11 +378,7 @@ DomainsMatch-resume w h es e t b k ms legal allowed there match = DomainsMatch-e
 
 -- where the branch is of another number
 other_branch : (w : Parts) (b i j : ℕ) (s : Placement) → placement w b ≡ Some s → s.domain ≡ j → (j == i) ≡ false → (is_branch_where w (is_placement_in i) (Branch b) ≡ false) × (is_branch_where w (tears i) (Branch b) ≡ false)
-other_branch w b i j s sits at_j other = (rw (sits, at_j, other) (no_and (is_interleave s.kind)), rw (sits, at_j, other) refl)
-  where
-    no_and : (c : Bool) → c && false ≡ false
-    no_and true = refl
-    no_and false = refl
+other_branch w b i j s sits at_j other = (rw (sits, at_j, other) (and_false (is_interleave s.kind)), rw (sits, at_j, other) refl)
 
 -- a firing at a receiver or a choice
 pub DomainsMatch-branch : (w : Parts) (h : List Event) (es : List Entry) (e : Entry) (t : TaskId) (b j : ℕ) (s : Placement) (ms : List MsgId) → IsLegal w h → IsAllowed w h (events.Fire t (Branch b) ms []) → placement w b ≡ Some s → s.domain ≡ j → is_interleave_number w j ≡ false → e.place ≡ places.Arbiter j → e.note ≡ notes.Fired t (Branch b) ms [] → DomainsMatch w h es → DomainsMatch w (h ++ events.Fire t (Branch b) ms [] ∷ []) (es ++ e ∷ [])

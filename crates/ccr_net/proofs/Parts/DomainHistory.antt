@@ -20,7 +20,7 @@ use Rattle.ccr_model.specs.Rules.{is_concurrent_task}
 use Rattle.ccr_model.specs.Tasks.{is_branch_where, fired_by, waiting, admitted, is_over, is_of_domain}
 use Rattle.ccr_model.proofs.Allowing.{OneName-legal}
 use Rattle.ccr_model.proofs.Alone.{over_stays, lasts_fired, ever_admitted_fired}
-use Rattle.ccr_model.proofs.Booleans.{refuted, no_both, or_left, or_right}
+use Rattle.ccr_base.proofs.Booleans.{refuted, no_both, or_left, or_right, eq-self}
 use Rattle.ccr_model.proofs.Cutting.{fired_by-append, cut_by}
 use Rattle.ccr_model.proofs.FiredTasks.{IsFired, IsFired-append, fired_has, placement_stays}
 use Rattle.ccr_model.proofs.FiringFacts.{FiresSo-allowed}
@@ -29,7 +29,7 @@ use Rattle.ccr_model.proofs.Pushes.{firings-push, ever_admitted-push, cut-push, 
 use Rattle.ccr_model.proofs.Roots.{AdmittedFacts-admitted, admitted_whole}
 use Rattle.ccr_model.proofs.SameNames.{same_task-is, same_task-self}
 use Rattle.ccr_model.proofs.Stable.{firing_named-append}
-use Rattle.ccr_model.proofs.TasksLeft.{without_both}
+use Rattle.ccr_model.proofs.TasksLeft.{without_both, without_middle}
 use Rattle.ccr_model.proofs.TaskLists.{without-append, without_none, of_more, not_more, not_within}
 use Rattle.ccr_model.proofs.TasksOnce.{waits_in_one}
 
@@ -83,15 +83,11 @@ waiting-same w h e i fires admits =
     let gone : cut (h ++ e ∷ []) ≡ cut h = ap (λ (fs : List Firing). flat_map (λ (f : Firing). f.cuts) fs) (firings-push h e ∙ ap (λ fs. firings h ++ fs) fires ∙ append-nil (firings h)) in
     ap (λ ts. without ts (ever_admitted (h ++ e ∷ []) ++ cut (h ++ e ∷ []))) firing ∙ ap (λ ts. without (fired_by w (is_placement_in i) h) (ts ++ cut (h ++ e ∷ []))) entered ∙ ap (λ ts. without (fired_by w (is_placement_in i) h) (ever_admitted h ++ ts)) gone
 
-lists_admit : (fs ents cs : List TaskId) (t : TaskId) → without fs ((ents ++ t ∷ []) ++ cs) ≡ without (without fs (ents ++ cs)) (t ∷ [])
-lists_admit [] ents cs t = refl
-lists_admit (f ∷ fs) ents cs t = grind (arith, common_steps, lists_admit fs ents cs t)
-
 pub waiting-admit : (w : Parts) (h : List Event) (t : TaskId) (i : ℕ) → waiting w (h ++ events.Admit t ∷ []) i ≡ without (waiting w h i) (t ∷ [])
 waiting-admit w h t i =
     let firing = fired_by-same w (is_placement_in i) h (events.Admit t) refl in
     let gone : cut (h ++ events.Admit t ∷ []) ≡ cut h = cut-push h (events.Admit t) ∙ append-nil (cut h) in
-    ap (λ ts. without ts (ever_admitted (h ++ events.Admit t ∷ []) ++ cut (h ++ events.Admit t ∷ []))) firing ∙ ap (λ ts. without (fired_by w (is_placement_in i) h) (ts ++ cut (h ++ events.Admit t ∷ []))) (ever_admitted-push h (events.Admit t)) ∙ ap (λ ts. without (fired_by w (is_placement_in i) h) ((ever_admitted h ++ t ∷ []) ++ ts)) gone ∙ lists_admit (fired_by w (is_placement_in i) h) (ever_admitted h) (cut h) t
+    ap (λ ts. without ts (ever_admitted (h ++ events.Admit t ∷ []) ++ cut (h ++ events.Admit t ∷ []))) firing ∙ ap (λ ts. without (fired_by w (is_placement_in i) h) (ts ++ cut (h ++ events.Admit t ∷ []))) (ever_admitted-push h (events.Admit t)) ∙ ap (λ ts. without (fired_by w (is_placement_in i) h) ((ever_admitted h ++ t ∷ []) ++ ts)) gone ∙ without_middle (fired_by w (is_placement_in i) h) (ever_admitted h) (cut h) t
 
 pub waiting-fire : (w : Parts) (h : List Event) (t : TaskId) (spot : Spot) (ms : List MsgId) (cs : List TaskId) (i : ℕ) → IsLegal w h → IsAllowed w h (events.Fire t spot ms cs) → waiting w (h ++ events.Fire t spot ms cs ∷ []) i ≡ without (waiting w h i) cs ++ (if is_branch_where w (is_placement_in i) spot then t ∷ [] else [])
 waiting-fire w h t spot ms cs i legal allowed =
@@ -127,24 +123,17 @@ pub waiting_apart : (w : Parts) (h : List Event) (i j : ℕ) → IsLegal w h →
 waiting_apart w h i j legal other = without_none (waiting w h j) (waiting w h i) (λ u is. refuted (has_task (waiting w h i) u) (λ also. differ (waits_in_one w h i j u legal also is)))
   where
     differ : i ≡ j → ⊥
-    differ same = let self : (i == j) ≡ true = subst (λ k. (i == k) ≡ true) same (eq-here i) in absurd (cc)
-      where
-        eq-here : (k : ℕ) → (k == k) ≡ true
-        eq-here k = grind (arith, common_steps)
+    differ same = let self : (i == j) ≡ true = subst (λ k. (i == k) ≡ true) same (eq-self i) in absurd (cc)
 
 pub all_gone : (ts : List TaskId) → without ts ts ≡ []
 all_gone ts = none ts (λ u is. is)
   where
     none : (us : List TaskId) → ((u : TaskId) → has_task us u ≡ true → has_task ts u ≡ true) → without us ts ≡ []
     none [] within = refl
-    none (u ∷ us) within = rw (within u (here u), none us (λ v is. within v (later (same_task v u) (has_task us v) is))) refl
+    none (u ∷ us) within = rw (within u (here u), none us (λ v is. within v (or_right (same_task v u) (has_task us v) is))) refl
       where
         here : (v : TaskId) → has_task (v ∷ us) v ≡ true
         here v = ap (λ b. b || has_task us v) (same_task-self v)
-
-        later : (a b : Bool) → b ≡ true → a || b ≡ true
-        later true b is = refl
-        later false b is = is
 
 -- ---- whose root is left
 

@@ -56,9 +56,6 @@ filter_among p (y ∷ xs) x is = by (p y) is (filter_among p xs x)
     by true (inr more) rest = inr (rest more)
     by false more rest = inr (rest more)
 
-pub no_some : {X : Type 0} (o : Option X) (x : X) → o ≡ None → o ≡ Some x → ⊥
-no_some o x none is = absurd (cc)
-
 pub posts_script : (ms : List Msg) (m : Msg) → is_task_message m.id ≡ false → length (filter (λ (x : Msg). is_task_message x.id) (ms ++ m ∷ [])) ≡ length (filter (λ (x : Msg). is_task_message x.id) ms)
 posts_script ms m out = grind (arith, common_steps, out)
 

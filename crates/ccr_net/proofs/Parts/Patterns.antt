@@ -13,7 +13,7 @@ use Rattle.ccr_model.specs.declared.history.Event.{Event}
 use Rattle.ccr_model.specs.Posts.{posts, held}
 use Rattle.ccr_model.specs.Firings.{fired}
 use Rattle.ccr_model.specs.Choice.{choice_of_slots}
-use Rattle.ccr_model.proofs.Booleans.{same_number, eq-self, or_left, or_right, either}
+use Rattle.ccr_base.proofs.Booleans.{same_number, eq-self, or_left, or_right, either}
 use Rattle.ccr_model.proofs.Members.{Among}
 use Rattle.ccr_model.proofs.PostNames.{AreNamed}
 use Rattle.ccr_model.proofs.SameNames.{same_task-is, same_message-self}

@@ -14,7 +14,7 @@ use Rattle.ccr_model.specs.declared.history.Event.{Event}
 use Rattle.ccr_model.specs.declared.history.Event.TheVariants as events
 use Rattle.ccr_model.specs.Posts.{posts, taken, held, posted}
 use Rattle.ccr_model.specs.Firings.{fired}
-use Rattle.ccr_model.proofs.Booleans.{same_number, or_left, or_right}
+use Rattle.ccr_base.proofs.Booleans.{same_number, or_left, or_right}
 use Rattle.ccr_model.proofs.HeldSteps.{held-post, held-fire}
 use Rattle.ccr_model.proofs.Pushes.{fired-fire}
 use Rattle.ccr_model.proofs.PostNames.{times, AreNamed}

@@ -14,6 +14,7 @@ use Rattle.ccr_places.specs.Queues.{QueueState}
 use Rattle.ccr_claim.specs.declared.asks.Reply.{Reply}
 use Rattle.ccr_claim.specs.declared.asks.Asked.{Asked}
 use Rattle.ccr_actor.specs.Actors.{State, asked, after, after_all, shorten, start, state_after}
+use Rattle.ccr_actor.proofs.Followed.{after-more}
 use Rattle.ccr_runs.specs.declared.entries.Entry.{Entry}
 use Rattle.ccr_runs.specs.Visible.{visible, event_of}
 use Rattle.ccr_runs.specs.Places.{note_of, queue_after}
@@ -68,11 +69,8 @@ drop-whole (suc n) (x ∷ xs) low = drop-whole n xs (omega arith)
 abbrev pub IsNextState : Parts → ℕ → State → Reply → State → Type 0
 IsNextState w a st r next = (next ≡ after w a st r) ⊎ (next ≡ shorten w a (after w a st r))
 
-all-snoc : (w : Parts) (a : ℕ) (st : State) (rs : List Reply) (r : Reply) → after_all w a st (rs ++ r ∷ []) ≡ after w a (after_all w a st rs) r
-all-snoc w a st rs r = grind (arith, common_steps)
-
 pub state_after-push : (w : Parts) (a : ℕ) (lack : Option ℕ) (rs : List Reply) (r : Reply) → IsNextState w a (state_after w a lack rs) r (state_after w a lack (rs ++ r ∷ []))
-state_after-push w a None rs r = inl (all-snoc w a (start w a) rs r)
+state_after-push w a None rs r = inl (after-more w a (start w a) rs r)
 state_after-push w a (Some n) rs r = by (nat_le n (length rs)) (nat_le n (length (rs ++ r ∷ []))) refl refl
   where
     longer : length (rs ++ r ∷ []) ≡ length rs + 1
@@ -85,10 +83,10 @@ state_after-push w a (Some n) rs r = by (nat_le n (length rs)) (nat_le n (length
     short_at given = after_all w a (shorten w a (after_all w a begun (take n given))) (drop n given)
 
     by : (b c : Bool) → nat_le n (length rs) ≡ b → nat_le n (length (rs ++ r ∷ [])) ≡ c → IsNextState w a (if b then short_at rs else after_all w a begun rs) r (if c then short_at (rs ++ r ∷ []) else after_all w a begun (rs ++ r ∷ []))
-    by true true before now = inl (let low : n ≤ length rs = grind (arith, nat_tests, before) in rw (take-before n rs (r ∷ []) low, drop-before n rs (r ∷ []) low) (all-snoc w a (shorten w a (after_all w a begun (take n rs))) (drop n rs) r))
+    by true true before now = inl (let low : n ≤ length rs = grind (arith, nat_tests, before) in rw (take-before n rs (r ∷ []) low, drop-before n rs (r ∷ []) low) (after-more w a (shorten w a (after_all w a begun (take n rs))) (drop n rs) r))
     by true false before now = absurd (let low : n ≤ length rs = grind (arith, nat_tests, before) in let high : length (rs ++ r ∷ []) < n = grind (arith, nat_tests, now) in omega (arith, low, high, longer))
-    by false false before now = inl (all-snoc w a begun rs r)
-    by false true before now = inr (let all : length (rs ++ r ∷ []) ≤ n = (let high : length rs < n = grind (arith, nat_tests, before) in omega (arith, high, longer)) in rw (take-whole n (rs ++ r ∷ []) all, drop-whole n (rs ++ r ∷ []) all) (ap (shorten w a) (all-snoc w a begun rs r)))
+    by false false before now = inl (after-more w a begun rs r)
+    by false true before now = inr (let all : length (rs ++ r ∷ []) ≤ n = (let high : length rs < n = grind (arith, nat_tests, before) in omega (arith, high, longer)) in rw (take-whole n (rs ++ r ∷ []) all, drop-whole n (rs ++ r ∷ []) all) (ap (shorten w a) (after-more w a begun rs r)))
 
 pub state_of-own : (w : Parts) (lacks : Lacks) (es : List Entry) (e : Entry) (a : ℕ) → (e.actor == a) ≡ true → IsNextState w a (state_of w lacks es a) (reply_of w es e) (state_of w lacks (es ++ e ∷ []) a)
 state_of-own w lacks es e a is = rw (replies_of-push w a es e, is) (state_after-push w a (lacks a) (replies_of w es a) (reply_of w es e))

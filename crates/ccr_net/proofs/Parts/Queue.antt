@@ -18,8 +18,8 @@ use Rattle.ccr_model.specs.Rules.{drop_at, drop_by}
 use Rattle.ccr_model.specs.TaskData.{placement_of}
 use Rattle.ccr_model.specs.Tasks.{queued, is_for_queue}
 use Rattle.ccr_model.specs.Legal.{IsLegal}
-use Rattle.ccr_model.proofs.Booleans.{same_number, eq-self, refuted}
-use Rattle.ccr_model.proofs.Options.{some_of}
+use Rattle.ccr_base.proofs.Booleans.{same_number, eq-self, refuted}
+use Rattle.ccr_base.proofs.Options.{some_of}
 use Rattle.ccr_model.proofs.SameNames.{same_task-is}
 use Rattle.ccr_model.proofs.TaskSteps.{queued-put, queued-start}
 use Rattle.ccr_model.proofs.TaskLists.{without_other, without_first, not_more, not_within, has_oldest, none_gone}

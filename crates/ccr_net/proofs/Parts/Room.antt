@@ -22,7 +22,7 @@ use Rattle.ccr_model.specs.Firings.{Firing, firing_of, firings, firing_named, fi
 use Rattle.ccr_model.specs.Legal.{IsLegal}
 use Rattle.ccr_model.specs.Live.{has_room_in}
 use Rattle.ccr_model.specs.Tasks.{fired_by, is_branch_where, is_for_queue, coming, queued}
-use Rattle.ccr_model.proofs.Booleans.{same_number, eq-self, refuted, no_both, or_right}
+use Rattle.ccr_base.proofs.Booleans.{same_number, eq-self, refuted, no_both, or_right}
 use Rattle.ccr_model.proofs.Allowing.{OneName-legal}
 use Rattle.ccr_model.proofs.FiringFacts.{fired_by_named}
 use Rattle.ccr_model.proofs.Members.{Among, Among-either}

@@ -17,7 +17,7 @@ use Rattle.ccr_model.specs.Firings.{firings, firing_of, yielded, yielded_by}
 use Rattle.ccr_model.specs.Legal.{IsAllowed, IsLegal}
 use Rattle.ccr_model.specs.Live.{is_none_of}
 use Rattle.ccr_model.specs.Sites.{suspended, yields_at}
-use Rattle.ccr_model.proofs.Booleans.{same_number, both}
+use Rattle.ccr_base.proofs.Booleans.{same_number, both}
 use Rattle.ccr_model.proofs.FiredTasks.{IsFired}
 use Rattle.ccr_model.proofs.Suspending.{ResumeFacts, ResumeFacts-allowed, end_fired, suspended-other, suspended-branch, suspended-elsewhere, suspended-here}
 use Rattle.ccr_places.specs.declared.notes.Note.{Note}

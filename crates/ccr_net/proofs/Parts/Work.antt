@@ -19,7 +19,7 @@ use Rattle.ccr_model.specs.Posts.{posts, posts_of_poster, posts_of_task, is_scri
 use Rattle.ccr_model.specs.Firings.{ended, ended_by}
 use Rattle.ccr_model.specs.TaskData.{play_of}
 use Rattle.ccr_model.specs.Tasks.{running_by, started_as}
-use Rattle.ccr_model.proofs.Booleans.{same_number, eq-self}
+use Rattle.ccr_base.proofs.Booleans.{same_number, eq-self}
 use Rattle.ccr_model.proofs.FiredTasks.{IsFired, IsFired-append}
 use Rattle.ccr_model.proofs.Pushes.{posts-push}
 use Rattle.ccr_model.proofs.SameNames.{same_task-is, same_task-self}

@@ -1,16 +1,15 @@
 -- What one more act leaves.
-use Rattle.std.proofs.Common.{◌≡◌, ◌≢◌, ◌<◌, ◌≤◌, ℕ, zero, suc, ◌+◌, max, Bool, true, false, List, [], ◌∷◌, ◌++◌, map, length, length-append, get_or, take, drop, Result, Ok, Err, IfOk, OnOk, OnErr, refl, sym, arith, ap, ◌∙◌, subst}
+use Rattle.std.proofs.Common.{◌≡◌, ◌≢◌, ◌<◌, ◌≤◌, ℕ, zero, suc, ◌+◌, max, Bool, true, false, List, [], ◌∷◌, ◌++◌, map, length, length-append, get_or, drop, Result, Ok, Err, IfOk, OnOk, OnErr, refl, sym, arith, ap, ◌∙◌, subst}
 use Rattle.std.specs.Prelude.{◌==◌, cond, slice_get, slice_index, slice_set}
 use Rattle.std.specs.Option.{option_map, option_map_or}
 use Rattle.std.proofs.lemmas.Option.{slice_get-map}
 use Rattle.std.proofs.lemmas.List.{get_or-set_same, get_or-set_other, length-map, map-append}
 use Rattle.std.proofs.Math.ListN.{length-set}
-use Rattle.std.proofs.Math.Seq.{take-append_seam}
 use Rattle.std.specs.declared.snapshot.Snapshot.{Snapshot}
 use Rattle.ccr_base.specs.declared.list.OutOfMemory.{OutOfMemory}
 use Rattle.ccr_base.specs.declared.names.Place.{Place}
 use Rattle.ccr_wiring.specs.declared.parts.Parts.{Parts}
-use Rattle.ccr_model.proofs.Booleans.{same_number, eq-self}
+use Rattle.ccr_base.proofs.Booleans.{same_number, eq-self}
 use Rattle.ccr_claim.specs.declared.asks.Ask.{Ask}
 use Rattle.ccr_object.specs.declared.deed.PlaceAnswer.{PlaceAnswer}
 use Rattle.ccr_object.specs.declared.deed.Deed.{Deed}
@@ -44,10 +43,6 @@ on_err (Err e) f p = f p
 pub deed_given : (x : Placed) (ask : Ask) (r : Result (PlaceAnswer × Deed) OutOfMemory) → IfOk r (λ (given : PlaceAnswer × Deed). given.1.note ≡ note_of x ask) → IfOk r (λ (given : PlaceAnswer × Deed). given.1.ask.value ≡ ask) → IfOk r (λ (given : PlaceAnswer × Deed). given.1 ≡ deed_at x ask)
 deed_given x ask (Ok given) note asks = λ j. record { note = note j; ask = record { marker = record {}; value = asks j } }
 deed_given x ask (Err e) note asks = tt
-
--- what a slice of all writes back
-pub written : {X : Type 0} (xs ys : List X) (n : ℕ) → n ≡ length xs → take n (xs ++ ys) ≡ xs
-written xs ys n all = ap (λ m. take m (xs ++ ys)) all ∙ take-append_seam xs ys
 
 -- ---- objects by number
 

@@ -1,5 +1,5 @@
 -- The task of a commit, where it fires, is what the visible history then tells of it.
-use Rattle.std.proofs.Common.{◌≡◌, ◌⊎◌, inl, inr, ◌≤◌, ◌^◌, ℕ, zero, suc, Bool, true, false, List, [], ◌∷◌, ◌++◌, length, map, filter, flat_map, take, find, Some, refl, sym, arith, ap, ◌∙◌, subst}
+use Rattle.std.proofs.Common.{◌≡◌, ◌⊎◌, inl, inr, ◌≤◌, ◌^◌, ℕ, Bool, true, false, List, [], ◌∷◌, ◌++◌, length, map, filter, flat_map, find, Some, refl, sym, arith, ap, ◌∙◌, subst}
 use Rattle.std.specs.Prelude.{◌==◌, ◌||◌, if◌then◌else◌, nat_lt}
 use Rattle.std.specs.Option.{option_map, option_map_or}
 use Rattle.std.proofs.lemmas.Grind.{common_steps}
@@ -25,10 +25,10 @@ use Rattle.ccr_model.specs.Firings.{Firing, firing_named, fired, fired_at, spot_
 use Rattle.ccr_model.specs.Posts.{posts, held, message_named, messages_named}
 use Rattle.ccr_model.specs.Sites.{before, suspended, yields_at, yielded_at, root_at}
 use Rattle.ccr_model.specs.TaskData.{load_at, messages_of, play_at}
-use Rattle.ccr_model.proofs.Booleans.{both, same_number}
+use Rattle.ccr_base.proofs.Booleans.{both, same_number}
 use Rattle.ccr_model.proofs.FiringFacts.{before-new, firing_named-new}
-use Rattle.ccr_model.proofs.Members.{Among, Among-either}
-use Rattle.ccr_model.proofs.Options.{some_of, some_map}
+use Rattle.ccr_model.proofs.Members.{Among, Among-either, Among-take}
+use Rattle.ccr_base.proofs.Options.{some_of, some_map}
 use Rattle.ccr_model.proofs.PostNames.{AreNamed, times}
 use Rattle.ccr_model.proofs.SameNames.{same_message-self}
 use Rattle.ccr_model.proofs.Stable.{load_at-append, root_at-append}
@@ -82,12 +82,6 @@ all_named h (m ∷ ms) named posted =
 
 -- ---- what an attempt got was posted
 
-take_among : {X : Type 0} (n : ℕ) (xs : List X) (x : X) → Among x (take n xs) → Among x xs
-take_among zero xs x is = absurd is
-take_among (suc n) [] x is = absurd is
-take_among (suc n) (y ∷ xs) x (inl e) = inl e
-take_among (suc n) (y ∷ xs) x (inr is) = inr (take_among n xs x is)
-
 had_among : (had : List Had) (p : ℕ) (m : Msg) → Among m (had_at had p) → (d : Had) × Among d had × Among m d.messages
 had_among [] p m is = absurd is
 had_among (one ∷ had) p m is = by (one.slot.port == p) is (had_among had p m)
@@ -109,7 +103,7 @@ got_posted w h port a st named match own fresh pattern m is =
     let found = ports_among (had_in st.phase) (ports_in pattern) m (subst (Among m) (in_ports pattern (had_in st.phase)) is) in
     let d = found.0 in
     let marked : Among m (first_fitting (length d.messages) d.slot.pred (port d.slot.port).items) = subst (Among m) (sym (own.had_marked d found.1)) found.2 in
-    let item : Among m (port d.slot.port).items = filter_among _ (port d.slot.port).items m (take_among (length d.messages) _ m marked) in
+    let item : Among m (port d.slot.port).items = filter_among _ (port d.slot.port).items m (Among-take (length d.messages) _ m marked) in
     let there : Among m (held h d.slot.port) = subst (Among m) (sym (held_had w h port a st named match own fresh d found.1)) item in
     filter_among _ (posts h) m (filter_among _ _ m there)
 

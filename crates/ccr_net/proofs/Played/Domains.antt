@@ -12,8 +12,8 @@ use Rattle.ccr_wiring.specs.declared.parts.Parts.{Parts}
 use Rattle.ccr_wiring.specs.Wirings.{Placement, placements}
 use Rattle.ccr_model.specs.declared.history.Event.{Event}
 use Rattle.ccr_model.specs.Tasks.{is_interleave}
-use Rattle.ccr_model.proofs.Booleans.{eq-self}
-use Rattle.ccr_model.proofs.Options.{some_then}
+use Rattle.ccr_base.proofs.Booleans.{eq-self}
+use Rattle.ccr_base.proofs.Options.{some_then}
 use Rattle.ccr_places.specs.Commits.{cut_tasks}
 use Rattle.ccr_places.specs.declared.notes.Note.{Note}
 use Rattle.ccr_places.specs.declared.notes.Note.TheVariants as notes

@@ -4,6 +4,7 @@ use Rattle.std.specs.Prelude.{slice_get}
 use Rattle.std.specs.Option.{option_map_or}
 use Rattle.ccr_base.specs.declared.names.Place.{Place}
 use Rattle.ccr_base.specs.declared.names.Place.TheVariants as places
+use Rattle.ccr_base.proofs.Options.{no_some}
 use Rattle.ccr_wiring.specs.declared.parts.ArbiterPart.{ArbiterPart}
 use Rattle.ccr_wiring.specs.declared.parts.Parts.{Parts}
 use Rattle.ccr_wiring.specs.Groups.{is_interleave}
@@ -15,7 +16,7 @@ use Rattle.ccr_runs.specs.declared.entries.Entry.{Entry}
 use Rattle.ccr_runs.specs.Places.{note_at_arbiter, note_of}
 use Rattle.ccr_runs.specs.EntryRuns.{Lacks, IsRunAfter, notes_at}
 use Rattle.ccr_net.proofs.Played.BuiltTasks.{commit_tells}
-use Rattle.ccr_net.proofs.Parts.Noted.{Given, no_some}
+use Rattle.ccr_net.proofs.Parts.Noted.{Given}
 use Rattle.ccr_net.proofs.Kept.PlainWirings.{plain_facts}
 use Rattle.ccr_net.proofs.Played.Asks.{ask_facts}
 use Rattle.ccr_net.proofs.Played.Arbiters.{plain_answers}

@@ -4,7 +4,7 @@ use Rattle.std.specs.Prelude.{◌==◌, cond, filter_map}
 use Rattle.std.specs.List.{cons_option}
 use Rattle.std.specs.Option.{option_map}
 use Rattle.ccr_wiring.specs.declared.parts.Parts.{Parts}
-use Rattle.ccr_model.proofs.Booleans.{eq-self}
+use Rattle.ccr_base.proofs.Booleans.{eq-self}
 use Rattle.ccr_actor.specs.Actors.{next}
 use Rattle.ccr_actor.specs.Nets.{AreNext, Step}
 use Rattle.ccr_object.specs.declared.deed.Deed.{Deed}

@@ -23,7 +23,7 @@ use Rattle.ccr_wiring.specs.Valid.{IsValid}
 use Rattle.ccr_wiring.specs.Wirings.{Placement, actions_of, awaited, in_domain, placement, placements, placements_from, sites_from, spots_from}
 use Rattle.ccr_wiring.proofs.Lists.{neither, none_at}
 use Rattle.ccr_wiring.proofs.Validity.{no_codes}
-use Rattle.ccr_model.proofs.Booleans.{eq-self, same_number}
+use Rattle.ccr_base.proofs.Booleans.{eq-self, same_number}
 use Rattle.ccr_object.specs.declared.object.Object.TheVariants.{Arbiter}
 use Rattle.ccr_object.specs.Starts.{fresh_arbiter, kind_of, member_at, member_of, members}
 use Rattle.ccr_object.specs.Starts as starts
@@ -32,6 +32,7 @@ use Rattle.ccr_runs.specs.Places.{arbiter_after, branches_before, first_branch, 
 use Rattle.ccr_runs.specs.EntryRuns.{notes_at}
 use Rattle.ccr_runs.specs.Visible.{visible}
 use Rattle.ccr_net.proofs.Played.Objects.{object_of, told_object}
+use Rattle.ccr_net.proofs.Played.Starts.{no_sites}
 use Rattle.ccr_wiring.proofs.DomainLemmas.{no_less, least_fails, member_fails}
 
 -- ---- the branches of a domain, from branch to branch
@@ -39,10 +40,6 @@ use Rattle.ccr_wiring.proofs.DomainLemmas.{no_less, least_fails, member_fails}
 abbrev pub members_from : ℕ → ℕ → List Placement → List (ℕ × Group)
 members_from i b [] = []
 members_from i b (s ∷ ss) = cons_option (member_of i b s) (members_from i (b + 1) ss)
-
-no_sites : (w : Parts) (i b n : ℕ) (ports : List ℕ) → filter_map (member_at w i) (sites_from b n ports) ≡ []
-no_sites w i b n [] = refl
-no_sites w i b n (p ∷ ps) = no_sites w i b (n + 1) ps
 
 members_in : (w : Parts) (i b : ℕ) (ss : List Placement) → ((k : ℕ) (s : Placement) → slice_get ss k ≡ Some s → placement w (b + k) ≡ Some s) → filter_map (member_at w i) (spots_from w b ss) ≡ members_from i b ss
 members_in w i b [] known = refl

@@ -4,7 +4,7 @@ use Rattle.std.specs.Prelude.{◌==◌, if◌then◌else◌, slice_get, unwrap_o
 use Rattle.ccr_base.specs.declared.names.Place.{Place}
 use Rattle.ccr_base.specs.declared.names.Place.TheVariants as places
 use Rattle.ccr_wiring.specs.declared.parts.Parts.{Parts}
-use Rattle.ccr_model.proofs.Booleans.{same_number, eq-self, both}
+use Rattle.ccr_base.proofs.Booleans.{same_number, eq-self, both}
 use Rattle.ccr_object.specs.Starts.{places_of}
 use Rattle.ccr_runs.specs.Played.{position_of, number_at, place_at}
 use Rattle.ccr_runs.specs.EntryRuns.{same_place}

@@ -6,7 +6,7 @@ use Rattle.ccr_base.specs.declared.names.Place.TheVariants as places
 use Rattle.ccr_base.specs.declared.patterns.Slot.{Slot}
 use Rattle.ccr_base.specs.Choice.{fitting, is_choosable}
 use Rattle.ccr_wiring.specs.declared.parts.Parts.{Parts}
-use Rattle.ccr_model.proofs.Booleans.{eq-self, both, same_number}
+use Rattle.ccr_base.proofs.Booleans.{eq-self, both, same_number}
 use Rattle.ccr_places.specs.declared.claims.StandingClaim.{StandingClaim}
 use Rattle.ccr_places.specs.declared.notes.ClaimNote.TheVariants.{Got, Busy, Short}
 use Rattle.ccr_places.specs.declared.notes.Note.{Note}
@@ -57,7 +57,8 @@ note_number port (notes.Draw n) = refl
 note_number port notes.Leave = refl
 note_number port (notes.Left n) = refl
 
-kept_number : (port : PortState) (earlier : List Note) → (ports.kept port earlier).number ≡ port.number
+-- a port keeps its number
+pub kept_number : (port : PortState) (earlier : List Note) → (ports.kept port earlier).number ≡ port.number
 kept_number port [] = refl
 kept_number port (note ∷ earlier) = kept_number (ports.after port note) earlier ∙ note_number port note
 

@@ -13,7 +13,7 @@ use Rattle.ccr_base.specs.declared.tasks.Task.{Task}
 use Rattle.ccr_base.specs.Names.{same_spot, has_task}
 use Rattle.ccr_wiring.specs.declared.parts.Parts.{Parts}
 use Rattle.ccr_model.specs.declared.history.Event.{Event}
-use Rattle.ccr_model.proofs.Booleans.{both, eq-self}
+use Rattle.ccr_base.proofs.Booleans.{both, eq-self}
 use Rattle.ccr_model.proofs.FiredTasks.{IsFired}
 use Rattle.ccr_places.specs.declared.notes.Note.{Note}
 use Rattle.ccr_places.specs.declared.notes.Note.TheVariants as notes

@@ -13,8 +13,8 @@ use Rattle.ccr_wiring.specs.declared.parts.Parts.{Parts}
 use Rattle.ccr_wiring.specs.Wirings.{Placement, placement, placements, spots_from, sites_from, awaited, actions_of}
 use Rattle.ccr_model.specs.Interleaves.{is_placement_in}
 use Rattle.ccr_model.specs.Tasks.{is_interleave}
-use Rattle.ccr_model.proofs.Booleans.{same_number, and_false}
-use Rattle.ccr_model.proofs.Options.{some_of}
+use Rattle.ccr_base.proofs.Booleans.{same_number, and_false}
+use Rattle.ccr_base.proofs.Options.{some_of}
 use Rattle.ccr_places.specs.Interleaves as interleaves
 use Rattle.ccr_object.specs.declared.object.Object.TheVariants.{Interleave}
 use Rattle.ccr_object.specs.Starts.{start_at, fresh_arbiter, kind_of, member_at, member_of, members, branches_of, groups_of}
@@ -66,7 +66,8 @@ picks : {X Y : Type 0} (f : X → Option Y) (x : X) (xs : List X) (o : Option Y)
 picks f x xs None is = rw is refl
 picks f x xs (Some y) is = rw is refl
 
-no_sites : (w : Parts) (i b k : ℕ) (ports : List ℕ) → filter_map (member_at w i) (sites_from b k ports) ≡ []
+-- no site is a member of a domain
+pub no_sites : (w : Parts) (i b k : ℕ) (ports : List ℕ) → filter_map (member_at w i) (sites_from b k ports) ≡ []
 no_sites w i b k [] = refl
 no_sites w i b k (port ∷ ports) = no_sites w i b (k + 1) ports
 

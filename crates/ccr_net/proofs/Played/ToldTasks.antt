@@ -11,10 +11,10 @@ use Rattle.ccr_model.specs.declared.history.Event.{Event}
 use Rattle.ccr_wiring.specs.Wirings.{next_site}
 use Rattle.ccr_model.specs.Firings.{Firing, firing_named, fired_at, spot_of, yielded}
 use Rattle.ccr_model.specs.Sites.{suspended, yields_at, yielded_at}
-use Rattle.ccr_model.proofs.Options.{some_of, some_map}
+use Rattle.ccr_base.proofs.Options.{some_of, some_map}
 use Rattle.ccr_model.proofs.TaskLists.{has_task-drop}
 use Rattle.ccr_model.proofs.TasksLeft.{of_filter}
-use Rattle.ccr_model.proofs.Booleans.{or_left, or_right}
+use Rattle.ccr_base.proofs.Booleans.{or_left, or_right}
 use Rattle.ccr_model.proofs.FiredTasks.{IsFired}
 use Rattle.ccr_model.proofs.Members.{Among}
 use Rattle.ccr_model.proofs.SameNames.{same_task-self}

@@ -5,6 +5,7 @@ use Rattle.std.specs.List.{All}
 use Rattle.std.specs.Str.{bytes_eq}
 use Rattle.std.proofs.lemmas.Bool.Decides.{nat_tests}
 use Rattle.std.proofs.lemmas.List.{flat_map_more}
+use Rattle.ccr_base.proofs.Texts.{same_word}
 use Rattle.ccr_wiring.specs.declared.parts.Parts.{Parts}
 use Rattle.ccr_wiring.specs.declared.parts.BranchPart.{BranchPart}
 use Rattle.ccr_wiring.specs.declared.parts.ArbiterPart.{ArbiterPart}
@@ -17,7 +18,6 @@ use Rattle.ccr_wiretext.specs.Names.{Naming}
 use Rattle.ccr_wiretext.specs.Drafts.{Declared, branch_count, receiver, with_receive}
 use Rattle.ccr_wiretext.specs.Spelling.{branch_words, arbiter_lines}
 use Rattle.ccr_wiretext.specs.Values.{IsPatternValued, IsArbiterValued}
-use Rattle.ccr_wiretext.proofs.Steps.{same_word}
 use Rattle.ccr_wiretext.proofs.Each.{Each, both}
 use Rattle.ccr_wiretext.proofs.Fit.{Shaped, ArbiterFit}
 use Rattle.ccr_wiretext.proofs.SpotCounts.{Uncrowded}

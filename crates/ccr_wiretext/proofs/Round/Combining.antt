@@ -4,6 +4,7 @@ use Rattle.std.specs.Prelude.{◌==◌, not, codes}
 use Rattle.std.specs.List.{slice_get}
 use Rattle.std.specs.Option.{option_map_or}
 use Rattle.std.proofs.lemmas.List.Concat.{flat_map-append}
+use Rattle.ccr_base.proofs.Booleans.{not_true, not_refuted}
 use Rattle.ccr_text.specs.Spelling.{AreWords}
 use Rattle.ccr_wiring.specs.declared.parts.Parts.{Parts}
 use Rattle.ccr_wiring.specs.declared.parts.ArbiterPart.{ArbiterPart}
@@ -21,7 +22,6 @@ use Rattle.ccr_wiretext.specs.Drafts.{Declared, with_domain}
 use Rattle.ccr_wiretext.specs.Patterns.{is_combined}
 use Rattle.ccr_wiretext.specs.Grammar.{AreInterleaves}
 use Rattle.ccr_wiretext.specs.Spelling.{arbiter_name, combine_words}
-use Rattle.ccr_wiretext.proofs.Steps.{not_true, not_false}
 use Rattle.ccr_wiretext.proofs.Each.{Each, both}
 use Rattle.ccr_wiretext.proofs.Fit.{InterleaveFit, DomainFit}
 use Rattle.ccr_wiretext.proofs.Round.Leads.{outside, IsStep, Leads, walk_lines, room_before, each_at}
@@ -69,7 +69,7 @@ KnowsInterleaves parts names = (n : ℕ) → InterleaveFit parts.arbiters n → 
 
 interleave_at : (found : Option ArbiterPart) → option_map_or (λ (arbiter : ArbiterPart). not (is_interleave arbiter.kind)) found true ≡ false → (part : ArbiterPart) × (found ≡ Some part) × (is_interleave part.kind ≡ true)
 interleave_at None fit = absurd cc
-interleave_at (Some part) fit = (part, refl, not_false (is_interleave part.kind) fit)
+interleave_at (Some part) fit = (part, refl, not_refuted (is_interleave part.kind) fit)
 
 pub interleaves_known : (parts : Parts) (front : Naming) → Good (names_of (front ++ firing_entries 0 parts.arbiters)) → KnowsInterleaves parts (front ++ firing_entries 0 parts.arbiters)
 interleaves_known parts front good n fit =

@@ -2,6 +2,8 @@
 use Rattle.std.proofs.Common.{◌≡◌, ℕ, ◌<◌, ◌≤◌, Bool, true, false, List, length, refl, arith}
 use Rattle.std.specs.Prelude.{◌==◌, ◌&&◌, ◌||◌, not, nat_lt}
 use Rattle.std.specs.List.{list_any}
+use Rattle.std.proofs.lemmas.Bool.{ltb-false as within}
+use Rattle.ccr_base.proofs.Booleans.{not_refuted}
 use Rattle.ccr_wiring.specs.declared.parts.Parts.{Parts}
 use Rattle.ccr_wiring.specs.declared.parts.QueuePart.{QueuePart}
 use Rattle.ccr_wiring.specs.declared.parts.CausePart.{CausePart}
@@ -11,14 +13,14 @@ use Rattle.ccr_wiring.specs.References.{set_is_dangling, cause_is_dangling, hand
 use Rattle.ccr_wiring.specs.Repeats.{arbiter_repeats, set_repeats, poster_repeats, has_repeating_set, has_repeating_arbiter, has_repeating_poster, are_apart, members_in_all, has_repeating_domain}
 use Rattle.ccr_wiring.specs.Limits.{policy_is_outside, set_is_outside, handler_is_outside, arbiter_is_outside, has_branches_above, has_posts_above, has_too_many, has_outside_queue, has_outside_set, has_outside_handler, has_outside_arbiter, domain_is_outside, has_outside_domain}
 use Rattle.ccr_wiring.specs.Versions.{handler_is_newer, poster_is_newer}
-use Rattle.ccr_wiretext.proofs.Steps.{not_false}
 use Rattle.ccr_wiring.specs.Spots.{times, named_ports}
+use Rattle.ccr_wiring.proofs.Soundness.{below}
 use Rattle.ccr_wiretext.proofs.Each.{neither}
 use Rattle.ccr_wiretext.proofs.Fit.{PolicyFit, OldFit, ArbiterFit, SetFit, HandlerFit, PosterFit, DomainFit}
 use Rattle.ccr_wiretext.proofs.SpotCounts.{Uncrowded, times_none, among}
 use Rattle.ccr_wiretext.proofs.Sound.{Counts, Fits}
 use Rattle.ccr_wiretext.proofs.Round.Namings.{Good}
-use Rattle.ccr_wiretext.proofs.Round.Validity.{each_if, none_of_two, below, within, policy_fits, set_fits, handler_fits, arbiter_fits, poster_fits, domain_fits, newer_in, old_each, NoCode}
+use Rattle.ccr_wiretext.proofs.Round.Validity.{each_if, none_of_two, policy_fits, set_fits, handler_fits, arbiter_fits, poster_fits, domain_fits, newer_in, old_each, NoCode}
 
 -- the tests of which one is that numbers name something. The others are likewise
 record There (parts : Parts) : Type 0 where
@@ -165,7 +167,7 @@ valid_fits parts none =
       domains = each_if (DomainFit parts.arbiters) (λ part. domain_is_dangling parts part || domain_is_outside part)
           (λ part e. let a = neither (domain_is_dangling parts part) (domain_is_outside part) e in domain_fits parts part a.0 a.1)
           parts.domains (none_of_two (domain_is_dangling parts) domain_is_outside parts.domains named.domains (neither (nat_lt 128 (length parts.domains)) (list_any domain_is_outside parts.domains) limits.domains).1);
-      combined = not_false (are_apart (members_in_all parts.domains)) apart.domains;
+      combined = not_refuted (are_apart (members_in_all parts.domains)) apart.domains;
     }
 
 pub valid_names : (parts : Parts) → NoCode parts → Good (declared_names parts)

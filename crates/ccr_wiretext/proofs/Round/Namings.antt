@@ -1,17 +1,20 @@
 -- The names that the canonical lines declare, in their order, and that a name means what it was declared for.
-use Rattle.std.proofs.Common.{◌≡◌, ℕ, zero, suc, ◌+◌, ◌<◌, Bool, true, false, cond, List, [], ◌∷◌, ◌++◌, length, map, Option, Some, None, refl, sym, ap, subst, ◌∙◌, arith, append_assoc, zero-add, add-zero}
+use Rattle.std.proofs.Common.{◌≡◌, ℕ, zero, suc, ◌+◌, Bool, true, false, cond, List, [], ◌∷◌, ◌++◌, length, map, Option, Some, None, refl, sym, ap, subst, ◌∙◌, arith, append_assoc, zero-add, add-zero}
 use Rattle.std.specs.Prelude.{not}
 use Rattle.std.specs.List.{list_any, slice_get}
 use Rattle.std.specs.Option.{option_and_then}
 use Rattle.std.specs.Str.{bytes_eq}
 use Rattle.std.proofs.lemmas.List.{map-append}
+use Rattle.std.proofs.lemmas.Option.{same_Some}
+use Rattle.ccr_base.proofs.Texts.{same_text}
+use Rattle.ccr_base.proofs.Booleans.{not_refuted}
 use Rattle.ccr_text.specs.Words.{is_name_of}
 use Rattle.ccr_text.specs.Names.{meaning_of}
 use Rattle.ccr_wiring.specs.Names.{has_name, has_repeated, has_malformed}
+use Rattle.ccr_wiring.proofs.NameLemmas.{apart_left}
 use Rattle.ccr_wiretext.specs.declared.named.Named.{Named}
 use Rattle.ccr_wiretext.specs.Names.{Naming}
 use Rattle.ccr_wiretext.specs.Grammar.{IsNew, Refers}
-use Rattle.ccr_wiretext.proofs.Steps.{not_false, same_name}
 use Rattle.ccr_wiretext.proofs.Each.{neither}
 
 abbrev pub names_of : Naming → List (List ℕ)
@@ -40,14 +43,8 @@ any_parts f (x ∷ xs) ys e =
     let parts = neither (f x) (list_any f (xs ++ ys)) e in
     let rest = any_parts f xs ys parts.1 in (rw (parts.0, rest.0) refl, rest.1)
 
-apart_front : (xs ys : List (List ℕ)) → has_repeated (xs ++ ys) ≡ false → has_repeated xs ≡ false
-apart_front [] ys e = refl
-apart_front (x ∷ xs) ys e =
-    let parts = neither (has_name (xs ++ ys) x) (has_repeated (xs ++ ys)) e in
-    rw ((any_parts (λ other. bytes_eq other x) xs ys parts.0).0, apart_front xs ys parts.1) refl
-
 pub good_front : (xs ys : List (List ℕ)) → Good (xs ++ ys) → Good xs
-good_front xs ys good = record { apart = apart_front xs ys good.apart; formed = (any_parts (λ name. not (is_name_of name)) xs ys good.formed).0 }
+good_front xs ys good = record { apart = apart_left xs ys good.apart; formed = (any_parts (λ name. not (is_name_of name)) xs ys good.formed).0 }
 
 pub fresh : (names : Naming) (name : List ℕ) (rest : List (List ℕ)) → has_repeated (names_of names ++ name ∷ rest) ≡ false → meaning_of names name ≡ None
 fresh [] name rest e = refl
@@ -63,7 +60,7 @@ is_new names name what rest good =
     let split : names_of (names ++ (name, what) ∷ rest) ≡ names_of names ++ name ∷ names_of rest = names_append names ((name, what) ∷ rest) in
     let formed = any_parts (λ name. not (is_name_of name)) (names_of names) (name ∷ names_of rest) (ap has_malformed (sym split) ∙ good.formed) in
     record {
-      formed = not_false (is_name_of name) (neither (not (is_name_of name)) (has_malformed (names_of rest)) formed.1).0;
+      formed = not_refuted (is_name_of name) (neither (not (is_name_of name)) (has_malformed (names_of rest)) formed.1).0;
       new = fresh names name (names_of rest) (ap has_repeated (sym split) ∙ good.apart);
     }
 
@@ -78,15 +75,12 @@ named_more (entry ∷ names) more word what e = by (bytes_eq word entry.0) e (na
 
 -- a new name means what it is declared for
 pub named_at : (names : Naming) (name : List ℕ) (what : Named) (more : Naming) → meaning_of names name ≡ None → meaning_of (names ++ (name, what) ∷ more) name ≡ Some what
-named_at [] name what more e = rw (same_name name) refl
+named_at [] name what more e = rw (same_text name) refl
 named_at (entry ∷ names) name what more e = by (bytes_eq name entry.0) e (named_at names name what more)
   where
     by : (t : Bool) → cond t (Some entry.1) (meaning_of names name) ≡ None → (meaning_of names name ≡ None → meaning_of (names ++ (name, what) ∷ more) name ≡ Some what) → cond t (Some entry.1) (meaning_of (names ++ (name, what) ∷ more) name) ≡ Some what
     by true h next = absurd cc
     by false h next = next h
-
-some_is : {X : Type 0} (x y : X) → Some x ≡ Some y → x ≡ y
-some_is x y e = cc
 
 entries_named : {X : Type 0} (name : X → List ℕ) (make : ℕ → Named) (front : Naming) (start : ℕ) (xs : List X) (k : ℕ) (x : X) → slice_get xs k ≡ Some x
     → has_repeated (names_of (front ++ entries name make start xs)) ≡ false → meaning_of (front ++ entries name make start xs) (name x) ≡ Some (make (start + k))
@@ -96,7 +90,7 @@ entries_named name make front start (y ∷ ys) zero x e apart =
     let here : meaning_of (front ++ (name y, make start) ∷ entries name make (start + 1) ys) (name y) ≡ Some (make start) =
     named_at front (name y) (make start) (entries name make (start + 1) ys) (fresh front (name y) (names_of (entries name make (start + 1) ys)) (ap has_repeated (sym split) ∙ apart)) in
     let counted : start + 0 ≡ start = omega arith in
-    rw counted (subst (λ z. meaning_of (front ++ (name y, make start) ∷ entries name make (start + 1) ys) (name z) ≡ Some (make start)) (some_is y x e) here)
+    rw counted (subst (λ z. meaning_of (front ++ (name y, make start) ∷ entries name make (start + 1) ys) (name z) ≡ Some (make start)) (same_Some y x e) here)
 entries_named name make front start (y ∷ ys) (suc k) x e apart =
     let same : (front ++ (name y, make start) ∷ []) ++ entries name make (start + 1) ys ≡ front ++ (name y, make start) ∷ entries name make (start + 1) ys = append_assoc front ((name y, make start) ∷ []) (entries name make (start + 1) ys) in
     let counted : start + suc k ≡ start + 1 + k = omega arith in
@@ -107,7 +101,7 @@ formed_get : {X : Type 0} (name : X → List ℕ) (make : ℕ → Named) (start 
 formed_get name make start [] k x e formed = absurd cc
 formed_get name make start (y ∷ ys) zero x e formed =
     let parts = neither (not (is_name_of (name y))) (has_malformed (names_of (entries name make (start + 1) ys))) formed in
-    subst (λ z. is_name_of (name z) ≡ true) (some_is y x e) (not_false (is_name_of (name y)) parts.0)
+    subst (λ z. is_name_of (name z) ≡ true) (same_Some y x e) (not_refuted (is_name_of (name y)) parts.0)
 formed_get name make start (y ∷ ys) (suc k) x e formed =
     formed_get name make (start + 1) ys k x e (neither (not (is_name_of (name y))) (has_malformed (names_of (entries name make (start + 1) ys))) formed).1
 
@@ -159,8 +153,3 @@ known_more as_kind names more name number known = record { formed = known.formed
     by : (o : Option Named) → meaning_of names name ≡ o → option_and_then as_kind o ≡ Some number → option_and_then as_kind (meaning_of (names ++ more) name) ≡ Some number
     by None is e = absurd cc
     by (Some what) is e = rw (named_more names more name what is) e
-
-pub get_some : {X : Type 0} (xs : List X) (k : ℕ) → k < length xs → (x : X) × (slice_get xs k ≡ Some x)
-get_some [] k less = absurd (omega arith)
-get_some (x ∷ xs) zero less = (x, refl)
-get_some (x ∷ xs) (suc k) less = get_some xs k (omega arith)

@@ -10,14 +10,15 @@ use Rattle.ccr_base.specs.declared.handlers.Expr.{Expr}
 use Rattle.ccr_base.specs.declared.handlers.Expr.TheVariants as exprs
 use Rattle.ccr_base.specs.declared.patterns.Pred.{Pred}
 use Rattle.ccr_base.specs.declared.patterns.Pred.TheVariants as preds
+use Rattle.ccr_base.proofs.Booleans.{not_true}
 use Rattle.ccr_text.specs.Words.{is_mark, value_after, is_digits, number_of, may_be_in_name, is_name_of}
 use Rattle.ccr_text.specs.Spelling.{AreWords}
 use Rattle.ccr_text.specs.Fields.{Words}
+use Rattle.ccr_text.proofs.Digits.{digit_mark}
 use Rattle.ccr_wiring.specs.Versions.{is_long}
 use Rattle.ccr_wiretext.specs.Values.{IsNumeral, IsValue, IsExprValued, IsPredValued}
 use Rattle.ccr_wiretext.specs.Grammar.{IsPlain, IsNumber, IsWithin, IsPolicy, AreNumbers, IsOne, IsValueWord, IsExpr, IsPred}
 use Rattle.ccr_wiretext.specs.Spelling.{policy_words, value_word, expr_words, pred_words}
-use Rattle.ccr_wiretext.proofs.Steps.{not_true}
 use Rattle.ccr_wiretext.proofs.Each.{Each, both}
 use Rattle.ccr_wiretext.proofs.Fit.{PolicyFit, OldFit, ExprFit}
 use Rattle.ccr_wiretext.proofs.Round.Leads.{each_all}
@@ -51,9 +52,6 @@ letter_mark b e = grind (arith, nat_tests, e)
 
 name_mark : (b : ℕ) → may_be_in_name b ≡ true → is_mark b ≡ true
 name_mark b e = grind (arith, nat_tests, e)
-
-digit_mark : (b : ℕ) → is_ascii_digit b ≡ true → is_mark b ≡ true
-digit_mark b e = grind (arith, nat_tests, e)
 
 letter_plain : (b : ℕ) → is_ascii_alphabetic b ≡ true → (b == 47) ≡ false
 letter_plain b e = grind (arith, nat_tests, e)

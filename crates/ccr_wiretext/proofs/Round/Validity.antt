@@ -1,8 +1,9 @@
 -- What a valid wiring has: numbers within their limits, references that name something, names apart, ports not crowded.
-use Rattle.std.proofs.Common.{◌≡◌, ℕ, ◌<◌, ◌≤◌, Bool, true, false, cond, List, [], ◌∷◌, length, Option, Some, None, inl, inr, refl, arith}
+use Rattle.std.proofs.Common.{◌≡◌, ℕ, ◌<◌, ◌≤◌, Bool, true, false, List, [], ◌∷◌, length, None, inl, inr, refl, arith}
 use Rattle.std.specs.Prelude.{◌==◌, ◌&&◌, ◌||◌, not, nat_lt}
 use Rattle.std.specs.List.{list_any}
 use Rattle.std.proofs.lemmas.Bool.Decides.{nat_tests}
+use Rattle.std.proofs.lemmas.Bool.{ltb-false}
 use Rattle.ccr_base.specs.declared.policies.Policy.{Policy}
 use Rattle.ccr_base.specs.declared.policies.Policy.TheVariants as policies
 use Rattle.ccr_base.specs.declared.handlers.Action.{Action}
@@ -13,6 +14,8 @@ use Rattle.ccr_base.specs.declared.messages.Sent.{Sent}
 use Rattle.ccr_base.specs.declared.patterns.Slot.{Slot}
 use Rattle.ccr_base.specs.declared.patterns.Pattern.{Pattern}
 use Rattle.ccr_base.specs.declared.patterns.Pattern.TheVariants as patterns
+use Rattle.ccr_base.proofs.Booleans.{not_true, not_refuted}
+use Rattle.ccr_base.proofs.Options.{none_cond as skip}
 use Rattle.ccr_wiring.specs.declared.parts.Parts.{Parts}
 use Rattle.ccr_wiring.specs.declared.parts.SetPart.{SetPart}
 use Rattle.ccr_wiring.specs.declared.parts.HandlerPart.{HandlerPart}
@@ -30,7 +33,7 @@ use Rattle.ccr_wiring.specs.Versions.{has_strange_version, is_long, expr_is_newe
 use Rattle.ccr_wiring.specs.Spots.{has_crowded_port}
 use Rattle.ccr_wiring.specs.Codes.{code_of}
 use Rattle.ccr_wiring.specs.Valid.{IsValid}
-use Rattle.ccr_wiretext.proofs.Steps.{not_true, not_false}
+use Rattle.ccr_wiring.proofs.Soundness.{below}
 use Rattle.ccr_wiretext.proofs.Each.{Each, neither, none_passes}
 use Rattle.ccr_wiretext.proofs.Fit.{PolicyFit, OldFit, ExprFit, PortsFit, ActionFit, SlotFit, PatternFit, BranchFit, BranchesFit, ArbiterFit, Shaped, SetFit, HandlerFit, PostFit, PosterFit, InterleaveFit, DomainFit}
 
@@ -47,14 +50,8 @@ none_of_two f g (x ∷ xs) first second =
     let b = neither (g x) (list_any g xs) second in
     rw (a.0, b.0, none_of_two f g xs a.1 b.1) refl
 
-pub below : (count n : ℕ) → is_beyond count n ≡ false → n < count
-below count n e = grind (arith, nat_tests, e)
-
-pub within : (most n : ℕ) → nat_lt most n ≡ false → n ≤ most
-within most n e = grind (arith, nat_tests, e)
-
 limits : (least most n : ℕ) → is_outside least most n ≡ false → (least ≤ n) × (n ≤ most)
-limits least most n e = let parts = neither (nat_lt n least) (nat_lt most n) e in (grind (arith, nat_tests, parts.0), within most n parts.1)
+limits least most n e = let parts = neither (nat_lt n least) (nat_lt most n) e in (grind (arith, nat_tests, parts.0), ltb-false most n parts.1)
 
 numbers_fit : (count : ℕ) (numbers : List ℕ) → has_beyond count numbers ≡ false → PortsFit count numbers
 numbers_fit count numbers none = each_if (λ n. n < count) (is_beyond count) (below count) numbers none
@@ -104,13 +101,13 @@ handler_fits parts part there inside old =
           part.handler.actions
           (none_of_two (action_is_dangling parts) (λ action. action_is_outside action || newer_in parts.version action_is_newer action) part.handler.actions there
           (none_of_two action_is_outside (newer_in parts.version action_is_newer) part.handler.actions limit.1 (old_each parts.version action_is_newer part.handler.actions old))),
-      within 16 (length part.handler.actions) limit.0,
+      ltb-false 16 (length part.handler.actions) limit.0,
     )
 
 slot_fits : (parts : Parts) (slot : Slot) → is_beyond (length parts.ports) slot.port ≡ false → slot_is_outside slot ≡ false → SlotFit (length parts.ports) slot
 slot_fits parts slot there inside =
     let exact = neither (not (slot.least == slot.most)) (is_outside 1 1000 slot.least) inside in
-    let same = not_false (slot.least == slot.most) exact.0 in
+    let same = not_refuted (slot.least == slot.most) exact.0 in
     let counted = limits 1 1000 slot.least exact.1 in
     (below (length parts.ports) slot.port there, grind (arith, nat_tests, same), counted.0, counted.1)
 
@@ -134,7 +131,7 @@ branch_fits : (parts : Parts) (branch : BranchPart) → branch_is_dangling parts
 branch_fits parts branch there once inside =
     let a = neither (is_beyond (length parts.queues) branch.queue || is_beyond (length parts.handlers) branch.handler) (pattern_is_dangling parts branch.pattern) there in
     let b = neither (is_beyond (length parts.queues) branch.queue) (is_beyond (length parts.handlers) branch.handler) a.0 in
-    (below (length parts.queues) branch.queue b.0, below (length parts.handlers) branch.handler b.1, pattern_fits parts branch.pattern a.1 (not_false (names_ports_once branch.pattern) once) inside)
+    (below (length parts.queues) branch.queue b.0, below (length parts.handlers) branch.handler b.1, pattern_fits parts branch.pattern a.1 (not_refuted (names_ports_once branch.pattern) once) inside)
 
 abbrev strange : Kind → BranchPart → Bool
 strange kind branch = not (may_have kind branch.group)
@@ -148,7 +145,7 @@ branches_fit parts part there once inside grouped =
     let a = neither (branch_is_dangling parts branch || branch_repeats branch) (branch_is_outside branch || strange part.kind branch) e in
     let b = neither (branch_is_dangling parts branch) (branch_repeats branch) a.0 in
     let c = neither (branch_is_outside branch) (strange part.kind branch) a.1 in
-    (branch_fits parts branch b.0 b.1 c.0, not_false (may_have part.kind branch.group) c.1))
+    (branch_fits parts branch b.0 b.1 c.0, not_refuted (may_have part.kind branch.group) c.1))
     part.branches
     (none_of_two (λ branch. branch_is_dangling parts branch || branch_repeats branch) (λ branch. branch_is_outside branch || strange part.kind branch) part.branches
     (none_of_two (branch_is_dangling parts) branch_repeats part.branches there once) (none_of_two branch_is_outside (strange part.kind) part.branches inside grouped))
@@ -157,7 +154,7 @@ shaped : (part : ArbiterPart) → (is_receive part.kind && not (is_one_named par
 shaped part one some = by (is_receive part.kind) refl one some
   where
     by : (t : Bool) → is_receive part.kind ≡ t → (t && not (is_one_named part.name part.branches)) ≡ false → (not t && (length part.branches == 0)) ≡ false → Shaped part
-    by true is a b = inl (is, not_false (is_one_named part.name part.branches) a)
+    by true is a b = inl (is, not_refuted (is_one_named part.name part.branches) a)
     by false is a b = inr (is, b)
 
 pub arbiter_fits : (parts : Parts) (part : ArbiterPart) → arbiter_is_dangling parts part ≡ false → arbiter_repeats part ≡ false → arbiter_is_outside part ≡ false → is_misgrouped part ≡ false → is_branchless part ≡ false
@@ -169,12 +166,12 @@ arbiter_fits parts part there once inside grouped some =
 pub set_fits : (parts : Parts) (part : SetPart) → set_is_dangling parts part ≡ false → set_repeats part ≡ false → set_is_outside part ≡ false → SetFit (length parts.ports) part
 set_fits parts part there once inside =
     let counted = limits 1 8 (length part.ports) inside in
-    (numbers_fit (length parts.ports) part.ports there, not_false (are_apart part.ports) once, counted.0, counted.1)
+    (numbers_fit (length parts.ports) part.ports there, not_refuted (are_apart part.ports) once, counted.0, counted.1)
 
 post_fits : (parts : Parts) (post : Sent) → post_is_dangling parts post ≡ false → post_repeats post ≡ false → OldFit parts.version (is_long post.value) → PostFit parts.version (length parts.ports) (length parts.causes) post
 post_fits parts post there once old =
     let a = neither (is_beyond (length parts.ports) post.port) (has_beyond (length parts.causes) post.causes) there in
-    (below (length parts.ports) post.port a.0, numbers_fit (length parts.causes) post.causes a.1, not_false (are_apart post.causes) once, old)
+    (below (length parts.ports) post.port a.0, numbers_fit (length parts.causes) post.causes a.1, not_refuted (are_apart post.causes) once, old)
 
 pub poster_fits : (parts : Parts) (part : PosterPart) → poster_is_dangling parts part ≡ false → poster_repeats part ≡ false → OldFit parts.version (poster_is_newer part) → PosterFit parts.version (length parts.ports) (length parts.causes) part
 poster_fits parts part there once old =
@@ -206,10 +203,6 @@ pub record NoCode (parts : Parts) : Type 0 where
   pub branched : has_branchless parts ≡ false
   pub fine : has_crowded_port parts ≡ false
   pub formed : has_malformed_name parts ≡ false
-
-skip : (b : Bool) (n : ℕ) (o : Option ℕ) → cond b (Some n) o ≡ None → (b ≡ false) × (o ≡ None)
-skip true n o e = absurd cc
-skip false n o e = (refl, e)
 
 pub no_code : (parts : Parts) → IsValid parts → NoCode parts
 unfolding code_of

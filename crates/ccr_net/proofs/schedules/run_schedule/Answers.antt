@@ -1,5 +1,6 @@
 use Rattle.std.proofs.Common.{◌≡◌, ◌+◌, List, [], length, drop, get_or, sym, ap, ◌∙◌, subst, arith}
 use Rattle.std.proofs.lemmas.Grind.{common_steps}
+use Rattle.ccr_base.proofs.Lists.{take_front}
 use Rattle.ccr_wiring.specs.declared.parts.Parts.{Parts}
 use Rattle.ccr_wiring.specs.Valid.{IsValid}
 use Rattle.ccr_wiring.proofs.Soundness.{sound}
@@ -7,7 +8,6 @@ use Rattle.ccr_actor.specs.Acting.{Acting}
 use Rattle.ccr_runs.specs.declared.entries.Entry.{Entry}
 use Rattle.ccr_runs.specs.EntryRuns.{made_by, never, scheduled_from, with_made, IsRunAfter}
 use Rattle.ccr_net.specs.Schedules.{AreStarted, IsPlayed}
-use Rattle.ccr_net.proofs.Played.Acted.{written}
 use Rattle.ccr_net.proofs.Played.Turns.{ahead_so, played_run, played_start}
 use Rattle.ccr_net.proofs.schedules.run_schedule.Goals as goal
 
@@ -30,7 +30,7 @@ loop-turn-preserved c =
     let w = c.args.wiring.now in
     let team = c.take_turn.new.actors in
     let same : length team ≡ length c.loop-turn.actors.items = c.take_turn.auto.actors ∙ ap length c.deref_mut.ensures.value in
-    let whole = written team (drop (length team) c.loop-turn.actors.items) c.loop-turn.actors.len (c.loop-turn.actors.ok.0 ∙ sym same) in
+    let whole = take_front team (drop (length team) c.loop-turn.actors.items) c.loop-turn.actors.len (c.loop-turn.actors.ok.0 ∙ sym same) in
     let made = c.in_ok-take_turn.ensures.made ∙ ap (λ (x : Parts). with_made c.loop-turn.entries.items (made_by x never c.loop-turn.entries.items (get_or c.args.turns.now c.loop-turn.turn-index 0))) c.loop-turn.invariant.wiring in
     record {
       played = subst (λ (all : List Acting). IsPlayed c.args.workers never c.take_turn.new.places all c.take_turn.new.entries.items) (sym whole) c.in_ok-take_turn.ensures.played;

@@ -1,6 +1,7 @@
 use Rattle.std.proofs.Common.{◌≡◌, ◌+◌, List, length, drop, refl, sym, ap, ◌∙◌, subst, arith}
 use Rattle.std.proofs.lemmas.Grind.{common_steps}
 use Rattle.std.proofs.lemmas.List.{drop_all}
+use Rattle.ccr_base.proofs.Lists.{take_front}
 use Rattle.ccr_wiring.specs.declared.parts.Parts.{Parts}
 use Rattle.ccr_wiring.specs.Valid.{IsValid}
 use Rattle.ccr_wiring.proofs.Soundness.{sound}
@@ -8,7 +9,6 @@ use Rattle.ccr_actor.specs.Acting.{Acting}
 use Rattle.ccr_runs.specs.EntryRuns.{never, IsRun}
 use Rattle.ccr_net.specs.Schedules.{AreStarted, IsPlayed}
 use Rattle.ccr_net.specs.Shortages.{nothing_yet}
-use Rattle.ccr_net.proofs.Played.Acted.{written}
 use Rattle.ccr_net.proofs.Played.Refusals.{IsAhead, ahead_ends, ahead_on, ahead_run, shortened_none}
 use Rattle.ccr_net.proofs.Played.Turns.{played_start}
 use Rattle.ccr_net.proofs.shortages.run_short.Goals as goal
@@ -37,7 +37,7 @@ pub loop-turn-preserved : goal.loop-turn-preserved
 loop-turn-preserved c =
     let team = c.take_turn.new.actors in
     let same : length team ≡ length c.loop-turn.actors.items = c.take_turn.auto.actors ∙ ap length c.deref_mut.ensures.value in
-    let whole = written team (drop (length team) c.loop-turn.actors.items) c.loop-turn.actors.len (c.loop-turn.actors.ok.0 ∙ sym same) in
+    let whole = take_front team (drop (length team) c.loop-turn.actors.items) c.loop-turn.actors.len (c.loop-turn.actors.ok.0 ∙ sym same) in
     let next = ahead_on c.args.workers c.args.wiring.now c.args.refused.now c.args.turns.now c.loop-turn.turn-index c.loop-turn.places c.loop-turn.actors.items c.loop-turn.entries.items c.loop-turn.asks c.take_turn.new.places team c.take_turn.new.entries.items c.in_ok-asks.asks c.loop-turn.invariant (omega arith) c.in_ok-asks.ensures.wiring c.in_ok-asks.ensures.few
     (λ lacks played. c.in_ok-asks.ensures.run lacks (subst (λ (all : List Acting). IsPlayed c.args.workers lacks c.loop-turn.places all c.loop-turn.entries.items) (sym c.deref_mut.ensures.value) played)) in
     subst (λ (all : List Acting). IsAhead c.args.workers c.args.wiring.now c.args.refused.now c.args.turns.now (c.loop-turn.turn-index + 1) c.take_turn.new.places all c.take_turn.new.entries.items c.in_ok-asks.asks) (sym whole) next

@@ -1,7 +1,7 @@
 use Rattle.std.proofs.Common.{arith, take}
 use Rattle.std.specs.Prelude.{◌==◌}
 use Rattle.std.proofs.lemmas.Grind.{common_steps}
-use Rattle.ccr_model.proofs.Filters.{length-kept}
+use Rattle.ccr_base.proofs.Filters.{length-kept}
 use Rattle.ccr_report.proofs.tally.tally.Goals as goal
 
 pub count_one-requires : goal.count_one-requires

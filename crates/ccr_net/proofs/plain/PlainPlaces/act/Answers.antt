@@ -1,12 +1,13 @@
 use Rattle.std.proofs.Common.{◌≡◌, ◌≢◌, ℕ, suc, max, ◌++◌, [], ◌∷◌, List, length, drop, sym, ap, ◌∙◌, subst}
 use Rattle.std.specs.Prelude.{slice_index, slice_set}
+use Rattle.ccr_base.proofs.Lists.{take_front}
 use Rattle.ccr_object.specs.declared.deed.Deed.{Deed}
 use Rattle.ccr_object.specs.declared.object.PlaceObject.{PlaceObject}
 use Rattle.ccr_object.specs.Objects.{after_at}
 use Rattle.ccr_runs.specs.declared.acts.Act.{Act}
 use Rattle.ccr_net.specs.Acted.{act_after, act_at, deed_at, scene_after, stamp_of, placed_in, seen_acts, IsLeft, PlainState}
 use Rattle.ccr_runs.specs.Played.{position_of}
-use Rattle.ccr_net.proofs.Played.Acted.{IsLeft-act, act_here, seen-push, written}
+use Rattle.ccr_net.proofs.Played.Acted.{IsLeft-act, act_here, seen-push}
 use Rattle.ccr_net.proofs.Played.Fitting.{fitting_answer}
 use Rattle.ccr_net.proofs.plain.PlainPlaces.act.Goals as goal
 
@@ -37,7 +38,7 @@ invariant_of-self-2 c =
     let w = c.self.inside.wiring.now in
     let acts = seen_acts c.self.inside.acts.items in
     let same : length c.answer_at.new.objects ≡ length c.self.inside.objects.items = c.answer_at.auto.objects ∙ ap length c.deref_mut.ensures.value in
-    let whole = written c.answer_at.new.objects (drop (length c.answer_at.new.objects) c.self.inside.objects.items) c.self.inside.objects.len (c.self.inside.objects.ok.0 ∙ sym same) in
+    let whole = take_front c.answer_at.new.objects (drop (length c.answer_at.new.objects) c.self.inside.objects.items) c.self.inside.objects.len (c.self.inside.objects.ok.0 ∙ sym same) in
     let here = c.in_ok-answer.ensures.after ∙ ap (λ xs. after_at (placed_in xs number) c.args.ask) c.deref_mut.ensures.value in
     let others = λ (k : ℕ) (other : k ≢ number). c.in_ok-answer.ensures.others k other ∙ ap (λ xs. placed_in xs k) c.deref_mut.ensures.value in
     let now = IsLeft-act w c.self.inside.directory c.self.inside.objects.items c.answer_at.new.objects c.self.inside.place_stamps.items c.self.inside.actor_stamps.items acts number actor c.next_stamp-stamp.result c.args.ask c.self.invariant c.number-number.ensures.below c.requires.seat (stamp_is c) same here others in

@@ -1,8 +1,8 @@
 use Rattle.std.proofs.Common.{rules, ◌≡◌, List, [], ◌∷◌, ◌++◌, ◌∙◌, refl, sym, ap, map, Some, append_assoc}
 use Rattle.std.proofs.lemmas.List.Elements.{All-pop}
+use Rattle.std.proofs.lemmas.List.{nil_from_length}
 use Rattle.ccr_turns.specs.Locks.{IsSeatOf, full_log}
 use Rattle.ccr_turns.proofs.Acting.{at_rest}
-use Rattle.ccr_turns.proofs.Rows.{none_left}
 use Rattle.ccr_turns.proofs.turns.Turns.gather.Goals as goal
 
 pub loop-seat-init : goal.loop-seat-init
@@ -39,5 +39,5 @@ loop-seat-preserved g c =
 pub returns-clause-logs : goal.returns-clause-logs
 returns-clause-logs g c =
     let inv = c.loop-seat.invariant in
-    let empty : c.loop-seat.seats.items ≡ [] = none_left c.loop-seat.seats.items (let a = c.in_default.ensures.cases.0 in search (rules, a)) in
+    let empty : c.loop-seat.seats.items ≡ [] = nil_from_length c.loop-seat.seats.items (let a = c.in_default.ensures.cases.0 in search (rules, a)) in
     inv.4.2 ∙ ap (map full_log) (sym (inv.4.1 ∙ ap (λ (l : List _). l ++ inv.4.0) empty))

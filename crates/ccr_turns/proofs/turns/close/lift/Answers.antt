@@ -1,12 +1,14 @@
 use Rattle.std.proofs.Common.{◌≡◌, ℕ, ◌+◌, ◌<◌, ◌≤◌, length, List, false, ◌∙◌, sym, ap, subst, arith, set, get_or, get_or-set_other, get_or-set_same, Some}
 use Rattle.std.specs.Slots.{slots_items, slots_filled, slots_counts}
+use Rattle.std.proofs.lemmas.Option.{same_Some}
+use Rattle.ccr_base.proofs.Options.{no_some}
 use mathlib.Core.Logic.{dite}
 use mathlib.Core.Option.{some, some-injective}
 use native.Mathlib.Decide.{ℕ_discrete}
 use lib.ListN.{get_elem?}
 use Rattle.atomic_table.proofs.Lists.{at_last, at_longer}
 use Rattle.ccr_turns.specs.declared.history.Cell.{Cell}
-use Rattle.ccr_turns.proofs.Rows.{within, none-some, Some-injective}
+use Rattle.ccr_turns.proofs.Rows.{within}
 use Rattle.ccr_turns.proofs.turns.close.lift.Goals as goal
 
 pub unreachable-requires : goal.unreachable-requires
@@ -17,7 +19,7 @@ unreachable-requires g c =
     let inside : at < length (slots_items c.args.closed.slots) = let a = (slots_counts c.args.closed.slots).0 in let b = c.slot_count-place-end.ensures in let d = c.loop-place-test.true in omega arith in
     let cell = c.requires.cells at inside in
     let found : get_elem? (slots_items c.args.closed.slots) at ≡ some c.take-slot.result = subst (λ (l : List _). get_elem? l at ≡ some c.take-slot.result) inv.2 c.take-slot.ensures.value in
-    none-some c.take-slot.result cell.0 c.in_default.is (some-injective c.take-slot.result (Some cell.0) (sym found ∙ cell.1))
+    no_some c.take-slot.result cell.0 c.in_default.is (some-injective c.take-slot.result (Some cell.0) (sym found ∙ cell.1))
 
 pub loop-place-preserved : goal.loop-place-preserved
 loop-place-preserved g c =
@@ -38,7 +40,7 @@ loop-place-preserved g c =
       c.push_reserved.ensures.len ∙ ap (λ n. n + 1) inv.4,
       subst (λ n. c.slot_count-place-end.result ≤ n) (sym c.push_reserved.ensures.capacity) inv.5,
       (λ i cell below there. subst (λ (l : List _). get_elem? l i ≡ some (cell.object, cell.seen.items)) (sym c.push_reserved.ensures.items) (dite (ℕ_discrete i at)
-          (λ e. let is : here ≡ cell = Some-injective here cell (sym c.in-Some.is ∙ some-injective c.take-slot.result (Some cell) (sym found ∙ (ap (get_elem? (slots_items c.args.closed.slots)) (sym e) ∙ there))) in
+          (λ e. let is : here ≡ cell = same_Some here cell (sym c.in-Some.is ∙ some-injective c.take-slot.result (Some cell) (sym found ∙ (ap (get_elem? (slots_items c.args.closed.slots)) (sym e) ∙ there))) in
           at_last c.loop-place.kept.items _ i (long ∙ sym e) ∙ (ap (λ (h : List _). some (here.object, h)) c.from_vec.ensures ∙ (λ d. some ((is d).object, (is d).seen.items))))
           (λ ne. at_longer c.loop-place.kept.items _ i _ (inv.6 i cell (omega arith) there)))),
     )

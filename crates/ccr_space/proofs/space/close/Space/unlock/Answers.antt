@@ -1,4 +1,5 @@
 use Rattle.std.proofs.Common.{◌∙◌, sym, ap, length, map, arith}
+use Rattle.std.proofs.lemmas.List.{length-map}
 use Rattle.ccr_turns.specs.Histories.{history_stamps}
 use Rattle.ccr_turns.specs.Lists.{Rises}
 use Rattle.ccr_turns.specs.Locks.{starts, seat_count, full_log, Agrees, IsLeft, number_of}
@@ -7,7 +8,7 @@ use Rattle.ccr_object.specs.Objects.{after_deed, placed, IsGiven}
 use Rattle.ccr_object.specs.Starts.{placed_at, places_of}
 use Rattle.ccr_runs.proofs.InOrder.{merged_by_place, merged_climbs, merged_inside, merged_parts}
 use Rattle.ccr_space.specs.Spaces.{wiring_of}
-use Rattle.ccr_space.proofs.Closing.{all_rising, map_at, map_length, numbered, read_slice}
+use Rattle.ccr_space.proofs.Closing.{all_rising, map_at, numbered, read_slice}
 use Rattle.ccr_space.proofs.space.close.Space.unlock.Goals as goal
 
 pub returns-in-Ok-clause-locks : goal.returns-in-Ok-clause-locks
@@ -17,7 +18,7 @@ returns-in-Ok-clause-locks c =
     let its = c.in-Ok.ensures.whole in
     let whole = its.whole in
     let long = zip_length (IsLeft placed after_deed IsGiven (seat_count c.args.self.turns)) objects whole its.objects in
-    let there = sym (map_length placed objects) ∙ (ap length c.requires.space.objects ∙ map_length (placed_at w) (places_of w)) in
+    let there = sym (length-map objects placed) ∙ (ap length c.requires.space.objects ∙ length-map (places_of w) (placed_at w)) in
     let few = c.requires.space.few in
     let rising = all_rising (seat_count c.args.self.turns) objects whole its.objects in
     record {

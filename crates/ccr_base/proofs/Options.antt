@@ -1,10 +1,12 @@
 -- What is known of an option by what is made of it, and of a list by what stands at a place.
-use Rattle.std.proofs.Common.{◌≡◌, ℕ, zero, suc, ◌<◌, ◌≤◌, Bool, true, false, List, [], ◌∷◌, length, Option, Some, None, refl, arith}
+use Rattle.std.proofs.Common.{◌≡◌, ℕ, zero, suc, ◌<◌, ◌≤◌, Bool, true, false, cond, List, [], ◌∷◌, length, Option, Some, None, refl, arith}
 use Rattle.std.specs.Prelude.{option_map, option_and_then, IfSome}
 use Rattle.std.specs.List.{slice_get}
 use Rattle.std.specs.Option.{option_map_or, option_or}
-use Rattle.ccr_base.specs.declared.names.TaskId.{TaskId}
-use Rattle.ccr_model.specs.declared.history.Event.{Event}
+pub use Rattle.std.proofs.lemmas.Option.{slice_get_within as some-below}
+
+pub no_some : {X : Type 0} (o : Option X) (x : X) → o ≡ None → o ≡ Some x → ⊥
+no_some o x none is = absurd (cc)
 
 -- a test that passes by an option had something there
 pub some_of : {X : Type 0} (f : X → Bool) (o : Option X) → option_map_or f o false ≡ true → (x : X) × (o ≡ Some x) × (f x ≡ true)
@@ -27,7 +29,12 @@ pub none_map : {X Y : Type 0} (f : X → Y) (o : Option X) → option_map f o �
 none_map f None is = refl
 none_map f (Some x) is = absurd (cc)
 
-pub IfSome-or : (P : Event → Type 0) (a b : Option Event) → IfSome a P → IfSome b P → IfSome (option_or a b) P
+-- where there is no code after a test, the test failed
+pub none_cond : (test : Bool) (code : ℕ) (rest : Option ℕ) → cond test (Some code) rest ≡ None → (test ≡ false) × (rest ≡ None)
+none_cond true code rest is = absurd (cc)
+none_cond false code rest is = (refl, is)
+
+pub IfSome-or : {X : Type 0} (P : X → Type 0) (a b : Option X) → IfSome a P → IfSome b P → IfSome (option_or a b) P
 IfSome-or P None b p q = q
 IfSome-or P (Some e) b p q = p
 
@@ -35,16 +42,16 @@ pub no_head : {X : Type 0} (xs : List X) → slice_get xs 0 ≡ None → xs ≡ 
 no_head [] is = refl
 no_head (x ∷ xs) is = absurd (cc)
 
-pub head_rest : (ts : List TaskId) (t : TaskId) → slice_get ts 0 ≡ Some t → (rest : List TaskId) × (ts ≡ t ∷ rest)
-head_rest [] t is = absurd (cc)
-head_rest (u ∷ ts) t is = (ts, cc)
-
-pub some-below : {X : Type 0} (xs : List X) (n : ℕ) (x : X) → slice_get xs n ≡ Some x → n < length xs
-some-below [] n x is = absurd (cc)
-some-below (y ∷ xs) zero x is = omega arith
-some-below (y ∷ xs) (suc n) x is = omega (arith, some-below xs n x is)
+pub head_rest : {X : Type 0} (xs : List X) (x : X) → slice_get xs 0 ≡ Some x → (rest : List X) × (xs ≡ x ∷ rest)
+head_rest [] x is = absurd (cc)
+head_rest (y ∷ xs) x is = (xs, cc)
 
 pub none-above : {X : Type 0} (xs : List X) (n : ℕ) → slice_get xs n ≡ None → length xs ≤ n
 none-above [] n is = omega arith
 none-above (y ∷ xs) zero is = absurd (cc)
 none-above (y ∷ xs) (suc n) is = omega (arith, none-above xs n is)
+
+pub get-some : {X : Type 0} (xs : List X) (n : ℕ) → n < length xs → (x : X) × (slice_get xs n ≡ Some x)
+get-some [] n low = absurd (omega (arith, low))
+get-some (x ∷ xs) zero low = (x, refl)
+get-some (x ∷ xs) (suc n) low = get-some xs n (omega (arith, low))
