@@ -22,7 +22,7 @@ use Rattle.ccr_actor.specs.Inside.{work_of}
 use Rattle.ccr_actor.specs.Within.{IsPaced, IsWithin}
 use Rattle.ccr_actor.specs.Courses.{IsAsked, IsBeside, IsBounded, IsCounted, IsReached, IsReady, IsHeld, IsPast, IsShortened, IsUnderWay, phase_of, IsSettlingDue, IsStep, IsUnanswered, asking_at, asking_by, asking_in, due_at, seen, state_of, target}
 use Rattle.ccr_actor.proofs.Kept.{kept_asked, kept_asking, kept_sent, kept_whole, kept_short, kept_settled, settled_short, after_short}
-use Rattle.ccr_actor.proofs.Steps.{past_phase, first_spot}
+use Rattle.ccr_actor.proofs.StepsOfAttempts.{past_phase, first_spot}
 use Rattle.ccr_actor.proofs.Bounds.{bounded_after, bounded_settled}
 
 -- no ask is unanswered

@@ -1,7 +1,7 @@
 pub mod Settled
 mod Plays
 mod Attempted
-pub mod Steps
+pub mod StepsOfAttempts
 mod Plied
 pub mod Bounds
 mod Worked

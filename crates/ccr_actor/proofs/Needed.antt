@@ -28,7 +28,7 @@ use Rattle.ccr_actor.specs.Needs.{attempt_needs, kept_needs, needs_memory, next_
 use Rattle.ccr_actor.proofs.Acted.{asked_long, target_short}
 use Rattle.ccr_actor.proofs.Attempted.{is_own, own}
 use Rattle.ccr_actor.proofs.Kept.{kept_short, kept_whole}
-use Rattle.ccr_actor.proofs.Steps.{driven-turn, first_spot, hand_alone, hand_runs}
+use Rattle.ccr_actor.proofs.StepsOfAttempts.{driven-turn, first_spot, hand_alone, hand_runs}
 
 -- ---- the attempt
 

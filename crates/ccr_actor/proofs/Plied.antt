@@ -15,7 +15,7 @@ use Rattle.ccr_actor.specs.Acting.{kept}
 use Rattle.ccr_actor.specs.Actors.{State, Work, after_end, after_play}
 use Rattle.ccr_actor.specs.Courses.{IsStep}
 use Rattle.ccr_actor.proofs.Settled.{play-same}
-use Rattle.ccr_actor.proofs.Steps.{owed-hand}
+use Rattle.ccr_actor.proofs.StepsOfAttempts.{owed-hand}
 
 end-other : (wiring : Parts) (state : State) (work : Work) (task : Task) (end : PlayEnd) → after_end wiring (record state { work = work }) task end ≡ after_end wiring state task end
 end-other wiring state work task plays.Done = refl

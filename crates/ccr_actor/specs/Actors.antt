@@ -18,7 +18,7 @@ use Rattle.ccr_handler.specs.Playing.{branch_play}
 use Rattle.ccr_wiring.specs.declared.parts.Parts.{Parts}
 use Rattle.ccr_wiring.specs.declared.parts.PosterPart.{PosterPart}
 use Rattle.ccr_wiring.specs.declared.parts.QueuePart.{QueuePart}
-use Rattle.ccr_wiring.specs.Wirings.{branch_of, segment_of, next_site, policy_of}
+use Rattle.ccr_wiring.specs.Wirings.{branch_of, segment_of, next_site, policy_of, domain_of_spot}
 use Rattle.ccr_claim.specs.declared.asks.Ask.TheVariants as asks
 use Rattle.ccr_claim.specs.declared.asks.Asked.{Asked}
 use Rattle.ccr_claim.specs.declared.asks.Reply.{Reply}
@@ -27,7 +27,17 @@ use Rattle.ccr_claim.specs.Lines.{line_ask}
 use Rattle.ccr_claim.specs.Plans.{slots_in}
 use Rattle.ccr_claim.specs.Attempts.{at_place, Phase, booking, claiming, had_in, attempt_ask, release, firing_hand, put_ask, over_dropped, claimed}
 use Rattle.ccr_wiring.specs.Takers.{spots_at}
-use Rattle.ccr_actor.specs.Plans.{plan_of, throttled, domain_of_spot, is_interleave_number}
+use Rattle.ccr_actor.specs.Plans.{plan_of, throttled, is_interleave_number}
+
+-- of an actor, at most: the firings of one drive, the admissions of one run of them, the tasks that a worker takes
+abbrev pub most_fired : ℕ
+most_fired = 32768
+
+abbrev pub most_admitted : ℕ
+most_admitted = 32768
+
+abbrev pub most_taken : ℕ
+most_taken = 32768
 
 -- what an actor does between drives: the rest of a script, a round, a take (how many posters have left, the queue, those
 -- behind it), a play (its task, how many posts are made, the rest), a post that was drawn, an end for want of budget, rest

@@ -6,7 +6,7 @@ use Rattle.ccr_base.specs.declared.names.TaskId.{TaskId}
 use Rattle.ccr_base.specs.declared.tasks.Task.{Task}
 use Rattle.ccr_wiring.specs.declared.parts.Parts.{Parts}
 use Rattle.ccr_wiring.specs.Valid.{IsValid}
-use Rattle.ccr_wiring.specs.Wirings.{segment_of}
+use Rattle.ccr_wiring.specs.Wirings.{segment_of, domain_of_spot}
 use Rattle.ccr_claim.specs.declared.asks.Asked.{Asked}
 use Rattle.ccr_claim.specs.declared.asks.Due.{Due}
 use Rattle.ccr_claim.specs.declared.asks.Due.TheVariants as dues
@@ -30,7 +30,7 @@ use Rattle.ccr_actor.specs.Acting.{Acting, Asking, quiet, settling, going, kept}
 use Rattle.ccr_actor.specs.Actors.{State, spots_left, settled, after, in_attempt, end_attempt, driven_on, after_attempt, shorten}
 use Rattle.ccr_actor.specs.Inside.{work_of}
 use Rattle.ccr_actor.specs.Needs.{attempt_needs, settling_needs, work_needs, work_unnumbered}
-use Rattle.ccr_actor.specs.Plans.{plan_of, domain_of_spot}
+use Rattle.ccr_actor.specs.Plans.{plan_of}
 use Rattle.ccr_actor.specs.Hands.{AreSettling}
 
 -- what the attempt owes; nothing where there is none

@@ -1,5 +1,5 @@
 -- What the wiring says of attempts: their plans, and the spots to drive.
-use Rattle.std.specs.Prelude.{ℕ, Bool, true, false, List, [], ◌∷◌}
+use Rattle.std.specs.Prelude.{ℕ, Bool, false, List, [], ◌∷◌}
 use Rattle.std.specs.List.{slice_get}
 use Rattle.std.specs.Option.{option_map_or}
 use Rattle.ccr_base.specs.declared.names.Spot.{Spot}
@@ -9,11 +9,10 @@ use Rattle.ccr_base.specs.declared.patterns.Pattern.TheVariants.{Slots}
 use Rattle.ccr_base.specs.declared.policies.Policy.{Policy}
 use Rattle.ccr_base.specs.declared.policies.Policy.TheVariants.{Throttle}
 use Rattle.ccr_wiring.specs.declared.parts.ArbiterPart.{ArbiterPart}
-use Rattle.ccr_wiring.specs.declared.parts.Kind.{Kind}
-use Rattle.ccr_wiring.specs.declared.parts.Kind.TheVariants as kinds
 use Rattle.ccr_wiring.specs.declared.parts.Parts.{Parts}
+use Rattle.ccr_wiring.specs.Groups.{is_interleave}
 use Rattle.ccr_wiring.specs.Takers.{branches_of}
-use Rattle.ccr_wiring.specs.Wirings.{Placement, placement, site_port, branch_of}
+use Rattle.ccr_wiring.specs.Wirings.{Placement, placement, site_port, queue_of_spot, domain_of_spot}
 use Rattle.ccr_claim.specs.declared.plan.ClaimPlan.{ClaimPlan}
 use Rattle.ccr_claim.specs.Plans.{any_slot}
 
@@ -30,28 +29,14 @@ abbrev pub pattern_at : Parts → Spot → Pattern
 pattern_at wiring (Branch branch) = option_map_or (λ (s : Placement). s.branch.pattern) (placement wiring branch) no_pattern
 pattern_at wiring (Site branch site) = option_map_or one_of (site_port wiring branch site) no_pattern
 
--- the queue of the spot's branch
-abbrev pub queue_at : Parts → Spot → ℕ
-queue_at wiring spot = option_map_or (λ (s : Placement). s.branch.queue) (placement wiring (branch_of spot)) 0
-
--- the domain of the spot's branch
-abbrev pub domain_of_spot : Parts → Spot → ℕ
-domain_of_spot wiring spot = option_map_or (λ (s : Placement). s.domain) (placement wiring (branch_of spot)) 0
-
 -- the plan of attempts on the spot
 abbrev pub plan_of : Parts → Spot → ClaimPlan
-plan_of wiring spot = record { spot = spot; pattern = pattern_at wiring spot; queue = queue_at wiring spot; arbiter = domain_of_spot wiring spot }
+plan_of wiring spot = record { spot = spot; pattern = pattern_at wiring spot; queue = queue_of_spot wiring spot; arbiter = domain_of_spot wiring spot }
 
 -- the branches of a throttle queue
 abbrev pub throttled : Parts → ℕ → Policy → List Spot
 throttled wiring queue (Throttle n) = branches_of wiring queue
 throttled wiring queue _ = []
-
--- whether the arbiter is an Interleave
-abbrev pub is_interleave : Kind → Bool
-is_interleave kinds.Receive = false
-is_interleave kinds.Choice = false
-is_interleave kinds.Interleave = true
 
 -- whether the domain of this number is of Interleaves: so is the arbiter of its number, the least of the domain
 abbrev pub is_interleave_number : Parts → ℕ → Bool

@@ -3,7 +3,7 @@
 ghost use Rattle.std.specs.Prelude.{◌≡◌, ◌<◌, ◌==◌, ◌&&◌, ◌^◌, drop, not, IfOk, IsTrue, OnOk, OnErr, None, Some, length};
 ghost use Rattle.std.specs.List.{list_any};
 ghost use Rattle.ccr_claim.specs.Inside.{IsFirst};
-ghost use Rattle.ccr_actor.specs.Actors.{add_arbiter, after_admit};
+ghost use Rattle.ccr_actor.specs.Actors.{add_arbiter, after_admit, most_admitted};
 ghost use Rattle.ccr_actor.specs.Courses.{state_of, hand_of, IsBeside, IsIdle};
 ghost use Rattle.ccr_actor.specs.Needs.{adds_arbiter};
 
@@ -95,7 +95,7 @@ impl Course<'_> {
     /// Puts what the first Interleave admitted, or strikes it off.
     pub fn admitted(&mut self, reply: Reply)
         requires idle { IsIdle self.old }
-        requires few { self.old.admitted < 32768 }
+        requires few { self.old.admitted < most_admitted }
         requires first { 0 < length self.old.arbiters.items }
         ensures state { state_of self.new ≡ after_admit (state_of self.old) (drop 1 self.old.arbiters.items) reply }
         ensures attempt { self.new.attempt ≡ self.old.attempt }

@@ -4,7 +4,7 @@ ghost use Rattle.std.specs.Prelude.{◌≡◌, ◌<◌, ◌==◌, ◌⊎◌, ◌
 ghost use Rattle.ccr_claim.specs.declared.asks.Due.TheVariants as dues;
 ghost use Rattle.ccr_claim.specs.Asks.{may_come};
 ghost use Rattle.ccr_claim.specs.Attempts.{booking};
-ghost use Rattle.ccr_actor.specs.Actors.{end_attempt, spots_left};
+ghost use Rattle.ccr_actor.specs.Actors.{end_attempt, most_fired, spots_left};
 ghost use Rattle.ccr_actor.specs.Courses.{state_of, phase_of, due_at, due_next, fired_on, heard_needs, HasHeard, IsBeside, IsPast, IsUnderWay};
 
 use crate::attempting::{answer, is_memory};
@@ -27,7 +27,7 @@ impl Course<'_> {
         requires spot { self.old.spots ≡ spot ∷ drop 1 self.old.spots }
         requires phase { phase_of self.old.attempt ≡ booking }
         requires count { self.old.count < 2 ^ 32 }
-        requires fired { self.old.fired < 32768 }
+        requires fired { self.old.fired < most_fired }
         ensures ok { OnOk result (state_of self.new ≡ fired_on self.old.wiring.now (state_of self.old) spot (drop 1 self.old.spots) waits (state_of self.old).hand) }
         ensures err { OnErr result ((state_of self.new).hand ≡ (state_of self.old).hand) }
         ensures needs { OnErr result (waits ≡ true) }
@@ -69,7 +69,7 @@ impl Course<'_> {
         requires way { IsUnderWay self.old }
         requires asked { due_at self.old.attempt ≡ due_next self.old.attempt }
         requires reply { IsTrue (may_come (due_at self.old.attempt) reply) }
-        requires fired { self.old.fired < 32768 }
+        requires fired { self.old.fired < most_fired }
         ensures step { HasHeard result self.old reply self.new }
         ensures attempt { OnOk result (IsPast self.new.attempt ⊎ IsUnderWay self.new) }
         ensures past { OnErr result (IsPast self.new.attempt) }

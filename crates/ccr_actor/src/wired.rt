@@ -1,10 +1,10 @@
 //! What a wiring says that an actor goes by: the plan at a spot, the spots to drive, and the play of a task.
 
 ghost use Rattle.std.specs.Prelude.{◌≡◌, IfOk};
-ghost use Rattle.ccr_wiring.specs.Wirings.{segment_of, policy_of};
+ghost use Rattle.ccr_wiring.specs.Wirings.{segment_of, policy_of, queue_of_spot, domain_of_spot};
 ghost use Rattle.ccr_claim.specs.Attempts.{begun};
 ghost use Rattle.ccr_actor.specs.Actors.{play_in};
-ghost use Rattle.ccr_actor.specs.Plans.{one_of, pattern_at, queue_at, domain_of_spot, plan_of, throttled, is_interleave_number};
+ghost use Rattle.ccr_actor.specs.Plans.{one_of, pattern_at, plan_of, throttled, is_interleave_number};
 
 use ccr_base::{
     ArbiterNo, List, OutOfMemory, Pattern, Policy, PortNo, Pred, QueueNo, Slot, Spot, Task, TaskId,
@@ -62,8 +62,8 @@ fn pattern_at(alloc: Global, wiring: &Wiring, spot: Spot) -> Result<Pattern, Out
 }
 
 /// The queue of the spot's branch.
-fn queue_at(wiring: &Wiring, spot: Spot) -> QueueNo
-    ensures { result ≡ queue_at wiring.now spot }
+fn queue_of_spot(wiring: &Wiring, spot: Spot) -> QueueNo
+    ensures { result ≡ queue_of_spot wiring.now spot }
 {
     match wiring.placement(branch_of(spot)) {
         Some(placement) => placement.branch.queue,
@@ -119,7 +119,7 @@ fn begin(
     requires { pattern.now ≡ pattern_at wiring.now spot }
     ensures { IfOk result (λ attempt. attempt ≡ begun (plan_of wiring.now spot) name) }
 {
-    let queue = queue_at(wiring, spot);
+    let queue = queue_of_spot(wiring, spot);
     let arbiter = domain_of_spot(wiring, spot);
     match earlier {
         Some(old) => Attempt::begin_in(old, spot, pattern, queue, arbiter, name),

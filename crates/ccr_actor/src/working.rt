@@ -2,7 +2,7 @@
 
 ghost use Rattle.std.specs.Prelude.{◌≡◌, [], ℕ, ◌<◌, ◌≤◌, ◌+◌, ◌^◌, false, IfNone, IfSome, IsTrue, OnOk, OnErr, length};
 ghost use Rattle.ccr_base.specs.Bounds.{most_empty_rounds};
-ghost use Rattle.ccr_actor.specs.Actors.{after_end, after_line, after_over, after_play, after_posting, after_round, after_take, after_work, round, begin_play, next_round, rest_or_round, shedding, take_from};
+ghost use Rattle.ccr_actor.specs.Actors.{after_end, after_line, after_over, after_play, after_posting, after_round, after_take, after_work, round, begin_play, most_taken, next_round, rest_or_round, shedding, take_from};
 ghost use Rattle.ccr_actor.specs.Courses.{state_of, IsBeside, IsCounted, IsPlayCounted, IsStep};
 ghost use Rattle.ccr_actor.specs.Inside.{play_of, work_of};
 ghost use Rattle.ccr_actor.specs.Needs.{adds_arbiter, end_needs, has_any, is_unnumbered, line_needs, play_needs, take_needs, take_unnumbered, work_needs, work_unnumbered};
@@ -68,7 +68,7 @@ impl<'w> Course<'w> {
 
     /// An empty round: rest where all posters have left, or after so many.
     fn rest_or_round(&mut self, left: u32)
-        requires taken { self.old.taken < 32768 }
+        requires taken { self.old.taken < most_taken }
         requires empty { self.old.empty < most_empty_rounds }
         ensures state { state_of self.new ≡ rest_or_round self.old.wiring.now (state_of self.old) left }
         ensures counted { IsCounted self.new.work self.new.taken self.new.empty }
@@ -87,7 +87,7 @@ impl<'w> Course<'w> {
     /// The queues from this one on are still to be asked.
     fn take_from(&mut self, left: u32, queue: u32, more: &'w [QueuePart])
         requires queues { queue + length more.now < 2 ^ 32 }
-        requires taken { self.old.taken < 32768 }
+        requires taken { self.old.taken < most_taken }
         requires empty { self.old.empty < most_empty_rounds }
         ensures state { state_of self.new ≡ take_from self.old.wiring.now (state_of self.old) left queue more.now }
         ensures counted { IsCounted self.new.work self.new.taken self.new.empty }
@@ -108,7 +108,7 @@ impl<'w> Course<'w> {
     /// The task's segment begins. Where it has no number of 32 bits, or more posts than there are such numbers, the answer is
     /// running out of memory.
     fn begin_play(&mut self, queue: u32, task: Task) -> Result<(), OutOfMemory>
-        requires taken { self.old.taken < 32768 }
+        requires taken { self.old.taken < most_taken }
         requires empty { self.old.empty < most_empty_rounds }
         ensures ok { OnOk result (state_of self.new ≡ begin_play self.old.wiring.now (state_of self.old) queue task) }
         ensures counted { OnOk result (IsCounted self.new.work self.new.taken self.new.empty) }
@@ -217,7 +217,7 @@ impl<'w> Course<'w> {
 
     /// How many posters have left: the queues are asked from the first on.
     pub fn round_begun(&mut self, left: u32)
-        requires taken { self.old.taken < 32768 }
+        requires taken { self.old.taken < most_taken }
         requires empty { self.old.empty < most_empty_rounds }
         ensures state { state_of self.new ≡ take_from self.old.wiring.now (state_of self.old) left 0 self.old.wiring.now.queues }
         ensures counted { IsCounted self.new.work self.new.taken self.new.empty }
@@ -230,7 +230,7 @@ impl<'w> Course<'w> {
 
     /// The meter answered, and the queues are asked.
     fn round_answered(&mut self, reply: &Reply)
-        requires taken { self.old.taken < 32768 }
+        requires taken { self.old.taken < most_taken }
         requires empty { self.old.empty < most_empty_rounds }
         ensures state { state_of self.new ≡ after_round self.old.wiring.now (record (state_of self.old) { work = round }) reply.now }
         ensures counted { IsCounted self.new.work self.new.taken self.new.empty }
@@ -252,7 +252,7 @@ impl<'w> Course<'w> {
         reply: Reply,
     ) -> Result<(), OutOfMemory>
         requires queues { queue + length more.now + 1 < 2 ^ 32 }
-        requires taken { self.old.taken < 32768 }
+        requires taken { self.old.taken < most_taken }
         requires empty { self.old.empty < most_empty_rounds }
         ensures ok { OnOk result (state_of self.new ≡ after_take self.old.wiring.now (state_of self.old) left queue more.now reply) }
         ensures counted { OnOk result (IsCounted self.new.work self.new.taken self.new.empty) }

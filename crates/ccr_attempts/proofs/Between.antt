@@ -21,7 +21,7 @@ use Rattle.ccr_claim.specs.Lines.{line_ask}
 use Rattle.ccr_claim.specs.Settling.{Step}
 use Rattle.ccr_actor.specs.Plans.{plan_of}
 use Rattle.ccr_actor.specs.Actors.{State, Work, lines, round, taking, playing, posting, shedding, resting, Turn, settle, admit, go_on, stop, turn, turn_of, spots_left, name_at, asked, ask_in, work_ask, play_ask, end_ask, settled, after_admit, after_in, after, after_work, after_line, after_round, after_take, take_from, after_play, after_end, in_attempt, shorten}
-use Rattle.ccr_actor.proofs.Steps.{none-owed}
+use Rattle.ccr_actor.proofs.StepsOfAttempts.{none-owed}
 use Rattle.ccr_attempts.specs.Trials.{Trial, between, is_of_attempt}
 use Rattle.ccr_attempts.proofs.Answering.{state_lacking, steps_lacking, may_lacking}
 use Rattle.ccr_attempts.proofs.Hands.{one_ask, IsBetween, release_ordered}

@@ -24,8 +24,8 @@ use Rattle.ccr_claim.specs.declared.asks.Ask.TheVariants as asks
 use Rattle.ccr_runs.specs.declared.entries.Entry.{Entry}
 use Rattle.ccr_runs.specs.Places.{note_of, port_note}
 use Rattle.ccr_runs.specs.EntryRuns.{Lacks, port_at, notes_at, same_place}
-use Rattle.ccr_net.proofs.Parts.Pushes.{Step, port_at-push}
-use Rattle.ccr_net.proofs.Parts.Noted.{given_some}
+use Rattle.ccr_net.proofs.Parts.OneMoreEntry.{Step, port_at-push}
+use Rattle.ccr_net.proofs.Parts.NotesGiven.{given_some}
 
 -- a message of this port
 abbrev pub IsAt : ℕ → Msg → Type 0

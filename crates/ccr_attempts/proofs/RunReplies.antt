@@ -9,6 +9,7 @@ use Rattle.std.proofs.lemmas.List.Sums.{list_all-from_AllPass}
 use Rattle.ccr_base.specs.declared.messages.Msg.{Msg}
 use Rattle.ccr_base.specs.declared.names.Place.{Place}
 use Rattle.ccr_base.specs.declared.names.Place.TheVariants as places
+use Rattle.ccr_base.specs.declared.names.TaskId.{TaskId}
 use Rattle.ccr_base.specs.declared.patterns.Slot.{Slot}
 use Rattle.ccr_base.specs.declared.tasks.By.{By}
 use Rattle.ccr_base.specs.declared.tasks.Task.{Task}
@@ -35,11 +36,11 @@ use Rattle.ccr_claim.specs.declared.asks.Due.TheVariants as dues
 use Rattle.ccr_claim.specs.Asks.{due_of, fits}
 use Rattle.ccr_runs.specs.declared.entries.Entry.{Entry}
 use Rattle.ccr_runs.specs.Places.{note_of, port_note, port_after, arbiter_note, interleave_note, site_note, queue_note, meter_note, note_by_kind, note_at_arbiter, commit_note, arbiter_after, interleave_after, site_after, queue_after, meter_after, first_branch}
-use Rattle.ccr_runs.specs.EntryRuns.{Lacks, notes_at, reply_of, reply_to, claim_reply, book_reply, draw_reply}
+use Rattle.ccr_runs.specs.EntryRuns.{Lacks, notes_at, reply_of, reply_to, claim_reply}
 use Rattle.ccr_runs.specs.Visible.{visible}
-use Rattle.ccr_net.proofs.Parts.Pushes.{Step}
-use Rattle.ccr_net.proofs.Parts.Noted.{given_some}
-use Rattle.ccr_net.proofs.Kept.Silent.{got_facts}
+use Rattle.ccr_net.proofs.Parts.OneMoreEntry.{Step}
+use Rattle.ccr_net.proofs.Parts.NotesGiven.{given_some}
+use Rattle.ccr_net.proofs.Kept.SilentStepsKeepAll.{got_facts}
 use Rattle.ccr_attempts.proofs.OwnItems.{IsAt, IsOwn, AreOwn}
 
 -- ---- ports
@@ -146,9 +147,9 @@ site_fits w history earlier state asks.Draw note is = absurd (cc)
 site_fits w history earlier state asks.Leave note is = absurd (cc)
 site_fits w history earlier state asks.Left note is = absurd (cc)
 
-book_fits : (o : Option ℕ) → fits dues.Booking (book_reply o) ≡ true
-book_fits None = refl
-book_fits (Some n) = refl
+book_fits : (w : Parts) (history : List Event) (earlier : List Note) (task : TaskId) (resumes : Bool) (full : Option ℕ) → fits dues.Booking (reply_to w history earlier (notes.Book task resumes full)) ≡ true
+book_fits w history earlier task resumes None = refl
+book_fits w history earlier task resumes (Some n) = refl
 
 queue_fits : (w : Parts) (history : List Event) (earlier : List Note) (state : queues.QueueState) (ask : Ask) (note : Note) → queue_note state ask ≡ Some note → fits (due_of ask) (reply_to w history earlier note) ≡ true
 queue_fits w history earlier state (asks.Post m) note is = absurd (cc)
@@ -159,7 +160,7 @@ queue_fits w history earlier state (asks.Commit task ms) note is = absurd (cc)
 queue_fits w history earlier state asks.Admit note is = absurd (cc)
 queue_fits w history earlier state (asks.Over task root how) note is = absurd (cc)
 queue_fits w history earlier state (asks.Suspend task) note is = absurd (cc)
-queue_fits w history earlier state (asks.Book task resumes) note is = rw ((given_some _ _ note is).1) (book_fits (queues.book_note state resumes))
+queue_fits w history earlier state (asks.Book task resumes) note is = rw ((given_some _ _ note is).1) (book_fits w history earlier task resumes (queues.book_note state resumes))
 queue_fits w history earlier state (asks.Unbook task) note is = rw ((given_some _ _ note is).1) refl
 queue_fits w history earlier state (asks.Put task) note is = rw ((given_some _ _ note is).1) refl
 queue_fits w history earlier state asks.Take note is = (let same : note ≡ notes.Take (queues.take_note state) = cc in rw same refl)
@@ -167,9 +168,9 @@ queue_fits w history earlier state asks.Draw note is = absurd (cc)
 queue_fits w history earlier state asks.Leave note is = absurd (cc)
 queue_fits w history earlier state asks.Left note is = absurd (cc)
 
-draw_fits : (o : Option ℕ) → fits dues.Draw (draw_reply o) ≡ true
-draw_fits None = refl
-draw_fits (Some n) = refl
+draw_fits : (w : Parts) (history : List Event) (earlier : List Note) (drawn : Option ℕ) → fits dues.Draw (reply_to w history earlier (notes.Draw drawn)) ≡ true
+draw_fits w history earlier None = refl
+draw_fits w history earlier (Some n) = refl
 
 meter_fits : (w : Parts) (history : List Event) (earlier : List Note) (state : meters.MeterState) (ask : Ask) (note : Note) → meter_note state ask ≡ Some note → fits (due_of ask) (reply_to w history earlier note) ≡ true
 meter_fits w history earlier state (asks.Post m) note is = absurd (cc)
@@ -184,7 +185,7 @@ meter_fits w history earlier state (asks.Book task resumes) note is = absurd (cc
 meter_fits w history earlier state (asks.Unbook task) note is = absurd (cc)
 meter_fits w history earlier state (asks.Put task) note is = absurd (cc)
 meter_fits w history earlier state asks.Take note is = absurd (cc)
-meter_fits w history earlier state asks.Draw note is = (let same : note ≡ notes.Draw (meters.draw_note state) = cc in rw same (draw_fits (meters.draw_note state)))
+meter_fits w history earlier state asks.Draw note is = (let same : note ≡ notes.Draw (meters.draw_note state) = cc in rw same (draw_fits w history earlier (meters.draw_note state)))
 meter_fits w history earlier state asks.Leave note is = rw ((given_some _ _ note is).1) refl
 meter_fits w history earlier state asks.Left note is = (let same : note ≡ notes.Left state.left = cc in rw same refl)
 

@@ -11,8 +11,8 @@ use Rattle.ccr_actor.proofs.Followed.{next_more}
 use Rattle.ccr_runs.specs.declared.entries.Entry.{Entry}
 use Rattle.ccr_net.specs.Owed.{AreFitting}
 use Rattle.ccr_runs.specs.EntryRuns.{Lacks, IsRunAfter, reply_of, replies_of as replied}
-use Rattle.ccr_net.proofs.Parts.Pushes as pushes
-use Rattle.ccr_net.proofs.Parts.Pushes.{Step-made, along_run, replies_of-push}
+use Rattle.ccr_net.proofs.Parts.OneMoreEntry as pushes
+use Rattle.ccr_net.proofs.Parts.OneMoreEntry.{Step-made, along_run, replies_of-push}
 use Rattle.ccr_attempts.specs.Trials.{AreSettled}
 use Rattle.ccr_attempts.specs.RunSteps.{step_to, steps_from, steps_of}
 use Rattle.ccr_attempts.proofs.OwnItems.{AreOwn, begins_own, own_on}

@@ -7,8 +7,8 @@ use Rattle.ccr_actor.specs.Actors.{State, asked, ask_in, drive, settle, turn, af
 use Rattle.ccr_actor.specs.Nets as nets
 use Rattle.ccr_actor.specs.Nets.{AreNext, replies_of}
 use Rattle.ccr_net.specs.Owed.{AreFitting}
-use Rattle.ccr_net.proofs.Kept.Assembly.{IsBegun, begins as state_begins}
-use Rattle.ccr_net.proofs.Parts.Pushes.{IsNextState, state_after-push}
+use Rattle.ccr_net.proofs.Kept.WholeInvariant.{IsBegun, begins as state_begins}
+use Rattle.ccr_net.proofs.Parts.OneMoreEntry.{IsNextState, state_after-push}
 use Rattle.ccr_attempts.specs.Trials.{as_answered, AreSettled}
 use Rattle.ccr_attempts.proofs.Going.{Goes}
 use Rattle.ccr_attempts.proofs.Between.{goes_on, goes_short}

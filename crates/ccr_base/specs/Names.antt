@@ -1,11 +1,12 @@
--- When two names are the same.
-use Rattle.std.specs.Prelude.{Bool, true, false, not, ◌==◌, ◌&&◌, List, [], ◌∷◌, Option, Some, None, filter}
+-- When two names are the same, and the names of messages.
+use Rattle.std.specs.Prelude.{Bool, true, false, not, ◌==◌, ◌&&◌, List, [], ◌∷◌, Option, Some, None, map, filter}
 use Rattle.std.specs.List.{list_any}
 use Rattle.ccr_base.specs.declared.names.TaskId.{TaskId}
 use Rattle.ccr_base.specs.declared.names.MsgId.{MsgId}
 use Rattle.ccr_base.specs.declared.names.MsgId.TheVariants.{Script, Task}
 use Rattle.ccr_base.specs.declared.names.Spot.{Spot}
 use Rattle.ccr_base.specs.declared.names.Spot.TheVariants.{Branch, Site}
+use Rattle.ccr_base.specs.declared.messages.Msg.{Msg}
 
 -- whether the two name one task: the actor and its attempt
 abbrev pub same_task : TaskId → TaskId → Bool
@@ -32,6 +33,10 @@ has_task tasks task = list_any (same_task task) tasks
 -- whether the list names the message
 abbrev pub has_message : List MsgId → MsgId → Bool
 has_message names name = list_any (same_message name) names
+
+-- the names of the messages
+abbrev pub names_of : List Msg → List MsgId
+names_of messages = map (λ (m : Msg). m.id) messages
 
 -- the tasks of the first list that don't stand in the second
 abbrev pub without : List TaskId → List TaskId → List TaskId

@@ -1,6 +1,6 @@
 -- How far a verdict has come: each event so far was accepted.
 use Rattle.std.proofs.Common.{◌≡◌, ◌∙◌, ℕ, suc, ◌+◌, ◌≤◌, ◌<◌, List, [], ◌∷◌, ◌++◌, length, take, drop, get_or, Option, Some, None, refl, ap, sym, arith, drop-cons}
-use Rattle.std.proofs.lemmas.List.{take_more, drop_all}
+use Rattle.std.proofs.lemmas.List.{take_more}
 use Rattle.ccr_wiring.specs.declared.parts.Parts.{Parts}
 use Rattle.ccr_model.specs.declared.history.Event.{Event}
 use Rattle.ccr_model.specs.declared.rule.Rule.{Rule}
@@ -42,6 +42,3 @@ accepted_more start now new es at e low is allowed accepted so_far =
 pub refused_here : (start now : Judged) (es : List Event) (at : ℕ) (rule : Rule) (e : Event) → at < length es → e ≡ get_or es at e → Some rule ≡ refusal now.wiring now.history e
     → HasAccepted start now es at → Some (at, rule) ≡ first_refusal start.wiring [] 0 es
 refused_here start now es at rule e low is refused so_far = sym (told_here start.wiring es at e low is (Some rule) (asked_of start now es at e (Some rule) so_far refused)) ∙ so_far.refusal
-
-pub none_refused : (start now : Judged) (es : List Event) (at : ℕ) → length es ≤ at → HasAccepted start now es at → None ≡ first_refusal start.wiring [] 0 es
-none_refused start now es at whole so_far = rw (drop_all at es whole) at so_far.refusal

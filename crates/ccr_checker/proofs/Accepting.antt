@@ -4,7 +4,8 @@ use Rattle.std.specs.Prelude.{Result, Ok, Err, IfOk}
 use Rattle.ccr_wiring.specs.declared.parts.Parts.{Parts}
 use Rattle.ccr_wiring.specs.Valid.{IsValid}
 use Rattle.ccr_model.specs.declared.history.Event.{Event}
-use Rattle.ccr_model.specs.Legal.{IsAllowed, IsLegal, IsQuiet, is_shed_end, has_shed}
+use Rattle.ccr_model.specs.Legal.{IsAllowed, IsLegal, IsQuiet, has_shed}
+use Rattle.ccr_model.specs.Counts.{is_shed as is_shed_end}
 use Rattle.ccr_model.proofs.LegalParts.{legal_push}
 use Rattle.ccr_model.proofs.Pushes.{has_shed-push}
 use Rattle.ccr_ledger.specs.Books.{Books}
@@ -29,10 +30,6 @@ IsChecker-more j more e old new before shed kept allowed is entered now = record
   flag = now ∙ (ap (λ flag. flag || is_shed_end e) kept.flag ∙ (sym (has_shed-push j.history e) ∙ ap has_shed (sym is)));
   tables = λ whole. rw (is, entered) (keeps-event j.wiring kept.valid j.history e old kept.legal allowed (kept.tables refl));
 }
-
--- behind a call that found no memory
-pub IsChecker-lost : (j : Judged) (old new : Books) (whole shed : Bool) → IsChecker j old whole shed → IsChecker j new false shed
-IsChecker-lost j old new whole shed kept = record { valid = kept.valid; legal = kept.legal; flag = kept.flag; tables = λ is. absurd (cc) }
 
 -- what is left by the tables tells whether the history is quiet
 pub quiet_told : {E : Type 0} (w : Parts) → IsValid w → (h : List Event) → IsLegal w h → (b : Books) → Keeps w h b → (still : Result Bool E) → IfOk still (λ s. s ≡ is_still_in w b)

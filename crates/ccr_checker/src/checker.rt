@@ -2,7 +2,8 @@
 
 ghost use Rattle.std.specs.Prelude.{◌≡◌, ◌++◌, ◌∷◌, [], IfNone, IfOk, IfSome, OnErr, OnOk};
 ghost use Rattle.ccr_wiring.specs.Valid.{IsValid};
-ghost use Rattle.ccr_model.specs.Legal.{IsAllowed, IsLegal, is_complete, is_shed_end};
+ghost use Rattle.ccr_model.specs.Legal.{IsAllowed, IsLegal, is_complete};
+ghost use Rattle.ccr_model.specs.Counts.{is_shed as is_shed_end};
 ghost use Rattle.ccr_model.specs.Rules.{refusal};
 ghost use Rattle.ccr_ledger.specs.Kept.{Keeps};
 ghost use Rattle.ccr_checker.specs.Quiet.{MeansQuiet};

@@ -2,7 +2,7 @@
 
 ghost use Rattle.std.specs.Prelude.{◌≡◌, ◌≢◌, ℕ, Bool, [], ◌∷◌, Some, Contains};
 ghost use Rattle.ccr_io.specs.Memory.{told};
-ghost use Rattle.ccr_words.specs.Said.{asked_for};
+ghost use Rattle.ccr_words.specs.AskedFor.{asked_for};
 ghost use Rattle.ccr_words.specs.declared.requests.Request.TheVariants.{Load};
 ghost use Rattle.ccr_commands.specs.Answers.{IsAccepted, OfCommand};
 ghost use Rattle.ccr_commands.specs.declared.status.Status.TheVariants.{Done};

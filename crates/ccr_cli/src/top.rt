@@ -2,12 +2,12 @@
 
 ghost use Rattle.std.specs.Prelude.{◌≡◌, ℕ, Bool, [], ◌∷◌, true, Some, None, IsSome, Contains};
 ghost use Rattle.ccr_io.specs.Faults.{Rose};
-ghost use Rattle.ccr_words.specs.Said.{asked_for};
+ghost use Rattle.ccr_words.specs.AskedFor.{asked_for};
 ghost use Rattle.ccr_words.specs.declared.requests.Command.TheVariants.{Verify};
 ghost use Rattle.ccr_words.specs.declared.requests.Request.TheVariants.{Read, Load};
-ghost use Rattle.ccr_commands.specs.Answers.{IsAccepted, IsDeclined, IsExcessive, IsVerified, IsExhausted, OfCommand};
+ghost use Rattle.ccr_commands.specs.Answers.{IsDeclined, IsExcessive, IsVerified, IsExhausted, OfCommand};
 ghost use Rattle.ccr_commands.specs.declared.status.Status.TheVariants.{Done, Usage, Refused, Shed, Illegal, TooLong};
-ghost use Rattle.ccr_cli.specs.Ends.{IsAnswered, IsBegun, statuses_of};
+ghost use Rattle.ccr_cli.specs.Ends.{IsAnswered, IsBegun, IsOwnEnd};
 
 use ccr_base::{Gate, Name};
 use ccr_commands::answer_words;
@@ -60,9 +60,8 @@ pub fn run_ccr<R: AllocGlobal + Threads + Wait + Sync, S: Source, K: Sink, G: Ga
     ensures statuses { Contains (0 ∷ 1 ∷ 2 ∷ 3 ∷ 4 ∷ 5 ∷ 6 ∷ 7 ∷ 8 ∷ []) result }
 
     // Words and input of their forms, and no fault in this call.
-    ensures complete { OfCommand words.now (λ command. IsAccepted command (S.rest source.old) →
-        (Rose (S.faults source.old) (S.faults source.new) → ⊥) → (Rose (K.faults sink.old) (K.faults sink.new) → ⊥) →
-        Contains (statuses_of command) result) }
+    ensures complete { OfCommand words.now (λ command. IsOwnEnd command (S.rest source.old)
+        (Rose (S.faults source.old) (S.faults source.new)) (Rose (K.faults sink.old) (K.faults sink.new)) result) }
     ensures load_complete { (size workers : ℕ) → (json : Bool) → asked_for words.now ≡ Some (Load size workers json) →
         (Rose (K.faults sink.old) (K.faults sink.new) → ⊥) → Contains (0 ∷ 5 ∷ []) result }
 {

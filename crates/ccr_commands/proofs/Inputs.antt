@@ -4,7 +4,7 @@ use Rattle.std.specs.Prelude.{IsSome}
 use Rattle.ccr_wiring.specs.declared.parts.Parts.{Parts}
 use Rattle.ccr_words.specs.declared.requests.Request.{Request}
 use Rattle.ccr_words.specs.declared.requests.Request.TheVariants.{Load}
-use Rattle.ccr_words.specs.Said.{asked_for}
+use Rattle.ccr_words.specs.AskedFor.{asked_for}
 use Rattle.ccr_commands.specs.Answers.{reads}
 
 pub apart : (read : Result Parts (ℕ × ℕ)) (wiring : Parts) (refusal : ℕ × ℕ) → read ≡ Ok wiring → read ≡ Err refusal → ⊥

@@ -33,7 +33,7 @@ use Rattle.ccr_base.proofs.Options.{some_of}
 use Rattle.ccr_model.proofs.PostNames.{refused_not}
 use Rattle.ccr_model.proofs.Pushes.{posts-push}
 use Rattle.ccr_model.proofs.TakenOnce.{FireFacts-allowed}
-use Rattle.ccr_net.proofs.Known.Causes.{fine_causes, posted_fine}
+use Rattle.ccr_net.proofs.Known.CausesAreKnown.{fine_causes, posted_fine}
 use Rattle.ccr_trace.specs.Known.{AreKnown, HasMessages, HaveMessages, IsKnown, IsKnownEnd, IsKnownSpot}
 use Rattle.ccr_trace.specs.Values.{HasSmallValue, HaveSmallValues, IsSmallEnd, IsSmallValue}
 use Rattle.ccr_trace.proofs.SingleValues.{of_version, same_single}

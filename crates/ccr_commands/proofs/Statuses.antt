@@ -9,7 +9,7 @@ use Rattle.ccr_commands.specs.declared.findings.Finding.{Finding}
 use Rattle.ccr_commands.specs.declared.findings.Finding.TheVariants as findings
 use Rattle.ccr_words.specs.declared.requests.Request.{Request}
 use Rattle.ccr_words.specs.declared.requests.Request.TheVariants.{Read, Load}
-use Rattle.ccr_words.specs.Said.{asked_for}
+use Rattle.ccr_words.specs.AskedFor.{asked_for}
 use Rattle.ccr_commands.specs.Inputs.{reading_input, history_index, output_part}
 use Rattle.ccr_commands.specs.Loads.{LoadGives}
 use Rattle.ccr_commands.specs.Findings.{IsFound, is_fault}

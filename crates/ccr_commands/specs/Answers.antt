@@ -12,7 +12,7 @@ use Rattle.ccr_words.specs.declared.requests.Command.{Command}
 use Rattle.ccr_words.specs.declared.requests.Command.TheVariants.{Check, Run, Verify, Record, Replay, Steps, Steady, Service, Expand}
 use Rattle.ccr_words.specs.declared.requests.Request.{Request}
 use Rattle.ccr_words.specs.declared.requests.Request.TheVariants.{Read, Load}
-use Rattle.ccr_words.specs.Said.{asked_for}
+use Rattle.ccr_words.specs.AskedFor.{asked_for}
 use Rattle.ccr_commands.specs.declared.findings.Finding.{Finding}
 use Rattle.ccr_commands.specs.Inputs.{limit_of, history_index, output_part, reading_input, turns_of}
 use Rattle.ccr_commands.specs.Runs.{RunGives}

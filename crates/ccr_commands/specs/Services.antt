@@ -4,7 +4,7 @@ use Rattle.ccr_text.specs.Spelling.{text_of}
 use Rattle.ccr_wiretext.specs.Spelling.{spelling}
 use Rattle.ccr_model.specs.declared.history.Event.{Event}
 use Rattle.ccr_trace.specs.HistoryText.{history_text}
-use Rattle.ccr_trace.specs.Words.{value_word}
+use Rattle.ccr_text.specs.Exact.{value_word}
 use Rattle.ccr_service.specs.declared.parts.ClientPart.{ClientPart}
 use Rattle.ccr_service.specs.declared.parts.ServiceParts.{ServiceParts}
 use Rattle.ccr_service.specs.declared.replies.Answer.{Answer}

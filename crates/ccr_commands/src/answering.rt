@@ -4,7 +4,7 @@ ghost use Rattle.std.specs.Prelude.{◌≡◌, ◌≤◌, Bool, ℕ, None, Some,
 ghost use Rattle.ccr_base.specs.Bounds.{most_bytes, most_wiring_bytes, most_workers};
 ghost use Rattle.ccr_io.specs.Faults.{Rose};
 ghost use Rattle.ccr_wiretext.specs.Answers.{IsReading};
-ghost use Rattle.ccr_words.specs.Said.{asked_for};
+ghost use Rattle.ccr_words.specs.AskedFor.{asked_for};
 ghost use Rattle.ccr_words.specs.Table.{HasFewWorkers, IsWithin};
 ghost use Rattle.ccr_words.specs.declared.requests.Command.TheVariants.{Check, Run, Verify};
 ghost use Rattle.ccr_words.specs.declared.requests.Request.TheVariants.{Read, Load};
@@ -23,14 +23,12 @@ use crate::steady::answer_steady;
 use crate::verify::verify;
 use ccr_base::{Gate, Name, OutOfMemory};
 use ccr_io::{ReadEnd, Source, read_all};
-use ccr_wiretext::read_wiring;
+use ccr_wiretext::{MAX_WIRING_TEXT, read_wiring};
 use ccr_words::{Command, Request, read_words};
 use std::alloc::Global;
 use std::sync::Wait;
 use std::thread::Threads;
 
-/// The most bytes that a wiring or a service may have.
-const MAX_WIRING_TEXT: usize = 1_048_576;
 /// The most bytes that a wiring may have with an output or a record behind it.
 const MAX_OUTPUT_TEXT: usize = 33_554_432;
 

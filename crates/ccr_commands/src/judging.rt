@@ -1,6 +1,6 @@
 //! What is found of an output that stands behind its wiring.
 
-ghost use Rattle.std.specs.Prelude.{◌≡◌, ◌≤◌, List as Listed, Ok, IfOk, length};
+ghost use Rattle.std.specs.Prelude.{◌≡◌, ◌≤◌, ◌+◌, List as Listed, Ok, IfOk, length};
 ghost use Rattle.ccr_base.specs.Bounds.{most_bytes};
 ghost use Rattle.ccr_model.specs.declared.history.Event.{Event as SomeEvent};
 ghost use Rattle.ccr_report.specs.Counted.{HasRows, IsCounted};
@@ -46,7 +46,7 @@ fn difference(
     requires legal { IsJudged wiring.now output.now (Legal found.now) }
     requires before { before ≤ most_bytes }
     requires length { length output.now ≤ most_bytes }
-    requires lines { found.now.lines ≤ 33554434 }
+    requires lines { found.now.lines ≤ most_bytes + 2 }
     requires rest { found.now.rest ≤ length output.now }
     ensures { IfOk result (λ line. (read : SomeHistory) → reading_output wiring.now before output.now ≡ Ok read → line ≡ difference wiring.now before output.now read) }
 {

@@ -25,7 +25,7 @@ use Rattle.ccr_actor.proofs.Kept.{after_short, kept_hand, kept_short, kept_whole
 use Rattle.ccr_actor.proofs.Followed.{step_is}
 use Rattle.ccr_actor.proofs.Dues.{due_sent}
 use Rattle.ccr_dispatch.specs.Ranks.{settles_in, admissions_left, drive_left, drive_most, owed_by, steps_left}
-use Rattle.ccr_dispatch.specs.Driving.{IsSettled}
+use Rattle.ccr_dispatch.specs.ToRest.{IsSettled}
 use Rattle.ccr_dispatch.proofs.Falls.{Fitting, all_work, admit_falls, attempt_waits, calm_drive, calm_waits, drive_falls, hand_falls, settles_append, work_calms, work_falls}
 use Rattle.ccr_actor.proofs.Bounds.{below as some-few, left-few}
 

@@ -1,3 +1,3 @@
 pub mod Ranks
-pub mod Driving
+pub mod ToRest
 pub mod Lawful

@@ -1,8 +1,8 @@
 //! Drives an actor over a net, from step to step until it is at rest.
 #![tactic(auto)]
 
-mod driving;
 mod laws;
+mod to_rest;
 
-pub use driving::drive;
 pub use laws::actors_rest;
+pub use to_rest::drive;

@@ -30,7 +30,7 @@ use Rattle.ccr_base.proofs.Booleans.{both, neither, refuted, no_both, or_left, o
 use Rattle.ccr_model.proofs.Cutting.{fired_by-append}
 use Rattle.ccr_model.proofs.Ending.{RunningFacts-allowed}
 use Rattle.ccr_model.proofs.FiredTasks.{IsFired, placement_fired, placement_stays}
-use Rattle.ccr_model.proofs.FiringFacts.{FiresSo-allowed, WaitingFacts-waiting, BranchFacts-where}
+use Rattle.ccr_model.proofs.AllowedFirings.{FiresSo-allowed, WaitingFacts-waiting, BranchFacts-where}
 use Rattle.ccr_base.proofs.Options.{some_of}
 use Rattle.ccr_model.proofs.PostNames.{refused_not}
 use Rattle.ccr_model.proofs.Pushes.{ever_admitted-push, cut-push}

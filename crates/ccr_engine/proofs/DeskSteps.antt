@@ -18,7 +18,7 @@ use Rattle.ccr_model.proofs.Pushes.{fired-fire}
 use Rattle.ccr_model.proofs.SameNames.{same_task-is}
 use Rattle.ccr_model.proofs.FiredTasks.{placement_fired}
 use Rattle.ccr_model.proofs.TaskPlaces.{PutFacts-allowed}
-use Rattle.ccr_model.proofs.FiringFacts.{firings-other}
+use Rattle.ccr_model.proofs.AllowedFirings.{firings-other}
 use Rattle.ccr_model.proofs.Cutting.{AdmitFacts-allowed}
 use Rattle.ccr_ledger.specs.declared.cards.Card.{Card}
 use Rattle.ccr_ledger.specs.Books.{Books}

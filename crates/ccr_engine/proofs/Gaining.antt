@@ -21,12 +21,6 @@ gains-same p q old new same gains = record { members = λ n. gains.members n ∙
 pub gains-none : (p : ℕ → Bool) (old : List ℕ) → ((n : ℕ) → p n ≡ false) → Gains p old old
 gains-none p old never = record { members = λ n. rw (never n) refl; least = λ least. least }
 
-swap : (a b c : Bool) → b || (a || c) ≡ (a || b) || c
-swap true true c = refl
-swap true false c = refl
-swap false true c = refl
-swap false false c = refl
-
 -- the numbers of a list, one by one
 pub has-more : (xs : List ℕ) (x n : ℕ) → has_number (xs ++ x ∷ []) n ≡ has_number xs n || (n == x)
 has-more [] x n = of_test (x == n) (n == x) (grind (arith, nat_tests))

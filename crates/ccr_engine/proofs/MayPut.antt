@@ -24,7 +24,7 @@ use Rattle.ccr_model.proofs.Alone.{ever_admitted_fired}
 use Rattle.ccr_model.proofs.TaskLists.{of_more, among_left}
 use Rattle.ccr_model.proofs.Allowing.{OneName-legal}
 use Rattle.ccr_model.proofs.TaskPlaces.{ArePlaced-legal}
-use Rattle.ccr_model.proofs.FiringFacts.{FiresSo, FiresSo-allowed, firing_named-new, firings-other, WaitingFacts, WaitingFacts-waiting, waits_outside}
+use Rattle.ccr_model.proofs.AllowedFirings.{FiresSo, FiresSo-allowed, firing_named-new, firings-other, WaitingFacts, WaitingFacts-waiting, waits_outside}
 use Rattle.ccr_model.proofs.Cutting.{AdmitFacts, AdmitFacts-allowed, CutFacts-legal, waits_unput, cuts_wait}
 
 -- a task that fired before a new one isn't it

@@ -1,11 +1,9 @@
 -- What an engine keeps: its desk, which is that of what happened as long as there was memory.
-use Rattle.std.proofs.Common.{◌≡◌, ℕ, ◌≤◌, Bool, true, false, List, [], ◌∷◌, ◌++◌, length, Option, Some, refl, ap, ◌∙◌, subst}
+use Rattle.std.proofs.Common.{◌≡◌, ℕ, ◌≤◌, Bool, true, List, [], ◌∷◌, ◌++◌, length, Option, Some, refl, ap, ◌∙◌, subst}
 use Rattle.std.specs.Prelude.{◌^◌}
 use Rattle.ccr_wiring.specs.declared.parts.Parts.{Parts}
 use Rattle.ccr_wiring.specs.Valid.{IsValid}
 use Rattle.ccr_model.specs.declared.history.Event.{Event}
-use Rattle.ccr_model.specs.Legal.{IsLegal}
-use Rattle.ccr_model.specs.Order.{with_first}
 use Rattle.ccr_ledger.specs.Books.{Books}
 use Rattle.ccr_ledger.specs.Kept.{Keeps}
 use Rattle.ccr_engine.specs.Desk.{Desk, IsRead, IsAhead, IsIdle, Follows, Stands, empty_desk, first_in}
@@ -24,10 +22,6 @@ IsRead-behind w v c es h d sound same is stands =
 
 pub IsRead-entered : (s : Engine) → IsSound s → (e : Event) → next_event s ≡ Some e → (h : List Event) → h ≡ s.history ++ e ∷ [] → (d : Desk) (current : Bool) → (current ≡ true → Stands s.wiring s.closer h d) → IsRead (record s { history = h }) d current
 IsRead-entered s sound e is h more d current stands = record { sound = IsSound-pushed s sound e is h more; stands = stands }
-
--- behind a call that found no memory
-pub IsRead-lost : (s : Engine) (d : Desk) → IsSound s → IsRead s d false
-IsRead-lost s d sound = record { sound = sound; stands = λ whole. absurd (cc) }
 
 -- the desk may be asked
 pub IsIdle-read : (s : Engine) (d : Desk) → IsRead s d true → IsIdle s.wiring s.closer d

@@ -19,7 +19,7 @@ use Rattle.ccr_ledger.specs.Asked.{lives, room, choice_at}
 use Rattle.ccr_engine.specs.declared.search.Found.{Found}
 use Rattle.ccr_engine.specs.Ready.{has_number, IsLeast, IsLeastFirst}
 use Rattle.ccr_engine.specs.Numbered.{passes_at}
-use Rattle.ccr_engine.specs.Blocked.{is_blocked, AreBlocked, is_before, IsFullBefore, Blocks}
+use Rattle.ccr_engine.specs.Blocked.{is_blocked, AreBlocked, is_before, IsFullBefore}
 use Rattle.ccr_engine.specs.Parts.{choose_in, fire_in, first_fire_in, fires_in, could_fire_in, IsStillIn}
 use Rattle.ccr_engine.specs.Candidates.{AreCandidates, IsNoneBefore, IsFirstOpen, index_of}
 use Rattle.ccr_engine.proofs.Blocking.{same_room, row_within, first_within, blocked_row, AreBlocked-left, left_alone, total, total_left}
@@ -169,27 +169,10 @@ module _ (w : Parts) (t : TaskId) (b : Books) (touched : List ℕ) (blocked : Li
   pub touched_ends : slice_get touched 0 ≡ None → IsNoneBefore w t b limit
   touched_ends none = none_can w t b touched blocked limit are.still full (λ j before. ap (λ ns. has_number ns j) (no_head touched none))
 
-  -- one is asked in vain
-  pub touched_leaves : (k : ℕ) (rest : List ℕ) (now : List (List ℕ)) → touched ≡ k ∷ rest → IsLeastFirst rest → Blocks w b blocked now → (passes_at (could_fire_in w b) (spots w) k ≡ true → is_blocked now k ≡ true) → AreCandidates w b rest now
-  touched_leaves k rest now first lowest blocks vain = record { still = λ j out free. of_test j out free (k == j) refl; lowest = lowest; by_queue = blocks.blocked }
-    where
-      of_test : (j : ℕ) → has_number rest j ≡ false → is_blocked now j ≡ false → (c : Bool) → (k == j) ≡ c → passes_at (could_fire_in w b) (spots w) j ≡ false
-      of_test j out free true same =
-          let one : k ≡ j = same_number k j same in
-          refuted (passes_at (could_fire_in w b) (spots w) j) (λ could. no_both (subst (λ m. is_blocked now m ≡ true) one (vain (subst (λ m. passes_at (could_fire_in w b) (spots w) m ≡ true) (sym one) could))) free)
-      of_test j out free false differs = are.still j (ap (λ ns. has_number ns j) first ∙ rw (differs, out) refl) (refuted (is_blocked blocked j) (λ was. no_both (blocks.more j was) free))
-
-  -- one fires, and stays
-  pub touched_stays : (now : List (List ℕ)) → Blocks w b blocked now → AreCandidates w b touched now
-  touched_stays now blocks = record { still = λ j out free. are.still j out (refuted (is_blocked blocked j) (λ was. no_both (blocks.more j was) free)); lowest = are.lowest; by_queue = blocks.blocked }
-
 -- among the blocked ones: those that left could not fire
 pub record IsLeft (w : Parts) (b : Books) (old now : List (List ℕ)) : Type 0 where
   pub blocked : AreBlocked w now
   pub left : (k : ℕ) → is_blocked old k ≡ true → is_blocked now k ≡ false → passes_at (could_fire_in w b) (spots w) k ≡ false
-
-pub IsLeft-start : (w : Parts) (b : Books) (old : List (List ℕ)) → AreBlocked w old → IsLeft w b old old
-IsLeft-start w b old are = record { blocked = are; left = λ k was out. absurd (no_both was out) }
 
 module _ (w : Parts) (t : TaskId) (b : Books) (old now next : List (List ℕ)) (found : Found) (left : IsLeft w b old now) (first : IsFirstOpen w b now (length now) (Some found)) (others : next ≡ with_row now found.queue (row next found.queue)) (rest : IfSome (slice_get (row now found.queue) 0) (λ index. row now found.queue ≡ index ∷ row next found.queue)) where
   shorter : row now found.queue ≡ found.index ∷ row next found.queue

@@ -18,14 +18,10 @@ use Rattle.ccr_model.specs.Posts.{held}
 use Rattle.ccr_model.specs.Live.{is_none_of, is_live, is_live_in}
 use Rattle.ccr_model.specs.Enough.{has_enough, can_take}
 use Rattle.ccr_model.specs.Legal.{IsLegal}
-use Rattle.ccr_model.proofs.Stable.{firing_named-append}
 use Rattle.ccr_model.proofs.Pushes.{yielded-push, firings-push}
-use Rattle.ccr_model.proofs.FiredTasks.{IsFired}
 use Rattle.ccr_model.proofs.TasksLeft.{filter_on}
 use Rattle.ccr_base.proofs.Booleans.{both, neither, refuted, no_both}
 use Rattle.ccr_model.proofs.TaskLists.{filter_append}
-use Rattle.ccr_model.proofs.TaskPlaces.{ArePlaced-legal}
-use Rattle.ccr_model.proofs.Ending.{AreEnded-legal}
 use Rattle.ccr_engine.specs.Touched.{posts_to, touches_branch, touches}
 use Rattle.ccr_engine.specs.Cursor.{could_fire}
 use Rattle.ccr_engine.proofs.Lives.{live_before, fired_where-append}

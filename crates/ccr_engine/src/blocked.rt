@@ -5,7 +5,7 @@ ghost use Rattle.std.specs.List.{slice_get};
 ghost use Rattle.ccr_ledger.specs.Rows.{row, with_row, empty_rows};
 ghost use Rattle.ccr_engine.specs.Ready.{has_number, IsLeastFirst};
 
-use crate::numbers::NumberSet;
+use crate::number_set::NumberSet;
 use ccr_base::OutOfMemory;
 use std::alloc::Global;
 use std::marker::Model;

@@ -8,7 +8,7 @@ ghost use Rattle.ccr_engine.specs.Desk.{Follows, IsAhead, IsIdle, after_attempt,
 use crate::blocked::Blocked;
 use crate::domains::note_domains;
 use crate::indices::SpotIndices;
-use crate::numbers::NumberSet;
+use crate::number_set::NumberSet;
 use crate::parts::{first_admit, first_post, first_put, first_run, first_start};
 use crate::queues::note_queue;
 use crate::search::first_fire;

@@ -5,7 +5,7 @@ ghost use Rattle.ccr_model.specs.Tasks.{is_branch_where};
 ghost use Rattle.ccr_engine.specs.Numbered.{Gains};
 ghost use Rattle.ccr_engine.specs.Parts.{is_in_domain, touches_domain_in};
 
-use crate::numbers::NumberSet;
+use crate::number_set::NumberSet;
 use ccr_base::{OutOfMemory, Spot, TaskId};
 use ccr_ledger::Ledger;
 use ccr_model::{EndHow, Event};

@@ -7,7 +7,7 @@ mod domains;
 mod engine;
 mod indices;
 mod listener;
-mod numbers;
+mod number_set;
 mod parts;
 mod queues;
 mod resuming;

@@ -9,7 +9,7 @@ ghost use Rattle.ccr_engine.specs.Ready.{IsLeastFirst};
 ghost use Rattle.ccr_engine.specs.Numbered.{IsNoneBut};
 ghost use Rattle.ccr_engine.specs.Parts.{admission_in, are_done_in, choose_in, fire_in, first_admit_in, line_in, post_in, put_in, run_in, start_at_in, start_in};
 
-use crate::numbers::NumberSet;
+use crate::number_set::NumberSet;
 use ccr_base::{
     ActorNo, CauseNo, List, Msg, MsgId, OutOfMemory, PortNo, QueueNo, Spot, TaskId, Value,
 };

@@ -4,7 +4,7 @@ ghost use Rattle.std.specs.Prelude.{OnOk};
 ghost use Rattle.ccr_engine.specs.Numbered.{Gains};
 ghost use Rattle.ccr_engine.specs.Parts.{touches_queue_in};
 
-use crate::numbers::NumberSet;
+use crate::number_set::NumberSet;
 use ccr_base::OutOfMemory;
 use ccr_ledger::Ledger;
 use ccr_model::Event;

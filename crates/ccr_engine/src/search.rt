@@ -11,7 +11,7 @@ ghost use Rattle.ccr_engine.specs.Candidates.{AreCandidates, IsFirstOpen, IsLeft
 ghost use Rattle.ccr_engine.specs.Parts.{could_fire_in, fire_in, first_fire_in};
 
 use crate::blocked::Blocked;
-use crate::numbers::NumberSet;
+use crate::number_set::NumberSet;
 use crate::parts::{choose_at, fire_at};
 use ccr_base::{OutOfMemory, QueueNo, Spot, TaskId};
 use ccr_ledger::Ledger;

@@ -8,7 +8,7 @@ ghost use Rattle.ccr_engine.specs.Numbered.{Gains, passes_at};
 ghost use Rattle.ccr_engine.specs.Parts.{touches_in, yields_in};
 
 use crate::indices::SpotIndices;
-use crate::numbers::NumberSet;
+use crate::number_set::NumberSet;
 use ccr_base::{OutOfMemory, TaskId};
 use ccr_ledger::Ledger;
 use ccr_model::{EndHow, Event};

@@ -2,5 +2,5 @@ pub mod Lines
 pub mod Valid
 pub mod Loads
 pub mod Plays
-pub mod Steps
-pub mod Whole
+pub mod OneMoreMessage
+pub mod PostsNeverGrow

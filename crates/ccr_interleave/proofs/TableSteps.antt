@@ -131,10 +131,6 @@ module _ (old new : List (TaskId × Admission)) (oldest : Waiting) (later : List
   stands : kept_of old oldest.task ≡ Some Outside
   stands = tied.outside oldest.task (ap (λ b. b || list_any (λ (w : Waiting). same_task oldest.task w.task) later) (same_task_equiv.refl oldest.task))
 
-  -- the oldest fired here
-  pub oldest-there : is_some (kept_of old oldest.task) ≡ true
-  oldest-there = ap is_some stands
-
   module _ (distinct : IsDistinct same_task (keys_of new)) (concurrent : Bool)
       (updates : (other : TaskId) → kept_of new other ≡ cond (same_task oldest.task other) (Some (admitted_as concurrent)) (kept_of old other)) where
     pub admitted : Tied new later (shared + cond (is_shared (admitted_as concurrent)) 1 0) (alone + cond (is_alone (admitted_as concurrent)) 1 0)

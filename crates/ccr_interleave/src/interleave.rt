@@ -39,28 +39,15 @@ pub struct InterleaveObject {
 
 impl Model for InterleaveObject {
     ghost use Rattle.std.specs.Prelude.{map};
-    ghost use Rattle.std.specs.Map.{keys_of};
     ghost use Rattle.ccr_places.specs.Interleaves.{InterleaveTasks, interleave_tasks_code};
-    ghost use Rattle.ccr_places.specs.TaskTables.{tasks_where};
     ghost use Rattle.ccr_interleave.specs.Replies.{waiting_of};
-    ghost use Rattle.ccr_interleave.specs.Admissions.{Tied, is_shared, is_alone};
+    ghost use Rattle.ccr_interleave.specs.Admissions.{Tied, state_of};
 
     ghost Value = { InterleaveTasks };
 
     ghost coded = { interleave_tasks_code };
 
-    ghost view = { λ place. record {
-      state = record {
-        branches = place.branches;
-        groups = place.groups;
-        fired = keys_of place.fired.entries;
-        waiting = map waiting_of place.waiting.items;
-        shared = tasks_where is_shared place.fired.entries;
-        alone = tasks_where is_alone place.fired.entries;
-        teardown = place.teardown;
-      };
-      tasks = place.waiting.items;
-    } };
+    ghost view = { λ place. record { state = state_of place.branches place.groups place.fired.entries place.waiting.items place.teardown; tasks = place.waiting.items } };
 
     ghost invariant = { λ place. Tied place.fired.entries (map waiting_of place.waiting.items) place.shared place.alone };
 }

@@ -10,7 +10,8 @@ use Rattle.ccr_model.specs.Posts.{posted, held}
 use Rattle.ccr_model.specs.Firings.{fired_at}
 use Rattle.ccr_wiring.specs.SpotWords.{branch_names}
 use Rattle.ccr_report.specs.declared.counted.Counts.{Counts}
-use Rattle.ccr_report.specs.Counting.{put_at, dropped_at}
+use Rattle.ccr_report.specs.Counting.{dropped_at}
+use Rattle.ccr_model.specs.Tasks.{put_into}
 use Rattle.ccr_report.specs.Counted.{IsCounted}
 use Rattle.ccr_report.proofs.Tallies.{taken_left}
 use Rattle.ccr_json.specs.Report.{branch_value, port_value, port_values, queue_value, queue_values, report_value}
@@ -32,10 +33,10 @@ ports_told h posts holds port (name ∷ names) is_posted is_held =
     ap (λ row. row ∷ port_rows posts holds (port + 1) names) (port_told h posts holds port name (is_posted port (omega arith)) (is_held port (omega arith)))
     ∙ ap (λ rows. port_value h port name ∷ rows) (ports_told h posts holds (port + 1) names (λ k l. is_posted k (omega arith)) (λ k l. is_held k (omega arith)))
 
-queue_told : (w : Parts) (h : List Event) (puts drops : List ℕ) (queue : ℕ) (part : QueuePart) → slice_index puts queue ≡ length (put_at w h queue) → slice_index drops queue ≡ length (dropped_at w h queue) → queue_row puts drops queue part ≡ queue_value w h queue part
+queue_told : (w : Parts) (h : List Event) (puts drops : List ℕ) (queue : ℕ) (part : QueuePart) → slice_index puts queue ≡ length (put_into w h queue) → slice_index drops queue ≡ length (dropped_at w h queue) → queue_row puts drops queue part ≡ queue_value w h queue part
 queue_told w h puts drops queue part is_put is_dropped = rw (is_put, is_dropped) refl
 
-queues_told : (w : Parts) (h : List Event) (puts drops : List ℕ) (queue : ℕ) (parts : List QueuePart) → ((k : ℕ) → k < queue + length parts → slice_index puts k ≡ length (put_at w h k)) → ((k : ℕ) → k < queue + length parts → slice_index drops k ≡ length (dropped_at w h k)) → queue_rows puts drops queue parts ≡ queue_values w h queue parts
+queues_told : (w : Parts) (h : List Event) (puts drops : List ℕ) (queue : ℕ) (parts : List QueuePart) → ((k : ℕ) → k < queue + length parts → slice_index puts k ≡ length (put_into w h k)) → ((k : ℕ) → k < queue + length parts → slice_index drops k ≡ length (dropped_at w h k)) → queue_rows puts drops queue parts ≡ queue_values w h queue parts
 queues_told w h puts drops queue [] is_put is_dropped = refl
 queues_told w h puts drops queue (part ∷ parts) is_put is_dropped =
     ap (λ row. row ∷ queue_rows puts drops (queue + 1) parts) (queue_told w h puts drops queue part (is_put queue (omega arith)) (is_dropped queue (omega arith)))

@@ -9,7 +9,8 @@ use Rattle.ccr_model.specs.Posts.{posted, held}
 use Rattle.ccr_model.specs.Firings.{fired_at}
 use Rattle.ccr_model.specs.Counts.{totals}
 use Rattle.ccr_wiring.specs.SpotWords.{branch_names, spot_word}
-use Rattle.ccr_report.specs.Counting.{taken_at, put_at, dropped_at}
+use Rattle.ccr_report.specs.Counting.{taken_at, dropped_at}
+use Rattle.ccr_model.specs.Tasks.{put_into}
 use Rattle.serde_json.specs.Data.{Data, string}
 use Rattle.ccr_json.specs.Lines.{json_line}
 use Rattle.ccr_json.specs.Objects.{spot_object, port_object, queue_object, report_object}
@@ -30,7 +31,7 @@ port_values history port (name ∷ names) = port_value history port name ∷ por
 
 -- a queue's counts and name
 abbrev pub queue_value : Parts → List Event → ℕ → QueuePart → Data
-queue_value wiring history queue part = queue_object (length (dropped_at wiring history queue)) (string part.name) (length (put_at wiring history queue))
+queue_value wiring history queue part = queue_object (length (dropped_at wiring history queue)) (string part.name) (length (put_into wiring history queue))
 
 -- the queues, of which the first has this number
 abbrev pub queue_values : Parts → List Event → ℕ → List QueuePart → List Data

@@ -30,7 +30,7 @@ use Rattle.ccr_model.proofs.Alone.{over_stays, lasts_fired, ever_admitted_fired}
 use Rattle.ccr_model.specs.Interleaves.{is_placement_in, is_teardown_in, is_exclusive_in, tears_down, is_of_interleave, is_of_teardown, is_of_exclusive}
 use Rattle.ccr_model.proofs.TaskLists.{has_oldest, of_more, of_one, out_right}
 use Rattle.ccr_model.proofs.TaskPlaces.{ArePlaced-legal, StartFacts-allowed, placement_by}
-use Rattle.ccr_model.proofs.FiringFacts.{FiresSo, FiresSo-allowed, BranchFacts, BranchFacts-where, waits_parts, waits_whole}
+use Rattle.ccr_model.proofs.AllowedFirings.{FiresSo, FiresSo-allowed, BranchFacts, BranchFacts-where, waits_parts, waits_whole}
 use Rattle.ccr_model.proofs.Cutting.{fired_by-append, dead, AdmitFacts-allowed}
 use Rattle.ccr_model.proofs.Roots.{of_firing, other_firing, AreRooted-legal, queued_works, at_work_admitted, placement_of_root, AdmittedFacts-admitted, admitted_whole}
 use Rattle.ccr_laws.proofs.Exclusion.{alone}

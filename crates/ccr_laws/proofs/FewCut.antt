@@ -17,7 +17,7 @@ use Rattle.ccr_model.specs.Rules.{cuts_at}
 use Rattle.ccr_model.specs.Legal.{IsAllowed, IsLegal}
 use Rattle.ccr_base.proofs.Booleans.{or_left, or_right}
 use Rattle.ccr_base.proofs.Filters.{length-kept}
-use Rattle.ccr_model.proofs.FiringFacts.{FiresSo-allowed}
+use Rattle.ccr_model.proofs.AllowedFirings.{FiresSo-allowed}
 use Rattle.ccr_model.proofs.PostNames.{along}
 use Rattle.ccr_model.proofs.Pushes.{cut-push, fired-fire, firings-push}
 use Rattle.ccr_model.proofs.SameNames.{same_task-self}

@@ -30,9 +30,9 @@ use Rattle.ccr_laws.specs.Occurring.{Occurs}
 use Rattle.ccr_laws.specs.Drops.{DropsOldest}
 use Rattle.ccr_laws.proofs.Allowed.{allowed_at, legal_past}
 use Rattle.ccr_model.proofs.TaskLists.{not_more, not_within}
-use Rattle.ccr_model.proofs.DropFacts.{put_allowed, drop_allowed}
+use Rattle.ccr_model.proofs.AllowedDrops.{put_allowed, drop_allowed}
 use Rattle.ccr_model.proofs.TaskPlaces.{ArePlaced-legal, PutFacts-allowed, new_drop}
-use Rattle.ccr_model.proofs.FiringFacts.{FiresSo-allowed}
+use Rattle.ccr_model.proofs.AllowedFirings.{FiresSo-allowed}
 use Rattle.ccr_model.proofs.Queued.{queued-other, new_unput}
 
 -- a policy's number is at least 1

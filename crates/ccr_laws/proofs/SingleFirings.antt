@@ -30,7 +30,7 @@ use Rattle.ccr_model.proofs.TakenOnce.{FireFacts-allowed}
 use Rattle.ccr_model.proofs.Pushes.{firings-push}
 use Rattle.ccr_base.proofs.Booleans.{both, same_number}
 use Rattle.ccr_laws.specs.Times.{times_fired, times_any_fired, times_torn_down}
-use Rattle.ccr_model.proofs.FiringFacts.{BranchFacts-where, live_at, firings-other}
+use Rattle.ccr_model.proofs.AllowedFirings.{BranchFacts-where, live_at, firings-other}
 
 -- the tasks that fired at spots that pass the test
 abbrev fired_on : (Spot → Bool) → List Event → List TaskId

@@ -7,7 +7,7 @@ use Rattle.ccr_model.specs.declared.history.Event.{Event}
 use Rattle.ccr_model.specs.declared.history.Event.TheVariants.{Post, Fire, Admit, Put, Start, End}
 use Rattle.ccr_base.specs.Names.{same_task, has_task, without}
 use Rattle.ccr_model.specs.Firings.{put, put_by, started, started_by, dropped, dropped_by}
-use Rattle.ccr_model.specs.Tasks.{is_for_queue, queued}
+use Rattle.ccr_model.specs.Tasks.{is_for_queue, queued, put_into}
 use Rattle.ccr_model.specs.Legal.{IsAllowed, IsLegal}
 use Rattle.ccr_model.specs.Consequences.{are_distinct_tasks}
 use Rattle.ccr_model.proofs.PostNames.{along}
@@ -17,7 +17,7 @@ use Rattle.ccr_model.proofs.TasksLeft.{has_task-filter, has_task-without, of_fil
 use Rattle.ccr_base.proofs.Booleans.{both, or_left, or_right, and_false, refuted, no_both, same_number}
 use Rattle.ccr_base.proofs.Filters.{filter_swap}
 use Rattle.ccr_model.proofs.FiredTasks.{IsFired, placement_stays}
-use Rattle.ccr_laws.specs.Queues.{put_into, started_from, stands_before}
+use Rattle.ccr_laws.specs.Queues.{started_from, stands_before}
 use Rattle.ccr_model.proofs.TaskLists.{filter_append, without-append, without_none, without_other, without_first, of_more, not_more, not_within}
 use Rattle.ccr_model.proofs.TaskPlaces.{AreApart, ArePlaced, ArePlaced_kept, ArePlaced-none, ArePlaced-legal, StartFacts, StartFacts-allowed, PutFacts-allowed, QueuedFacts-queued, put_fired, new_drop}
 

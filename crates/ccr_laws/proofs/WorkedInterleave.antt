@@ -19,11 +19,11 @@ use Rattle.ccr_model.specs.declared.history.Event.TheVariants.{Post, Fire, Admit
 use Rattle.ccr_model.specs.declared.history.EndHow.TheVariants.{Done, Yield}
 use Rattle.ccr_model.specs.Firings.{cut, dropped}
 use Rattle.ccr_model.specs.Sites.{root_of}
-use Rattle.ccr_model.specs.Tasks.{admitted, is_over, queued}
+use Rattle.ccr_model.specs.Tasks.{admitted, is_over, queued, put_into}
 use Rattle.ccr_model.specs.Legal.{first_refusal}
 use Rattle.ccr_model.specs.AtWork.{is_at_work, is_queued, is_suspended}
 use Rattle.ccr_model.specs.Interleaves.{fired_in, is_of_exclusive, is_of_interleave, is_of_teardown, tears_down}
-use Rattle.ccr_laws.specs.Queues.{put_into, started_from, stands_before}
+use Rattle.ccr_laws.specs.Queues.{started_from, stands_before}
 
 abbrev task : ℕ → TaskId
 task k = record { actor = 1; attempt = k }

@@ -4,12 +4,8 @@ use Rattle.ccr_base.specs.declared.names.TaskId.{TaskId}
 use Rattle.ccr_base.specs.Names.{same_task, has_task}
 use Rattle.ccr_wiring.specs.declared.parts.Parts.{Parts}
 use Rattle.ccr_model.specs.declared.history.Event.{Event}
-use Rattle.ccr_model.specs.Firings.{dropped, put, started}
-use Rattle.ccr_model.specs.Tasks.{is_for_queue}
-
--- the tasks put into the queue, in the order of their puts
-abbrev pub put_into : Parts → List Event → ℕ → List TaskId
-put_into wiring history queue = filter (is_for_queue wiring history queue) (put history)
+use Rattle.ccr_model.specs.Firings.{dropped, started}
+use Rattle.ccr_model.specs.Tasks.{is_for_queue, put_into}
 
 -- the tasks of the queue that started, in the order of their starts
 abbrev pub started_from : Parts → List Event → ℕ → List TaskId

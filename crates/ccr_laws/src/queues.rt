@@ -4,9 +4,9 @@ ghost use Rattle.std.specs.Prelude.{◌≡◌, ◌++◌, ℕ};
 ghost use Rattle.ccr_base.specs.declared.names.TaskId.{TaskId};
 ghost use Rattle.ccr_base.specs.Names.{without};
 ghost use Rattle.ccr_model.specs.Firings.{dropped};
-ghost use Rattle.ccr_model.specs.Tasks.{queued};
+ghost use Rattle.ccr_model.specs.Tasks.{queued, put_into};
 ghost use Rattle.ccr_laws.specs.Lawful.{OfLegal};
-ghost use Rattle.ccr_laws.specs.Queues.{put_into, started_from, HasStarted, IsPast, IsPutBefore};
+ghost use Rattle.ccr_laws.specs.Queues.{started_from, HasStarted, IsPast, IsPutBefore};
 
 /// What started from a queue, followed by what is queued there, is what was put there and not dropped, in the order of the puts.
 pub fn tasks_start_in_the_order_of_their_puts()

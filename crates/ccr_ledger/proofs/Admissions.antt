@@ -26,7 +26,7 @@ use Rattle.ccr_base.proofs.Booleans.{both, or_left, or_right, refuted, no_both}
 use Rattle.ccr_model.proofs.Cutting.{AdmitFacts-allowed, CutFacts-legal, waits_unput}
 use Rattle.ccr_model.proofs.Ending.{AreEnded-legal, RunningFacts-running}
 use Rattle.ccr_model.proofs.FiredTasks.{IsFired, fired_has, root_stays}
-use Rattle.ccr_model.proofs.FiringFacts.{WaitingFacts-waiting, BranchFacts-where, firings-other}
+use Rattle.ccr_model.proofs.AllowedFirings.{WaitingFacts-waiting, BranchFacts-where, firings-other}
 use Rattle.ccr_model.proofs.LegalParts.{along_legal}
 use Rattle.ccr_model.proofs.PostNames.{refused_not}
 use Rattle.ccr_model.proofs.Pushes.{posts-push, last-push, ever_admitted-push, fired-fire}

@@ -8,7 +8,7 @@ use Rattle.ccr_base.specs.declared.names.MsgId.TheVariants.{Script, Task}
 use Rattle.ccr_base.specs.declared.messages.Msg.{Msg}
 use Rattle.ccr_base.specs.Names.{same_task}
 use Rattle.ccr_wiring.specs.declared.parts.Parts.{Parts}
-use Rattle.ccr_wiring.specs.Wirings.{branch_of, segment_of}
+use Rattle.ccr_wiring.specs.Wirings.{branch_of, segment_of, queue_of_spot}
 use Rattle.ccr_model.specs.declared.history.Event.{Event}
 use Rattle.ccr_model.specs.declared.history.Event.TheVariants.{Post, Admit, Put, Start, End}
 use Rattle.ccr_model.specs.declared.history.EndHow.{EndHow}
@@ -21,7 +21,7 @@ use Rattle.ccr_model.specs.Legal.{IsAllowed, IsLegal}
 use Rattle.ccr_model.proofs.Cutting.{AdmitFacts-allowed}
 use Rattle.ccr_model.proofs.Ending.{RunningFacts-allowed}
 use Rattle.ccr_model.proofs.FiredTasks.{IsFired, root_stays, placement_fired}
-use Rattle.ccr_model.proofs.FiringFacts.{firings-other}
+use Rattle.ccr_model.proofs.AllowedFirings.{firings-other}
 use Rattle.ccr_model.proofs.SameNames.{same_task-sym, same_task-self}
 use Rattle.ccr_model.proofs.Stable.{firing_named-append, before-append, load_at-append, play_of-append}
 use Rattle.ccr_model.proofs.TaskPlaces.{ArePlaced-legal, PutFacts-allowed, StartFacts-allowed, new_drop}
@@ -31,7 +31,7 @@ use Rattle.ccr_ledger.specs.declared.cards.TaskStage.TheVariants as stages
 use Rattle.ccr_ledger.specs.Books.{Books, card_at, changed, in_stage, moved}
 use Rattle.ccr_ledger.specs.Posting.{with_post, counted}
 use Rattle.ccr_ledger.specs.Events.{admit_root, not_admitted, after_last, after_discard, after_stop, after_yield, after_end, after_event}
-use Rattle.ccr_ledger.specs.Kept.{KeepsTasks, card_of, queue_of, stage_of, is_admitted}
+use Rattle.ccr_ledger.specs.Kept.{KeepsTasks, card_of, stage_of, is_admitted}
 use Rattle.ccr_ledger.proofs.Admissions.{admitted-other, admitted-last, admitted-admit, made-other, made-post}
 use Rattle.ccr_ledger.proofs.CardTables.{names, names-changed, on, card-on, map-map, card-twice, tasks-last}
 use Rattle.ccr_ledger.proofs.Stages.{stage-post, stage-start, stage-end, stage-admit, stage-put}
@@ -228,4 +228,4 @@ tasks-put w h t (Some x) b legal allowed keeps =
     let placed = ArePlaced-legal w h legal in
     let was = new_drop w h (Put t (Some x)) x allowed (rw (same_task-self x) refl) in
     let its = placed.all_fired x was.1.put_so in
-    rw (card_told w h t facts.firing b keeps facts.is_firing, card_told w h x its.0 b keeps its.1) (puts_dropping w h t x b (record (after_last (root_of h x) (after_discard x its.0.spot (queue_of w its.0.spot) b)) { tasks = _; queued = _ }) its legal allowed keeps (ap (moved stages.Queued t) (tasks-last (root_of h x) (after_discard x its.0.spot (queue_of w its.0.spot) b))))
+    rw (card_told w h t facts.firing b keeps facts.is_firing, card_told w h x its.0 b keeps its.1) (puts_dropping w h t x b (record (after_last (root_of h x) (after_discard x its.0.spot (queue_of_spot w its.0.spot) b)) { tasks = _; queued = _ }) its legal allowed keeps (ap (moved stages.Queued t) (tasks-last (root_of h x) (after_discard x its.0.spot (queue_of_spot w its.0.spot) b))))

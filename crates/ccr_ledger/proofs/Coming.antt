@@ -27,7 +27,7 @@ use Rattle.ccr_model.proofs.TasksLeft.{filter_on, distinct-filter}
 use Rattle.ccr_model.proofs.TaskLists.{of_more, not_more}
 use Rattle.ccr_model.proofs.FiredTasks.{IsFired, fired_has}
 use Rattle.ccr_model.proofs.TaskPlaces.{ArePlaced-legal, StartFacts-allowed, StartFacts-queued, PutFacts-allowed, new_drop}
-use Rattle.ccr_model.proofs.FiringFacts.{FiresSo-allowed, WaitingFacts, firings-other}
+use Rattle.ccr_model.proofs.AllowedFirings.{FiresSo-allowed, WaitingFacts, firings-other}
 use Rattle.ccr_model.proofs.Cutting.{CutFacts-legal, cut_by, waits_unput}
 use Rattle.ccr_ledger.specs.declared.cards.Card.{Card}
 use Rattle.ccr_ledger.specs.declared.cards.TaskStage.TheVariants as stages

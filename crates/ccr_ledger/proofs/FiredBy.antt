@@ -12,7 +12,7 @@ use Rattle.ccr_model.specs.Tasks.{is_branch_where, fired_by}
 use Rattle.ccr_model.specs.Legal.{IsLegal}
 use Rattle.ccr_model.proofs.Allowing.{OneName-legal}
 use Rattle.ccr_base.proofs.Booleans.{refuted, no_both}
-use Rattle.ccr_model.proofs.FiringFacts.{fired_by_has, fired_by_named}
+use Rattle.ccr_model.proofs.AllowedFirings.{fired_by_has, fired_by_named}
 
 -- a task that fired is one of those of a kind of branches where its spot is one of theirs
 pub fired_by-is : (w : Parts) (test : Placement → Bool) (h : List Event) (t : TaskId) (f : Firing) → IsLegal w h → firing_named h t ≡ Some f → has_task (fired_by w test h) t ≡ is_branch_where w test f.spot

@@ -15,7 +15,7 @@ use Rattle.ccr_model.proofs.Allowing.{OneName-legal}
 use Rattle.ccr_base.proofs.Booleans.{refuted, no_both, or_left, or_right}
 use Rattle.ccr_model.proofs.Cutting.{cut_by}
 use Rattle.ccr_model.proofs.FiredTasks.{AreFired, IsFired-append}
-use Rattle.ccr_model.proofs.FiringFacts.{FiresSo-allowed, firings-other}
+use Rattle.ccr_model.proofs.AllowedFirings.{FiresSo-allowed, firings-other}
 use Rattle.ccr_model.proofs.LegalParts.{along_legal}
 use Rattle.ccr_model.proofs.Pushes.{firings-push, cut-push}
 use Rattle.ccr_model.proofs.TasksLeft.{distinct-push}

@@ -20,7 +20,7 @@ use Rattle.ccr_model.specs.Tasks.{is_teardown, is_branch_where}
 use Rattle.ccr_model.specs.Live.{is_none_of}
 use Rattle.ccr_base.proofs.Booleans.{same_number}
 use Rattle.ccr_model.proofs.Pushes.{firings-push}
-use Rattle.ccr_model.proofs.FiringFacts.{firings-other}
+use Rattle.ccr_model.proofs.AllowedFirings.{firings-other}
 use Rattle.ccr_ledger.specs.declared.cards.Card.{Card}
 use Rattle.ccr_ledger.specs.Books.{Books, card_at, flag, raised}
 use Rattle.ccr_ledger.specs.Posting.{after_post, counted}

@@ -5,7 +5,7 @@ pub mod HeldLefts
 pub mod Tables
 pub mod Undone
 pub mod Lefts
-pub mod Rest
+pub mod GrowingRows
 pub mod Sizes
 pub mod Flags
 pub mod Running

@@ -14,7 +14,7 @@ use Rattle.ccr_model.proofs.Pushes.{ever_admitted-push}
 use Rattle.ccr_model.proofs.LegalParts.{along_legal}
 use Rattle.ccr_model.proofs.FiredTasks.{IsFired}
 use Rattle.ccr_model.proofs.TasksLeft.{distinct-push}
-use Rattle.ccr_model.proofs.FiringFacts.{WaitingFacts-waiting}
+use Rattle.ccr_model.proofs.AllowedFirings.{WaitingFacts-waiting}
 use Rattle.ccr_model.proofs.Cutting.{AdmitFacts-allowed}
 use Rattle.ccr_ledger.proofs.Admissions.{ever_admitted-other, new_lasts}
 

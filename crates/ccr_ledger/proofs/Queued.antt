@@ -19,9 +19,9 @@ use Rattle.ccr_model.proofs.TasksLeft.{filter_on}
 use Rattle.ccr_model.proofs.TaskLists.{has_oldest, not_more, none_gone}
 use Rattle.ccr_model.proofs.TaskSteps.{queued-start, queued-put, queued-fire}
 use Rattle.ccr_model.proofs.TaskPlaces.{ArePlaced-legal, PutFacts-allowed, QueuedFacts-queued, StartFacts-allowed, new_drop}
-use Rattle.ccr_model.proofs.DropFacts.{drop_allowed}
+use Rattle.ccr_model.proofs.AllowedDrops.{drop_allowed}
 use Rattle.ccr_model.proofs.FiredTasks.{fired_has, placement_fired}
-use Rattle.ccr_model.proofs.FiringFacts.{FiresSo-allowed, firings-other}
+use Rattle.ccr_model.proofs.AllowedFirings.{FiresSo-allowed, firings-other}
 use Rattle.ccr_model.proofs.Queued.{queued_once}
 use Rattle.ccr_ledger.specs.Rows.{row, with_row}
 use Rattle.ccr_ledger.specs.Books.{Books}

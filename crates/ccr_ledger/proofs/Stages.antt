@@ -18,7 +18,7 @@ use Rattle.ccr_model.proofs.Allowing.{OneName-legal}
 use Rattle.ccr_base.proofs.Booleans.{no_both}
 use Rattle.ccr_model.proofs.Cutting.{AdmitFacts-allowed, CutFacts-legal, waits_unput}
 use Rattle.ccr_model.proofs.Ending.{AreEnded-legal}
-use Rattle.ccr_model.proofs.FiringFacts.{WaitingFacts-waiting}
+use Rattle.ccr_model.proofs.AllowedFirings.{WaitingFacts-waiting}
 use Rattle.ccr_model.proofs.LegalParts.{legal_push}
 use Rattle.ccr_model.proofs.Pushes.{put-push, started-push, dropped-push, ended-push, ever_admitted-push, cut-push}
 use Rattle.ccr_model.proofs.SameNames.{same_task-is, same_task-sym}

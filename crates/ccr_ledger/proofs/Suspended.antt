@@ -35,7 +35,7 @@ use Rattle.ccr_ledger.specs.Books.{Books, card_at, suspended_at, with_suspended}
 use Rattle.ccr_ledger.specs.Firing.{resumed_card}
 use Rattle.ccr_ledger.specs.Events.{after_event, is_yield}
 use Rattle.ccr_ledger.specs.Kept.{HasSizes, KeepsTasks}
-use Rattle.ccr_ledger.proofs.Rest.{row-past}
+use Rattle.ccr_ledger.proofs.GrowingRows.{row-past}
 use Rattle.ccr_ledger.proofs.Tables.{length-with_row, row-with_row}
 use Rattle.ccr_ledger.proofs.TaskRows.{Rows, rows-post, rows-site, rows-yield, rows-end, rest-branch, rest-admit, rest-put, rest-start}
 use Rattle.ccr_ledger.proofs.TaskCards.{CardFacts, CardFacts-fired}

@@ -11,7 +11,7 @@ use Rattle.ccr_base.specs.Choice.{holds, fitting}
 use Rattle.ccr_base.specs.Names.{same_message}
 use Rattle.ccr_ledger.specs.Lanes.{present}
 use Rattle.ccr_ledger.proofs.Lanes.{IsFirst}
-use Rattle.ccr_ledger.proofs.Rest.{take-none}
+use Rattle.ccr_ledger.proofs.GrowingRows.{take-none}
 use Rattle.ccr_ledger.specs.Taken.{without_first, without_some, shared, same_front}
 use Rattle.ccr_model.proofs.MessageNames.{any_fits}
 

@@ -28,7 +28,7 @@ use Rattle.ccr_model.proofs.Alone.{ever_admitted_fired}
 use Rattle.ccr_base.proofs.Booleans.{refuted, no_both, or_left, or_right, same_number, eq-self}
 use Rattle.ccr_model.proofs.Cutting.{fired_by-append}
 use Rattle.ccr_model.proofs.FiredTasks.{IsFired, fired_has, placement_fired}
-use Rattle.ccr_model.proofs.FiringFacts.{FiresSo-allowed, WaitingFacts-waiting}
+use Rattle.ccr_model.proofs.AllowedFirings.{FiresSo-allowed, WaitingFacts-waiting}
 use Rattle.ccr_base.proofs.Options.{some_of}
 use Rattle.ccr_model.proofs.PostNames.{refused_not}
 use Rattle.ccr_model.proofs.Pushes.{ever_admitted-push, cut-push}

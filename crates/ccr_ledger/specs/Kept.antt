@@ -6,7 +6,7 @@ use Rattle.ccr_base.specs.declared.names.Spot.{Spot}
 use Rattle.ccr_base.specs.declared.names.Spot.TheVariants.{Branch, Site}
 use Rattle.ccr_base.specs.Names.{has_task}
 use Rattle.ccr_wiring.specs.declared.parts.Parts.{Parts}
-use Rattle.ccr_wiring.specs.Wirings.{Placement, placement, placements, branch_of}
+use Rattle.ccr_wiring.specs.Wirings.{Placement, placement, placements, branch_of, queue_of_spot, domain_of_spot}
 use Rattle.ccr_model.specs.declared.history.Event.{Event}
 use Rattle.ccr_model.specs.Posts.{held, posts_of_poster, posts_of_task, posts_of_tasks}
 use Rattle.ccr_model.specs.Firings.{Firing, firings, firing_named, fired, fired_at, cut, ever_admitted, put, dropped, started, ended}
@@ -35,14 +35,6 @@ stage_of wiring history task spot =
 abbrev pub is_admitted : List Event → TaskId → Bool
 is_admitted history task = has_task (ever_admitted history) task && not (is_over history task)
 
--- of the spot's branch the queue, the domain, and whether it is a concurrent one
-abbrev pub queue_of : Parts → Spot → ℕ
-queue_of wiring spot = option_map_or (λ (s : Placement). s.branch.queue) (placement wiring (branch_of spot)) 0
-
--- the number of the domain of the spot's branch
-abbrev pub domain_of : Parts → Spot → ℕ
-domain_of wiring spot = option_map_or (λ (s : Placement). s.domain) (placement wiring (branch_of spot)) 0
-
 -- whether tasks of the spot's branch run beside others
 abbrev pub is_concurrent_at : Parts → Spot → Bool
 is_concurrent_at wiring spot = option_map_or (λ (s : Placement). is_concurrent s.branch.group) (placement wiring (branch_of spot)) false
@@ -51,8 +43,8 @@ is_concurrent_at wiring spot = option_map_or (λ (s : Placement). is_concurrent 
 abbrev pub card_of : Parts → List Event → TaskId → Firing → Card
 card_of wiring history task f = record {
   spot = f.spot;
-  queue = queue_of wiring f.spot;
-  domain = domain_of wiring f.spot;
+  queue = queue_of_spot wiring f.spot;
+  domain = domain_of_spot wiring f.spot;
   concurrent = is_concurrent_at wiring f.spot;
   root = root_of history task;
   number = length (firings (before task history));

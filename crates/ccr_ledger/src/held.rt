@@ -8,7 +8,7 @@ ghost use Rattle.ccr_ledger.specs.Lanes.{AreLanes, HasFront, HasLane, IsLane, en
 ghost use Rattle.ccr_ledger.specs.Taken.{IsLeftOf, same_front, shared, without_first, without_some};
 
 use crate::item::Item;
-use crate::lane::Lane;
+use crate::lane::IndexLane;
 use ccr_base::{Msg, MsgId, OutOfMemory, Pred, Value};
 use std::alloc::Global;
 use std::marker::Model;
@@ -18,7 +18,7 @@ use std::marker::Model;
 pub struct HeldMessages {
     alloc: Global,
     items: Vec<Item>,
-    lanes: Vec<Lane>,
+    lanes: Vec<IndexLane>,
     /// How many messages are there.
     left: usize,
 }
@@ -37,7 +37,7 @@ impl Model for HeldMessages {
 }
 
 /// Enters the index into each lane whose predicate the value satisfies.
-fn enter_all(lanes: &mut Vec<Lane>, index: usize, value: Value) -> Result<(), OutOfMemory>
+fn enter_all(lanes: &mut Vec<IndexLane>, index: usize, value: Value) -> Result<(), OutOfMemory>
     ensures { OnOk result (lanes.new.items ≡ map (entered index value) lanes.old.items) }
 {
     for number in 0..lanes.len() {
@@ -48,7 +48,7 @@ fn enter_all(lanes: &mut Vec<Lane>, index: usize, value: Value) -> Result<(), Ou
 }
 
 /// A message of this value was taken: it no longer counts in the lanes whose predicates it satisfies.
-fn lose_all(lanes: &mut Vec<Lane>, value: Value)
+fn lose_all(lanes: &mut Vec<IndexLane>, value: Value)
     ensures { lanes.new.items ≡ map (lost value) lanes.old.items }
 {
     for number in 0..lanes.len() {
@@ -68,7 +68,7 @@ fn is_here(items: &[Item], index: usize) -> bool
 }
 
 /// Indices of messages that are gone leave the lane, until so many at its front, or all, are of messages that are there.
-fn tidy(items: &[Item], lane: &mut Lane, most: usize)
+fn tidy(items: &[Item], lane: &mut IndexLane, most: usize)
     requires { IsLane items.now lane.old }
     ensures lane { IsLane items.now lane.new }
     ensures pred { lane.new.pred ≡ lane.old.pred }
@@ -88,7 +88,7 @@ fn tidy(items: &[Item], lane: &mut Lane, most: usize)
 }
 
 /// Enters the index, where a message is there that satisfies the lane's predicate.
-fn enter_item(lane: &mut Lane, index: usize, item: &Item) -> Result<(), OutOfMemory>
+fn enter_item(lane: &mut IndexLane, index: usize, item: &Item) -> Result<(), OutOfMemory>
     ensures { OnOk result (lane.new ≡ entered_item index item.now lane.old) }
 {
     match item.value() {
@@ -98,11 +98,11 @@ fn enter_item(lane: &mut Lane, index: usize, item: &Item) -> Result<(), OutOfMem
 }
 
 /// A lane of the predicate with the indices of all messages that satisfy it.
-fn lane_of(alloc: Global, items: &[Item], pred: Pred) -> Result<Lane, OutOfMemory>
+fn lane_of(alloc: Global, items: &[Item], pred: Pred) -> Result<IndexLane, OutOfMemory>
     ensures lane { IfOk result (IsLane items.now) }
     ensures pred { IfOk result (λ lane. lane.pred ≡ pred) }
 {
-    let mut lane = Lane::new(alloc, pred);
+    let mut lane = IndexLane::new(alloc, pred);
     for index in 0..items.len() {
         enter_item(&mut lane, index, &items[index])?;
     }
@@ -113,7 +113,7 @@ fn lane_of(alloc: Global, items: &[Item], pred: Pred) -> Result<Lane, OutOfMemor
 fn lane_for(
     alloc: Global,
     items: &[Item],
-    lanes: &mut Vec<Lane>,
+    lanes: &mut Vec<IndexLane>,
     pred: Pred,
 ) -> Result<usize, OutOfMemory>
     requires { AreLanes items.now lanes.old.items }
@@ -135,7 +135,7 @@ fn lane_for(
 fn tidy_lane(
     alloc: Global,
     items: &[Item],
-    lanes: &mut Vec<Lane>,
+    lanes: &mut Vec<IndexLane>,
     pred: Pred,
     most: usize,
 ) -> Result<usize, OutOfMemory>
@@ -151,7 +151,7 @@ fn tidy_lane(
 /// The names of the messages of the lane's first indices, at most so many, come behind those that are there.
 fn add_first_names(
     items: &[Item],
-    lane: &Lane,
+    lane: &IndexLane,
     most: usize,
     names: &mut Vec<MsgId>,
 ) -> Result<(), OutOfMemory>
@@ -197,7 +197,7 @@ fn count_shared(oldest: &[MsgId], names: &[MsgId]) -> usize
 fn first_fitting(
     alloc: Global,
     items: &[Item],
-    lanes: &mut Vec<Lane>,
+    lanes: &mut Vec<IndexLane>,
     pred: Pred,
 ) -> Result<Option<usize>, OutOfMemory>
     requires { AreLanes items.now lanes.old.items }

@@ -12,7 +12,7 @@ use std::marker::Model;
 
 /// How it is kept.
 #[derive(Drop)]
-enum Form {
+enum CompactPlay {
     /// It posts nothing.
     Idle,
     /// It posts this number alone to the port.
@@ -23,7 +23,7 @@ enum Form {
 /// A play; contracts see it as such.
 #[derive(Drop)]
 pub struct KeptPlay {
-    form: Form,
+    compact: CompactPlay,
 }
 
 impl Model for KeptPlay {
@@ -32,7 +32,7 @@ impl Model for KeptPlay {
 
     ghost Value = { Play };
 
-    ghost view = { λ kept. play_kept kept.form };
+    ghost view = { λ kept. play_kept kept.compact };
 }
 
 /// A post of a play, as it will be sent.
@@ -54,15 +54,15 @@ fn number_of(sent: &Sent) -> Option<u64>
 }
 
 /// How a play is kept that posts at most one number, and neither fails nor yields nor has causes.
-fn short(play: &Play) -> Option<Form>
-    ensures { IfSome result (λ form. play_kept form ≡ play.now) }
+fn short(play: &Play) -> Option<CompactPlay>
+    ensures { IfSome result (λ compact. play_kept compact ≡ play.now) }
 {
     if play.end != PlayEnd::Done || !play.causes.is_empty() {
         return None;
     }
     match play.posts.as_slice() {
-        [] => Some(Form::Idle),
-        [sent] => Some(Form::One {
+        [] => Some(CompactPlay::Idle),
+        [sent] => Some(CompactPlay::One {
             number: number_of(sent)?,
             port: sent.port,
         }),
@@ -89,21 +89,21 @@ impl KeptPlay {
     pub(crate) fn of(alloc: Global, play: Play) -> Result<Self, OutOfMemory>
         ensures { IfOk result (λ kept. kept ≡ play) }
     {
-        let form = match short(&play) {
-            Some(form) => form,
-            None => Form::Full(Box::new(alloc, fitted(play))?),
+        let compact = match short(&play) {
+            Some(compact) => compact,
+            None => CompactPlay::Full(Box::new(alloc, fitted(play))?),
         };
-        Ok(KeptPlay { form })
+        Ok(KeptPlay { compact })
     }
 
     /// How many posts it has.
     pub fn len(&self) -> usize
         ensures { result ≡ length self.now.posts }
     {
-        match &self.form {
-            Form::Idle => 0,
-            Form::One { .. } => 1,
-            Form::Full(play) => play.posts.len(),
+        match &self.compact {
+            CompactPlay::Idle => 0,
+            CompactPlay::One { .. } => 1,
+            CompactPlay::Full(play) => play.posts.len(),
         }
     }
 
@@ -111,9 +111,9 @@ impl KeptPlay {
     pub fn post(&self, index: usize) -> Option<PostOf<'_>>
         ensures { option_map sent_of result ≡ slice_get self.now.posts index }
     {
-        match &self.form {
-            Form::Idle => None,
-            Form::One { number, port } => {
+        match &self.compact {
+            CompactPlay::Idle => None,
+            CompactPlay::One { number, port } => {
                 if index != 0 {
                     return None;
                 }
@@ -123,7 +123,7 @@ impl KeptPlay {
                     causes: &[],
                 })
             }
-            Form::Full(play) => {
+            CompactPlay::Full(play) => {
                 let sent = play.posts.as_slice().get(index)?;
                 Some(PostOf {
                     port: sent.port,
@@ -138,8 +138,8 @@ impl KeptPlay {
     pub fn end(&self) -> PlayEnd
         ensures { result ≡ self.now.end }
     {
-        match &self.form {
-            Form::Full(play) => play.end,
+        match &self.compact {
+            CompactPlay::Full(play) => play.end,
             _ => PlayEnd::Done,
         }
     }
@@ -148,8 +148,8 @@ impl KeptPlay {
     pub(crate) fn causes(&self, alloc: Global) -> Result<List<CauseNo>, OutOfMemory>
         ensures { IfOk result (λ causes. causes ≡ self.now.causes) }
     {
-        match &self.form {
-            Form::Full(play) => play.causes.copy(alloc),
+        match &self.compact {
+            CompactPlay::Full(play) => play.causes.copy(alloc),
             _ => Ok(List::new(alloc)),
         }
     }

@@ -8,7 +8,7 @@ use std::marker::Model;
 
 /// How they are kept.
 #[derive(Drop)]
-enum Form {
+enum CompactValues {
     /// One value of this number alone.
     One(u64),
     More(Box<List<Value>>),
@@ -17,7 +17,7 @@ enum Form {
 /// Values; contracts see them as a list.
 #[derive(Drop)]
 pub struct KeptValues {
-    form: Form,
+    compact: CompactValues,
 }
 
 impl Model for KeptValues {
@@ -26,7 +26,7 @@ impl Model for KeptValues {
 
     ghost Value = { List (List ℕ) };
 
-    ghost view = { λ kept. values_kept kept.form };
+    ghost view = { λ kept. values_kept kept.compact };
 }
 
 /// The number of one value that has no other.
@@ -47,24 +47,24 @@ impl KeptValues {
     pub(crate) fn of(alloc: Global, values: List<Value>) -> Result<Self, OutOfMemory>
         ensures { IfOk result (λ kept. kept ≡ values) }
     {
-        let form = match one_number(values.as_slice()) {
-            Some(number) => Form::One(number),
-            None => Form::More(Box::new(alloc, values)?),
+        let compact = match one_number(values.as_slice()) {
+            Some(number) => CompactValues::One(number),
+            None => CompactValues::More(Box::new(alloc, values)?),
         };
-        Ok(KeptValues { form })
+        Ok(KeptValues { compact })
     }
 
     /// The values as a list of their own.
     pub(crate) fn to_list(&self, alloc: Global) -> Result<List<Value>, OutOfMemory>
         ensures { IfOk result (λ values. values ≡ self.now) }
     {
-        match &self.form {
-            Form::One(number) => {
+        match &self.compact {
+            CompactValues::One(number) => {
                 let mut values = List::new(alloc);
                 values.add(Value::one(*number))?;
                 Ok(values)
             }
-            Form::More(values) => values.copy(alloc),
+            CompactValues::More(values) => values.copy(alloc),
         }
     }
 }

@@ -12,14 +12,14 @@ use std::marker::Model;
 
 /// Indices of messages that satisfy a predicate, rising. An index whose message was taken may still stand here.
 #[derive(Drop)]
-pub(crate) struct Lane {
+pub(crate) struct IndexLane {
     pred: Pred,
     indices: VecDeque<usize>,
     /// How many messages that satisfy the predicate are there.
     count: usize,
 }
 
-impl Model for Lane {
+impl Model for IndexLane {
     ghost use Rattle.ccr_ledger.specs.Lanes.{Indices};
 
     ghost Value = { Indices };
@@ -27,11 +27,11 @@ impl Model for Lane {
     ghost view = { λ lane. record { pred = lane.pred; indices = lane.indices.items; count = lane.count } };
 }
 
-impl Lane {
-    pub fn new(alloc: Global, pred: Pred) -> Lane
+impl IndexLane {
+    pub fn new(alloc: Global, pred: Pred) -> IndexLane
         ensures { result ≡ record { pred = pred; indices = []; count = 0 } }
     {
-        Lane {
+        IndexLane {
             pred,
             indices: VecDeque::new(alloc),
             count: 0,

@@ -64,7 +64,22 @@ impl Model for Ledger {
 
     ghost Value = { Books };
 
-    ghost view = { λ l. record { ports = l.ports.items; tasks = l.tasks.entries; queued = l.queued; waiting = l.waiting; suspended = l.suspended; running = l.running.items; script_posts = l.script_posts.items; task_posts = l.task_posts; spent = l.spent.items; chosen = l.chosen.items; torn = l.torn.items; admitted = l.admitted.items; alone = l.alone.items; coming = l.coming.items } };
+    ghost view = { λ l. record {
+      ports = l.ports.items;
+      tasks = l.tasks.entries;
+      queued = l.queued;
+      waiting = l.waiting;
+      suspended = l.suspended;
+      running = l.running.items;
+      script_posts = l.script_posts.items;
+      task_posts = l.task_posts;
+      spent = l.spent.items;
+      chosen = l.chosen.items;
+      torn = l.torn.items;
+      admitted = l.admitted.items;
+      alone = l.alone.items;
+      coming = l.coming.items;
+    } };
 }
 
 /// One less on the way to the queue, where a branch fired the task.

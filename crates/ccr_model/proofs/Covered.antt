@@ -19,7 +19,8 @@ use Rattle.ccr_model.specs.TaskData.{placement_of}
 use Rattle.ccr_model.specs.Tasks.{queued, is_for_queue, running, has_post_left, unfinished, count_unfinished}
 use Rattle.ccr_model.specs.Rules.{is_first, is_oldest_queued, may_end, may_shed, is_shed}
 use Rattle.ccr_model.specs.Consequences.{are_distinct_tasks}
-use Rattle.ccr_model.specs.Legal.{IsAllowed, IsLegal, has_shed, is_shed_end}
+use Rattle.ccr_model.specs.Legal.{IsAllowed, IsLegal, has_shed}
+use Rattle.ccr_model.specs.Counts.{is_shed as is_shed_end}
 use Rattle.ccr_model.proofs.PostNames.{along, refused_not}
 use Rattle.ccr_model.proofs.Quiet.{first_is}
 use Rattle.ccr_model.proofs.TaskSteps.{running-post, running-fire, running-admit, running-put, running-end}

@@ -36,7 +36,7 @@ use Rattle.ccr_model.proofs.FiredTasks.{IsFired}
 use Rattle.ccr_model.specs.Interleaves.{is_placement_in, is_teardown_in, tears_down, fired_in}
 use Rattle.ccr_model.proofs.TaskLists.{first_rest, has_oldest, of_more, among_left, not_more, of_one, not_one, not_within}
 use Rattle.ccr_model.proofs.TaskPlaces.{ArePlaced, ArePlaced-legal, PutFacts, PutFacts-allowed}
-use Rattle.ccr_model.proofs.FiringFacts.{FiresSo-allowed, BranchFacts-where, WaitingFacts, WaitingFacts-waiting, fired_by_has, firing_named-new, waits_outside, live_at}
+use Rattle.ccr_model.proofs.AllowedFirings.{FiresSo-allowed, BranchFacts-where, WaitingFacts, WaitingFacts-waiting, fired_by_has, firing_named-new, waits_outside, live_at}
 
 -- an event later, a list longer
 pub fired_by-append : (w : Parts) (test : Placement → Bool) (h es : List Event) → fired_by w test (h ++ es) ≡ fired_by w test h ++ fired_by w test es

@@ -26,9 +26,9 @@ pub mod PlayPast
 pub mod FirstNames
 pub mod CanFire
 pub mod TaskLists
-pub mod DropFacts
+pub mod AllowedDrops
 pub mod TaskPlaces
-pub mod FiringFacts
+pub mod AllowedFirings
 pub mod FiringPlacements
 pub mod Ending
 pub mod Cutting

@@ -7,7 +7,7 @@ use Rattle.ccr_wiring.specs.declared.parts.Parts.{Parts}
 use Rattle.ccr_wiring.specs.Domains.{least_with, domain_of}
 use Rattle.ccr_wiring.specs.Repeats.{has_port}
 use Rattle.ccr_wiring.specs.Wirings.{Placement, placement, placements_from, in_domain}
-use Rattle.ccr_wiring.proofs.DomainLemmas.{placement_of_arbiter, least-low}
+use Rattle.ccr_wiring.proofs.DomainsOfOwnKind.{placement_of_arbiter, least-low}
 use Rattle.ccr_wiring.proofs.Positions.{placement-domain}
 use Rattle.ccr_base.proofs.Options.{some-below}
 

@@ -8,7 +8,8 @@ use Rattle.ccr_model.specs.declared.history.Event.{Event}
 use Rattle.ccr_model.specs.declared.history.Event.TheVariants.{Fire}
 use Rattle.ccr_model.specs.Posts.{posts, post_of}
 use Rattle.ccr_model.specs.Firings.{firings, firing_of, fired, cut, ever_admitted, admitted_by, put, put_by, dropped, dropped_by, started, started_by, ended, ended_by, yielded, yielded_by, last_segments, last_by}
-use Rattle.ccr_model.specs.Legal.{has_shed, is_shed_end}
+use Rattle.ccr_model.specs.Legal.{has_shed}
+use Rattle.ccr_model.specs.Counts.{is_shed as is_shed_end}
 
 pub posts-push : (h : List Event) (e : Event) → posts (h ++ e ∷ []) ≡ posts h ++ post_of e
 posts-push h e = grind (arith, common_steps)

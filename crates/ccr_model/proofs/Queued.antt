@@ -10,7 +10,7 @@ use Rattle.ccr_model.specs.Firings.{firings, firing_of, fired, put, put_by, drop
 use Rattle.ccr_model.specs.Legal.{IsLegal}
 use Rattle.ccr_model.specs.Tasks.{is_for_queue, queued}
 use Rattle.ccr_model.proofs.FiredTasks.{fired_has}
-use Rattle.ccr_model.proofs.FiringFacts.{firings-other}
+use Rattle.ccr_model.proofs.AllowedFirings.{firings-other}
 use Rattle.ccr_model.proofs.Pushes.{put-push, started-push, dropped-push}
 use Rattle.ccr_model.proofs.TaskLists.{not_within}
 use Rattle.ccr_model.proofs.TaskPlaces.{ArePlaced-legal}

@@ -31,7 +31,7 @@ use Rattle.ccr_model.specs.AtWork.{is_queued, is_suspended, is_at_work}
 use Rattle.ccr_model.specs.Interleaves.{is_placement_in, is_of_interleave}
 use Rattle.ccr_model.proofs.TaskLists.{to_filter, among_left, not_within, any_named}
 use Rattle.ccr_model.proofs.TaskPlaces.{ArePlaced-legal, QueuedFacts-queued, placement_by}
-use Rattle.ccr_model.proofs.FiringFacts.{FiresSo-allowed, not_new, firing_named-new, before-new, firings-other}
+use Rattle.ccr_model.proofs.AllowedFirings.{FiresSo-allowed, not_new, firing_named-new, before-new, firings-other}
 use Rattle.ccr_model.proofs.Cutting.{CutFacts-legal}
 use Rattle.ccr_model.proofs.Ending.{AreEnded-legal, RunningFacts-running}
 use Rattle.ccr_model.proofs.Suspending.{ResumeFacts, ResumeFacts-allowed, is_gone_on, gone_stays, resumes_suspended, resumes_gone, suspended_yielded}

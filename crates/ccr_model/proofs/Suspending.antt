@@ -30,7 +30,7 @@ use Rattle.ccr_model.proofs.FiredTasks.{IsFired, none_fired}
 use Rattle.ccr_model.specs.AtWork.{is_suspended}
 use Rattle.ccr_model.proofs.TaskLists.{filter_append, has_oldest, of_more, of_one, has_task-drop, distinct-drop, drop_behind, drop_one_more, drop_some}
 use Rattle.ccr_model.proofs.TaskPlaces.{ArePlaced-legal}
-use Rattle.ccr_model.proofs.FiringFacts.{FiresSo-allowed, firings-other}
+use Rattle.ccr_model.proofs.AllowedFirings.{FiresSo-allowed, firings-other}
 use Rattle.ccr_model.proofs.Ending.{AreEnded-legal, RunningFacts-allowed}
 
 pub same_site : (c l b k : ℕ) → (c == b) && (l == k) ≡ true → Site c l ≡ Site b k

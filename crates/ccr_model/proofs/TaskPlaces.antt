@@ -20,7 +20,7 @@ use Rattle.ccr_base.proofs.Options.{some_of, some_map, head_rest}
 use Rattle.ccr_model.proofs.TasksLeft.{of_filter, of_without, out_left, distinct-push}
 use Rattle.ccr_base.proofs.Booleans.{not_true, both, refuted, no_both}
 use Rattle.ccr_model.proofs.FiredTasks.{IsFired, AreFired, IsFired-append}
-use Rattle.ccr_model.proofs.DropFacts.{put_allowed, drop_allowed}
+use Rattle.ccr_model.proofs.AllowedDrops.{put_allowed, drop_allowed}
 use Rattle.ccr_model.proofs.TaskLists.{first_rest, has_oldest, of_more, among_left, not_more, of_one, out_right}
 
 -- the placement of a task that fired

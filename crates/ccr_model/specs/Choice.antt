@@ -1,5 +1,5 @@
 -- Which messages a firing may take.
-use Rattle.std.specs.Prelude.{ℕ, ◌+◌, ◌-◌, Bool, true, false, ◌==◌, ◌&&◌, ◌||◌, nat_lt, List, [], ◌∷◌, ◌++◌, length, take, map, Option, Some, None, option_and_then, if◌then◌else◌}
+use Rattle.std.specs.Prelude.{ℕ, ◌+◌, ◌-◌, Bool, true, false, ◌==◌, ◌&&◌, ◌||◌, nat_lt, List, [], ◌∷◌, ◌++◌, length, take, Option, Some, None, option_and_then, if◌then◌else◌}
 use Rattle.std.specs.Option.{option_map_or}
 use Rattle.ccr_base.specs.declared.names.MsgId.{MsgId}
 use Rattle.ccr_base.specs.declared.messages.Msg.{Msg}
@@ -12,12 +12,9 @@ use Rattle.ccr_wiring.specs.declared.parts.Parts.{Parts}
 use Rattle.ccr_model.specs.declared.history.Event.{Event}
 use Rattle.ccr_base.specs.Choice.{choice}
 use Rattle.ccr_base.specs.Names.{same_message, same_lists}
+pub use Rattle.ccr_base.specs.Names.{names_of}
 use Rattle.ccr_model.specs.Posts.{held}
 use Rattle.ccr_wiring.specs.Wirings.{Placement, placement, site_port}
-
--- the names of the messages
-abbrev pub names_of : List Msg → List MsgId
-names_of messages = map (λ (m : Msg). m.id) messages
 
 -- both, one behind the other; none where one is missing
 abbrev pub joined : Option (List Msg) → Option (List Msg) → Option (List Msg)

@@ -1,5 +1,5 @@
 -- What follows for each legal history, as tests of one history. A law says that each passes after each legal history.
-use Rattle.std.specs.Prelude.{ℕ, ◌+◌, Bool, true, false, not, ◌==◌, ◌&&◌, ◌||◌, nat_le, List, [], ◌∷◌, ◌++◌, length, filter}
+use Rattle.std.specs.Prelude.{ℕ, ◌+◌, Bool, true, not, ◌==◌, ◌&&◌, ◌||◌, nat_le, List, [], ◌∷◌, ◌++◌, length, filter}
 use Rattle.std.specs.List.{list_any, list_all}
 use Rattle.ccr_base.specs.declared.names.TaskId.{TaskId}
 use Rattle.ccr_base.specs.declared.names.MsgId.{MsgId}
@@ -8,8 +8,7 @@ use Rattle.ccr_wiring.specs.declared.parts.ArbiterPart.{ArbiterPart}
 use Rattle.ccr_wiring.specs.declared.parts.QueuePart.{QueuePart}
 use Rattle.ccr_wiring.specs.declared.parts.Kind.{Kind}
 use Rattle.ccr_wiring.specs.declared.parts.Kind.TheVariants as kinds
-use Rattle.ccr_base.specs.declared.policies.Group.{Group}
-use Rattle.ccr_base.specs.declared.policies.Group.TheVariants as groups
+use Rattle.ccr_wiring.specs.Groups.{is_once}
 use Rattle.ccr_model.specs.declared.history.Event.{Event}
 use Rattle.ccr_base.specs.Names.{same_task, has_task, has_message, same_lists, without}
 use Rattle.ccr_model.specs.Posts.{taken}
@@ -31,11 +30,6 @@ are_distinct_tasks (task ∷ tasks) = not (has_task tasks task) && are_distinct_
 -- no task stands in both lists
 abbrev pub have_none_common : List TaskId → List TaskId → Bool
 have_none_common tasks others = not (list_any (has_task others) tasks)
-
--- a once receiver's branch
-abbrev pub is_once : Group → Bool
-is_once groups.Once = true
-is_once _ = false
 
 -- fires at most once: a choice, a once receiver and the teardowns of a domain together
 abbrev pub has_one_firing : Parts → List Event → ℕ → Kind → Bool

@@ -1,12 +1,11 @@
 -- Legal, complete, quiet and covered histories.
-use Rattle.std.specs.Prelude.{◌≡◌, ℕ, ◌+◌, Bool, true, false, ◌==◌, ◌&&◌, ◌||◌, not, nat_le, List, [], ◌∷◌, ◌++◌, length, Option, Some, None}
+use Rattle.std.specs.Prelude.{◌≡◌, ℕ, ◌+◌, Bool, true, ◌==◌, ◌&&◌, ◌||◌, not, nat_le, List, [], ◌∷◌, ◌++◌, length, Option, Some, None}
 use Rattle.std.specs.List.{list_any}
 use Rattle.ccr_wiring.specs.declared.parts.Parts.{Parts}
 use Rattle.ccr_wiring.specs.declared.parts.PosterPart.{PosterPart}
 use Rattle.ccr_model.specs.declared.history.Event.{Event}
-use Rattle.ccr_model.specs.declared.history.Event.TheVariants.{End}
-use Rattle.ccr_model.specs.declared.history.EndHow.TheVariants.{Shed}
 use Rattle.ccr_model.specs.declared.rule.Rule.{Rule}
+use Rattle.ccr_model.specs.Counts.{is_shed}
 use Rattle.ccr_model.specs.Posts.{posts_of_poster, posts_of_tasks}
 use Rattle.ccr_model.specs.Tasks.{count_unfinished}
 use Rattle.ccr_model.specs.Rules.{number_of, refusal}
@@ -37,14 +36,9 @@ first_refusal wiring past index (event ∷ events) = elim (refusal wiring past e
 abbrev pub numbered : ℕ × Rule → ℕ × ℕ
 numbered refusal = (refusal.0, number_of refusal.1)
 
--- whether the event ends a task as shed
-abbrev pub is_shed_end : Event → Bool
-is_shed_end (End task Shed) = true
-is_shed_end _ = false
-
 -- whether some task was shed
 abbrev pub has_shed : List Event → Bool
-has_shed history = list_any is_shed_end history
+has_shed history = list_any is_shed history
 
 -- each of the posters, of which the first has this number, has made as many posts as its script has
 abbrev pub are_whole_from : List Event → ℕ → List PosterPart → Bool

@@ -45,6 +45,10 @@ waiting wiring history domain = without (fired_by wiring (λ s. is_interleave s.
 abbrev pub is_for_queue : Parts → List Event → ℕ → TaskId → Bool
 is_for_queue wiring history queue task = option_map_or (λ (s : Placement). s.branch.queue == queue) (placement_of wiring history task) false
 
+-- the tasks put into the queue, in the order of their puts
+abbrev pub put_into : Parts → List Event → ℕ → List TaskId
+put_into wiring history queue = filter (is_for_queue wiring history queue) (put history)
+
 -- the tasks put into the queue, neither started nor dropped
 abbrev pub queued : Parts → List Event → ℕ → List TaskId
 queued wiring history queue = filter (is_for_queue wiring history queue) (without (put history) (started history ++ dropped history))

@@ -4,7 +4,8 @@ ghost use Rattle.std.specs.Prelude.{◌≡◌, [], IfOk, flat_map, option_to_lis
 ghost use Rattle.std.specs.Option.{option_map_or};
 ghost use Rattle.ccr_base.specs.Names.{has_task, without};
 ghost use Rattle.ccr_model.specs.Firings.{fired, cut, ever_admitted, put, dropped, started, ended, yielded, last_segments, last_by, fired_at, spot_of, firing_named};
-ghost use Rattle.ccr_model.specs.Legal.{has_shed, is_shed_end};
+ghost use Rattle.ccr_model.specs.Legal.{has_shed};
+ghost use Rattle.ccr_model.specs.Counts.{is_shed as is_shed_end};
 ghost use Rattle.ccr_model.specs.Sites.{before, is_firing_of};
 ghost use Rattle.ccr_model.specs.Tasks.{started_as};
 

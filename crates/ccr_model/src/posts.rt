@@ -94,7 +94,7 @@ pub fn posts_of_poster(events: &[Event], poster: ActorNo) -> usize
 }
 
 /// How many posts the task has made.
-pub fn posts_of_task(events: &[Event], task: TaskId) -> usize
+pub(crate) fn posts_of_task(events: &[Event], task: TaskId) -> usize
     ensures count { result ≡ posts_of_task events.now task }
     ensures few { result ≤ length events.now }
 {

@@ -95,7 +95,7 @@ pub(crate) fn is_play_post(
 }
 
 /// Whether tasks may post once more.
-pub fn has_budget(wiring: &Wiring, events: &[Event]) -> bool
+pub(crate) fn has_budget(wiring: &Wiring, events: &[Event]) -> bool
     ensures { result ≡ has_budget wiring.now events.now }
 {
     posts_of_tasks(events) < wiring.parts().budget as usize

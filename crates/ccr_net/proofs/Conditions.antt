@@ -1,6 +1,6 @@
 -- That each ask of a run meets the condition of its place.
-pub mod Seats
-pub mod SlotPorts
-pub mod Commits
-pub mod Ready
-pub mod Asks
+pub mod BranchesHaveSeats
+pub mod SlotPortsDiffer
+pub mod CommitsMeetConditions
+pub mod RunsStayReady
+pub mod AsksMeetConditions

@@ -1,8 +1,8 @@
 -- That a run names only what the wiring has.
-pub mod Causes
-pub mod Tasks
-pub mod Places
-pub mod States
-pub mod Asks
-pub mod Runs
-pub mod Replies
+pub mod CausesAreKnown
+pub mod TasksAreKnown
+pub mod PlacesAreKnown
+pub mod StatesAreKnown
+pub mod AsksAreKnown
+pub mod RunsAreKnown
+pub mod RepliesAreKnown

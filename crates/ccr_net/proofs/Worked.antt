@@ -1,6 +1,6 @@
 -- Worked runs, computed step by step.
-pub mod Nets
+pub mod RunWords
 pub mod Rivals
 pub mod Taker
-pub mod Plain
+pub mod TakerIsLegal
 pub mod Throttle

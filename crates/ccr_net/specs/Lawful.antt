@@ -10,7 +10,7 @@ use Rattle.ccr_object.specs.declared.deed.Deed.{Deed}
 use Rattle.ccr_runs.specs.declared.acts.Act.{Act}
 use Rattle.ccr_runs.specs.Runs.{IsRunFrom, cast}
 use Rattle.ccr_runs.specs.declared.entries.Entry.{Entry}
-use Rattle.ccr_runs.specs.Played.{rules, scene, steps_in}
+use Rattle.ccr_runs.specs.Played.{protocol, scene, steps_in}
 use Rattle.ccr_runs.specs.EntryRuns.{Lacks, IsRun, IsRunAfter, replies_of}
 
 -- the law holds of each run, by its entries
@@ -35,7 +35,7 @@ OfNextAsks law =
 
 -- the acts are a run as the objects of the places play it
 abbrev pub IsPlayedRun : Parts → ℕ → Lacks → List (Act Deed) → Type 0
-IsPlayedRun wiring workers lacks acts = IsRunFrom (rules wiring lacks) (length wiring.posters + workers) (scene wiring) (cast (rules wiring lacks)) acts
+IsPlayedRun wiring workers lacks acts = IsRunFrom (protocol wiring lacks) (length wiring.posters + workers) (scene wiring) (cast (protocol wiring lacks)) acts
 
 -- the law holds of each such run
 abbrev pub OfPlayedRuns : (Parts → ℕ → Lacks → List (Act Deed) → Type 0) → Type 0

@@ -14,7 +14,7 @@ use Rattle.ccr_object.specs.Objects.{note_of, reply_of}
 use Rattle.ccr_runs.specs.Runs.{IsRunFrom, cast}
 use Rattle.ccr_runs.specs.declared.entries.Entry.{Entry}
 use Rattle.ccr_net.specs.Acted.{PlainState, act_after, scene_after}
-use Rattle.ccr_runs.specs.Played.{entries_of, entry_of, number_at, rules, scene}
+use Rattle.ccr_runs.specs.Played.{entries_of, entry_of, number_at, protocol, scene}
 use Rattle.ccr_runs.specs.EntryRuns.{Lacks, replies_of}
 
 -- the actors before all turns
@@ -56,7 +56,7 @@ pub record IsActing (wiring : Parts) (lacks : Lacks) (entries : List Entry) (k :
 -- the acts are a run, the entries are theirs, and each actor stands where these lead it
 pub record IsPlayed (workers : ℕ) (lacks : Lacks) (stage : PlainState) (actors : List Acting) (entries : List Entry) : Type 0 where
   pub valid : IsValid stage.wiring
-  pub run : IsRunFrom (rules stage.wiring lacks) (length stage.wiring.posters + workers) (scene stage.wiring) (cast (rules stage.wiring lacks)) stage.acts
+  pub run : IsRunFrom (protocol stage.wiring lacks) (length stage.wiring.posters + workers) (scene stage.wiring) (cast (protocol stage.wiring lacks)) stage.acts
   pub same : entries ≡ entries_of stage.wiring stage.acts
   pub count : length actors ≡ length stage.wiring.posters + workers
   pub acting : (k : ℕ) (a : Acting) → slice_get actors k ≡ Some a → IsActing stage.wiring lacks entries k a

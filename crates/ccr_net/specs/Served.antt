@@ -12,7 +12,7 @@ use Rattle.ccr_runs.specs.Runs.{IsRunFrom, cast}
 use Rattle.ccr_runs.specs.declared.entries.Entry.{Entry}
 use Rattle.ccr_net.specs.Acted.{PlainState}
 use Rattle.ccr_net.specs.Owed.{owed_to, AreFitting}
-use Rattle.ccr_runs.specs.Played.{entries_of, rules, scene, steps_in}
+use Rattle.ccr_runs.specs.Played.{entries_of, protocol, scene, steps_in}
 use Rattle.ccr_runs.specs.EntryRuns.{Lacks, replies_of}
 
 -- the wiring, the acts so far, and their entries
@@ -34,7 +34,7 @@ seats wiring = length wiring.posters + 16
 pub record IsServing (wiring : Parts) (acts : List (Act Deed)) : Type 0 where
   pub valid : IsValid wiring
   pub lacks : Lacks
-  pub run : IsRunFrom (rules wiring lacks) (seats wiring) (scene wiring) (cast (rules wiring lacks)) acts
+  pub run : IsRunFrom (protocol wiring lacks) (seats wiring) (scene wiring) (cast (protocol wiring lacks)) acts
   pub next : (actor : ℕ) → actor < seats wiring → AreNext wiring actor (lacks actor) [] (steps_in wiring acts actor)
   pub heard : (actor : ℕ) → nets.replies_of (steps_in wiring acts actor) ≡ replies_of wiring (entries_of wiring acts) actor
   pub fitting : (actor : ℕ) → AreFitting (steps_in wiring acts actor)

@@ -1,4 +1,3 @@
-pub mod Counts
 pub mod Numbering
 pub mod Few
 pub mod Cuts

@@ -1,18 +1,18 @@
 -- The places of a wiring, and what stands at each of them at the start.
-use Rattle.std.specs.Prelude.{ℕ, zero, suc, Bool, true, false, ◌==◌, List, [], ◌∷◌, ◌++◌, map, filter_map, length, slice_get, Option, Some, None, if◌then◌else◌}
+use Rattle.std.specs.Prelude.{ℕ, zero, suc, Bool, false, ◌==◌, List, [], ◌∷◌, ◌++◌, map, filter_map, length, slice_get, Option, Some, None, if◌then◌else◌}
 use Rattle.std.specs.Option.{option_map_or, option_and_then}
 use Rattle.ccr_base.specs.declared.names.Place.{Place}
 use Rattle.ccr_base.specs.declared.names.Place.TheVariants as places
 use Rattle.ccr_base.specs.declared.names.Spot.{Spot}
 use Rattle.ccr_base.specs.declared.names.Spot.TheVariants.{Branch, Site as SiteOf}
 use Rattle.ccr_base.specs.declared.policies.Group.{Group}
-use Rattle.ccr_base.specs.declared.policies.Group.TheVariants as groups
 use Rattle.ccr_wiring.specs.declared.parts.ArbiterPart.{ArbiterPart}
 use Rattle.ccr_wiring.specs.declared.parts.DomainPart.{DomainPart}
 use Rattle.ccr_wiring.specs.declared.parts.Kind.{Kind}
 use Rattle.ccr_wiring.specs.declared.parts.Kind.TheVariants as kinds
 use Rattle.ccr_wiring.specs.declared.parts.Parts.{Parts}
 use Rattle.ccr_wiring.specs.Domains.{domain_of}
+use Rattle.ccr_wiring.specs.Groups.{is_once}
 use Rattle.ccr_wiring.specs.Wirings.{Placement, placement, spots, policy_of}
 use Rattle.ccr_places.specs.Ports as port_words
 use Rattle.ccr_places.specs.Arbiters as arbiter_words
@@ -81,15 +81,6 @@ groups_of listed = map (λ (member : ℕ × Group). member.1) listed
 -- the first member's branch; 0 where there is none
 abbrev pub first_branch : List (ℕ × Group) → ℕ
 first_branch listed = option_map_or (λ (member : ℕ × Group). member.0) (slice_get listed 0) 0
-
--- whether the group fires once at most
-abbrev pub is_once : Group → Bool
-is_once groups.Once = true
-is_once groups.Always = false
-is_once groups.Choice = false
-is_once groups.Teardown = false
-is_once groups.Exclusive = false
-is_once groups.Concurrent = false
 
 -- whether the first of them fires but once
 abbrev pub fires_once : List (ℕ × Group) → Bool

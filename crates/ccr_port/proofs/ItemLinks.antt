@@ -7,7 +7,7 @@ use Rattle.slab.specs.Slab.{Slab, get, Updates}
 use Rattle.ccr_base.specs.declared.messages.Msg.{Msg}
 use Rattle.ccr_base.proofs.Booleans.{eq-self, same_number, differ}
 use Rattle.ccr_port.specs.declared.links.Link.{Link}
-use Rattle.ccr_port.specs.declared.items.Entry.{Entry}
+use Rattle.ccr_port.specs.declared.items.LinkedMessage.{LinkedMessage}
 use Rattle.ccr_port.specs.Chains.{behind_of, before_of, has_key, without_key, IsChain, same_point, mended}
 use Rattle.ccr_port.specs.Entries.{keys_of, message_under, without_entry, link_at, message_at, is_kept, are_kept, entries_at, linked_keys, AreLinked}
 use Rattle.ccr_port.proofs.Chains.{both, neither, has-rest, keys-are, behind-place, all-more, all-without, end-holds, key-holds, behind_key-holds, before_key-holds, length-without_key, gone-without, chain-gone}
@@ -15,7 +15,7 @@ use Rattle.ccr_port.proofs.Linking.{chain-appended, chain-unlinked}
 
 -- ---- the messages of the keys
 
-module _ (slab : Slab Entry) where
+module _ (slab : Slab LinkedMessage) where
   pub keys-entries : (ks : List ℕ) → are_kept slab ks ≡ true → keys_of (entries_at slab ks) ≡ ks
   keys-entries [] kept = refl
   keys-entries (k ∷ ks) kept = of_message (message_at slab k) (both _ _ kept).0 (keys-entries ks (both _ _ kept).1)
@@ -67,7 +67,7 @@ module _ (slab : Slab Entry) where
           of_test true = refl
           of_test false = ap (λ p. option_map_or (λ x. (k, x) ∷ entries_at slab (without_key key ks)) p (entries_at slab (without_key key ks))) at ∙ ap (λ l. (k, m) ∷ l) rest
 
-  module _ (slab2 : Slab Entry) (gone : ℕ) (same : (k : ℕ) → (k == gone) ≡ false → message_at slab2 k ≡ message_at slab k) where
+  module _ (slab2 : Slab LinkedMessage) (gone : ℕ) (same : (k : ℕ) → (k == gone) ≡ false → message_at slab2 k ≡ message_at slab k) where
     -- what is kept under one key doesn't matter to the others
     pub entries-off : (ks : List ℕ) → has_key gone ks ≡ false → entries_at slab2 ks ≡ entries_at slab ks
     entries-off [] out = refl
@@ -84,16 +84,16 @@ module _ (slab : Slab Entry) where
         ap (λ o. is_some o && are_kept slab2 ks) (same k parts.0) ∙ ap (λ b. b && are_kept slab2 ks) kepts.0 ∙ kept-off ks parts.1 kepts.1
 
 -- these keys are linked, and the fields lead to them
-pub record LeadsTo (slab : Slab Entry) (first last : Option ℕ) (count : ℕ) (ks : List ℕ) : Type 0 where
+pub record LeadsTo (slab : Slab LinkedMessage) (first last : Option ℕ) (count : ℕ) (ks : List ℕ) : Type 0 where
   pub linked : AreLinked slab first last count
   pub keys : linked_keys slab first count ≡ ks
 
-leads_to : (slab : Slab Entry) (first last : Option ℕ) (count : ℕ) (ks : List ℕ) → IsChain (behind_of (link_at slab) first) (before_of (link_at slab) last) ks → length ks ≡ count → are_kept slab ks ≡ true → LeadsTo slab first last count ks
+leads_to : (slab : Slab LinkedMessage) (first last : Option ℕ) (count : ℕ) (ks : List ℕ) → IsChain (behind_of (link_at slab) first) (before_of (link_at slab) last) ks → length ks ≡ count → are_kept slab ks ≡ true → LeadsTo slab first last count ks
 leads_to slab first last count ks is long kept =
     let same : linked_keys slab first count ≡ ks = keys-are (behind_of (link_at slab) first) count None ks is.path long in
     record { linked = record { chain = rw same is; long = rw same long; kept = rw same kept }; keys = same }
 
-module _ (slab : Slab Entry) (first last : Option ℕ) (count : ℕ) (is : AreLinked slab first last count) where
+module _ (slab : Slab LinkedMessage) (first last : Option ℕ) (count : ℕ) (is : AreLinked slab first last count) where
   abbrev ks : List ℕ
   ks = linked_keys slab first count
 
@@ -106,7 +106,7 @@ module _ (slab : Slab Entry) (first last : Option ℕ) (count : ℕ) (is : AreLi
   pub has-value : (key : ℕ) → has_key key ks ≡ true → is_some (get slab key) ≡ true
   has-value key has = of_entry (get slab key) (key-kept key has)
     where
-      of_entry : (o : Option Entry) → is_some (option_map (λ (entry : Entry). entry.message) o) ≡ true → is_some o ≡ true
+      of_entry : (o : Option LinkedMessage) → is_some (option_map (λ (entry : LinkedMessage). entry.message) o) ≡ true → is_some o ≡ true
       of_entry None there = absurd (cc)
       of_entry (Some entry) there = refl
 
@@ -118,7 +118,7 @@ module _ (slab : Slab Entry) (first last : Option ℕ) (count : ℕ) (is : AreLi
       of_test true has = let there = has-value key has in let not_there : is_some (get slab key) ≡ false = ap is_some none in cc
       of_test false has = refl
 
-  module _ (slab1 : Slab Entry) (key : ℕ) (message : Msg) (none : get slab key ≡ None)
+  module _ (slab1 : Slab LinkedMessage) (key : ℕ) (message : Msg) (none : get slab key ≡ None)
       (inserted : Updates slab slab1 key (Some (record { message = message; link = record { before = last; behind = None } }))) where
     written_one : (k : ℕ) → get slab1 k ≡ (if k == key then Some (record { message = message; link = record { before = last; behind = None } }) else get slab k)
     written_one k = of_test (k == key) refl
@@ -128,14 +128,14 @@ module _ (slab : Slab Entry) (first last : Option ℕ) (count : ℕ) (is : AreLi
         of_test false other = inserted.others k (differ k key other)
 
     others : (k : ℕ) → (k == key) ≡ false → message_at slab1 k ≡ message_at slab k
-    others k other = ap (λ o. option_map (λ (entry : Entry). entry.message) o) (inserted.others k (differ k key other))
+    others k other = ap (λ o. option_map (λ (entry : LinkedMessage). entry.message) o) (inserted.others k (differ k key other))
 
     pub last-kept : is_kept slab1 last ≡ true
     last-kept =
         end-holds (λ k. is_some (message_at slab1 k)) (behind_of (link_at slab) first) (before_of (link_at slab) last) ks is.chain
         (kept-off slab slab1 key others ks (absent key none) is.kept)
 
-    module _ (slab2 : Slab Entry) (first2 : Option ℕ)
+    module _ (slab2 : Slab LinkedMessage) (first2 : Option ℕ)
         (path : (q : Option ℕ) → behind_of (link_at slab2) first2 q ≡ mended (behind_of (link_at slab1) first) last (Some key) q)
         (back : (l q : Option ℕ) → before_of (link_at slab2) l q ≡ before_of (link_at slab1) l q)
         (messages : (k : ℕ) → message_at slab2 k ≡ message_at slab1 k) where
@@ -143,18 +143,18 @@ module _ (slab : Slab Entry) (first last : Option ℕ) (count : ℕ) (is : AreLi
       others2 k other = messages k ∙ others k other
 
       here : message_at slab2 key ≡ Some message
-      here = messages key ∙ ap (λ o. option_map (λ (entry : Entry). entry.message) o) inserted.changed
+      here = messages key ∙ ap (λ o. option_map (λ (entry : LinkedMessage). entry.message) o) inserted.changed
 
       pub items-appended : LeadsTo slab2 first2 (Some key) (count + 1) (ks ++ key ∷ [])
       items-appended =
           leads_to slab2 first2 (Some key) (count + 1) (ks ++ key ∷ [])
           (chain-appended (link_at slab) (link_at slab1) (link_at slab2) first first2 last key
-          (λ k. ap (λ o. option_map (λ (entry : Entry). entry.link) o) (written_one k) ∙ mapped (k == key) (get slab k))
+          (λ k. ap (λ o. option_map (λ (entry : LinkedMessage). entry.link) o) (written_one k) ∙ mapped (k == key) (get slab k))
           path back ks is.chain (absent key none))
           (length-append ks (key ∷ []) ∙ omega (arith, is.long))
           (all-more (λ k. is_some (message_at slab2 k)) key ks (ap is_some here) (kept-off slab slab2 key others2 ks (absent key none) is.kept))
         where
-          mapped : (b : Bool) (o : Option Entry) → option_map (λ (entry : Entry). entry.link) (if b then Some (record { message = message; link = record { before = last; behind = None } }) else o) ≡ (if b then Some (record { before = last; behind = None }) else option_map (λ (entry : Entry). entry.link) o)
+          mapped : (b : Bool) (o : Option LinkedMessage) → option_map (λ (entry : LinkedMessage). entry.link) (if b then Some (record { message = message; link = record { before = last; behind = None } }) else o) ≡ (if b then Some (record { before = last; behind = None }) else option_map (λ (entry : LinkedMessage). entry.link) o)
           mapped true o = refl
           mapped false o = refl
 
@@ -163,9 +163,9 @@ module _ (slab : Slab Entry) (first last : Option ℕ) (count : ℕ) (is : AreLi
           ap (entries_at slab2) items-appended.keys ∙ entries-append slab2 ks key message here
           ∙ ap (λ l. l ++ (key, message) ∷ []) (entries-off slab slab2 key others2 ks (absent key none))
 
-  module _ (key : ℕ) (has : has_key key ks ≡ true) (entry : Entry) (read : get slab key ≡ Some entry) where
+  module _ (key : ℕ) (has : has_key key ks ≡ true) (entry : LinkedMessage) (read : get slab key ≡ Some entry) where
     at : link_at slab key ≡ Some entry.link
-    at = ap (λ o. option_map (λ (e : Entry). e.link) o) read
+    at = ap (λ o. option_map (λ (e : LinkedMessage). e.link) o) read
 
     pub item-behind : (place : ℕ) → slice_get (keys_of (entries_at slab ks)) place ≡ Some key → entry.link.behind ≡ slice_get (keys_of (entries_at slab ks)) (place + 1)
     item-behind place stands =
@@ -179,7 +179,7 @@ module _ (slab : Slab Entry) (first last : Option ℕ) (count : ℕ) (is : AreLi
         ap (λ l. is_kept slab (option_and_then (λ (x : Link). x.before) l)) (sym at)
         ∙ before_key-holds (λ k. is_some (message_at slab k)) (behind_of (link_at slab) first) (before_of (link_at slab) last) ks is.chain is.kept key has
 
-    module _ (slab1 : Slab Entry) (first1 : Option ℕ)
+    module _ (slab1 : Slab LinkedMessage) (first1 : Option ℕ)
         (path1 : (q : Option ℕ) → behind_of (link_at slab1) first1 q ≡ mended (behind_of (link_at slab) first) entry.link.before entry.link.behind q)
         (back1 : (l q : Option ℕ) → before_of (link_at slab1) l q ≡ before_of (link_at slab) l q)
         (messages1 : (k : ℕ) → message_at slab1 k ≡ message_at slab k) where
@@ -193,16 +193,16 @@ module _ (slab : Slab Entry) (first last : Option ℕ) (count : ℕ) (is : AreLi
           same_kept None = refl
           same_kept (Some k) = ap is_some (messages1 k)
 
-      module _ (slab2 slab3 : Slab Entry) (last2 : Option ℕ)
+      module _ (slab2 slab3 : Slab LinkedMessage) (last2 : Option ℕ)
           (back2 : (q : Option ℕ) → before_of (link_at slab2) last2 q ≡ mended (before_of (link_at slab1) last) entry.link.behind entry.link.before q)
           (path2 : (f q : Option ℕ) → behind_of (link_at slab2) f q ≡ behind_of (link_at slab1) f q)
           (messages2 : (k : ℕ) → message_at slab2 k ≡ message_at slab1 k)
           (removed : Updates slab2 slab3 key None) where
         left_links : (k : ℕ) → (k == key) ≡ false → link_at slab3 k ≡ link_at slab2 k
-        left_links k other = ap (λ o. option_map (λ (e : Entry). e.link) o) (removed.others k (differ k key other))
+        left_links k other = ap (λ o. option_map (λ (e : LinkedMessage). e.link) o) (removed.others k (differ k key other))
 
         left_messages : (k : ℕ) → (k == key) ≡ false → message_at slab3 k ≡ message_at slab k
-        left_messages k other = ap (λ o. option_map (λ (e : Entry). e.message) o) (removed.others k (differ k key other)) ∙ messages2 k ∙ messages1 k
+        left_messages k other = ap (λ o. option_map (λ (e : LinkedMessage). e.message) o) (removed.others k (differ k key other)) ∙ messages2 k ∙ messages1 k
 
         path3 : (q : Option ℕ) → same_point q (Some key) ≡ false → behind_of (link_at slab3) first1 q ≡ behind_of (link_at slab2) first1 q
         path3 None off = refl
@@ -231,6 +231,6 @@ module _ (slab : Slab Entry) (first last : Option ℕ) (count : ℕ) (is : AreLi
             ∙ entries-off slab slab3 key left_messages (without_key key ks) out
             ∙ entries-without slab key ks is.kept
 
-        pub message-taken : (taken : Entry) → get slab2 key ≡ Some taken → message_under key (entries_at slab ks) ≡ Some taken.message
+        pub message-taken : (taken : LinkedMessage) → get slab2 key ≡ Some taken → message_under key (entries_at slab ks) ≡ Some taken.message
         message-taken taken found =
-            under-is slab key ks is.kept has ∙ sym (messages1 key) ∙ sym (messages2 key) ∙ ap (λ o. option_map (λ (e : Entry). e.message) o) found
+            under-is slab key ks is.kept has ∙ sym (messages1 key) ∙ sym (messages2 key) ∙ ap (λ o. option_map (λ (e : LinkedMessage). e.message) o) found

@@ -5,7 +5,7 @@ use Rattle.std.specs.List.{list_all}
 use Rattle.slab.specs.Slab.{Slab, get}
 use Rattle.ccr_base.specs.declared.messages.Msg.{Msg}
 use Rattle.ccr_port.specs.declared.links.Link.{Link}
-use Rattle.ccr_port.specs.declared.items.Entry.{Entry}
+use Rattle.ccr_port.specs.declared.items.LinkedMessage.{LinkedMessage}
 use Rattle.ccr_port.specs.Chains.{behind_of, before_of, keys_from, has_key, IsChain}
 
 -- the keys
@@ -46,32 +46,32 @@ can_take [] entries = true
 can_take (key ∷ keys) entries = has_key key (keys_of entries) && can_take keys (without_entry key entries)
 
 -- the neighbours that the slab keeps for a key
-abbrev pub link_at : Slab Entry → ℕ → Option Link
-link_at slab key = option_map (λ (entry : Entry). entry.link) (get slab key)
+abbrev pub link_at : Slab LinkedMessage → ℕ → Option Link
+link_at slab key = option_map (λ (entry : LinkedMessage). entry.link) (get slab key)
 
 -- the message that the slab keeps under a key
-abbrev pub message_at : Slab Entry → ℕ → Option Msg
-message_at slab key = option_map (λ (entry : Entry). entry.message) (get slab key)
+abbrev pub message_at : Slab LinkedMessage → ℕ → Option Msg
+message_at slab key = option_map (λ (entry : LinkedMessage). entry.message) (get slab key)
 
 -- whether the slab has a message under this point, where it is a key
-abbrev pub is_kept : Slab Entry → Option ℕ → Bool
+abbrev pub is_kept : Slab LinkedMessage → Option ℕ → Bool
 is_kept slab point = option_map_or (λ key. is_some (message_at slab key)) point true
 
 -- whether the slab has a message under each of these keys
-abbrev pub are_kept : Slab Entry → List ℕ → Bool
+abbrev pub are_kept : Slab LinkedMessage → List ℕ → Bool
 are_kept slab keys = list_all (λ key. is_some (message_at slab key)) keys
 
 -- the messages under these keys
-abbrev pub entries_at : Slab Entry → List ℕ → List (ℕ × Msg)
+abbrev pub entries_at : Slab LinkedMessage → List ℕ → List (ℕ × Msg)
 entries_at slab [] = []
 entries_at slab (key ∷ keys) = option_map_or (λ message. (key, message) ∷ entries_at slab keys) (message_at slab key) (entries_at slab keys)
 
 -- the keys from the first on
-abbrev pub linked_keys : Slab Entry → Option ℕ → ℕ → List ℕ
+abbrev pub linked_keys : Slab LinkedMessage → Option ℕ → ℕ → List ℕ
 linked_keys slab first count = keys_from (behind_of (link_at slab) first) count first
 
 -- so many keys are linked from the first to the last, with a message under each
-pub record AreLinked (slab : Slab Entry) (first last : Option ℕ) (count : ℕ) : Type 0 where
+pub record AreLinked (slab : Slab LinkedMessage) (first last : Option ℕ) (count : ℕ) : Type 0 where
   pub chain : IsChain (behind_of (link_at slab) first) (before_of (link_at slab) last) (linked_keys slab first count)
   pub long : length (linked_keys slab first count) ≡ count
   pub kept : are_kept slab (linked_keys slab first count) ≡ true

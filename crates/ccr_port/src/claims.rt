@@ -5,7 +5,7 @@ ghost use Rattle.ccr_port.specs.Entries.{are_under, can_take, messages_of, messa
 ghost use Rattle.ccr_port.specs.Lanes.{AreLanes};
 
 use crate::items::Items;
-use crate::lane::Lane;
+use crate::lane::KeyLane;
 use crate::lanes::leave_all;
 use ccr_base::{List, Msg, OutOfMemory, TaskId};
 use ccr_places::StandingClaim;
@@ -28,7 +28,11 @@ pub(crate) struct MarkedClaim {
 }
 
 /// The first keys of the lane.
-pub(crate) fn first_keys(alloc: Global, lane: &Lane, most: u32) -> Result<Vec<usize>, OutOfMemory>
+pub(crate) fn first_keys(
+    alloc: Global,
+    lane: &KeyLane,
+    most: u32,
+) -> Result<Vec<usize>, OutOfMemory>
     requires { most ≤ length lane.now.keys }
     ensures { IfOk result (λ keys. keys.items ≡ take most lane.now.keys) }
 {
@@ -59,7 +63,7 @@ pub(crate) fn copies_of(
 }
 
 /// Takes the messages under the keys out, and the keys out of the lanes. It takes no memory.
-pub(crate) fn take_marked(items: &mut Items, lanes: &mut Vec<Lane>, keys: &[usize])
+pub(crate) fn take_marked(items: &mut Items, lanes: &mut Vec<KeyLane>, keys: &[usize])
     requires there { IsTrue (can_take keys.now items.old) }
     requires lanes { AreLanes items.old lanes.old.items }
     ensures rest { items.new ≡ without_entries keys.now items.old }

@@ -13,7 +13,7 @@ use std::marker::Model;
 
 /// A message with the keys of the messages before and behind it.
 #[derive(Drop)]
-pub(crate) struct Entry {
+pub(crate) struct LinkedMessage {
     pub message: Msg,
     pub link: Link,
 }
@@ -21,7 +21,7 @@ pub(crate) struct Entry {
 /// Messages, oldest first. Each has a key, which another message gets only once this one is taken.
 #[derive(Drop)]
 pub(crate) struct Items {
-    entries: Slab<Entry>,
+    entries: Slab<LinkedMessage>,
     first: Option<usize>,
     last: Option<usize>,
     count: u32,
@@ -93,7 +93,7 @@ impl Items {
         ensures returned { IfErr result (λ refused. refused.1 ≡ message) }
     {
         let before = self.last;
-        let entry = Entry {
+        let entry = LinkedMessage {
             message,
             link: Link {
                 before,
@@ -108,7 +108,7 @@ impl Items {
                 Ok(key)
             }
             Err(AllocFailed { value }) => {
-                let Entry { message, link: _ } = value;
+                let LinkedMessage { message, link: _ } = value;
                 Err((OutOfMemory, message))
             }
         }
@@ -124,14 +124,14 @@ impl Items {
         set_behind(&mut self.entries, &mut self.first, before, behind);
         set_before(&mut self.entries, &mut self.last, behind, before);
         self.count -= 1;
-        let Entry { message, link: _ } = self.entries.remove(key);
+        let LinkedMessage { message, link: _ } = self.entries.remove(key);
         message
     }
 }
 
 /// The key stands behind the point, from now on.
 fn set_behind(
-    entries: &mut Slab<Entry>,
+    entries: &mut Slab<LinkedMessage>,
     first: &mut Option<usize>,
     point: Option<usize>,
     key: Option<usize>,
@@ -151,7 +151,7 @@ fn set_behind(
 
 /// The key stands before the point, from now on.
 fn set_before(
-    entries: &mut Slab<Entry>,
+    entries: &mut Slab<LinkedMessage>,
     last: &mut Option<usize>,
     point: Option<usize>,
     key: Option<usize>,

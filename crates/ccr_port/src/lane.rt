@@ -13,7 +13,7 @@ use std::marker::Model;
 
 /// Keys of messages that satisfy a predicate, in the order of their posts. The links stand under the keys.
 #[derive(Drop)]
-pub(crate) struct Lane {
+pub(crate) struct KeyLane {
     pred: Pred,
     first: Option<usize>,
     last: Option<usize>,
@@ -21,7 +21,7 @@ pub(crate) struct Lane {
     links: Vec<Link>,
 }
 
-impl Model for Lane {
+impl Model for KeyLane {
     ghost use Rattle.std.specs.Prelude.{length};
     ghost use Rattle.ccr_port.specs.Lanes.{LaneState, lane_keys, IsLinkedLane};
 
@@ -36,12 +36,12 @@ impl Model for Lane {
     ghost invariant = { λ lane. IsLinkedLane lane.links.items lane.first lane.last lane.count };
 }
 
-impl Lane {
+impl KeyLane {
     /// No key.
-    pub fn new(alloc: Global, pred: Pred) -> Lane
+    pub fn new(alloc: Global, pred: Pred) -> KeyLane
         ensures { result ≡ record { pred = pred; keys = []; room = 0 } }
     {
-        Lane {
+        KeyLane {
             pred,
             first: None,
             last: None,

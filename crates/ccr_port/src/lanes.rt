@@ -5,12 +5,12 @@ ghost use Rattle.std.specs.List.{list_all};
 ghost use Rattle.ccr_port.specs.Lanes.{AreLanes, AreSame, HasLane, can_enter, can_leave, entered, fitting_keys, have_room, left};
 
 use crate::items::Items;
-use crate::lane::Lane;
+use crate::lane::KeyLane;
 use ccr_base::{OutOfMemory, Pred, Value};
 use std::alloc::Global;
 
 /// Room for the key in each lane.
-pub(crate) fn make_room(lanes: &mut Vec<Lane>, key: usize) -> Result<(), OutOfMemory>
+pub(crate) fn make_room(lanes: &mut Vec<KeyLane>, key: usize) -> Result<(), OutOfMemory>
     ensures same { AreSame lanes.old.items lanes.new.items }
     ensures room { OnOk result (IsTrue (have_room key lanes.new.items)) }
 {
@@ -22,7 +22,7 @@ pub(crate) fn make_room(lanes: &mut Vec<Lane>, key: usize) -> Result<(), OutOfMe
 }
 
 /// Puts the key last in each lane whose predicate the value satisfies. It takes no memory.
-pub(crate) fn enter_all(lanes: &mut Vec<Lane>, key: usize, value: Value)
+pub(crate) fn enter_all(lanes: &mut Vec<KeyLane>, key: usize, value: Value)
     requires { IsTrue (list_all (can_enter key) lanes.old.items) }
     ensures { lanes.new.items ≡ map (entered key value) lanes.old.items }
 {
@@ -33,7 +33,7 @@ pub(crate) fn enter_all(lanes: &mut Vec<Lane>, key: usize, value: Value)
 }
 
 /// Takes the key out of each lane whose predicate the value satisfies. It takes no memory.
-pub(crate) fn leave_all(lanes: &mut Vec<Lane>, key: usize, value: Value)
+pub(crate) fn leave_all(lanes: &mut Vec<KeyLane>, key: usize, value: Value)
     requires { IsTrue (list_all (can_leave key value) lanes.old.items) }
     ensures { lanes.new.items ≡ map (left key value) lanes.old.items }
 {
@@ -44,11 +44,11 @@ pub(crate) fn leave_all(lanes: &mut Vec<Lane>, key: usize, value: Value)
 }
 
 /// A lane of the predicate with the keys of all messages that satisfy it.
-fn lane_of(alloc: Global, items: &Items, pred: Pred) -> Result<Lane, OutOfMemory>
+fn lane_of(alloc: Global, items: &Items, pred: Pred) -> Result<KeyLane, OutOfMemory>
     ensures pred { IfOk result (λ lane. lane.pred ≡ pred) }
     ensures keys { IfOk result (λ lane. lane.keys ≡ fitting_keys pred items.now) }
 {
-    let mut lane = Lane::new(alloc, pred);
+    let mut lane = KeyLane::new(alloc, pred);
     let mut key = items.first();
     for _place in 0..items.len() {
         let Some(here) = key else { unreachable!() };
@@ -64,7 +64,7 @@ fn lane_of(alloc: Global, items: &Items, pred: Pred) -> Result<Lane, OutOfMemory
 pub(crate) fn lane_for(
     alloc: Global,
     items: &Items,
-    lanes: &mut Vec<Lane>,
+    lanes: &mut Vec<KeyLane>,
     pred: Pred,
 ) -> Result<usize, OutOfMemory>
     requires { AreLanes items.now lanes.old.items }

@@ -7,7 +7,7 @@ ghost use Rattle.ccr_port.specs.Replies.{claim_reply, fits_slot, reply_note};
 
 use crate::claims::{Claimed, MarkedClaim, copies_of, first_keys, item_at, take_marked};
 use crate::items::Items;
-use crate::lane::Lane;
+use crate::lane::KeyLane;
 use crate::lanes::{enter_all, lane_for, make_room};
 use ccr_base::{Msg, OutOfMemory, PortNo, Slot, TaskId};
 use ccr_places::StandingClaim;
@@ -20,7 +20,7 @@ pub struct PortObject {
     alloc: Global,
     number: PortNo,
     items: Items,
-    lanes: Vec<Lane>,
+    lanes: Vec<KeyLane>,
     claim: Option<MarkedClaim>,
 }
 

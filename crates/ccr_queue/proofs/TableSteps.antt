@@ -43,9 +43,6 @@ none-tied room = record {
 
 -- ---- a step: the table keeps this stage of one task, and of each other what it kept
 
-one : Bool → ℕ
-one b = cond b 1 0
-
 kinds_one : (kept : Option QueueStage) → cond (is_some kept) 1 0
     ≡ cond (option_map_or is_fresh kept false) 1 0 + cond (option_map_or is_resuming kept false) 1 0 + cond (option_map_or is_queued kept false) 1 0
 kinds_one None = refl

@@ -5,8 +5,9 @@ use Rattle.std.specs.Map.{keys_of}
 use Rattle.std.specs.Option.{option_map_or}
 use Rattle.std.specs.FinSet as set
 use Rattle.ccr_base.specs.declared.names.TaskId.{TaskId}
+use Rattle.ccr_base.specs.declared.policies.Policy.{Policy}
 use Rattle.ccr_base.specs.Names.{same_task}
-use Rattle.ccr_places.specs.Queues.{Queued}
+use Rattle.ccr_places.specs.Queues.{Queued, QueueState}
 use Rattle.ccr_places.specs.TaskTables.{tasks_where, kept_of}
 use Rattle.ccr_queue.specs.declared.stage.QueueStage.{QueueStage}
 use Rattle.ccr_queue.specs.declared.stage.QueueStage.TheVariants.{Fresh, Resuming, Queued as StandsQueued}
@@ -33,6 +34,10 @@ is_queued StandsQueued = true
 -- a queued task by its name
 abbrev pub queued_of : QueuedTask → Queued
 queued_of queued = record { task = queued.task.id; resumes = queued.resumes }
+
+-- the state of a queue of this number and policy, by its table and what is queued
+abbrev pub state_of : ℕ → Policy → List (TaskId × QueueStage) → List QueuedTask → QueueState
+state_of number policy table queued = record { number = number; policy = policy; fresh = tasks_where is_fresh table; resuming = tasks_where is_resuming table; queued = map queued_of queued }
 
 -- the table has the booked and the queued tasks, the count those of them that don't resume, and the queue has room for all
 pub record Tied (table : List (TaskId × QueueStage)) (queued : List Queued) (fresh room : ℕ) : Type 0 where

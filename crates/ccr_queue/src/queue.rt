@@ -37,23 +37,13 @@ impl Model for QueueObject {
     ghost use Rattle.std.specs.Prelude.{map};
     ghost use Rattle.std.specs.VecDeque.{deque_capacity};
     ghost use Rattle.ccr_places.specs.Queues.{QueueTasks, queue_tasks_code};
-    ghost use Rattle.ccr_places.specs.TaskTables.{tasks_where};
-    ghost use Rattle.ccr_queue.specs.QueueStages.{Tied, is_fresh, is_resuming, queued_of};
+    ghost use Rattle.ccr_queue.specs.QueueStages.{Tied, queued_of, state_of};
 
     ghost Value = { QueueTasks };
 
     ghost coded = { queue_tasks_code };
 
-    ghost view = { λ queue. record {
-      state = record {
-        number = queue.number;
-        policy = queue.policy;
-        fresh = tasks_where is_fresh queue.stages.entries;
-        resuming = tasks_where is_resuming queue.stages.entries;
-        queued = map queued_of queue.queued.items;
-      };
-      tasks = map (λ queued. queued.task) queue.queued.items;
-    } };
+    ghost view = { λ queue. record { state = state_of queue.number queue.policy queue.stages.entries queue.queued.items; tasks = map (λ queued. queued.task) queue.queued.items } };
 
     ghost invariant = { λ queue. Tied queue.stages.entries (map queued_of queue.queued.items) queue.fresh (deque_capacity queue.queued) };
 }

@@ -6,17 +6,17 @@ use Rattle.std.proofs.lemmas.Bool.Decides.{nat_tests}
 use Rattle.std.proofs.lemmas.Slice.Eq.{bytes_eq-Decides}
 use Rattle.ccr_text.specs.Lines.{begin_from, begins_with, cut, is_first_word, numbered, numbered_line, index_or_end}
 use Rattle.ccr_text.specs.Fields.{Words, ◌>>=◌, no_more, or_code, unless, word}
-use Rattle.ccr_text.specs.Words.{is_clean, number_of, words_of}
+use Rattle.ccr_text.specs.Words.{is_clean, number_of, words_of, IsSkipped}
 use Rattle.ccr_wiring.specs.declared.parts.Parts.{Parts}
 use Rattle.ccr_wiretext.specs.Lines.{IsText}
-use Rattle.ccr_wiretext.specs.Reading.{at_end, reading_after, reading_text}
+use Rattle.ccr_wiretext.specs.Reading.{at_end, reading_after, reading_text, at_line as on_line}
 use Rattle.ccr_wiretext.proofs.TextsRead.{text_read, text_said}
-use Rattle.ccr_replay.specs.TurnGrammar.{AreTurns, IsSkipped}
+use Rattle.ccr_replay.specs.TurnGrammar.{AreTurns}
 use Rattle.ccr_replay.specs.Turns.{reading_turns, turns_on}
 use Rattle.ccr_replay.proofs.TurnsSaid as turns_lines
 use Rattle.ccr_replay.specs.declared.records.Record.{Record}
 use Rattle.ccr_replay.specs.Grammar.{AreRecord, AreSkipped, IsLastLine, IsRecordLine, Says}
-use Rattle.ccr_replay.specs.Reading.{after_feed, and_then, behind_first, done_in, done_on, done_place, ending, line_at, on_line, recorded_turns, part_before, reading_behind, reading_lines, reading_part, reading_record, record_behind, record_place, skipped_in, skipped_lines, skipped_on, turns_behind, recorded_wiring, workers_in, workers_of, workers_on}
+use Rattle.ccr_replay.specs.Reading.{after_feed, and_then, behind_first, done_in, done_on, done_place, ending, line_at, recorded_turns, part_before, reading_behind, reading_lines, reading_part, reading_record, record_behind, record_place, skipped_in, skipped_lines, skipped_on, turns_behind, recorded_wiring, workers_in, workers_of, workers_on}
 use Rattle.ccr_replay.proofs.Cuts.{cut_after, found_at, fronted, parted}
 use Rattle.ccr_replay.proofs.NoRecord.{no_record}
 use Rattle.ccr_replay.proofs.Splits.{cut_behind, ended_free, found, none_begins, out_is, part_is, passed, spans, spans_ended}

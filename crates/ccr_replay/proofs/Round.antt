@@ -10,7 +10,7 @@ use Rattle.ccr_wiring.specs.declared.parts.Parts.{Parts}
 use Rattle.ccr_wiring.specs.Valid.{IsValid}
 use Rattle.ccr_wiring.proofs.Soundness.{sound}
 use Rattle.ccr_wiretext.specs.Reading.{reading_text}
-use Rattle.ccr_wiretext.proofs.AnswerFacts.{is_valid}
+use Rattle.ccr_wiretext.proofs.AnswersTellTexts.{is_valid}
 use Rattle.ccr_wiretext.proofs.TextsRead.{text_said}
 use Rattle.ccr_replay.specs.TurnGrammar.{AreTurns}
 use Rattle.ccr_replay.specs.Grammar.{IsLastLine, IsRecordLine, Says}

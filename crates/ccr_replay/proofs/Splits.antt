@@ -2,14 +2,13 @@
 use Rattle.std.proofs.Common.{◌≡◌, ◌<◌, ℕ, suc, ◌+◌, ◌-◌, ◌^◌, take, drop, Bool, true, false, List, [], ◌∷◌, ◌++◌, length, map, Some, refl, sym, ap, ◌∙◌, append_assoc, arith, inl, inr, ◌⊎◌}
 use Rattle.std.specs.Prelude.{◌==◌, ◌&&◌, not, nat_lt, if◌then◌else◌, decimal}
 use Rattle.std.specs.List.{list_all, onto_first}
-use Rattle.std.specs.Char.{is_ascii_digit}
 use Rattle.std.proofs.lemmas.Bool.Decides.{nat_tests}
 use Rattle.std.proofs.lemmas.Grind.{common_steps}
 use Rattle.std.proofs.lemmas.Fmt.{digits_decimal, decimal_nonempty}
 use Rattle.std.proofs.lemmas.List.Concat.{flat_map-cons}
-use Rattle.ccr_text.specs.Lines.{begin_from, begins_with, cut, has_feed}
+use Rattle.ccr_text.specs.Lines.{begin_from, begins_with, cut}
 use Rattle.ccr_text.specs.Spelling.{joined, line_text, text_of, AreLines, AreWords}
-use Rattle.ccr_text.specs.Words.{is_mark}
+use Rattle.ccr_text.specs.Words.{is_graphic}
 use Rattle.ccr_replay.specs.Reading.{part_before}
 use Rattle.ccr_text.proofs.Again.{joined_feeds}
 use Rattle.ccr_text.proofs.Decimals.{own}
@@ -42,9 +41,6 @@ passed word byte number (line ∷ lines) more none =
     ∙ ap (λ (n : ℕ). begin_from word (byte + spans (line ∷ lines)) n more) numbers
 
 -- ---- a text that ends with LF, and what stands behind it
-
-ended : List ℕ → List (List ℕ)
-ended text = cut (text ++ 10 ∷ [])
 
 cut_some : (text : List ℕ) → (first : List ℕ) × (lines : List (List ℕ)) × (cut (text ++ 10 ∷ []) ≡ first ∷ lines)
 cut_some [] = ([], [], refl)
@@ -98,13 +94,6 @@ ended_lines (b ∷ text) = go (b == 10) (ended_lines text)
 
 -- ---- lines that are given by their words
 
-pub no_feed : (line : List ℕ) → list_all (λ b. not (b == 10)) line ≡ true → has_feed line ≡ false
-no_feed [] none = refl
-no_feed (b ∷ line) none =
-    let parts = both (not (b == 10)) (list_all (λ b. not (b == 10)) line) none in
-    let other : (b == 10) ≡ false = grind (arith, nat_tests, parts.0) in
-    rw (other, no_feed line parts.1) refl
-
 pub cut_one : (line rest : List ℕ) → list_all (λ b. not (b == 10)) line ≡ true → cut (line ++ 10 ∷ rest) ≡ line ∷ cut rest
 cut_one [] rest none = refl
 cut_one (b ∷ line) rest none =
@@ -124,7 +113,7 @@ cut_lines (words ∷ lines) rest are =
     ∙ ap (λ (ls : List (List ℕ)). joined words ∷ ls) (cut_lines lines rest are.1)
 
 -- the digits of a number are a word
-pub decimal_word : (n : ℕ) → n < 2 ^ 64 → ((length (decimal n) == 0) ≡ false) × (list_all is_mark (decimal n) ≡ true)
+pub decimal_word : (n : ℕ) → n < 2 ^ 64 → ((length (decimal n) == 0) ≡ false) × (list_all is_graphic (decimal n) ≡ true)
 decimal_word n fits =
     let some : (length (decimal n) == 0) ≡ false = grind (arith, nat_tests, decimal_nonempty n fits) in
     (some, digits_marks (decimal n) (digits_decimal own n fits))

@@ -4,9 +4,9 @@ use Rattle.std.specs.Str.{bytes_eq}
 use Rattle.std.proofs.lemmas.Bool.Decides.{nat_tests}
 use Rattle.std.proofs.lemmas.Slice.Eq.{bytes_eq-Decides}
 use Rattle.ccr_text.specs.Fields.{Words, ◌>>=◌, no_more, unless, or_code}
-use Rattle.ccr_text.specs.Words.{number_of}
+use Rattle.ccr_text.specs.Words.{number_of, IsSkipped}
 use Rattle.ccr_replay.specs.Turns.{actor_in, turn_in, turn_of}
-use Rattle.ccr_replay.specs.TurnGrammar.{IsSkipped, IsTurn}
+use Rattle.ccr_replay.specs.TurnGrammar.{IsTurn}
 
 -- ---- what is read is said
 

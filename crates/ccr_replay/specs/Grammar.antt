@@ -2,9 +2,9 @@
 use Rattle.std.specs.Prelude.{◌≡◌, ◌≤◌, ℕ, ◌+◌, true, List, [], ◌∷◌, ◌++◌, length, Some, codes}
 use Rattle.ccr_base.specs.Bounds.{most_wiring_bytes, most_workers}
 use Rattle.ccr_text.specs.Lines.{cut}
-use Rattle.ccr_text.specs.Words.{is_clean, number_of, words_of}
+use Rattle.ccr_text.specs.Words.{is_clean, number_of, words_of, IsSkipped}
 use Rattle.ccr_wiretext.specs.Lines.{IsText}
-use Rattle.ccr_replay.specs.TurnGrammar.{AreTurns, IsSkipped}
+use Rattle.ccr_replay.specs.TurnGrammar.{AreTurns}
 use Rattle.ccr_replay.specs.declared.records.Record.{Record}
 
 -- the line is `record 1 N`, where N is at most 16

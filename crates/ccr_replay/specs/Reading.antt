@@ -6,7 +6,7 @@ use Rattle.ccr_text.specs.Lines.{cut, line_of, numbered, numbered_line}
 use Rattle.ccr_text.specs.Fields.{Words, ◌>>=◌, word, no_more, unless, or_code}
 use Rattle.ccr_text.specs.Words.{is_comment, number_of}
 use Rattle.ccr_wiring.specs.declared.parts.Parts.{Parts}
-use Rattle.ccr_wiretext.specs.Reading.{reading_text}
+use Rattle.ccr_wiretext.specs.Reading.{reading_text, at_line as on_line}
 use Rattle.ccr_replay.specs.Turns.{reading_turns}
 use Rattle.ccr_replay.specs.declared.records.Record.{Record}
 
@@ -99,11 +99,6 @@ skipped_on line = if line.clean then skipped_in line.words else Err 1
 abbrev pub and_then : {A B : Type 0} → Result A (ℕ × ℕ) → (A → Result B (ℕ × ℕ)) → Result B (ℕ × ℕ)
 and_then (Ok x) f = f x
 and_then (Err refusal) f = Err refusal
-
--- a code with the number of its line
-abbrev pub on_line : {A : Type 0} → ℕ → Result A ℕ → Result A (ℕ × ℕ)
-on_line number (Ok x) = Ok x
-on_line number (Err code) = Err (number, code)
 
 -- each of the lines is skipped, of which the first has this number
 abbrev pub skipped_lines : List Line → Result (Unit {0}) (ℕ × ℕ)

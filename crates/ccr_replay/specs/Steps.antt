@@ -11,7 +11,9 @@ use Rattle.ccr_base.specs.declared.tasks.How.TheVariants as hows
 use Rattle.ccr_text.specs.Spelling.{text_of}
 use Rattle.ccr_wiring.specs.declared.parts.Parts.{Parts}
 use Rattle.ccr_wiretext.specs.Spelling.{port_name, queue_name, arbiter_name}
-use Rattle.ccr_trace.specs.Words.{task_word, message_word, value_word, branch_names, spot_word}
+use Rattle.ccr_trace.specs.Words.{task_word, message_word, branch_names, spot_word}
+use Rattle.ccr_trace.specs.HistoryText.{dropped_words}
+use Rattle.ccr_text.specs.Exact.{value_word}
 use Rattle.ccr_places.specs.declared.notes.ClaimNote.{ClaimNote}
 use Rattle.ccr_places.specs.declared.notes.ClaimNote.TheVariants.{Got, Busy, Short}
 use Rattle.ccr_places.specs.declared.notes.Note.{Note}
@@ -64,11 +66,6 @@ abbrev pub full_words : Option ℕ → List (List ℕ)
 full_words None = []
 full_words (Some count) = codes "full" ∷ decimal count ∷ []
 
--- the task that a full queue dropped
-abbrev pub drop_words : Option TaskId → List (List ℕ)
-drop_words None = []
-drop_words (Some task) = codes "drop" ∷ task_word task ∷ []
-
 -- what a step did, in words
 abbrev pub note_words : Note → List (List ℕ)
 note_words (notes.Post message) = codes "post" ∷ message_word message.id ∷ []
@@ -82,7 +79,7 @@ note_words (notes.Over task root how) = codes "over" ∷ task_word task ∷ how_
 note_words (notes.Suspend task) = codes "suspend" ∷ task_word task ∷ []
 note_words (notes.Book task resumes full) = codes "book" ∷ task_word task ∷ full_words full
 note_words (notes.Unbook task) = codes "unbook" ∷ task_word task ∷ []
-note_words (notes.Put task dropped) = codes "put" ∷ task_word task ∷ drop_words dropped
+note_words (notes.Put task dropped) = codes "put" ∷ task_word task ∷ dropped_words dropped
 note_words (notes.Take task) = codes "take" ∷ task_or_none task ∷ []
 note_words (notes.Draw number) = codes "draw" ∷ number_or_none number ∷ []
 note_words notes.Leave = codes "leave" ∷ []

@@ -2,11 +2,7 @@
 use Rattle.std.specs.Prelude.{◌≡◌, ◌<◌, ◌⊎◌, ℕ, true, List, [], ◌∷◌, Some, codes}
 use Rattle.ccr_text.specs.Lines.{cut}
 use Rattle.ccr_text.specs.Fields.{Words}
-use Rattle.ccr_text.specs.Words.{is_clean, number_of, words_of}
-
--- the line has no words, or its first word begins with #
-abbrev pub IsSkipped : Words → Type 0
-IsSkipped words = (words ≡ []) ⊎ ((comment : List ℕ) × (others : Words) × (words ≡ (35 ∷ comment) ∷ others))
+use Rattle.ccr_text.specs.Words.{is_clean, number_of, words_of, IsSkipped}
 
 -- the line is `turn A`, where A is the number of one of so many actors
 pub record IsTurn (actors : ℕ) (words : Words) (actor : ℕ) : Type 0 where

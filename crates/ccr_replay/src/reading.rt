@@ -15,12 +15,9 @@ use crate::refusals::{Code, refused};
 use ccr_actor::actor_count;
 use ccr_base::{ActorNo, List};
 use ccr_text::{cut_line, line_of, numbered_line};
-use ccr_wiretext::{ReadRefused, read_wiring};
+use ccr_wiretext::{MAX_WIRING_TEXT, ReadRefused, read_wiring};
 use ccr_wiring::Wiring;
 use std::alloc::Global;
-
-/// The most bytes that a wiring text may have.
-const MAX_WIRING_TEXT: usize = 1_048_576;
 
 /// The number of the line at which the byte of this index stands.
 fn line_at(index: usize, text: &[u8]) -> u32
@@ -98,7 +95,7 @@ fn read_turns_behind(
     actors: u32,
 ) -> Result<List<ActorNo>, ReadRefused>
     requires text { length text.now ≤ most_bytes }
-    requires before { before ≤ 33554433 }
+    requires before { before ≤ most_bytes + 1 }
     ensures turns { IsReading result (turns_behind actors before text.now) }
     ensures below { IfOk result (λ turns. All (λ actor. actor < actors) turns) }
 {
@@ -122,7 +119,7 @@ fn read_record_behind(
     workers: u32,
 ) -> Result<Record, ReadRefused>
     requires text { length text.now ≤ most_bytes }
-    requires before { before ≤ 33554433 }
+    requires before { before ≤ most_bytes + 1 }
     requires workers { workers ≤ most_workers }
     ensures reading { IsReading result (record_behind wiring before workers text.now) }
     ensures workers { IfOk result (λ read. read.workers ≤ most_workers) }

@@ -1,9 +1,9 @@
 //! The words of places and notes, each behind a space.
 
 ghost use Rattle.std.specs.Prelude.{◌≡◌, ◌++◌, ◌∷◌, [], OnOk, codes, decimal};
-ghost use Rattle.ccr_trace.specs.HistoryText.{behind};
+ghost use Rattle.ccr_trace.specs.HistoryText.{behind, dropped_words};
 ghost use Rattle.ccr_trace.specs.Words.{branch_names, message_word, task_word};
-ghost use Rattle.ccr_replay.specs.Steps.{by_words, claim_words, drop_words, full_words, how_words, note_words, number_or_none, place_words, task_or_none};
+ghost use Rattle.ccr_replay.specs.Steps.{by_words, claim_words, full_words, how_words, note_words, number_or_none, place_words, task_or_none};
 
 use ccr_base::{By, How, List, Name, OutOfMemory, Place, Spot, TaskId};
 use ccr_places::{ClaimNote, Note};
@@ -162,7 +162,7 @@ fn put_full(out: &mut List<u8>, full: Option<u32>) -> Result<(), OutOfMemory>
 }
 
 fn put_drop(out: &mut List<u8>, dropped: Option<TaskId>) -> Result<(), OutOfMemory>
-    ensures { OnOk result (out.new ≡ out.old ++ behind (drop_words dropped)) }
+    ensures { OnOk result (out.new ≡ out.old ++ behind (dropped_words dropped)) }
 {
     match dropped {
         None => Ok(()),

@@ -11,7 +11,8 @@ use Rattle.ccr_model.specs.Posts.{posted, held}
 use Rattle.ccr_model.specs.Firings.{fired_at}
 use Rattle.ccr_text.specs.Spelling.{text_of}
 use Rattle.ccr_wiring.specs.SpotWords.{branch_names}
-use Rattle.ccr_report.specs.Counting.{put_at, dropped_at}
+use Rattle.ccr_report.specs.Counting.{dropped_at}
+use Rattle.ccr_model.specs.Tasks.{put_into}
 use Rattle.ccr_report.specs.Counted.{IsCounted}
 use Rattle.ccr_report.specs.Report.{port_words, port_lines, spot_words, queue_words, queue_lines, total_words, report_text}
 use Rattle.ccr_report.specs.Rows.{port_row, port_rows, spot_row, spot_rows, queue_row, queue_rows, counted_text}
@@ -33,12 +34,12 @@ ports_told history ps hs count are_ps are_hs port (name ∷ names) within =
     ∙ ap (λ (rows : List (List (List ℕ))). port_words history port name ∷ rows) (ports_told history ps hs count are_ps are_hs (port + 1) names (omega arith))
 
 -- the line of a queue
-pub queue_told : (w : Parts) (history : List Event) (queue : ℕ) (part : QueuePart) (p d : ℕ) → p ≡ length (put_at w history queue) → d ≡ length (dropped_at w history queue) → queue_row part p d ≡ queue_words w history queue part
+pub queue_told : (w : Parts) (history : List Event) (queue : ℕ) (part : QueuePart) (p d : ℕ) → p ≡ length (put_into w history queue) → d ≡ length (dropped_at w history queue) → queue_row part p d ≡ queue_words w history queue part
 queue_told w history queue part p d is_p is_d =
-    ap (λ (n : ℕ). queue_row part n d) is_p ∙ ap (λ (n : ℕ). queue_row part (length (put_at w history queue)) n) is_d
+    ap (λ (n : ℕ). queue_row part n d) is_p ∙ ap (λ (n : ℕ). queue_row part (length (put_into w history queue)) n) is_d
 
 -- the lines of the queues from this one on
-pub queues_told : (w : Parts) (history : List Event) (ps ds : List ℕ) (count : ℕ) → ((k : ℕ) → k < count → slice_index ps k ≡ length (put_at w history k)) → ((k : ℕ) → k < count → slice_index ds k ≡ length (dropped_at w history k)) → (queue : ℕ) (parts : List QueuePart) → queue + length parts ≤ count → queue_rows ps ds queue parts ≡ queue_lines w history queue parts
+pub queues_told : (w : Parts) (history : List Event) (ps ds : List ℕ) (count : ℕ) → ((k : ℕ) → k < count → slice_index ps k ≡ length (put_into w history k)) → ((k : ℕ) → k < count → slice_index ds k ≡ length (dropped_at w history k)) → (queue : ℕ) (parts : List QueuePart) → queue + length parts ≤ count → queue_rows ps ds queue parts ≡ queue_lines w history queue parts
 queues_told w history ps ds count are_ps are_ds queue [] within = refl
 queues_told w history ps ds count are_ps are_ds queue (part ∷ parts) within =
     ap (λ (row : List (List ℕ)). row ∷ queue_rows ps ds (queue + 1) parts) (queue_told w history queue part (slice_index ps queue) (slice_index ds queue) (are_ps queue (omega arith)) (are_ds queue (omega arith)))

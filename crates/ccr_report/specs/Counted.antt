@@ -6,7 +6,8 @@ use Rattle.ccr_model.specs.declared.history.Event.{Event}
 use Rattle.ccr_model.specs.Posts.{posted, held}
 use Rattle.ccr_model.specs.Firings.{fired_at}
 use Rattle.ccr_model.specs.Counts.{totals}
-use Rattle.ccr_report.specs.Counting.{put_at, dropped_at}
+use Rattle.ccr_report.specs.Counting.{dropped_at}
+use Rattle.ccr_model.specs.Tasks.{put_into}
 use Rattle.ccr_report.specs.declared.counted.Counts.{Counts}
 
 -- the counts have a row for each port, spot and queue of the wiring, and each says how often the thing stands in the history
@@ -18,7 +19,7 @@ pub record IsCounted (wiring : Parts) (history : List Event) (counts : Counts) :
   pub posted : (k : ℕ) → k < length wiring.ports → slice_index counts.posted.items k ≡ length (posted history k)
   pub held : (k : ℕ) → k < length wiring.ports → slice_index counts.held.items k ≡ length (held history k)
   pub fired : counts.fired.items ≡ map (λ spot. length (fired_at history spot)) (spots wiring)
-  pub put : (k : ℕ) → k < length wiring.queues → slice_index counts.put.items k ≡ length (put_at wiring history k)
+  pub put : (k : ℕ) → k < length wiring.queues → slice_index counts.put.items k ≡ length (put_into wiring history k)
   pub dropped : (k : ℕ) → k < length wiring.queues → slice_index counts.dropped.items k ≡ length (dropped_at wiring history k)
   pub totals : counts.totals ≡ totals history
 

@@ -11,7 +11,7 @@ use Rattle.ccr_wiring.specs.declared.parts.BranchPart.{BranchPart}
 use Rattle.ccr_wiring.specs.Wirings.{Placement, branch_of}
 use Rattle.ccr_model.specs.declared.history.Event.{Event}
 use Rattle.ccr_model.specs.Posts.{posted, taken}
-use Rattle.ccr_model.specs.Firings.{put, dropped}
+use Rattle.ccr_model.specs.Firings.{dropped}
 use Rattle.ccr_model.specs.TaskData.{placement_of}
 use Rattle.ccr_model.specs.Tasks.{is_for_queue}
 
@@ -22,10 +22,6 @@ times number numbers = length (filter (λ other. other == number) numbers)
 -- the port's messages that firings took
 abbrev pub taken_at : List Event → ℕ → List Msg
 taken_at history port = filter (λ message. has_message (taken history) message.id) (posted history port)
-
--- the tasks put into the queue
-abbrev pub put_at : Parts → List Event → ℕ → List TaskId
-put_at wiring history queue = filter (is_for_queue wiring history queue) (put history)
 
 -- the tasks that the queue dropped
 abbrev pub dropped_at : Parts → List Event → ℕ → List TaskId

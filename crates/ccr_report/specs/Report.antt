@@ -11,7 +11,8 @@ use Rattle.ccr_model.specs.Firings.{fired_at}
 use Rattle.ccr_model.specs.Counts.{totals}
 use Rattle.ccr_text.specs.Spelling.{text_of}
 use Rattle.ccr_wiring.specs.SpotWords.{branch_names, spot_word}
-use Rattle.ccr_report.specs.Counting.{taken_at, put_at, dropped_at}
+use Rattle.ccr_report.specs.Counting.{taken_at, dropped_at}
+use Rattle.ccr_model.specs.Tasks.{put_into}
 
 -- the line of a port
 abbrev pub port_words : List Event → ℕ → List ℕ → List (List ℕ)
@@ -28,7 +29,7 @@ spot_words branches history spot = codes "branch" ∷ spot_word branches spot �
 
 -- the line of a queue
 abbrev pub queue_words : Parts → List Event → ℕ → QueuePart → List (List ℕ)
-queue_words wiring history queue part = codes "queue" ∷ part.name ∷ codes "put" ∷ decimal (length (put_at wiring history queue)) ∷ codes "dropped" ∷ decimal (length (dropped_at wiring history queue)) ∷ []
+queue_words wiring history queue part = codes "queue" ∷ part.name ∷ codes "put" ∷ decimal (length (put_into wiring history queue)) ∷ codes "dropped" ∷ decimal (length (dropped_at wiring history queue)) ∷ []
 
 -- the lines of the queues, of which the first has this number
 abbrev pub queue_lines : Parts → List Event → ℕ → List QueuePart → List (List (List ℕ))

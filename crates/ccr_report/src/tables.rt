@@ -4,7 +4,8 @@ ghost use Rattle.std.specs.Prelude.{◌≡◌, ◌<◌, ℕ, IfOk, length, slice
 ghost use Rattle.std.specs.HashMap.{get};
 ghost use Rattle.ccr_base.specs.Names.{same_task};
 ghost use Rattle.ccr_model.specs.Posts.{posted, held};
-ghost use Rattle.ccr_report.specs.Counting.{times, put_at, dropped_at, branch_queues, queues_by};
+ghost use Rattle.ccr_report.specs.Counting.{times, dropped_at, branch_queues, queues_by};
+ghost use Rattle.ccr_model.specs.Tasks.{put_into};
 
 use crate::messages::{held_ports, posted_ports};
 use crate::tally::tally;
@@ -57,7 +58,7 @@ pub(crate) fn queue_counts(
 ) -> Result<QueueCounts, OutOfMemory>
     ensures put_len { IfOk result (λ counts. length counts.put.items ≡ length parts.now.queues) }
     ensures dropped_len { IfOk result (λ counts. length counts.dropped.items ≡ length parts.now.queues) }
-    ensures put { IfOk result (λ counts. (k : ℕ) → k < length parts.now.queues → slice_index counts.put.items k ≡ length (put_at parts.now events.now k)) }
+    ensures put { IfOk result (λ counts. (k : ℕ) → k < length parts.now.queues → slice_index counts.put.items k ≡ length (put_into parts.now events.now k)) }
     ensures dropped { IfOk result (λ counts. (k : ℕ) → k < length parts.now.queues → slice_index counts.dropped.items k ≡ length (dropped_at parts.now events.now k)) }
 {
     let spots = spots_of_tasks(alloc, events)?;

@@ -30,18 +30,18 @@ use Rattle.ccr_runs.specs.declared.entries.Entry.{Entry}
 use Rattle.ccr_runs.specs.Places.{note_of, queue_note}
 use Rattle.ccr_runs.specs.EntryRuns.{IsRunAfter, Lacks, made_by, notes_at, reply_of, reply_to, same_place, state_of}
 use Rattle.ccr_runs.specs.Visible.{visible}
-use Rattle.ccr_net.proofs.Kept.Assembly.{Holds, begins, IsBegun}
-use Rattle.ccr_net.proofs.Parts.Booking.{in-less, in-more}
+use Rattle.ccr_net.proofs.Kept.WholeInvariant.{Holds, begins, IsBegun}
+use Rattle.ccr_net.proofs.Parts.TasksAreBookedOnce.{in-less, in-more}
 use Rattle.ccr_net.proofs.Parts.Invariant.{IsOwed}
-use Rattle.ccr_net.proofs.Parts.Meter.{bit}
-use Rattle.ccr_net.proofs.Parts.Noted.{Given, given_some}
-use Rattle.ccr_net.proofs.Owed.NotedOvers.{is_over_ask}
-use Rattle.ccr_net.proofs.Owed.Owing.{is_quiet}
-use Rattle.ccr_net.proofs.Owed.Bookings.{is_booked_at}
-use Rattle.ccr_net.proofs.Played.Places.{same_place-is}
-use Rattle.ccr_net.proofs.Played.Runs.{run_on}
-use Rattle.ccr_net.proofs.Played.Whole.{run_holds}
-use Rattle.ccr_net.proofs.Parts.Pushes.{IsNextState, Step, Step-made, along_run, queue_at, queue_at-push, state_of-own}
+use Rattle.ccr_net.proofs.Parts.MeterMatches.{bit}
+use Rattle.ccr_net.proofs.Parts.NotesGiven.{Given, given_some}
+use Rattle.ccr_net.proofs.Owed.NotedOversAreOver.{is_over_ask}
+use Rattle.ccr_net.proofs.Owed.EntriesChangeOwing.{is_quiet}
+use Rattle.ccr_net.proofs.Owed.PutTasksAreBooked.{is_booked_at}
+use Rattle.ccr_net.proofs.Played.PlacesByNumber.{same_place-is}
+use Rattle.ccr_net.proofs.Played.PlayedRunsAreRuns.{run_on}
+use Rattle.ccr_net.proofs.Played.HoldersOfTasksAnswer.{run_holds}
+use Rattle.ccr_net.proofs.Parts.OneMoreEntry.{IsNextState, Step, Step-made, along_run, queue_at, queue_at-push, state_of-own}
 use Rattle.ccr_rests.specs.Ends.{EndsBooking, EndsOnce, MayPut, MayUnbook, booked_by, tells, unbooked_by}
 use Rattle.ccr_rests.specs.Keeping.{queue_in}
 use Rattle.ccr_rests.proofs.BroughtHands.{HandsBrought, IsBrought, hands_brought-kept}

@@ -25,11 +25,11 @@ use Rattle.ccr_runs.specs.declared.entries.Entry.{Entry}
 use Rattle.ccr_runs.specs.EntryRuns.{Lacks, reply_of, state_of, waits}
 use Rattle.ccr_runs.specs.Views.{cut_view, view}
 use Rattle.ccr_runs.specs.Visible.{visible}
-use Rattle.ccr_net.proofs.Parts.ActorSteps.{unfired}
-use Rattle.ccr_net.proofs.Kept.Assembly.{Holds}
-use Rattle.ccr_net.proofs.Owed.GoingOn.{Worked, worked}
-use Rattle.ccr_net.proofs.Owed.Moves.{Move, settles, drops, admits, strikes, books, claims, fires, gives_up, goes, handed, moved}
-use Rattle.ccr_net.proofs.Parts.Pushes.{IsNextState, Step, state_of-own, state_of-other}
+use Rattle.ccr_net.proofs.Parts.StepsKeepActors.{unfired}
+use Rattle.ccr_net.proofs.Kept.WholeInvariant.{Holds}
+use Rattle.ccr_net.proofs.Owed.WorkKeepsStates.{Worked, worked}
+use Rattle.ccr_net.proofs.Owed.EntriesAreMoves.{Move, settles, drops, admits, strikes, books, claims, fires, gives_up, goes, handed, moved}
+use Rattle.ccr_net.proofs.Parts.OneMoreEntry.{IsNextState, Step, state_of-own, state_of-other}
 use Rattle.ccr_rests.specs.Ends.{admitted_by, cut_by, has_told}
 use Rattle.ccr_rests.proofs.Fires.{IsFiring, fire_counts, fired_then}
 use Rattle.ccr_rests.proofs.Rising.{Rises, fires_itself, rises_next}

@@ -27,17 +27,17 @@ use Rattle.ccr_runs.specs.declared.entries.Entry.{Entry}
 use Rattle.ccr_runs.specs.Places.{note_of, port_note}
 use Rattle.ccr_runs.specs.EntryRuns.{IsRunAfter, Lacks, made_by, notes_at, port_at, same_place, state_of}
 use Rattle.ccr_runs.specs.Visible.{visible}
-use Rattle.ccr_net.proofs.Kept.Assembly.{Holds}
+use Rattle.ccr_net.proofs.Kept.WholeInvariant.{Holds}
 use Rattle.ccr_net.proofs.Parts.Invariant.{IsOwed}
-use Rattle.ccr_net.proofs.Parts.Meter.{bit}
-use Rattle.ccr_net.proofs.Parts.Noted.{Given, given_some}
-use Rattle.ccr_net.proofs.Owed.NotedOvers.{is_over_ask}
-use Rattle.ccr_net.proofs.Owed.Owing.{is_quiet}
-use Rattle.ccr_net.proofs.Owed.Claims.{is_claimed}
-use Rattle.ccr_net.proofs.Played.Places.{same_place-is}
-use Rattle.ccr_net.proofs.Played.Runs.{run_on}
-use Rattle.ccr_net.proofs.Played.Whole.{run_holds}
-use Rattle.ccr_net.proofs.Parts.Pushes.{Step, Step-made, along_run, port_at-push}
+use Rattle.ccr_net.proofs.Parts.MeterMatches.{bit}
+use Rattle.ccr_net.proofs.Parts.NotesGiven.{Given, given_some}
+use Rattle.ccr_net.proofs.Owed.NotedOversAreOver.{is_over_ask}
+use Rattle.ccr_net.proofs.Owed.EntriesChangeOwing.{is_quiet}
+use Rattle.ccr_net.proofs.Owed.OwedClaimsStand.{is_claimed}
+use Rattle.ccr_net.proofs.Played.PlacesByNumber.{same_place-is}
+use Rattle.ccr_net.proofs.Played.PlayedRunsAreRuns.{run_on}
+use Rattle.ccr_net.proofs.Played.HoldersOfTasksAnswer.{run_holds}
+use Rattle.ccr_net.proofs.Parts.OneMoreEntry.{Step, Step-made, along_run, port_at-push}
 use Rattle.ccr_rests.specs.Ends.{EndsClaim, EndsOnce, claimed_by, tells, unclaimed_by}
 use Rattle.ccr_rests.proofs.EntryCounts.{AreOwn, Parted, count, count-push, ends_once, low_actors, own-push, parted, some_telling}
 use Rattle.ccr_rests.proofs.NoteKinds.{kind_asked, kind_noted}

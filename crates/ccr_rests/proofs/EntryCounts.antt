@@ -11,8 +11,8 @@ use Rattle.ccr_model.proofs.Members.{Among, Among-either}
 use Rattle.ccr_places.specs.declared.notes.Note.{Note}
 use Rattle.ccr_runs.specs.declared.entries.Entry.{Entry}
 use Rattle.ccr_runs.specs.EntryRuns.{Lacks, IsRunAfter, made_by, same_place}
-use Rattle.ccr_net.proofs.Parts.Meter.{bit}
-use Rattle.ccr_net.proofs.Parts.Noted.{filter_among}
+use Rattle.ccr_net.proofs.Parts.MeterMatches.{bit}
+use Rattle.ccr_net.proofs.Parts.NotesGiven.{filter_among}
 use Rattle.ccr_rests.specs.Ends.{EndsOnce, tells, telling, telling_of}
 
 abbrev pub count : (Note → List TaskId) → Place → TaskId → List Entry → ℕ

@@ -21,9 +21,9 @@ use Rattle.ccr_runs.specs.declared.entries.Entry.{Entry}
 use Rattle.ccr_runs.specs.EntryRuns.{Lacks, notes_at, reply_of, reply_to, same_place, state_of, waits}
 use Rattle.ccr_runs.specs.Views.{cut_view, view}
 use Rattle.ccr_runs.specs.Visible.{event_of, shown, visible}
-use Rattle.ccr_net.proofs.Kept.Assembly.{Holds}
-use Rattle.ccr_net.proofs.Parts.Meter.{bit}
-use Rattle.ccr_net.proofs.Parts.Pushes.{Step, visible-push}
+use Rattle.ccr_net.proofs.Kept.WholeInvariant.{Holds}
+use Rattle.ccr_net.proofs.Parts.MeterMatches.{bit}
+use Rattle.ccr_net.proofs.Parts.OneMoreEntry.{Step, visible-push}
 use Rattle.ccr_rests.specs.Ends.{fired_by, tells}
 use Rattle.ccr_rests.proofs.EntryCounts.{count, count-first}
 use Rattle.ccr_rests.proofs.NoteKinds.{kind_noted}

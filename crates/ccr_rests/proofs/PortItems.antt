@@ -28,9 +28,9 @@ use Rattle.ccr_runs.specs.declared.entries.Entry.{Entry}
 use Rattle.ccr_runs.specs.Places.{note_of, port_note}
 use Rattle.ccr_runs.specs.EntryRuns.{IsRunAfter, Lacks, made_by, notes_at, port_at, same_place}
 use Rattle.ccr_runs.specs.Visible.{event_of, shown, visible}
-use Rattle.ccr_net.proofs.Parts.Noted.{filter_among, given_some}
-use Rattle.ccr_net.proofs.Played.Places.{same_place-is}
-use Rattle.ccr_net.proofs.Parts.Pushes.{Step, Step-made, along_run, port_at-push, visible-push}
+use Rattle.ccr_net.proofs.Parts.NotesGiven.{filter_among, given_some}
+use Rattle.ccr_net.proofs.Played.PlacesByNumber.{same_place-is}
+use Rattle.ccr_net.proofs.Parts.OneMoreEntry.{Step, Step-made, along_run, port_at-push, visible-push}
 
 pub among_fitting : (k : ℕ) (pred : Pred) (ms : List Msg) (m : Msg) → Among m (first_fitting k pred ms) → Among m ms
 among_fitting k pred ms m is = filter_among (λ (x : Msg). holds pred x.value) ms m (Among-take k (fitting pred ms) m is)

@@ -30,7 +30,7 @@ use Rattle.ccr_model.proofs.Allowing.{OneName-legal}
 use Rattle.ccr_base.proofs.Booleans.{or_left, or_right, same_number}
 use Rattle.ccr_model.proofs.Cutting.{AdmitFacts, AdmitFacts-allowed}
 use Rattle.ccr_model.proofs.FiredTasks.{IsFired, IsFired-append, fired_has}
-use Rattle.ccr_model.proofs.FiringFacts.{FiresSo-allowed, WaitingFacts, WaitingFacts-waiting, fired_by_named, firing_named-new}
+use Rattle.ccr_model.proofs.AllowedFirings.{FiresSo-allowed, WaitingFacts, WaitingFacts-waiting, fired_by_named, firing_named-new}
 use Rattle.ccr_model.proofs.Members.{Among}
 use Rattle.ccr_model.proofs.Pushes.{cut-push, dropped-push, started-push}
 use Rattle.ccr_model.proofs.SameNames.{same_task-self}
@@ -58,25 +58,25 @@ use Rattle.ccr_runs.specs.Places.{arbiter_after, commit_note, first_branch, inte
 use Rattle.ccr_runs.specs.EntryRuns.{IsRunAfter, Lacks, made_by, notes_at, port_at, reply_of, reply_to, state_of, waits}
 use Rattle.ccr_runs.specs.Views.{cut_view, view}
 use Rattle.ccr_runs.specs.Visible.{event_of, shown, visible}
-use Rattle.ccr_net.proofs.Parts.Arbiter.{fired_note, fired_there, is_of, kept_shape, none_at_first}
-use Rattle.ccr_net.proofs.Kept.Assembly.{Holds}
-use Rattle.ccr_net.proofs.Parts.DomainHistory.{cut_fired}
-use Rattle.ccr_net.proofs.Known.Asks.{IsNamed}
-use Rattle.ccr_net.proofs.Known.Causes.{AreFine, all_of, fine_causes, posted_fine}
-use Rattle.ccr_net.proofs.Known.Runs.{next_named}
-use Rattle.ccr_net.proofs.Known.Tasks.{view_known, view_queue}
-use Rattle.ccr_net.proofs.Parts.Noted.{Given, filter_among, given_some}
-use Rattle.ccr_net.proofs.Owed.Once.{last_allowed}
-use Rattle.ccr_net.proofs.Played.Runs.{run_on}
-use Rattle.ccr_net.proofs.Played.Whole.{run_holds}
-use Rattle.ccr_net.proofs.Parts.Pushes.{Step, Step-made, visible-push}
+use Rattle.ccr_net.proofs.Parts.ArbitersMatch.{fired_note, fired_there, is_of, kept_shape, none_at_first}
+use Rattle.ccr_net.proofs.Kept.WholeInvariant.{Holds}
+use Rattle.ccr_net.proofs.Parts.EventsChangeDomains.{cut_fired}
+use Rattle.ccr_net.proofs.Known.AsksAreKnown.{IsNamed}
+use Rattle.ccr_net.proofs.Known.CausesAreKnown.{AreFine, all_of, fine_causes, posted_fine}
+use Rattle.ccr_net.proofs.Known.RunsAreKnown.{next_named}
+use Rattle.ccr_net.proofs.Known.TasksAreKnown.{view_known, view_queue}
+use Rattle.ccr_net.proofs.Parts.NotesGiven.{Given, filter_among, given_some}
+use Rattle.ccr_net.proofs.Owed.OwedByOneOnce.{last_allowed}
+use Rattle.ccr_net.proofs.Played.PlayedRunsAreRuns.{run_on}
+use Rattle.ccr_net.proofs.Played.HoldersOfTasksAnswer.{run_holds}
+use Rattle.ccr_net.proofs.Parts.OneMoreEntry.{Step, Step-made, visible-push}
 use Rattle.ccr_rests.specs.Replies.{HasRetired, IsCutOf, IsHanded, IsItem, NamesKnown}
 use Rattle.ccr_rests.proofs.ClaimsOnce.{claimed_low}
 use Rattle.ccr_rests.proofs.NoteKinds.{kind_asked, kind_noted}
 use Rattle.ccr_rests.proofs.EntryCounts.{passing}
 use Rattle.ccr_rests.proofs.PortItems.{Contains-among, all_posted, among_fitting, posted_on}
 use Rattle.ccr_rests.proofs.Rising.{Tries, tries}
-use Rattle.ccr_net.proofs.Owed.Overs.{first_has}
+use Rattle.ccr_net.proofs.Owed.OversMayBeNoted.{first_has}
 
 -- ---- what retired an arbiter's branches
 

@@ -20,14 +20,14 @@ use Rattle.ccr_actor.specs.Actors.{State, Turn, settle, admit, drive, go_on, sto
 use Rattle.ccr_runs.specs.declared.entries.Entry.{Entry}
 use Rattle.ccr_runs.specs.EntryRuns.{Lacks, notes_at, reply_of, state_of}
 use Rattle.ccr_runs.specs.Visible.{visible}
-use Rattle.ccr_net.proofs.Kept.Assembly.{Holds, hand_settles}
-use Rattle.ccr_net.proofs.Owed.GoingOn.{Worked, worked}
+use Rattle.ccr_net.proofs.Kept.WholeInvariant.{Holds, hand_settles}
+use Rattle.ccr_net.proofs.Owed.WorkKeepsStates.{Worked, worked}
 use Rattle.ccr_net.proofs.Parts.Invariant.{IsOwed}
-use Rattle.ccr_net.proofs.Owed.Moves.{Move, settles, drops, admits, strikes, books, claims, fires, gives_up, goes, moved, IsCommitNote, commit_notes}
-use Rattle.ccr_net.proofs.Parts.Noted.{Given}
-use Rattle.ccr_net.proofs.Owed.NotedOvers.{is_over_ask}
-use Rattle.ccr_net.proofs.Owed.Owing.{is_quiet, work_asks, WorkAsks}
-use Rattle.ccr_net.proofs.Parts.Pushes.{IsNextState, Step, state_of-own, state_of-other}
+use Rattle.ccr_net.proofs.Owed.EntriesAreMoves.{Move, settles, drops, admits, strikes, books, claims, fires, gives_up, goes, moved, IsCommitNote, commit_notes}
+use Rattle.ccr_net.proofs.Parts.NotesGiven.{Given}
+use Rattle.ccr_net.proofs.Owed.NotedOversAreOver.{is_over_ask}
+use Rattle.ccr_net.proofs.Owed.EntriesChangeOwing.{is_quiet, work_asks, WorkAsks}
+use Rattle.ccr_net.proofs.Parts.OneMoreEntry.{IsNextState, Step, state_of-own, state_of-other}
 use Rattle.ccr_rests.proofs.NoteKinds.{kind_asked, kind_noted}
 use Rattle.ccr_rests.proofs.Turned.{Turned, quietly, admitting, driving, turned}
 

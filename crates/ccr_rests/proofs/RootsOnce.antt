@@ -19,7 +19,7 @@ use Rattle.ccr_model.specs.Firings.{Firing, fired, firing_named}
 use Rattle.ccr_model.specs.Tasks.{is_branch_where}
 use Rattle.ccr_model.proofs.Allowing.{OneName-legal}
 use Rattle.ccr_base.proofs.Booleans.{both, eq-self, no_both, or_left, same_number}
-use Rattle.ccr_model.proofs.FiringFacts.{BranchFacts, BranchFacts-where, fired_by_named}
+use Rattle.ccr_model.proofs.AllowedFirings.{BranchFacts, BranchFacts-where, fired_by_named}
 use Rattle.ccr_model.proofs.FiredTasks.{IsFired, IsFired-append, placement_stays}
 use Rattle.ccr_model.proofs.Members.{Among, Among-either, Among-left, Among-right}
 use Rattle.ccr_model.proofs.SameNames.{same_task-is, same_task-self}
@@ -40,23 +40,23 @@ use Rattle.ccr_runs.specs.Places.{arbiter_after, arbiter_note, commit_note, firs
 use Rattle.ccr_runs.specs.EntryRuns.{IsRunAfter, Lacks, made_by, notes_at, port_at, same_place, state_of}
 use Rattle.ccr_runs.specs.Views.{domain_of_task}
 use Rattle.ccr_runs.specs.Visible.{event_of, visible}
-use Rattle.ccr_net.proofs.Parts.ActorSteps.{unfired}
-use Rattle.ccr_net.proofs.Parts.Arbiter.{fired_note, fired_there, is_of, none_at_first}
-use Rattle.ccr_net.proofs.Kept.Assembly.{Holds}
-use Rattle.ccr_net.proofs.Parts.Booking.{in-less, in-more}
-use Rattle.ccr_net.proofs.Parts.Meter.{bit}
-use Rattle.ccr_net.proofs.Parts.Noted.{given_some}
-use Rattle.ccr_net.proofs.Owed.NotedOvers.{is_over_ask, noted_other, noted_over}
-use Rattle.ccr_net.proofs.Played.Places.{same_place-is}
-use Rattle.ccr_net.proofs.Played.Runs.{run_on}
-use Rattle.ccr_net.proofs.Played.Whole.{run_holds}
-use Rattle.ccr_net.proofs.Parts.Pushes.{Step, Step-made, along_run, notes_at-push, visible-push}
+use Rattle.ccr_net.proofs.Parts.StepsKeepActors.{unfired}
+use Rattle.ccr_net.proofs.Parts.ArbitersMatch.{fired_note, fired_there, is_of, none_at_first}
+use Rattle.ccr_net.proofs.Kept.WholeInvariant.{Holds}
+use Rattle.ccr_net.proofs.Parts.TasksAreBookedOnce.{in-less, in-more}
+use Rattle.ccr_net.proofs.Parts.MeterMatches.{bit}
+use Rattle.ccr_net.proofs.Parts.NotesGiven.{given_some}
+use Rattle.ccr_net.proofs.Owed.NotedOversAreOver.{is_over_ask, noted_other, noted_over}
+use Rattle.ccr_net.proofs.Played.PlacesByNumber.{same_place-is}
+use Rattle.ccr_net.proofs.Played.PlayedRunsAreRuns.{run_on}
+use Rattle.ccr_net.proofs.Played.HoldersOfTasksAnswer.{run_holds}
+use Rattle.ccr_net.proofs.Parts.OneMoreEntry.{Step, Step-made, along_run, notes_at-push, visible-push}
 use Rattle.ccr_rests.specs.Ends.{EndsOnce, fired_by, over_by, tells, telling_of}
 use Rattle.ccr_rests.proofs.BookingsOnce.{less}
 use Rattle.ccr_rests.proofs.EntryCounts.{AreOwn, Parted, count, count-first, count-push, ends_once, none_else, own-push, parted}
 use Rattle.ccr_rests.proofs.Fires.{IsFiring, fired_told, firing_told, told_firing}
 use Rattle.ccr_rests.proofs.Rising.{fires_itself}
-use Rattle.ccr_net.proofs.Owed.Overs.{arbiter-push, domain-push}
+use Rattle.ccr_net.proofs.Owed.OversMayBeNoted.{arbiter-push, domain-push}
 
 -- ---- a note at a receiver or a choice
 

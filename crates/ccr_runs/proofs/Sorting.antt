@@ -35,10 +35,6 @@ module _ {N : Type 0} where
       (λ y. let l = c.0 in omega arith)
       (λ n. let l = c.0 in let g = lowest x.stamp s xs h rest c.1 (sym (other s x xs n) ∙ e) in omega arith)
 
-  none_below : (a s : ℕ) (hs : List (Held N)) → Rises a (history_stamps hs) → s ≤ a → at_stamp s hs ≡ []
-  none_below a s [] r h = refl
-  none_below a s (x ∷ xs) r h = let l = r.0 in other s x xs (λ e. omega arith) ∙ none_below x.stamp s xs r.1 (omega arith)
-
   above_all : (a s : ℕ) (hs : List (Held N)) (h : Held N) (rest : List (Held N)) → Rises a (history_stamps hs) → at_stamp s hs ≡ h ∷ rest → a < s
   above_all a s [] h rest c e = absurd (cc)
   above_all a s (x ∷ xs) h rest c e = dite (ℕ_discrete x.stamp s)
@@ -66,9 +62,6 @@ module _ {N : Type 0} where
       let p = lowest x.stamp y.stamp xs y (at_stamp y.stamp ys) c.1 theirs in
       let q = above_all y.stamp x.stamp ys x (at_stamp x.stamp xs) r.1 ours in
       absurd (omega arith))
-
-  abbrev cut : (p s : ℕ) → Act N → List (Held N) → List (Held N)
-  cut p s e hs = cond (eqb e.place p) (cond (eqb e.stamp s) (held e ∷ hs) hs) hs
 
   -- the place's part of those of one stamp
   stamped_part : (p s : ℕ) (es : List (Act N)) → at_stamp s (history_at p es) ≡ history_at p (filter (λ e. eqb e.stamp s) es)

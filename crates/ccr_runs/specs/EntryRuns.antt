@@ -16,6 +16,8 @@ use Rattle.ccr_places.specs.Ports.{PortState, first_fitting}
 use Rattle.ccr_claim.specs.declared.asks.Reply.{Reply}
 use Rattle.ccr_claim.specs.declared.asks.Reply.TheVariants as replies
 use Rattle.ccr_claim.specs.declared.asks.Asked.{Asked}
+use Rattle.ccr_object.specs.Meters.{draw_reply}
+use Rattle.ccr_object.specs.Queues.{book_reply}
 use Rattle.ccr_actor.specs.Actors.{State, state_after, next}
 use Rattle.ccr_runs.specs.declared.entries.Entry.{Entry}
 use Rattle.ccr_runs.specs.Visible.{visible}
@@ -54,16 +56,6 @@ abbrev pub claim_reply : Slot → PortState → ClaimNote → Reply
 claim_reply slot port (Got n) = replies.Got (first_fitting n slot.pred port.items)
 claim_reply slot port (Busy task) = replies.Busy task
 claim_reply slot port (Short n) = replies.Short n
-
--- how a booking is told: booked, or that so many are there already
-abbrev pub book_reply : Option ℕ → Reply
-book_reply None = replies.Booked
-book_reply (Some n) = replies.Full n
-
--- how a draw is told: the number drawn, or that the budget is spent
-abbrev pub draw_reply : Option ℕ → Reply
-draw_reply None = replies.Spent
-draw_reply (Some n) = replies.Drawn n
 
 -- the reply that goes with the note, after these notes of the place, with the data of the history
 abbrev pub reply_to : Parts → List Event → List Note → Note → Reply

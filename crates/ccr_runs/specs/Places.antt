@@ -6,7 +6,6 @@ use Rattle.ccr_base.specs.declared.names.MsgId.{MsgId}
 use Rattle.ccr_base.specs.declared.names.Place.{Place}
 use Rattle.ccr_base.specs.declared.names.Place.TheVariants as places
 use Rattle.ccr_base.specs.declared.policies.Group.{Group}
-use Rattle.ccr_base.specs.declared.policies.Group.TheVariants as groups
 use Rattle.ccr_base.specs.declared.tasks.By.{By}
 use Rattle.ccr_base.specs.declared.tasks.Task.{Task}
 use Rattle.ccr_wiring.specs.declared.parts.ArbiterPart.{ArbiterPart}
@@ -14,6 +13,7 @@ use Rattle.ccr_wiring.specs.declared.parts.BranchPart.{BranchPart}
 use Rattle.ccr_wiring.specs.declared.parts.Kind.{Kind}
 use Rattle.ccr_wiring.specs.declared.parts.Kind.TheVariants as kinds
 use Rattle.ccr_wiring.specs.declared.parts.Parts.{Parts}
+use Rattle.ccr_wiring.specs.Groups.{is_once}
 use Rattle.ccr_wiring.specs.Wirings.{Placement, placements, policy_of}
 use Rattle.ccr_model.specs.Interleaves.{is_placement_in}
 use Rattle.ccr_places.specs.declared.notes.Note.{Note}
@@ -48,15 +48,6 @@ branches_before (suc number) (part ∷ parts) = length part.branches + branches_
 -- the number of the arbiter's first branch
 abbrev pub first_branch : Parts → ℕ → ℕ
 first_branch wiring number = branches_before number wiring.arbiters
-
--- whether the group fires once at most
-abbrev pub is_once : Group → Bool
-is_once groups.Once = true
-is_once groups.Always = false
-is_once groups.Choice = false
-is_once groups.Teardown = false
-is_once groups.Exclusive = false
-is_once groups.Concurrent = false
 
 -- whether the first branch fires but once
 abbrev pub fires_once : List BranchPart → Bool

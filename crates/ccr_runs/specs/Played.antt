@@ -15,9 +15,9 @@ use Rattle.ccr_object.specs.declared.deed.Deed.{Deed}
 use Rattle.ccr_object.specs.declared.object.Placed.{Placed}
 use Rattle.ccr_object.specs.Objects.{after_deed, note_of, nothing, reply_of}
 use Rattle.ccr_object.specs.Starts.{placed_at, places_of}
-use Rattle.ccr_turns.specs.declared.history.Mark.{Mark}
+use Rattle.ccr_turns.specs.declared.history.LogEntry.{LogEntry}
 use Rattle.ccr_runs.specs.declared.acts.Act.{Act}
-use Rattle.ccr_runs.specs.Runs.{Rules, state_after}
+use Rattle.ccr_runs.specs.Runs.{Protocol, state_after}
 use Rattle.ccr_runs.specs.Stories.{Scene, story}
 use Rattle.ccr_runs.specs.declared.entries.Entry.{Entry}
 use Rattle.ccr_runs.specs.EntryRuns.{Lacks, same_place}
@@ -59,8 +59,8 @@ abbrev pub next_of : Parts → Lacks → Heard → Option (ℕ × Ask)
 next_of wiring lacks s = option_map (numbered wiring) (next wiring s.actor (lacks s.actor) s.given)
 
 -- the objects give what they answer, and the actors ask what comes next
-abbrev pub rules : Parts → Lacks → Rules Deed Placed Ask PlaceAnswer Heard
-rules wiring lacks = record {
+abbrev pub protocol : Parts → Lacks → Protocol Deed Placed Ask PlaceAnswer Heard
+protocol wiring lacks = record {
   after = after_deed;
   asked = λ (deed : Deed). deed.ask.value;
   replied = λ (place : Placed) (deed : Deed). reply_of place deed.ask.value;
@@ -76,7 +76,7 @@ scene wiring number = (option_map_or (placed_at wiring) (slice_get (places_of wi
 
 -- what the actor was replied in these acts
 abbrev pub given_in : Parts → Lacks → List (Act Deed) → ℕ → List Reply
-given_in wiring lacks acts actor = (state_after (rules wiring lacks) (record { actor = actor; given = [] }) (story after_deed actor (scene wiring) acts)).given
+given_in wiring lacks acts actor = (state_after (protocol wiring lacks) (record { actor = actor; given = [] }) (story after_deed actor (scene wiring) acts)).given
 
 -- ---- the steps of an actor
 
@@ -86,8 +86,8 @@ reply_in (Replied reply) = Some reply
 reply_in Unmet = None
 
 -- the step of an act: what it asked at its place, and what it was replied
-abbrev pub step_of : Parts → Mark Deed Placed → Option Step
-step_of wiring mark = option_map (λ reply. record { asked = record { place = place_at wiring mark.place; ask = mark.note.ask.value }; reply = reply }) (reply_in (reply_of mark.before mark.note.ask.value))
+abbrev pub step_of : Parts → LogEntry Deed Placed → Option Step
+step_of wiring log_entry = option_map (λ reply. record { asked = record { place = place_at wiring log_entry.place; ask = log_entry.note.ask.value }; reply = reply }) (reply_in (reply_of log_entry.before log_entry.note.ask.value))
 
 -- the actor's steps in these acts
 abbrev pub steps_in : Parts → List (Act Deed) → ℕ → List Step

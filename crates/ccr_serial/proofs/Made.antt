@@ -1,5 +1,5 @@
 -- What an engine that keeps its history knows of the engine that makes it.
-use Rattle.std.proofs.Common.{◌≡◌, Bool, true, false, List, [], ◌∷◌, ◌++◌, Option, Some, ap, ◌∙◌}
+use Rattle.std.proofs.Common.{◌≡◌, Bool, true, List, [], ◌∷◌, ◌++◌, Option, Some, ap, ◌∙◌}
 use Rattle.ccr_model.specs.declared.history.Event.{Event}
 use Rattle.ccr_model.specs.Order.{with_first}
 use Rattle.ccr_engine.specs.Engine.{Engine, IsSound, next_event, next_engine}
@@ -15,7 +15,3 @@ pub IsMade-entered : (s made : Engine) (h : List Event) (e : Event) → IsSound 
 IsMade-entered s made h e sound is entered more =
     let same : made ≡ record s { history = s.history ++ e ∷ [] } = entered ∙ ap (λ (o : Option Event). record s { history = with_first s.history o }) is in
     record { sound = IsSound-pushed s sound e is h more; so_far = λ current. rw more same }
-
--- and where a call found no memory
-pub IsMade-lost : (s made : Engine) → IsSound s → IsMade s made false
-IsMade-lost s made sound = record { sound = sound; so_far = λ current. absurd (cc) }

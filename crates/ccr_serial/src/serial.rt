@@ -227,7 +227,7 @@ impl<'w> Serial<'w> {
     }
 
     /// The same, and the tables of the history.
-    pub fn finish_with_tables(mut self) -> Result<(History, Ledger), OutOfMemory>
+    fn finish_with_tables(mut self) -> Result<(History, Ledger), OutOfMemory>
         ensures finished { IfOk result (λ made. IsFinished self.entry.wiring self.entry.closer self.entry.history made.0) }
         ensures legal { IfOk result (λ made. IsLegal self.entry.wiring made.0) }
         ensures complete { IfOk result (λ made. is_complete self.entry.wiring made.0 ≡ true) }

@@ -30,7 +30,8 @@ use Rattle.ccr_model.specs.TaskData.{play_of}
 use Rattle.ccr_model.specs.Tasks.{waiting, running, has_post_left}
 use Rattle.ccr_model.specs.Rules.{may_end, may_shed, ends_so, is_shed}
 use Rattle.ccr_model.specs.Fates.{state_of, taker, fate, fate_of}
-use Rattle.ccr_model.specs.Legal.{IsLegal, IsQuiet, is_complete, has_shed, is_shed_end}
+use Rattle.ccr_model.specs.Legal.{IsLegal, IsQuiet, is_complete, has_shed}
+use Rattle.ccr_model.specs.Counts.{is_shed as is_shed_end}
 use Rattle.ccr_model.proofs.Allowing.{OneName-legal}
 use Rattle.ccr_base.proofs.Booleans.{both, no_both, or_left, or_right, refuted, eq-self, not_true, same_number, or_none}
 use Rattle.ccr_base.proofs.Options.{some-below}
@@ -433,7 +434,7 @@ served_whole s served h legal complete quiet =
     record {
       unshed = none_shed s sound_so.apart served.few_asks h legal complete;
       still = still (expansion s) (one_queue s) (awaits_none s) few h legal quiet;
-      answered = λ client index part ask op is_client is_ask is_op. one_answer s h client index ask op (request_of s served h legal complete quiet client index part ask op is_client is_ask is_op) complete;
+      answered = λ client index part ask op its. one_answer s h client index ask op (request_of s served h legal complete quiet client index part ask op its.0 its.1 its.2) complete;
     }
 
 -- ---- by the first post alone

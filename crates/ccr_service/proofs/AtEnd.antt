@@ -33,7 +33,6 @@ use Rattle.ccr_model.specs.Tasks.{fired_by, coming, waiting, running, is_teardow
 use Rattle.ccr_model.specs.Live.{is_live, is_live_in, has_room, has_room_in, is_none_of}
 use Rattle.ccr_model.specs.Enough.{can_take, can_fire, has_enough}
 use Rattle.ccr_model.specs.Fates.{state_of}
-use Rattle.ccr_model.specs.Order.{fire_at, fire_from}
 use Rattle.ccr_model.specs.Legal.{IsLegal}
 use Rattle.ccr_model.proofs.Allowing.{OneName-legal}
 use Rattle.ccr_base.proofs.Booleans.{no_both, or_left}
@@ -45,7 +44,7 @@ use Rattle.ccr_model.proofs.TasksLeft.{of_without, out_left}
 use Rattle.ccr_model.proofs.SameNames.{same_task-self}
 use Rattle.ccr_laws.specs.OneFate.{IsIn, HasEnded}
 use Rattle.ccr_model.proofs.TaskLists.{out_right, among_right, no_members}
-use Rattle.ccr_model.proofs.FiringFacts.{fired_by_named, BranchFacts-where}
+use Rattle.ccr_model.proofs.AllowedFirings.{fired_by_named, BranchFacts-where}
 use Rattle.ccr_model.proofs.Ending.{AreEnded-legal}
 use Rattle.ccr_laws.proofs.States.{is_in}
 use Rattle.ccr_service.specs.declared.parts.OpPart.{OpPart}

@@ -22,7 +22,7 @@ use Rattle.ccr_wiring.specs.declared.parts.Kind.TheVariants as kinds
 use Rattle.ccr_wiring.specs.Groups.{may_have}
 use Rattle.ccr_wiring.specs.Limits.{policy_is_outside, is_outside}
 use Rattle.ccr_wiretext.specs.Reading.{at_line}
-use Rattle.ccr_wiretext.proofs.Steps.{bind_ok as then_ok}
+use Rattle.ccr_wiretext.proofs.ReadTellsSteps.{bind_ok as then_ok}
 use Rattle.ccr_base.proofs.Booleans.{both, no_both}
 use Rattle.ccr_base.proofs.Lists.{all_more}
 use Rattle.ccr_model.proofs.Members.{Among, Among-either, all_from}

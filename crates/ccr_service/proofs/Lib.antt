@@ -16,4 +16,4 @@ pub mod Fitting
 pub mod Tellings
 pub mod TellingAll
 pub mod Keeping
-pub mod Said
+pub mod ReadingIsExact

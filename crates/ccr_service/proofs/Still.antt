@@ -26,7 +26,7 @@ use Rattle.ccr_model.proofs.SameNames.{same_task-self, same_task-is}
 use Rattle.ccr_model.specs.Interleaves.{is_placement_in}
 use Rattle.ccr_model.proofs.TaskLists.{to_filter, to_without, not_more, no_members}
 use Rattle.ccr_model.proofs.TaskPlaces.{placement_by, QueuedFacts-queued}
-use Rattle.ccr_model.proofs.FiringFacts.{BranchFacts-where, WaitingFacts-waiting}
+use Rattle.ccr_model.proofs.AllowedFirings.{BranchFacts-where, WaitingFacts-waiting}
 use Rattle.ccr_model.proofs.Cutting.{CutFacts-legal}
 use Rattle.ccr_model.proofs.Roots.{root_own, AdmittedFacts, AdmittedFacts-admitted}
 use Rattle.ccr_model.proofs.Allowing.{OneName-legal}

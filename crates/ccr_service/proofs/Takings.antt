@@ -25,7 +25,7 @@ use Rattle.ccr_model.proofs.Members.{Among, Among-left}
 use Rattle.ccr_model.proofs.LegalParts.{along_legal}
 use Rattle.ccr_model.proofs.Stable.{messages_of-append}
 use Rattle.ccr_model.proofs.TakenOnce.{joined_some, FireFacts-allowed}
-use Rattle.ccr_model.proofs.FiringFacts.{FiresSo-allowed, firing_named-new, before-new}
+use Rattle.ccr_model.proofs.AllowedFirings.{FiresSo-allowed, firing_named-new, before-new}
 use Rattle.ccr_model.proofs.Roots.{of_firing, other_firing}
 use Rattle.ccr_model.proofs.FirstNames.{same_names}
 use Rattle.ccr_service.specs.declared.parts.ServiceParts.{ServiceParts}

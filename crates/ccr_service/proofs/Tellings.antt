@@ -1,5 +1,5 @@
 -- What the tables tell, case by case.
-use Rattle.std.proofs.Common.{◌≡◌, ℕ, true, false, Option, Some, None, refl, sym, ap, ◌∙◌}
+use Rattle.std.proofs.Common.{◌≡◌, ℕ, true, false, Option, Some, refl, sym, ap, ◌∙◌}
 use Rattle.std.specs.Prelude.{option_map}
 use Rattle.std.specs.Option.{option_map_or}
 use Rattle.std.specs.Borrow.{Bor}
@@ -15,9 +15,6 @@ use Rattle.ccr_service.specs.Telling.{same_request, told_by, told_from}
 
 taken_so : (t : Tables) (faults : ℕ) (name : RequestId) (task : TaskId) → get same_request t.takers name ≡ Some task → told_from t faults name ≡ told_by faults (contains same_task t.cuts task) (contains same_task t.drops task) (option_map (λ (m : Bor Msg). m.now) (get same_task t.posts task))
 taken_so t faults name task is = ap (λ o. option_map_or (λ u. told_by faults (contains same_task t.cuts u) (contains same_task t.drops u) (option_map (λ (m : Bor Msg). m.now) (get same_task t.posts u))) o told.Held) is
-
-pub held_so : (t : Tables) (faults : ℕ) (name : RequestId) → get same_request t.takers name ≡ None → told.Held ≡ told_from t faults name
-held_so t faults name is = sym (ap (λ o. option_map_or (λ u. told_by faults (contains same_task t.cuts u) (contains same_task t.drops u) (option_map (λ (m : Bor Msg). m.now) (get same_task t.posts u))) o told.Held) is)
 
 pub cut_so : (t : Tables) (faults : ℕ) (name : RequestId) (task : TaskId) → get same_request t.takers name ≡ Some task → contains same_task t.cuts task ≡ true → told.Cut ≡ told_from t faults name
 cut_so t faults name task is cut = sym (taken_so t faults name task is ∙ rw cut refl)

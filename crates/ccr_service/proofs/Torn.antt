@@ -22,9 +22,9 @@ use Rattle.ccr_model.proofs.Pushes.{cut-push}
 use Rattle.ccr_model.proofs.FiredTasks.{placement_fired}
 use Rattle.ccr_laws.proofs.Allowed.{allowed_at}
 use Rattle.ccr_model.proofs.Cutting.{fired_by-append}
-use Rattle.ccr_model.proofs.DropFacts.{drop_allowed}
+use Rattle.ccr_model.proofs.AllowedDrops.{drop_allowed}
 use Rattle.ccr_laws.proofs.DroppingPuts.{some_put}
-use Rattle.ccr_model.proofs.FiringFacts.{FiresSo-allowed}
+use Rattle.ccr_model.proofs.AllowedFirings.{FiresSo-allowed}
 use Rattle.ccr_model.proofs.TaskLists.{of_more}
 use Rattle.ccr_model.proofs.TaskPlaces.{placement_by}
 use Rattle.ccr_service.specs.declared.parts.ServiceParts.{ServiceParts}

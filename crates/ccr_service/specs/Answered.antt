@@ -87,11 +87,15 @@ pub record HasOneAnswer (service : ServiceParts) (history : List Event) (client 
   pub alone : (other : Answer) → IsAnswer service history client index ask op other → other ≡ its
   pub told : answer_of service history client index ask.op ≡ its
 
+-- the request of the client at the index: what it asks, and its operation
+abbrev pub IsRequestOf : ServiceParts → ℕ → ℕ → ClientPart → AskPart → OpPart → Type 0
+IsRequestOf service client index part ask op = (slice_get service.clients client ≡ Some part) × (slice_get part.asks index ≡ Some ask) × (slice_get service.ops ask.op ≡ Some op)
+
 -- nobody was shed, all is still, and each request has one answer
 pub record IsServedWhole (service : ServiceParts) (history : List Event) : Type 0 where
   pub unshed : has_shed history ≡ false
   pub still : IsStill (expansion service) history
-  pub answered : (client index : ℕ) (part : ClientPart) (ask : AskPart) (op : OpPart) → slice_get service.clients client ≡ Some part → slice_get part.asks index ≡ Some ask → slice_get service.ops ask.op ≡ Some op → HasOneAnswer service history client index ask op
+  pub answered : (client index : ℕ) (part : ClientPart) (ask : AskPart) (op : OpPart) → IsRequestOf service client index part ask op → HasOneAnswer service history client index ask op
 
 -- the law holds of each whole run of the service: a legal history in which its script is posted and behind which nothing more is allowed
 abbrev pub OfWholeRuns : ServiceParts → (List Event → Type 0) → Type 0

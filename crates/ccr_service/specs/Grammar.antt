@@ -8,7 +8,7 @@ use Rattle.ccr_base.specs.declared.handlers.Expr.TheVariants as exprs
 use Rattle.ccr_text.specs.Lines.{cut}
 use Rattle.ccr_text.specs.Names.{meaning_of}
 use Rattle.ccr_text.specs.Fields.{Words}
-use Rattle.ccr_text.specs.Words.{is_clean, words_of}
+use Rattle.ccr_text.specs.Words.{is_clean, words_of, IsSkipped}
 use Rattle.ccr_wiretext.specs.Grammar.{IsNumber, IsWithin, IsPolicy}
 use Rattle.ccr_wiretext.specs.declared.refused.ReadRefused.{ReadRefused}
 use Rattle.ccr_wiretext.specs.declared.refused.ReadRefused.TheVariants as refusals
@@ -90,10 +90,6 @@ IsLine None draft words new =
 IsLine (Some part) draft words new =
     ((ask : AskPart) × IsAsk draft words ask × (new ≡ with_ask draft part ask))
     ⊎ ((words ≡ codes "end" ∷ []) × (new ≡ end_client draft part))
-
--- the line has no words, or its first word begins with #
-abbrev pub IsSkipped : Words → Type 0
-IsSkipped words = (words ≡ []) ⊎ ((comment : List ℕ) × (others : Words) × (words ≡ (35 ∷ comment) ∷ others))
 
 -- the first line that isn't skipped is `service 1`, and the others declare
 abbrev pub Declares : So → Words → So → Type 0

@@ -19,7 +19,7 @@ use Rattle.ccr_turns.specs.declared.kept.Keep.TheVariants.{Every}
 use Rattle.ccr_turns.proofs.Ends.{sifts_nothing, at-map}
 use Rattle.ccr_turns.specs.declared.turns.Seat.{Seat}
 use Rattle.ccr_turns.specs.declared.history.Held.{Held}
-use Rattle.ccr_turns.specs.declared.history.Mark.{Mark}
+use Rattle.ccr_turns.specs.declared.history.LogEntry.{LogEntry}
 use Rattle.ccr_turns.specs.declared.history.Log.{Log}
 use Rattle.ccr_turns.proofs.Rows.{all_at, all_from, there, there_by_slice, zip_at, zip_length, only, count-map}
 use Rattle.ccr_runs.specs.declared.acts.Act.{Act}
@@ -37,7 +37,7 @@ use Rattle.ccr_object.specs.Events.{has_event}
 use Rattle.ccr_object.specs.Objects.{IsGiven, after_deed, note_of, nothing, placed}
 use Rattle.ccr_object.specs.Starts.{placed_at, places_of}
 use Rattle.ccr_runs.specs.declared.entries.Entry.{Entry}
-use Rattle.ccr_runs.specs.Played.{entries_of, rules, scene}
+use Rattle.ccr_runs.specs.Played.{entries_of, protocol, scene}
 use Rattle.ccr_runs.specs.EntryRuns.{never}
 use Rattle.ccr_space.specs.Spaces.{HasPlaces, HasSeat, IsPassOf, Pass, Space, actor_count, log, number, wiring_of}
 use Rattle.ccr_space.specs.Closes.{IsClosed, IsKeptOf, IsOfLocks, Kept}
@@ -96,9 +96,9 @@ module _ {N : Type 0} where
       )
 
 module _ {N X : Type 0} where
-  no_marks : (n p : ℕ) (ms : List (Mark N X)) → Each (λ m. m.place < n) ms → n ≤ p → at_place p ms ≡ []
-  no_marks n p [] few l = refl
-  no_marks n p (m ∷ ms) few l = let h = few.0 in ap (λ b. cond b (m ∷ at_place p ms) (at_place p ms)) (ne_eqb m.place p (λ z. omega arith)) ∙ no_marks n p ms few.1 l
+  none_logged : (n p : ℕ) (ms : List (LogEntry N X)) → Each (λ m. m.place < n) ms → n ≤ p → at_place p ms ≡ []
+  none_logged n p [] few l = refl
+  none_logged n p (m ∷ ms) few l = let h = few.0 in ap (λ b. cond b (m ∷ at_place p ms) (at_place p ms)) (ne_eqb m.place p (λ z. omega arith)) ∙ none_logged n p ms few.1 l
 
 -- the start and the end of one place
 record Whole (objects : List PlaceObject) (kept : List (PlaceObject × List (Held Deed))) (n p : ℕ) : Type 0 where
@@ -115,7 +115,7 @@ whole objects kept n p all few =
     record { start = s.0; left = k.0; began = read_slice objects p s.0 s.1; ended = read_slice kept p k.0 k.1; is = k.2 }
 
 module _ (wiring : Parts) where
-  gives : (x : Placed) (hs : List (Held Deed)) → Given after_deed IsGiven x hs → Gives (rules wiring never) x hs
+  gives : (x : Placed) (hs : List (Held Deed)) → Given after_deed IsGiven x hs → Gives (protocol wiring never) x hs
   gives x [] g = tt
   gives x (h ∷ hs) g =
       let (ask, reply, given) = g.0 in
@@ -129,24 +129,24 @@ module _ (wiring : Parts) where
       (few : Each (λ (e : Act Deed). e.place < length objects) es)
       (sorted : Climbs 0 (act_stamps es)) where
     -- each place gave its entries
-    given_at : (p : ℕ) → Gives (rules wiring never) (scene wiring p).0 (history_at p es)
+    given_at : (p : ℕ) → Gives (protocol wiring never) (scene wiring p).0 (history_at p es)
     given_at p = by_side p (length objects)
         (λ l.
         let w = whole objects kept n p all l in
         let from = stands wiring objects p w.start same w.began in
-        subst (Gives (rules wiring never) (scene wiring p).0) (sym (parts p w.left w.ended)) (subst (λ x. Gives (rules wiring never) x w.left.1) (sym from) (gives (placed w.start) w.left.1 w.is.given)))
-        (λ l. subst (Gives (rules wiring never) (scene wiring p).0) (sym (no_history (length objects) p es few (omega arith))) tt)
+        subst (Gives (protocol wiring never) (scene wiring p).0) (sym (parts p w.left w.ended)) (subst (λ x. Gives (protocol wiring never) x w.left.1) (sym from) (gives (placed w.start) w.left.1 w.is.given)))
+        (λ l. subst (Gives (protocol wiring never) (scene wiring p).0) (sym (no_history (length objects) p es few (omega arith))) tt)
 
     seated_at : (p : ℕ) → Each (λ (h : Held Deed). h.seat < n) (history_at p es)
     seated_at p = by_side p (length objects)
         (λ l. let w = whole objects kept n p all l in subst (Each (λ (h : Held Deed). h.seat < n)) (sym (parts p w.left w.ended)) (each_from_all (λ (h : Held Deed). h.seat < n) w.left.1 w.is.seated))
         (λ l. subst (Each (λ (h : Held Deed). h.seat < n)) (sym (no_history (length objects) p es few (omega arith))) tt)
 
-    pub merged : IsMerged (rules wiring never) n (scene wiring) es
+    pub merged : IsMerged (protocol wiring never) n (scene wiring) es
     merged = record { sorted = sorted; seated = each_seat n es seated_at; given = given_at }
 
     -- a seat's log has its part of each place
-    pub log_is : (l : Log Deed Placed) → Agrees placed after_deed objects kept l → IsLog after_deed (scene wiring) l.number es l.marks
+    pub log_is : (l : Log Deed Placed) → Agrees placed after_deed objects kept l → IsLog after_deed (scene wiring) l.number es l.logged
     log_is l agrees = record {
       rising = agrees.rising;
       same = λ p. by_side p (length objects)
@@ -155,7 +155,7 @@ module _ (wiring : Parts) where
           let from = stands wiring objects p w.start same w.began in
           agrees.same p w.start w.left w.began w.ended ∙ (λ i. told after_deed p l.number (sym from i) 0 (sym (parts p w.left w.ended) i)))
           (λ high.
-          no_marks (length objects) p l.marks (each_from_all (λ (m : Mark Deed Placed). m.place < length objects) l.marks agrees.inside) (omega arith)
+          none_logged (length objects) p l.logged (each_from_all (λ (m : LogEntry Deed Placed). m.place < length objects) l.logged agrees.inside) (omega arith)
           ∙ ap (told after_deed p l.number (scene wiring p).0 0) (sym (no_history (length objects) p es few (omega arith))));
     }
 
@@ -202,14 +202,14 @@ closed_by space passes seats acts entries stands passed these locks numbers told
     record {
       acts = acts;
       entries_are = told;
-      played = run_of_logs (rules w never) n (scene w) _ acts whole_run (λ k low.
+      played = run_of_logs (protocol w never) n (scene w) _ acts whole_run (λ k low.
           let (i, seat, at, is) = numbers k low in
           let at' = there_by_slice seats i seat at in
           let (pass, here, same) = at-map (λ (pass : Pass). pass.seat) passes i seat (ap (λ (l : List _). get_elem? l i) (sym these) ∙ at') in
           let one = all_at (λ pass. IsPassOf space pass) passes i pass passed here in (
             log_of seat,
             subst (λ n. IsLog after_deed (scene w) n acts (log_of seat)) is (its i seat at'),
-            subst (λ s. IsProper (rules w never) (record { actor = k; given = [] }) 0 (log_of s)) same (subst (λ n. IsProper (rules w never) (record { actor = n; given = [] }) 0 (log pass)) (ap number_of same ∙ is) one.proper),
+            subst (λ s. IsProper (protocol w never) (record { actor = k; given = [] }) 0 (log_of s)) same (subst (λ n. IsProper (protocol w never) (record { actor = n; given = [] }) 0 (log pass)) (ap number_of same ∙ is) one.proper),
           ));
       locks = subst (λ (seats : List _). IsOfLocks space seats acts) these locks;
       logs = all_from (λ (pass : Pass). story after_deed (number pass) (scene w) acts ≡ log pass) passes (λ i pass at.

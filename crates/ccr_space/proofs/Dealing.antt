@@ -3,7 +3,7 @@ use Rattle.std.proofs.Common.{◌≡◌, ℕ, zero, suc, ◌+◌, List, [], map,
 use Rattle.std.specs.List.{range_with_len}
 use Rattle.std.proofs.lemmas.List.{length-map}
 use Rattle.ccr_wiring.specs.declared.parts.Parts.{Parts}
-use Rattle.ccr_turns.specs.declared.history.Mark.{Mark}
+use Rattle.ccr_turns.specs.declared.history.LogEntry.{LogEntry}
 use Rattle.ccr_object.specs.declared.deed.Deed.{Deed}
 use Rattle.ccr_object.specs.declared.object.Placed.{Placed}
 use Rattle.ccr_actor.specs.Acting.{Acting, started}
@@ -14,9 +14,9 @@ fresh : (wiring : Parts) (k : ℕ) → IsGoing wiring k [] (started wiring k)
 fresh wiring k = record { steps = []; follows = follows_started wiring k; replies = refl; long = refl }
 
 -- an actor that has begun, with no entries
-pub begun : (wiring : Parts) (k n : ℕ) (marks : List (Mark Deed Placed)) (a : Acting) → marks ≡ [] → a ≡ started wiring n → n ≡ k → IsGoing wiring k marks a
-begun wiring k n marks a none is same =
-    subst (λ (ms : List (Mark Deed Placed)). IsGoing wiring k ms a) (sym none) (subst (IsGoing wiring k []) (sym (is ∙ ap (started wiring) same)) (fresh wiring k))
+pub begun : (wiring : Parts) (k n : ℕ) (logged : List (LogEntry Deed Placed)) (a : Acting) → logged ≡ [] → a ≡ started wiring n → n ≡ k → IsGoing wiring k logged a
+begun wiring k n logged a none is same =
+    subst (λ (ms : List (LogEntry Deed Placed)). IsGoing wiring k ms a) (sym none) (subst (IsGoing wiring k []) (sym (is ∙ ap (started wiring) same)) (fresh wiring k))
 
 range_length : (q n : ℕ) → length (range_with_len q n) ≡ n
 range_length q zero = refl

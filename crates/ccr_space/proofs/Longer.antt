@@ -15,7 +15,7 @@ counted_more n = grind (arith, nat_tests)
 longer_more : (old mid new : Pass) (n m : ℕ) (noted : Bool) → IsLonger old mid n → IsMore noted mid new → m ≡ min (n + 1) 18446744073709551615 → IsLonger old new m
 longer_more old mid new n m noted longer more is =
     let one : length (longer.0 ++ more.0 ∷ []) ≡ length longer.0 + 1 = length-append longer.0 (more.0 ∷ []) in
-    (longer.0 ++ more.0 ∷ [], (more.1.0 ∙ (ap (λ marks. marks ++ more.0 ∷ []) longer.1.0 ∙ append_assoc (log old) longer.0 (more.0 ∷ [])), is ∙ (ap (λ k. min (k + 1) 18446744073709551615) longer.1.1 ∙ (counted_more (length longer.0) ∙ ap counted (sym one)))))
+    (longer.0 ++ more.0 ∷ [], (more.1.0 ∙ (ap (λ logged. logged ++ more.0 ∷ []) longer.1.0 ∙ append_assoc (log old) longer.0 (more.0 ∷ [])), is ∙ (ap (λ k. min (k + 1) 18446744073709551615) longer.1.1 ∙ (counted_more (length longer.0) ∙ ap counted (sym one)))))
 
 -- a step with an entry
 pub step_more : (old mid new : Pass) (n m : ℕ) (step : Came) → IsLonger old mid n → (step ≡ Made) ⊎ (step ≡ Unmet) → (step ≡ Made → IsMore true mid new) → (step ≡ Unmet → IsMore false mid new × (new.stopped ≡ true)) → m ≡ min (n + 1) 18446744073709551615 → IsLonger old new m

@@ -11,7 +11,7 @@ use Rattle.ccr_turns.proofs.Rows.{range-more}
 use Rattle.ccr_actor.specs.Acting.{Acting, is_at_rest}
 use Rattle.ccr_actor.specs.Actors.{next}
 use Rattle.ccr_actor.proofs.Followed.{follows_rest}
-use Rattle.ccr_turns.specs.declared.history.Mark.{Mark}
+use Rattle.ccr_turns.specs.declared.history.LogEntry.{LogEntry}
 use Rattle.ccr_object.specs.declared.deed.Deed.{Deed}
 use Rattle.ccr_object.specs.declared.object.Placed.{Placed}
 use Rattle.ccr_space.specs.Spaces.{Pass, IsGoing, heard_in, is_stopped_in, number, stopped_of}
@@ -52,5 +52,5 @@ stopped_among passes count i pass actor at is stops low =
     (any_in (is_stopped_in passes) actor 0 count (subst (λ k. is_stopped_in passes k ≡ true) (let z : actor ≡ 0 + actor = omega arith in z) (stopped_here passes i pass actor at is stops)) low)
 
 -- an actor at rest that isn't short has nothing to ask next
-pub nothing_next : (w : Parts) (k : ℕ) (marks : List (Mark Deed Placed)) (a : Acting) → IsGoing w k marks a → is_at_rest a ≡ true → next w k None (heard_in w k marks).given ≡ None
-nothing_next w k marks a goes rest = subst (λ given. next w k None given ≡ None) goes.replies ((follows_rest w k goes.steps a goes.follows goes.long).0 rest)
+pub nothing_next : (w : Parts) (k : ℕ) (logged : List (LogEntry Deed Placed)) (a : Acting) → IsGoing w k logged a → is_at_rest a ≡ true → next w k None (heard_in w k logged).given ≡ None
+nothing_next w k logged a goes rest = subst (λ given. next w k None given ≡ None) goes.replies ((follows_rest w k goes.steps a goes.follows goes.long).0 rest)

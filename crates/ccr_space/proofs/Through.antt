@@ -5,7 +5,7 @@ use Rattle.std.specs.List.{list_any}
 use lib.ListN.{get_elem?}
 use mathlib.Core.Option.{some}
 use Rattle.ccr_turns.proofs.Rows.{all_at, there_by_slice}
-use Rattle.ccr_turns.specs.declared.history.Mark.{Mark}
+use Rattle.ccr_turns.specs.declared.history.LogEntry.{LogEntry}
 use Rattle.ccr_runs.specs.declared.acts.Act.{Act}
 use Rattle.ccr_runs.specs.Stories.{story}
 use Rattle.ccr_actor.specs.Actors.{next}
@@ -28,7 +28,7 @@ through space passes acts short actor i pass at is low passed rest told those = 
     by false on (inl stops) = absurd (cc)
     by false on (inr halted) =
         inr (subst (λ n. next (wiring_of space) n None (heard_in (wiring_of space) n (story after_deed n (scene (wiring_of space)) acts)).given ≡ None) is
-        (subst (λ (ms : List (Mark Deed Placed)). next (wiring_of space) (number pass) None (heard_in (wiring_of space) (number pass) ms).given ≡ None) (sym told)
+        (subst (λ (ms : List (LogEntry Deed Placed)). next (wiring_of space) (number pass) None (heard_in (wiring_of space) (number pass) ms).given ≡ None) (sym told)
         (nothing_next (wiring_of space) (number pass) (log pass) pass.actor (passed.going on) halted)))
 
 pub done : (space : Space) (passes : List Pass) (entries : List Entry) (short : List ℕ) → All (λ (pass : Pass). IsPassOf space pass) passes → All (λ (pass : Pass). IsAtRest pass) passes

@@ -22,7 +22,7 @@ use Rattle.ccr_runs.specs.Runs.{IsRunFrom, cast}
 use Rattle.ccr_runs.specs.Stories.{story}
 use Rattle.ccr_actor.specs.Actors.{next}
 use Rattle.ccr_runs.specs.declared.entries.Entry.{Entry}
-use Rattle.ccr_runs.specs.Played.{rules, scene, given_in, entries_of}
+use Rattle.ccr_runs.specs.Played.{protocol, scene, given_in, entries_of}
 use Rattle.ccr_runs.specs.EntryRuns.{IsRunAfter, never, replies_of}
 use Rattle.ccr_runs.specs.Visible.{visible}
 use Rattle.ccr_model.specs.declared.history.Event.{Event}
@@ -30,7 +30,7 @@ use Rattle.ccr_space.specs.Spaces.{HasPass, HasPlaces, IsAtRest, IsPassOf, Pass,
 
 -- the acts are a run of so many actors, in which none lacks memory
 abbrev pub IsPlayed : Parts → ℕ → List (Act Deed) → Type 0
-IsPlayed wiring count acts = IsRunFrom (rules wiring never) count (scene wiring) (cast (rules wiring never)) acts
+IsPlayed wiring count acts = IsRunFrom (protocol wiring never) count (scene wiring) (cast (protocol wiring never)) acts
 
 -- what a closed lock kept: its object and its history
 abbrev pub Kept : Type 0

@@ -17,7 +17,7 @@ use Rattle.ccr_object.specs.contracts.object.PlaceObjectKept.TheImpl.{ghosts}
 use Rattle.ccr_object.specs.Objects.{note_of, placed}
 use Rattle.ccr_object.specs.Starts.{placed_at, places_of}
 use Rattle.ccr_turns.specs.Locks.{starts, seat_count, place_count, keep_of, IsSeatOf, number_of, log_of}
-use Rattle.ccr_turns.specs.declared.history.Mark.{Mark}
+use Rattle.ccr_turns.specs.declared.history.LogEntry.{LogEntry}
 use Rattle.ccr_turns.specs.declared.kept.Keep.TheVariants.{Every}
 use Rattle.ccr_turns.specs.declared.turns.Seat.{Seat}
 use Rattle.ccr_turns.specs.declared.turns.Turns.{Turns}
@@ -25,7 +25,7 @@ use Rattle.ccr_runs.specs.Runs.{IsProper, state_after}
 use Rattle.ccr_actor.specs.Acting.{Acting, IsAfter, is_at_rest}
 use Rattle.ccr_actor.specs.Following.{Follows}
 use Rattle.ccr_actor.specs.Nets.{Step, counted, replies_of}
-use Rattle.ccr_runs.specs.Played.{Heard, rules}
+use Rattle.ccr_runs.specs.Played.{Heard, protocol}
 use Rattle.ccr_runs.specs.EntryRuns.{never}
 use Rattle.ccr_space.specs.declared.space.SpaceOf.{SpaceOf}
 use Rattle.ccr_space.specs.declared.space.PassOf.{PassOf}
@@ -64,7 +64,7 @@ pub record IsSpace (space : Space) : Type 0 where
 -- ---- passes
 
 -- the entries of the pass, in their order
-abbrev pub log : Pass → List (Mark Deed Placed)
+abbrev pub log : Pass → List (LogEntry Deed Placed)
 log pass = log_of pass.seat
 
 -- the actor's number
@@ -72,21 +72,21 @@ abbrev pub number : Pass → ℕ
 number pass = number_of pass.seat
 
 -- what the actor was replied in these entries of its own
-abbrev pub heard_in : Parts → ℕ → List (Mark Deed Placed) → Heard
-heard_in wiring actor marks = state_after (rules wiring never) (record { actor = actor; given = [] }) marks
+abbrev pub heard_in : Parts → ℕ → List (LogEntry Deed Placed) → Heard
+heard_in wiring actor logged = state_after (protocol wiring never) (record { actor = actor; given = [] }) logged
 
 -- the actor isn't short, and is where the replies of the log lead it
-pub record IsGoing (wiring : Parts) (actor : ℕ) (marks : List (Mark Deed Placed)) (acting : Acting) : Type 0 where
+pub record IsGoing (wiring : Parts) (actor : ℕ) (logged : List (LogEntry Deed Placed)) (acting : Acting) : Type 0 where
   pub steps : List Step
   pub follows : Follows wiring actor steps acting
-  pub replies : replies_of steps ≡ (heard_in wiring actor marks).given
+  pub replies : replies_of steps ≡ (heard_in wiring actor logged).given
   pub long : acting.state.is_short ≡ false
 
 -- the pass was made with the space: its seat is of these locks, and each entry of its log is what its actor asks next; unless it
 -- is stopped, the actor is where the log leads it
 pub record IsPassOf (space : Space) (pass : Pass) : Type 0 where
   pub seat : IsSeatOf space.turns pass.seat
-  pub proper : IsProper (rules (wiring_of space) never) (record { actor = number pass; given = [] }) 0 (log pass)
+  pub proper : IsProper (protocol (wiring_of space) never) (record { actor = number pass; given = [] }) 0 (log pass)
   pub going : pass.stopped ≡ false → IsGoing (wiring_of space) (number pass) (log pass) pass.actor
 
 -- it took in the reply, and isn't short
@@ -108,11 +108,11 @@ is_short pass = pass.actor.state.is_short
 
 -- one entry more, with a note or without one: what the object there notes of the ask, at the value that it had
 abbrev pub IsMore : Bool → Pass → Pass → Type 0
-IsMore noted old new = (mark : Mark Deed Placed) × ((log new ≡ log old ++ mark ∷ []) × (is_some mark.note.note ≡ noted) × (mark.note.note ≡ note_of mark.before mark.note.ask.value))
+IsMore noted old new = (log_entry : LogEntry Deed Placed) × ((log new ≡ log old ++ log_entry ∷ []) × (is_some log_entry.note.note ≡ noted) × (log_entry.note.note ≡ note_of log_entry.before log_entry.note.ask.value))
 
 -- so many entries more, or the last number of 64 bits where there are more
 abbrev pub IsLonger : Pass → Pass → ℕ → Type 0
-IsLonger old new count = (made : List (Mark Deed Placed)) × ((log new ≡ log old ++ made) × (count ≡ counted (length made)))
+IsLonger old new count = (made : List (LogEntry Deed Placed)) × ((log new ≡ log old ++ made) × (count ≡ counted (length made)))
 
 -- ---- the close
 

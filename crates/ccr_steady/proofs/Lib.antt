@@ -8,7 +8,7 @@ pub mod Balance
 pub mod Upper
 pub mod Holds
 pub mod Calm
-pub mod Rest
+pub mod QuietTasksHaveEnded
 pub mod Torn
 pub mod Lower
 pub mod Counts

@@ -40,7 +40,8 @@ use Rattle.ccr_model.specs.Rules.{may_end, is_shed}
 use Rattle.ccr_model.specs.Live.{is_live, is_live_in, has_room, has_room_in}
 use Rattle.ccr_model.specs.Enough.{can_fire, can_take, has_enough}
 use Rattle.ccr_model.specs.Order.{fire_at}
-use Rattle.ccr_model.specs.Legal.{IsAllowed, IsLegal, IsQuiet, has_shed, is_complete, is_shed_end, are_whole_from}
+use Rattle.ccr_model.specs.Legal.{IsAllowed, IsLegal, IsQuiet, has_shed, is_complete, are_whole_from}
+use Rattle.ccr_model.specs.Counts.{is_shed as is_shed_end}
 use Rattle.ccr_model.proofs.Allowing.{OneName-legal}
 use Rattle.ccr_base.proofs.Booleans.{both, no_both, not_true, neither, or_none}
 use Rattle.ccr_model.proofs.CanFire.{some_fire_at}
@@ -53,7 +54,7 @@ use Rattle.ccr_model.proofs.SameNames.{same_task-is}
 use Rattle.ccr_model.proofs.Stable.{play_of-append}
 use Rattle.ccr_model.proofs.TasksLeft.{has_task-append, of_without, out_left}
 use Rattle.ccr_model.proofs.Ending.{AreEnded-legal, RunningFacts-running}
-use Rattle.ccr_model.proofs.FiringFacts.{fired_by_named}
+use Rattle.ccr_model.proofs.AllowedFirings.{fired_by_named}
 use Rattle.ccr_model.proofs.TaskPlaces.{ArePlaced-legal}
 use Rattle.ccr_steady.specs.Flow.{IsSteady, IsClosed, weigh, at_port, got, lacks, slots_of, is_any, is_open_pattern, is_lasting}
 use Rattle.ccr_steady.proofs.Paying.{planned, due, times_at}
@@ -64,7 +65,7 @@ use Rattle.ccr_steady.proofs.Holds.{holds_rest}
 use Rattle.ccr_steady.proofs.Torn.{none_torn}
 use Rattle.ccr_model.proofs.Quiet.{fire_none, branch_among}
 use Rattle.ccr_model.proofs.TaskLists.{no_members}
-use Rattle.ccr_steady.proofs.Rest.{quiet_none, all_ended}
+use Rattle.ccr_steady.proofs.QuietTasksHaveEnded.{quiet_none, all_ended}
 use Rattle.ccr_steady.proofs.Takes.{fitting_any}
 use Rattle.ccr_steady.proofs.Flowing.{none_any}
 use Rattle.ccr_gen.specs.Weights.{by_task}

@@ -6,7 +6,8 @@ use Rattle.ccr_wiring.specs.Wirings.{placements}
 use Rattle.ccr_model.specs.declared.history.Event.{Event}
 use Rattle.ccr_model.specs.declared.history.Totals.{Totals}
 use Rattle.ccr_model.specs.Legal.{IsLegal, IsQuiet, is_complete, has_shed}
-use Rattle.ccr_steady.specs.Flow.{unsteady, IsClosed, IsFlow, task_posts, fired_of}
+use Rattle.ccr_steady.specs.Flow.{unsteady, IsFlow, task_posts}
+use Rattle.ccr_laws.specs.Times.{times_fired}
 use Rattle.ccr_steady.specs.Histories.{IsDone}
 use Rattle.ccr_steady.specs.Agreement.{HasCounts}
 
@@ -24,19 +25,15 @@ OfDone wiring law = (history : List Event) → IsLegal wiring history → IsQuie
 
 -- no branch fires more often than the counts say
 abbrev pub FiresWithin : Parts → (ℕ → ℕ) → List Event → Type 0
-FiresWithin wiring counts history = (branch : ℕ) → branch < length (placements wiring) → fired_of history branch ≤ counts branch
+FiresWithin wiring counts history = (branch : ℕ) → branch < length (placements wiring) → times_fired history branch ≤ counts branch
 
 -- each branch fires as often
 abbrev pub FiresAs : Parts → (ℕ → ℕ) → List Event → Type 0
-FiresAs wiring counts history = (branch : ℕ) → branch < length (placements wiring) → fired_of history branch ≡ counts branch
+FiresAs wiring counts history = (branch : ℕ) → branch < length (placements wiring) → times_fired history branch ≡ counts branch
 
 -- no legal and complete history of the wiring has a shed end
 abbrev pub CompletesUnshed : Parts → Type 0
 CompletesUnshed wiring = (history : List Event) → IsLegal wiring history → is_complete wiring history ≡ true → has_shed history ≡ false
-
--- each closed list of counts has more task posts than the budget allows
-abbrev pub IsDear : Parts → Type 0
-IsDear wiring = (counts : ℕ → ℕ) → IsClosed wiring counts → wiring.budget < task_posts wiring counts
 
 -- the counts and totals are those of each history that is done
 abbrev pub AreOfEach : Parts → List ℕ → Totals → Type 0

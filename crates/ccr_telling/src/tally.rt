@@ -46,7 +46,21 @@ impl Model for Tally {
 
     ghost Value = { Tallies };
 
-    ghost view = { λ t. record { posted = t.posted.items; fired = t.fired.items; put = t.put.items; dropped = t.dropped.items; posts = t.posts; taken = t.taken; firings = t.firings; cut = t.cut; drops = t.drops; done = t.done; failed = t.failed; shed = t.shed; yielded = t.yielded } };
+    ghost view = { λ t. record {
+      posted = t.posted.items;
+      fired = t.fired.items;
+      put = t.put.items;
+      dropped = t.dropped.items;
+      posts = t.posts;
+      taken = t.taken;
+      firings = t.firings;
+      cut = t.cut;
+      drops = t.drops;
+      done = t.done;
+      failed = t.failed;
+      shed = t.shed;
+      yielded = t.yielded;
+    } };
 }
 
 /// The index of the spot; none for a site past the sixteenth, which no wiring has.

@@ -4,7 +4,7 @@ use Rattle.std.specs.Prelude.{◌==◌, ◌&&◌, ◌||◌, not}
 use Rattle.std.specs.List.{list_all}
 use Rattle.std.proofs.lemmas.Bool.Decides.{nat_tests}
 use Rattle.std.proofs.lemmas.List.Concat.{flat_map-cons}
-use Rattle.ccr_text.specs.Words.{is_mark, is_blank, is_clean, pieces, words_of}
+use Rattle.ccr_text.specs.Words.{is_graphic, is_blank, is_clean, pieces, words_of}
 use Rattle.ccr_text.specs.Lines.{cut, numbered_line, numbered, lines_of}
 use Rattle.ccr_text.specs.Spelling.{joined, line_text, text_of, spelled_lines, AreWords, AreLines}
 use Rattle.std.proofs.lemmas.Bool.{and_parts as both}
@@ -19,32 +19,32 @@ cut_line (b ∷ line) rest none =
     let other : (b == 10) ≡ false = grind (arith, nat_tests, parts.0) in
     rw (other, cut_line line rest parts.1) refl
 
-mark_is : (b : ℕ) → is_mark b ≡ true → not_feed b ≡ true
+mark_is : (b : ℕ) → is_graphic b ≡ true → not_feed b ≡ true
 mark_is b e = grind (arith, nat_tests)
 
-feeds_word : (word rest : List ℕ) → list_all is_mark word ≡ true → list_all not_feed rest ≡ true → list_all not_feed (word ++ rest) ≡ true
+feeds_word : (word rest : List ℕ) → list_all is_graphic word ≡ true → list_all not_feed rest ≡ true → list_all not_feed (word ++ rest) ≡ true
 feeds_word [] rest marks others = others
 feeds_word (b ∷ word) rest marks others =
-    let parts = both (is_mark b) (list_all is_mark word) marks in
+    let parts = both (is_graphic b) (list_all is_graphic word) marks in
     rw (mark_is b parts.0, feeds_word word rest parts.1 others) refl
 
-clean_word : (word rest : List ℕ) → list_all is_mark word ≡ true → is_clean rest ≡ true → is_clean (word ++ rest) ≡ true
+clean_word : (word rest : List ℕ) → list_all is_graphic word ≡ true → is_clean rest ≡ true → is_clean (word ++ rest) ≡ true
 clean_word [] rest marks others = others
 clean_word (b ∷ word) rest marks others =
-    let parts = both (is_mark b) (list_all is_mark word) marks in
-    let clean : (is_blank b || is_mark b) ≡ true = grind (arith, nat_tests, parts.0) in
+    let parts = both (is_graphic b) (list_all is_graphic word) marks in
+    let clean : (is_blank b || is_graphic b) ≡ true = grind (arith, nat_tests, parts.0) in
     rw (clean, clean_word word rest parts.1 others) refl
 
-pieces_word : (word rest : List ℕ) → list_all is_mark word ≡ true → pieces (word ++ 32 ∷ rest) ≡ word ∷ pieces rest
+pieces_word : (word rest : List ℕ) → list_all is_graphic word ≡ true → pieces (word ++ 32 ∷ rest) ≡ word ∷ pieces rest
 pieces_word [] rest marks = refl
 pieces_word (b ∷ word) rest marks =
-    let parts = both (is_mark b) (list_all is_mark word) marks in
+    let parts = both (is_graphic b) (list_all is_graphic word) marks in
     rw (parts.0, pieces_word word rest parts.1) refl
 
-pieces_last : (word : List ℕ) → list_all is_mark word ≡ true → pieces word ≡ word ∷ []
+pieces_last : (word : List ℕ) → list_all is_graphic word ≡ true → pieces word ≡ word ∷ []
 pieces_last [] marks = refl
 pieces_last (b ∷ word) marks =
-    let parts = both (is_mark b) (list_all is_mark word) marks in
+    let parts = both (is_graphic b) (list_all is_graphic word) marks in
     rw (parts.0, pieces_last word parts.1) refl
 
 pub joined_feeds : (words : List (List ℕ)) → AreWords words → list_all not_feed (joined words) ≡ true

@@ -1,10 +1,9 @@
 -- Where the first line ends.
-use Rattle.std.proofs.Common.{◌≡◌, ◌≢◌, ℕ, zero, suc, ◌+◌, ◌<◌, ◌≤◌, List, [], ◌∷◌, ◌++◌, get_or, take, drop, length, refl, sym, ap, ◌∙◌, ◌-◌, arith}
-use Rattle.std.proofs.lemmas.List.{length-take, take-append-le, take-append-drop}
+use Rattle.std.proofs.Common.{◌≡◌, ◌≢◌, ℕ, zero, suc, ◌+◌, ◌<◌, ◌≤◌, List, [], ◌∷◌, ◌++◌, get_or, take, drop, length, refl, ap, ◌∙◌, ◌-◌, arith}
 use Rattle.std.proofs.lemmas.Bool.Decides.{nat_tests}
 use Rattle.std.specs.Prelude.{true, false}
 use Rattle.ccr_text.specs.Lines.{cut, has_feed}
-use Rattle.ccr_text.specs.Words.{is_mark, pieces}
+use Rattle.ccr_text.specs.Words.{is_graphic, pieces}
 
 cut_at_suc : (text : List ℕ) (i : ℕ) → ((k : ℕ) → k < i → get_or text k 0 ≢ 10) → i < length text → get_or text i 0 ≡ 10 → cut text ≡ take i text ∷ cut (drop (suc i) text)
 cut_at_suc [] i none below here = absurd (omega arith)
@@ -55,22 +54,22 @@ parts_at_suc (b ∷ bytes) (suc i) below here = ap (λ (t : List ℕ). b ∷ t) 
 pub parts_at : (text : List ℕ) (i : ℕ) → i < length text → get_or text i 0 ≡ 10 → text ≡ take i text ++ 10 ∷ drop (i + 1) text
 parts_at text i below here = let e : i + 1 ≡ suc i = omega arith in rw e (parts_at_suc text i below here)
 
-pieces_at_suc : (line : List ℕ) (i : ℕ) → ((k : ℕ) → k < i → is_mark (get_or line k 0) ≡ true) → i < length line → is_mark (get_or line i 0) ≡ false → pieces line ≡ take i line ∷ pieces (drop (suc i) line)
+pieces_at_suc : (line : List ℕ) (i : ℕ) → ((k : ℕ) → k < i → is_graphic (get_or line k 0) ≡ true) → i < length line → is_graphic (get_or line i 0) ≡ false → pieces line ≡ take i line ∷ pieces (drop (suc i) line)
 pieces_at_suc [] i marks below here = absurd (omega arith)
 pieces_at_suc (b ∷ bytes) zero marks below here = rw here refl
 pieces_at_suc (b ∷ bytes) (suc i) marks below here =
-    let mark : is_mark b ≡ true = marks 0 (omega arith) in
+    let mark : is_graphic b ≡ true = marks 0 (omega arith) in
     let rest : pieces bytes ≡ take i bytes ∷ pieces (drop (suc i) bytes) = pieces_at_suc bytes i (λ k h. marks (suc k) (omega arith)) (omega arith) here in
     rw (mark, rest) refl
 
 -- the first byte that is no mark stands at i
-pub pieces_at : (line : List ℕ) (i : ℕ) → ((k : ℕ) → k < i → is_mark (get_or line k 0) ≡ true) → i < length line → is_mark (get_or line i 0) ≡ false → pieces line ≡ take i line ∷ pieces (drop (i + 1) line)
+pub pieces_at : (line : List ℕ) (i : ℕ) → ((k : ℕ) → k < i → is_graphic (get_or line k 0) ≡ true) → i < length line → is_graphic (get_or line i 0) ≡ false → pieces line ≡ take i line ∷ pieces (drop (i + 1) line)
 pieces_at line i marks below here = let e : i + 1 ≡ suc i = omega arith in rw e (pieces_at_suc line i marks below here)
 
 -- there is none
-pub pieces_whole : (line : List ℕ) → ((k : ℕ) → k < length line → is_mark (get_or line k 0) ≡ true) → pieces line ≡ line ∷ []
+pub pieces_whole : (line : List ℕ) → ((k : ℕ) → k < length line → is_graphic (get_or line k 0) ≡ true) → pieces line ≡ line ∷ []
 pieces_whole [] marks = refl
 pieces_whole (b ∷ bytes) marks =
-    let mark : is_mark b ≡ true = marks 0 (omega arith) in
+    let mark : is_graphic b ≡ true = marks 0 (omega arith) in
     let rest : pieces bytes ≡ bytes ∷ [] = pieces_whole bytes (λ k h. marks (suc k) (omega arith)) in
     rw (mark, rest) refl

@@ -4,10 +4,10 @@ use Rattle.std.specs.Prelude.{◌&&◌, nat_lt, if◌then◌else◌, ◌==◌}
 use Rattle.std.specs.List.{list_all}
 use Rattle.std.specs.Char.{is_ascii_digit}
 use Rattle.std.proofs.lemmas.Bool.Decides.{nat_tests}
-use Rattle.ccr_text.specs.Words.{is_mark, value_after, number_of, with_digit}
+use Rattle.ccr_text.specs.Words.{is_graphic, value_after, number_of, with_digit}
 
 -- a digit is a byte of words
-pub digit_mark : (b : ℕ) → is_ascii_digit b ≡ true → is_mark b ≡ true
+pub digit_mark : (b : ℕ) → is_ascii_digit b ≡ true → is_graphic b ≡ true
 digit_mark b e = grind (arith, nat_tests, e)
 
 -- further digits do not make it less

@@ -3,14 +3,14 @@ use Rattle.std.proofs.Common.{◌≡◌, ◌≢◌, ℕ, ◌≤◌, Bool, true, 
 use Rattle.std.specs.Prelude.{◌==◌, ◌&&◌, ◌||◌, not, filter, IfSome, IfNone, if◌then◌else◌}
 use Rattle.std.specs.List.{list_all, onto_first}
 use Rattle.std.proofs.lemmas.Bool.Decides.{nat_tests}
-use Rattle.ccr_text.specs.Words.{is_blank, is_mark, is_clean, pieces, words_of}
+use Rattle.ccr_text.specs.Words.{is_blank, is_graphic, is_clean, pieces, words_of}
 use Rattle.ccr_text.specs.Lines.{cut, first_line}
 use Rattle.std.proofs.lemmas.Bool.{and_parts as both}
 use Rattle.std.proofs.Math.Bool.{and-true}
 use Rattle.ccr_base.proofs.Lists.{length_behind}
 
 abbrev pub AreMarks : List ℕ → Type 0
-AreMarks word = list_all is_mark word ≡ true
+AreMarks word = list_all is_graphic word ≡ true
 
 -- what stands behind the first LF
 abbrev pub behind_line : List ℕ → List ℕ
@@ -34,40 +34,40 @@ cut_first : (text : List ℕ) → text ≢ [] → cut text ≡ first_line text �
 cut_first [] some = absurd (some refl)
 cut_first (b ∷ bytes) some = cut_next b bytes
 
-no_feed : (b : ℕ) → is_mark b ≡ true → (b == 10) ≡ false
+no_feed : (b : ℕ) → is_graphic b ≡ true → (b == 10) ≡ false
 no_feed b e = grind (arith, nat_tests)
 
-clean_mark : (b : ℕ) → is_mark b ≡ true → (is_blank b || is_mark b) ≡ true
+clean_mark : (b : ℕ) → is_graphic b ≡ true → (is_blank b || is_graphic b) ≡ true
 clean_mark b e = grind (arith, nat_tests)
 
 line_run : (word rest : List ℕ) → AreMarks word → first_line (word ++ rest) ≡ word ++ first_line rest
 line_run [] rest marks = refl
 line_run (b ∷ word) rest marks =
-    let are = both (is_mark b) (list_all is_mark word) marks in
+    let are = both (is_graphic b) (list_all is_graphic word) marks in
     rw (no_feed b are.0, line_run word rest are.1) refl
 
 behind_run : (word rest : List ℕ) → AreMarks word → behind_line (word ++ rest) ≡ behind_line rest
 behind_run [] rest marks = refl
 behind_run (b ∷ word) rest marks =
-    let are = both (is_mark b) (list_all is_mark word) marks in
+    let are = both (is_graphic b) (list_all is_graphic word) marks in
     rw (no_feed b are.0) (behind_run word rest are.1)
 
 clean_run : (word line : List ℕ) → AreMarks word → is_clean (word ++ line) ≡ is_clean line
 clean_run [] line marks = refl
 clean_run (b ∷ word) line marks =
-    let are = both (is_mark b) (list_all is_mark word) marks in
+    let are = both (is_graphic b) (list_all is_graphic word) marks in
     rw (clean_mark b are.0) (clean_run word line are.1)
 
-pieces_run : (word : List ℕ) (c : ℕ) (line : List ℕ) → AreMarks word → is_mark c ≡ false → pieces (word ++ c ∷ line) ≡ word ∷ pieces line
+pieces_run : (word : List ℕ) (c : ℕ) (line : List ℕ) → AreMarks word → is_graphic c ≡ false → pieces (word ++ c ∷ line) ≡ word ∷ pieces line
 pieces_run [] c line marks other = rw other refl
 pieces_run (b ∷ word) c line marks other =
-    let are = both (is_mark b) (list_all is_mark word) marks in
+    let are = both (is_graphic b) (list_all is_graphic word) marks in
     rw (are.0, pieces_run word c line are.1 other) refl
 
 pieces_end : (word : List ℕ) → AreMarks word → pieces word ≡ word ∷ []
 pieces_end [] marks = refl
 pieces_end (b ∷ word) marks =
-    let are = both (is_mark b) (list_all is_mark word) marks in
+    let are = both (is_graphic b) (list_all is_graphic word) marks in
     rw (are.0, pieces_end word are.1) refl
 
 alone_first : (word : List ℕ) (words : List (List ℕ)) → filter (λ piece. not (length piece == 0)) (word ∷ words) ≡ alone word ++ filter (λ piece. not (length piece == 0)) words
@@ -77,7 +77,7 @@ alone_first word words = by (length word == 0) refl
     by true e = rw e refl
     by false e = rw e refl
 
-words_run : (word : List ℕ) (c : ℕ) (line : List ℕ) → AreMarks word → is_mark c ≡ false → words_of (word ++ c ∷ line) ≡ alone word ++ words_of line
+words_run : (word : List ℕ) (c : ℕ) (line : List ℕ) → AreMarks word → is_graphic c ≡ false → words_of (word ++ c ∷ line) ≡ alone word ++ words_of line
 words_run word c line marks other = rw (pieces_run word c line marks other) (alone_first word (pieces line))
 
 words_end : (word : List ℕ) → AreMarks word → words_of word ≡ alone word
@@ -99,7 +99,7 @@ and_last : (clean blank rest : Bool) → (clean && (blank && rest)) ≡ ((clean 
 and_last true blank rest = refl
 and_last false blank rest = refl
 
-clean_other : (c : ℕ) (line : List ℕ) → is_mark c ≡ false → is_clean (c ∷ line) ≡ (is_blank c && is_clean line)
+clean_other : (c : ℕ) (line : List ℕ) → is_graphic c ≡ false → is_clean (c ∷ line) ≡ (is_blank c && is_clean line)
 clean_other c line other = rw other (by (is_blank c))
   where
     by : (t : Bool) → ((t || false) && is_clean line) ≡ (t && is_clean line)
@@ -107,7 +107,7 @@ clean_other c line other = rw other (by (is_blank c))
     by false = refl
 
 -- a run of marks and a byte behind it that is no LF
-pub taken_more : (so : List (List ℕ)) (clean : Bool) (rest text word : List ℕ) (c : ℕ) (after : List ℕ) → IsTaken so clean rest text → rest ≡ word ++ c ∷ after → AreMarks word → is_mark c ≡ false → c ≢ 10
+pub taken_more : (so : List (List ℕ)) (clean : Bool) (rest text word : List ℕ) (c : ℕ) (after : List ℕ) → IsTaken so clean rest text → rest ≡ word ++ c ∷ after → AreMarks word → is_graphic c ≡ false → c ≢ 10
     → IsTaken (so ++ alone word) (clean && is_blank c) after text
 taken_more so clean rest text word c after taken is marks other line =
     let feed = other_feed c line in
@@ -154,8 +154,8 @@ taken_end so clean rest text word some taken is marks =
 at_byte : (rest word : List ℕ) (behind : Option (ℕ × Bor (List ℕ))) (byte : ℕ) (after : Bor (List ℕ)) → IfSome behind (λ b. rest ≡ word ++ b.0 ∷ b.1.now) → behind ≡ Some (byte, after) → rest ≡ word ++ byte ∷ after.now
 at_byte rest word behind byte after parts is = subst (λ o. IfSome o (λ b. rest ≡ word ++ b.0 ∷ b.1.now)) is parts
 
-other_byte : (behind : Option (ℕ × Bor (List ℕ))) (byte : ℕ) (after : Bor (List ℕ)) → IfSome behind (λ b. is_mark b.0 ≡ false) → behind ≡ Some (byte, after) → is_mark byte ≡ false
-other_byte behind byte after other is = subst (λ o. IfSome o (λ b. is_mark b.0 ≡ false)) is other
+other_byte : (behind : Option (ℕ × Bor (List ℕ))) (byte : ℕ) (after : Bor (List ℕ)) → IfSome behind (λ b. is_graphic b.0 ≡ false) → behind ≡ Some (byte, after) → is_graphic byte ≡ false
+other_byte behind byte after other is = subst (λ o. IfSome o (λ b. is_graphic b.0 ≡ false)) is other
 
 -- a run and the LF behind it
 pub feed_at : (so : List (List ℕ)) (clean : Bool) (rest text word : List ℕ) (behind : Option (ℕ × Bor (List ℕ))) (byte : ℕ) (after : Bor (List ℕ)) → text ≢ [] → IsTaken so clean rest text → IfSome behind (λ b. rest ≡ word ++ b.0 ∷ b.1.now)
@@ -170,6 +170,6 @@ end_at so clean rest text word behind some taken whole is marks = taken_end so c
 
 -- a run and another byte behind it
 pub more_at : (so new : List (List ℕ)) (clean next : Bool) (rest text word : List ℕ) (behind : Option (ℕ × Bor (List ℕ))) (byte : ℕ) (after : Bor (List ℕ)) → IsTaken so clean rest text → IfSome behind (λ b. rest ≡ word ++ b.0 ∷ b.1.now)
-    → IfSome behind (λ b. is_mark b.0 ≡ false) → behind ≡ Some (byte, after) → byte ≢ 10 → AreMarks word → new ≡ so ++ alone word → next ≡ (clean && is_blank byte) → IsTaken new next after.now text
+    → IfSome behind (λ b. is_graphic b.0 ≡ false) → behind ≡ Some (byte, after) → byte ≢ 10 → AreMarks word → new ≡ so ++ alone word → next ≡ (clean && is_blank byte) → IsTaken new next after.now text
 more_at so new clean next rest text word behind byte after taken parts other is line marks words tidy =
     rw (words, tidy) (taken_more so clean rest text word byte after.now taken (at_byte rest word behind byte after parts is) marks (other_byte behind byte after other is) line)

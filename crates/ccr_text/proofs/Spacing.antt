@@ -1,6 +1,6 @@
 -- A line word by word, and what was added to a text.
 use Rattle.std.proofs.Common.{◌≡◌, ℕ, List, [], ◌∷◌, ◌++◌, refl, ap, ◌∙◌, append_assoc}
-use Rattle.ccr_text.specs.Spelling.{joined, line_text, spaced, Grew}
+use Rattle.ccr_text.specs.Spelling.{joined, line_text, spaced}
 
 pub line_spaced : (first : List ℕ) (words : List (List ℕ)) → line_text (first ∷ words) ≡ first ++ spaced words
 line_spaced first [] = refl

@@ -1,8 +1,8 @@
 -- Numbers in their one spelling: decimal digits without leading zeros.
-use Rattle.std.specs.Prelude.{ℕ, Bool, true, false, not, List, [], ◌∷◌, ◌==◌, decimal, Option, Some, None, if◌then◌else◌}
+use Rattle.std.specs.Prelude.{ℕ, Bool, true, false, not, List, [], ◌∷◌, ◌==◌, map, decimal, Option, Some, None, if◌then◌else◌}
 use Rattle.std.specs.Option.{option_and_then, option_map}
 use Rattle.std.specs.Str.{bytes_eq}
-use Rattle.std.specs.List.{slice_split}
+use Rattle.std.specs.List.{slice_split, join_with_byte}
 use Rattle.ccr_text.specs.Words.{number_of}
 
 -- the number where the word is its digits, which have no leading zero
@@ -16,6 +16,10 @@ exact_number_of word = option_and_then (where_spelled word) (number_of word)
 -- the bytes, cut at each separator. What stands behind the last separator is a part too
 abbrev pub parts : ℕ → List ℕ → List (List ℕ)
 parts separator bytes = slice_split (λ b. b == separator) bytes
+
+-- the numbers of a value, with commas between them
+abbrev pub value_word : List ℕ → List ℕ
+value_word value = join_with_byte 44 (map decimal value)
 
 -- the number that the first word is, and the words behind it
 abbrev pub number_first : List (List ℕ) → Option (ℕ × List (List ℕ))

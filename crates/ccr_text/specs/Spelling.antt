@@ -2,7 +2,7 @@
 use Rattle.std.specs.Prelude.{◌≡◌, ℕ, List, [], ◌∷◌, ◌++◌, ◌==◌, flat_map, length, ◌+◌, true, false}
 use Rattle.std.specs.List.{list_all}
 use Rattle.ccr_text.specs.declared.lines.Line.{Line}
-use Rattle.ccr_text.specs.Words.{is_mark}
+use Rattle.ccr_text.specs.Words.{is_graphic}
 
 -- single spaces between words
 abbrev pub joined : List (List ℕ) → List ℕ
@@ -31,7 +31,7 @@ spelled_lines number (words ∷ lines) = record { number = number; words = words
 -- words of a line: each has a byte, and only bytes of words
 abbrev pub AreWords : List (List ℕ) → Type 0
 AreWords [] = Unit {0}
-AreWords (word ∷ words) = ((length word == 0) ≡ false) × (list_all is_mark word ≡ true) × AreWords words
+AreWords (word ∷ words) = ((length word == 0) ≡ false) × (list_all is_graphic word ≡ true) × AreWords words
 
 -- lines that are given by their words
 abbrev pub AreLines : List (List (List ℕ)) → Type 0

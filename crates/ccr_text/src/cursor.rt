@@ -4,7 +4,7 @@ ghost use Rattle.std.specs.Prelude.{◌≡◌, ◌==◌, length};
 ghost use Rattle.ccr_text.specs.Fields.{seen, word, no_more, number, number_within, policy};
 ghost use Rattle.ccr_text.specs.Answers.{Gives, Leaves, LeavesBy};
 
-use crate::numbers::read_number;
+use crate::numerals::read_number;
 use crate::words::is_text;
 use crate::{Code, Stop};
 use ccr_base::Policy;

@@ -3,7 +3,7 @@
 ghost use Rattle.std.specs.Prelude.{◌≡◌, ◌<◌, [], ◌∷◌, ◌++◌, true, false, IfOk, IfSome, IfNone, length};
 ghost use Rattle.std.specs.List.{list_all};
 ghost use Rattle.std.specs.Str.{bytes_eq};
-ghost use Rattle.ccr_text.specs.Words.{is_blank, is_mark, is_clean, pieces, words_of, is_comment, is_name_of, may_be_in_name};
+ghost use Rattle.ccr_text.specs.Words.{is_blank, is_graphic, is_clean, pieces, words_of, is_comment, is_name_of, may_be_in_name};
 
 use ccr_base::{List, Name, OutOfMemory};
 use std::alloc::Global;
@@ -11,8 +11,8 @@ use std::alloc::Global;
 /// How many bytes a name has at most.
 const MAX_NAME_BYTES: usize = 16;
 
-fn is_mark_byte(byte: u8) -> bool
-    ensures { result ≡ is_mark byte }
+fn is_graphic_byte(byte: u8) -> bool
+    ensures { result ≡ is_graphic byte }
 {
     (33..=126).contains(&byte)
 }
@@ -25,11 +25,11 @@ pub fn is_blank_byte(byte: u8) -> bool
 }
 
 /// Whether the bytes are blanks (space, tab, CR) and bytes of words (33 to 126) alone.
-pub fn is_clean_line(line: &[u8]) -> bool
+pub(crate) fn is_clean_line(line: &[u8]) -> bool
     ensures { result ≡ is_clean line.now }
 {
     line.iter()
-        .all(|byte| is_blank_byte(*byte) || is_mark_byte(*byte))
+        .all(|byte| is_blank_byte(*byte) || is_graphic_byte(*byte))
 }
 
 /// What stands before the first byte that is no mark, and what stands behind that byte.
@@ -39,7 +39,7 @@ pub fn cut_word(line: &[u8]) -> (&[u8], Option<&[u8]>)
     ensures shorter { IfSome result.1 (λ after. length after.now < length line.now) }
 {
     for (index, byte) in line.iter().enumerate() {
-        if !is_mark_byte(*byte) {
+        if !is_graphic_byte(*byte) {
             return (&line[..index], Some(&line[index + 1..]));
         }
     }
@@ -48,13 +48,13 @@ pub fn cut_word(line: &[u8]) -> (&[u8], Option<&[u8]>)
 
 /// The bytes of words at the beginning, and the first byte that is none with what follows it.
 pub fn cut_run(bytes: &[u8]) -> (&[u8], Option<(u8, &[u8])>)
-    ensures marks { list_all is_mark result.0.now ≡ true }
+    ensures marks { list_all is_graphic result.0.now ≡ true }
     ensures whole { IfNone result.1 (bytes.now ≡ result.0.now) }
     ensures parts { IfSome result.1 (λ behind. bytes.now ≡ result.0.now ++ behind.0 ∷ behind.1.now) }
-    ensures other { IfSome result.1 (λ behind. is_mark behind.0 ≡ false) }
+    ensures other { IfSome result.1 (λ behind. is_graphic behind.0 ≡ false) }
 {
     for (index, byte) in bytes.iter().enumerate() {
-        if !is_mark_byte(*byte) {
+        if !is_graphic_byte(*byte) {
             return (&bytes[..index], Some((*byte, &bytes[index + 1..])));
         }
     }

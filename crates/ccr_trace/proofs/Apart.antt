@@ -22,7 +22,7 @@ use Rattle.ccr_text.specs.Words.{is_name_of}
 use Rattle.ccr_wiring.specs.Valid.{IsValid}
 use Rattle.ccr_wiring.specs.Versions.{has_strange_version, has_newer}
 use Rattle.ccr_wiring.specs.Wirings.{Placement, placements_of, placements_from, placements, in_domain}
-use Rattle.ccr_wiring.proofs.NameLemmas.{apart_left}
+use Rattle.ccr_wiring.proofs.RepeatedNames.{apart_left}
 use Rattle.ccr_trace.specs.Words.{branch_names, branch_names_of, cause_names}
 use Rattle.std.proofs.lemmas.Bool.{and_parts as both, or_parts as neither}
 use Rattle.ccr_base.proofs.Booleans.{not_refuted}

@@ -9,7 +9,7 @@ use Rattle.ccr_wiring.specs.Names.{has_name, has_repeated}
 use Rattle.ccr_trace.specs.Words.{name_at}
 use Rattle.ccr_trace.specs.Said.{IsName}
 use Rattle.ccr_trace.specs.Known.{number_in}
-use Rattle.ccr_trace.proofs.Steps.{some_is}
+use Rattle.ccr_trace.proofs.ReadTellsSteps.{some_is}
 use Rattle.std.proofs.lemmas.Bool.{or_parts as neither}
 use Rattle.ccr_base.proofs.Texts.{same_word, same_text}
 

@@ -10,8 +10,9 @@ use Rattle.ccr_base.specs.declared.names.TaskId.{TaskId}
 use Rattle.ccr_base.specs.declared.names.MsgId.{MsgId}
 use Rattle.ccr_base.proofs.Texts.{same_word}
 use Rattle.ccr_trace.specs.Fields.{◌>>=◌, each, message_of}
-use Rattle.ccr_trace.specs.Forms.{Words, field, cuts, fired}
-use Rattle.ccr_trace.proofs.Steps.{field_some}
+use Rattle.ccr_trace.specs.Forms.{field, cuts, fired}
+use Rattle.ccr_trace.proofs.ReadTellsSteps.{field_some}
+use Rattle.ccr_text.specs.Fields.{Words}
 
 -- what holds of those so far and of the next
 pub All-more : {X : Type 0} (P : X → Type 0) (xs : List X) (i : ℕ) (d : X) → i < length xs → All P (take i xs) → P (get_or xs i d) → All P (take (i + 1) xs)

@@ -20,9 +20,9 @@ use Rattle.ccr_trace.specs.Words.{name_at, cause_names, branch_names, spot_word}
 use Rattle.ccr_trace.specs.HistoryText.{event_words}
 use Rattle.ccr_trace.specs.Said.{SpotName, Said, Post, Fire, Admit, Put, Start, End, said_words, spot_name_word, IsSaid, IsName, IsSite, IsEnd}
 use Rattle.ccr_trace.specs.Fields.{◌>>=◌, each}
-use Rattle.ccr_trace.specs.Forms.{Words}
+use Rattle.ccr_text.specs.Fields.{Words}
 use Rattle.ccr_trace.specs.Known.{number_in, spot_at, spot_known, known, IsKnownSpot, IsKnownEnd, IsKnown, HasMessages, IsShortSpot, IsShortEnd, IsShort}
-use Rattle.ccr_trace.proofs.Steps.{bind_some, some_is, only_one}
+use Rattle.ccr_trace.proofs.ReadTellsSteps.{bind_some, some_is, only_one}
 use Rattle.ccr_trace.proofs.Apart.{ports_apart, causes_apart, branches_apart, length-branch_names, are_formed}
 use Rattle.ccr_trace.proofs.ByNumber.{name_at-number, number_in-name, name_formed}
 use Rattle.ccr_trace.proofs.WordsRead.{each_read}

@@ -6,8 +6,9 @@ use Rattle.std.proofs.lemmas.Bool.Decides.{nat_tests}
 use Rattle.ccr_base.specs.declared.names.MsgId.TheVariants as ids
 use Rattle.ccr_text.specs.Exact.{number_first}
 use Rattle.ccr_trace.specs.Fields.{◌>>=◌, each, where_short, where_few, values_in, exact_number, short_number, task_in, script_in, answer_in}
-use Rattle.ccr_trace.specs.Forms.{Words, field}
-use Rattle.ccr_trace.proofs.Steps.{field_some}
+use Rattle.ccr_trace.specs.Forms.{field}
+use Rattle.ccr_text.specs.Fields.{Words}
+use Rattle.ccr_trace.proofs.ReadTellsSteps.{field_some}
 use Rattle.ccr_trace.specs.Pieces.{pieces}
 use Rattle.ccr_trace.proofs.Cutting.{pieces_some}
 use Rattle.ccr_trace.proofs.Each.{behind_found, each_more}

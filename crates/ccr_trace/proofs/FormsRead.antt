@@ -11,13 +11,14 @@ use Rattle.ccr_model.specs.declared.history.EndHow.{EndHow}
 use Rattle.ccr_model.specs.declared.history.EndHow.TheVariants as ends
 use Rattle.ccr_text.specs.Words.{is_name_of}
 use Rattle.ccr_text.specs.Spelling.{joined}
-use Rattle.ccr_trace.specs.Words.{task_word, message_word, value_word}
+use Rattle.ccr_trace.specs.Words.{task_word, message_word}
+use Rattle.ccr_text.specs.Exact.{value_word}
 use Rattle.ccr_trace.specs.HistoryText.{cut_words, dropped_words, end_words}
-use Rattle.ccr_trace.specs.Pieces.{pieces}
 use Rattle.ccr_trace.specs.Said.{SpotName, Said, Post, Fire, Admit, Put, Start, End, said_words, spelled, spot_name_word, IsSaid, IsTask, IsMessage, IsName, IsValue, IsDropped, IsEnd}
 use Rattle.ccr_trace.specs.Fields.{◌>>=◌, each, exact_number, short_number, value_of, task_of, message_of, spot_of}
-use Rattle.ccr_trace.specs.Forms.{Words, word, cuts, fired, post_said, fire_said, admit_said, dropped_said, put_said, start_said, how_said, end_said, form_said, said_on}
-use Rattle.ccr_trace.proofs.Steps.{is_some_of-some}
+use Rattle.ccr_trace.specs.Forms.{word, cuts, fired, post_said, fire_said, admit_said, dropped_said, put_said, start_said, how_said, end_said, form_said, said_on}
+use Rattle.ccr_text.specs.Fields.{Words}
+use Rattle.ccr_trace.proofs.ReadTellsSteps.{is_some_of-some}
 use Rattle.ccr_trace.proofs.Parting.{AreMarked, pieces-joined, marked_both, marked_map}
 use Rattle.ccr_trace.proofs.WordsRead.{AreNumbers, value_read, short_read, task_read, message_read, spot_read, number_marked, value_marked, task_marked, message_marked, spot_marked, name_marked, each_read}
 

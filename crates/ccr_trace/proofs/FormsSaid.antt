@@ -13,13 +13,15 @@ use Rattle.ccr_model.specs.declared.history.EndHow.{EndHow}
 use Rattle.ccr_model.specs.declared.history.EndHow.TheVariants as ends
 use Rattle.ccr_text.specs.Words.{is_name_of}
 use Rattle.ccr_text.specs.Spelling.{joined}
-use Rattle.ccr_trace.specs.Words.{task_word, message_word, value_word}
+use Rattle.ccr_trace.specs.Words.{task_word, message_word}
+use Rattle.ccr_text.specs.Exact.{value_word}
 use Rattle.ccr_trace.specs.HistoryText.{cut_words, dropped_words, end_words}
 use Rattle.ccr_trace.specs.Pieces.{pieces}
 use Rattle.ccr_trace.specs.Said.{SpotName, Said, Post, Fire, Admit, Put, Start, End, said_words, spelled, spot_name_word, IsSaid, IsTask, IsMessage, IsName, IsDropped, IsEnd}
 use Rattle.ccr_trace.specs.Fields.{◌>>=◌, each, exact_number, short_number, value_of, name_of, task_of, message_of, spot_of}
-use Rattle.ccr_trace.specs.Forms.{Words, word, no_more, only, field, is_some_of, cuts, fired, post_said, fire_said, admit_said, dropped_said, put_said, start_said, plain_end, failed, how_said, end_said, form_said, said_on}
-use Rattle.ccr_trace.proofs.Steps.{bind_some, some_is, only_one, only_some, word_some, no_more_some, field_some, some_of}
+use Rattle.ccr_trace.specs.Forms.{word, no_more, only, field, is_some_of, cuts, fired, post_said, fire_said, admit_said, dropped_said, put_said, start_said, plain_end, failed, how_said, end_said, form_said, said_on}
+use Rattle.ccr_trace.proofs.ReadTellsSteps.{bind_some, some_is, only_one, only_some, word_some, no_more_some, field_some, some_of}
+use Rattle.ccr_text.specs.Fields.{Words}
 use Rattle.ccr_trace.proofs.WordsSaid.{value_said, short_said, task_said, message_said, name_said, spot_said, each_said}
 use Rattle.std.proofs.lemmas.Bool.{and_parts as both}
 

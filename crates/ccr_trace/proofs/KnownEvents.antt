@@ -20,10 +20,12 @@ use Rattle.ccr_model.specs.declared.history.EndHow.TheVariants as ends
 use Rattle.ccr_trace.specs.Words.{cause_names, branch_names}
 use Rattle.ccr_trace.specs.Said.{SpotName, Said, Post, Fire, Admit, Put, Start, End, IsSaid, IsEnd}
 use Rattle.ccr_trace.specs.Fields.{◌>>=◌, each}
-use Rattle.ccr_trace.specs.Forms.{Words, said_on}
+use Rattle.ccr_trace.specs.Forms.{said_on}
+use Rattle.ccr_text.specs.Fields.{Words}
+use Rattle.ccr_text.proofs.Steps.{or_code_ok}
 use Rattle.ccr_trace.specs.Known.{number_in, spot_at, spot_known, known, IsKnownSpot, IsKnownEnd, IsKnown, HasMessages}
-use Rattle.ccr_trace.specs.Reading.{or_code, event_of, event_on}
-use Rattle.ccr_trace.proofs.Steps.{bind_some, some_is, only_one}
+use Rattle.ccr_trace.specs.Reading.{event_of, event_on}
+use Rattle.ccr_trace.proofs.ReadTellsSteps.{bind_some, some_is, only_one}
 use Rattle.ccr_trace.proofs.Apart.{length-branch_names}
 use Rattle.ccr_trace.proofs.FormsSaid.{line_told}
 
@@ -96,20 +98,13 @@ has_messages parts (Put task dropped) event good e = subst (λ (v : Event). HasM
 has_messages parts (Start task actor) event good e = subst (λ (v : Event). HasMessages v) (some_is (events.Start task actor) event e) tt
 has_messages parts (End task how) event good e = subst (λ (v : Event). HasMessages v) (some_is (events.End task how) event e) tt
 
-abbrev done : {A : Type 0} → A → Result A ℕ
-done x = Ok x
-
-code_none : {A : Type 0} (found : Option A) (code : ℕ) (x : A) → or_code found code ≡ Ok x → found ≡ Some x
-code_none None code x e = absurd cc
-code_none (Some y) code x e = let same : done y ≡ done x = e in cc
-
 -- what the event's line says
 pub event_said : (parts : Parts) (line : List ℕ) (event : Event) → event_on parts line ≡ Ok event → (said : Said) × (said_on parts.version line ≡ Some said) × (known parts said ≡ Some event)
 event_said parts line event e = by (said_on parts.version line) refl e
   where
     by : (o : Option Said) → said_on parts.version line ≡ o → event_of parts o ≡ Ok event → (said : Said) × (said_on parts.version line ≡ Some said) × (known parts said ≡ Some event)
     by None is e' = absurd cc
-    by (Some said) is e' = (said, is, code_none (known parts said) 2 event e')
+    by (Some said) is e' = (said, is, or_code_ok (known parts said) 2 event e')
 
 pub event_is_known : (parts : Parts) (line : List ℕ) (event : Event) → event_on parts line ≡ Ok event → IsKnown parts event
 event_is_known parts line event e =

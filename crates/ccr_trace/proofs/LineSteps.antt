@@ -12,7 +12,6 @@ use Rattle.ccr_trace.specs.declared.refused.HistoryRefused.TheVariants as refusa
 use Rattle.ccr_trace.specs.declared.reading.ReadHistory.{ReadHistory}
 use Rattle.ccr_trace.specs.Answers.{HasCode, IsRefusal, IsReading, refused}
 use Rattle.ccr_trace.specs.Reading.{event_on, ended, first_line, head, with_event, reading_from, reading_lines}
-use Rattle.ccr_trace.specs.HistoryText.{version_word}
 use Rattle.ccr_trace.specs.Pieces.{pieces, bytes_in}
 use Rattle.ccr_trace.proofs.Cutting.{pieces_some}
 use Rattle.std.specs.List.{onto_first}

@@ -3,8 +3,8 @@ use Rattle.std.proofs.Common.{◌≡◌, ℕ, List, [], ◌∷◌, ◌++◌, cod
 use Rattle.std.proofs.lemmas.Grind.{common_steps}
 use Rattle.ccr_text.specs.Spelling.{joined, line_text}
 use Rattle.std.specs.Prelude.{map, decimal}
-use Rattle.std.specs.List.{join_with_byte}
-use Rattle.ccr_trace.specs.Words.{value_word, other_numbers}
+use Rattle.ccr_trace.specs.Words.{other_numbers}
+use Rattle.ccr_text.specs.Exact.{value_word}
 use Rattle.ccr_trace.specs.HistoryText.{behind}
 
 pub joined_behind : (word : List ℕ) (words : List (List ℕ)) → joined (word ∷ words) ≡ word ++ behind words

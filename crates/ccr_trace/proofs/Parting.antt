@@ -4,7 +4,7 @@ use Rattle.std.specs.Prelude.{◌==◌, ◌&&◌, not}
 use Rattle.std.specs.List.{list_all, join_with_byte, All}
 use Rattle.std.proofs.lemmas.Bool.Decides.{nat_tests}
 use Rattle.std.proofs.lemmas.List.Elements.{recursion_from_All}
-use Rattle.ccr_text.specs.Words.{is_mark}
+use Rattle.ccr_text.specs.Words.{is_graphic}
 use Rattle.ccr_text.specs.Spelling.{joined}
 use Rattle.ccr_trace.specs.Pieces.{pieces}
 use Rattle.std.proofs.lemmas.Bool.{and_parts as both}
@@ -68,12 +68,12 @@ tested_by test wider (b ∷ bytes) more e =
 
 -- the bytes of words alone
 abbrev pub marked : List ℕ → Bool
-marked word = list_all is_mark word
+marked word = list_all is_graphic word
 
 pub marked-append : (xs ys : List ℕ) → marked xs ≡ true → marked ys ≡ true → marked (xs ++ ys) ≡ true
 marked-append [] ys e f = f
 marked-append (b ∷ xs) ys e f =
-    let parts = both (is_mark b) (marked xs) e in
+    let parts = both (is_graphic b) (marked xs) e in
     rw (parts.0, marked-append xs ys parts.1 f) refl
 
 abbrev pub AreMarked : List (List ℕ) → Type 0
@@ -83,13 +83,13 @@ AreMarked (word ∷ words) = (marked word ≡ true) × AreMarked words
 -- a line has no LF
 pub joined_lacks : (words : List (List ℕ)) → AreMarked words → lacks 10 (joined words) ≡ true
 joined_lacks [] are = refl
-joined_lacks (word ∷ []) are = lacks_tested is_mark 10 word refl are.0
-joined_lacks (word ∷ next ∷ words) are = lacks-append 10 word (32 ∷ joined (next ∷ words)) (lacks_tested is_mark 10 word refl are.0) (joined_lacks (next ∷ words) are.1)
+joined_lacks (word ∷ []) are = lacks_tested is_graphic 10 word refl are.0
+joined_lacks (word ∷ next ∷ words) are = lacks-append 10 word (32 ∷ joined (next ∷ words)) (lacks_tested is_graphic 10 word refl are.0) (joined_lacks (next ∷ words) are.1)
 
 -- the words of a line are found again
 pub pieces-joined : (word : List ℕ) (words : List (List ℕ)) → AreMarked (word ∷ words) → pieces 32 (joined (word ∷ words)) ≡ word ∷ words
-pieces-joined word [] are = pieces_only 32 word (lacks_tested is_mark 32 word refl are.0)
-pieces-joined word (next ∷ words) are = pieces_first 32 word (joined (next ∷ words)) (lacks_tested is_mark 32 word refl are.0) ∙ ap (λ (w : List (List ℕ)). word ∷ w) (pieces-joined next words are.1)
+pieces-joined word [] are = pieces_only 32 word (lacks_tested is_graphic 32 word refl are.0)
+pieces-joined word (next ∷ words) are = pieces_first 32 word (joined (next ∷ words)) (lacks_tested is_graphic 32 word refl are.0) ∙ ap (λ (w : List (List ℕ)). word ∷ w) (pieces-joined next words are.1)
 
 pub marked_both : (words more : List (List ℕ)) → AreMarked words → AreMarked more → AreMarked (words ++ more)
 marked_both [] more e f = f

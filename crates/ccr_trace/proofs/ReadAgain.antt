@@ -16,7 +16,6 @@ use Rattle.ccr_text.specs.Spelling.{joined, line_text, text_of}
 use Rattle.ccr_trace.specs.declared.reading.ReadHistory.{ReadHistory}
 use Rattle.ccr_trace.specs.Pieces.{pieces}
 use Rattle.ccr_trace.specs.HistoryText.{first_words, event_words, history_text}
-use Rattle.ccr_trace.specs.Said.{said_words, spelled}
 use Rattle.ccr_trace.specs.Forms.{said_on}
 use Rattle.ccr_trace.specs.Known.{known, IsKnown, HasMessages, IsShort, AreKnown, HaveMessages, AreShort}
 use Rattle.ccr_trace.specs.Reading.{event_of, event_on, first_line, head, with_event, reading_from, reading_lines, reading}

@@ -8,10 +8,11 @@ use Rattle.ccr_base.specs.declared.names.MsgId.TheVariants as ids
 use Rattle.ccr_text.specs.Words.{is_digits, value_after, number_of}
 use Rattle.ccr_trace.specs.Pieces.{pieces}
 use Rattle.ccr_trace.specs.Fields.{◌>>=◌, where_spelled, where_short, exact_number, short_number, task_in, task_of, script_in, answer_in, message_of}
-use Rattle.ccr_trace.specs.Forms.{Words, field}
+use Rattle.ccr_trace.specs.Forms.{field}
+use Rattle.ccr_text.specs.Fields.{Words}
 use Rattle.ccr_trace.proofs.Cutting.{pieces_some}
 use Rattle.ccr_trace.proofs.Parting.{lacks, other, lacks-append, lacks_tested, pieces_first, pieces_only}
-use Rattle.ccr_trace.proofs.Steps.{bind_some, field_some}
+use Rattle.ccr_trace.proofs.ReadTellsSteps.{bind_some, field_some}
 use Rattle.std.proofs.lemmas.Bool.{and_parts as both}
 
 -- what stands before the first separator, and what behind it

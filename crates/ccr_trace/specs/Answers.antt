@@ -5,7 +5,7 @@ use Rattle.ccr_trace.specs.declared.stop.Stop.TheVariants as stops
 use Rattle.ccr_trace.specs.declared.refused.HistoryRefused.{HistoryRefused}
 use Rattle.ccr_trace.specs.declared.refused.HistoryRefused.TheVariants as refusals
 use Rattle.ccr_trace.specs.declared.reading.ReadHistory.{ReadHistory}
-use Rattle.ccr_trace.specs.Forms.{Words}
+use Rattle.ccr_text.specs.Fields.{Words}
 
 -- nothing is said by a malformed line
 abbrev pub SaysNone : {Y : Type 0} → Stop → Option Y → Type 0

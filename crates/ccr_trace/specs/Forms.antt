@@ -7,13 +7,10 @@ use Rattle.ccr_base.specs.declared.names.MsgId.{MsgId}
 use Rattle.ccr_model.specs.declared.history.EndHow.{EndHow}
 use Rattle.ccr_model.specs.declared.history.EndHow.TheVariants as ends
 use Rattle.ccr_text.specs.Words.{is_name_of}
+use Rattle.ccr_text.specs.Fields.{Words}
 use Rattle.ccr_trace.specs.Pieces.{pieces}
 use Rattle.ccr_trace.specs.Said.{Said, Post, Fire, Admit, Put, Start, End}
 use Rattle.ccr_trace.specs.Fields.{◌>>=◌, each, short_number, value_of, name_of, task_of, message_of, spot_of}
-
--- the words that are left
-abbrev pub Words : Type 0
-Words = List (List ℕ)
 
 -- goes on where the test holds
 abbrev pub only : Bool → Option (Unit {0})

@@ -8,7 +8,8 @@ use Rattle.ccr_model.specs.declared.history.Event.TheVariants as events
 use Rattle.ccr_model.specs.declared.history.EndHow.{EndHow}
 use Rattle.ccr_model.specs.declared.history.EndHow.TheVariants as ends
 use Rattle.ccr_text.specs.Spelling.{text_of}
-use Rattle.ccr_trace.specs.Words.{task_word, message_word, value_word, name_at, cause_names, branch_names, spot_word}
+use Rattle.ccr_trace.specs.Words.{task_word, message_word, name_at, cause_names, branch_names, spot_word}
+use Rattle.ccr_text.specs.Exact.{value_word}
 
 -- each word behind a space
 abbrev pub behind : List (List ℕ) → List ℕ

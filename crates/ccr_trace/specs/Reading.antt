@@ -4,17 +4,13 @@ use Rattle.std.specs.Str.{bytes_eq}
 use Rattle.ccr_wiring.specs.declared.parts.Parts.{Parts}
 use Rattle.ccr_model.specs.declared.history.Event.{Event}
 use Rattle.ccr_text.specs.Spelling.{joined}
+use Rattle.ccr_text.specs.Fields.{or_code}
 use Rattle.ccr_trace.specs.declared.reading.ReadHistory.{ReadHistory}
 use Rattle.ccr_trace.specs.HistoryText.{first_words}
 use Rattle.ccr_trace.specs.Pieces.{pieces}
 use Rattle.ccr_trace.specs.Said.{Said}
 use Rattle.ccr_trace.specs.Forms.{said_on}
 use Rattle.ccr_trace.specs.Known.{known}
-
--- what was found, else the refusal with this code
-abbrev pub or_code : {A : Type 0} → Option A → ℕ → Result A ℕ
-or_code None code = Err code
-or_code (Some x) code = Ok x
 
 -- what a line says is code 2 where it names what the wiring doesn't have
 abbrev pub event_of : Parts → Option Said → Result Event ℕ

@@ -8,7 +8,8 @@ use Rattle.ccr_model.specs.declared.history.EndHow.{EndHow}
 use Rattle.ccr_model.specs.declared.history.EndHow.TheVariants as ends
 use Rattle.ccr_text.specs.Words.{is_name_of}
 use Rattle.ccr_text.specs.Spelling.{joined}
-use Rattle.ccr_trace.specs.Words.{task_word, message_word, value_word}
+use Rattle.ccr_trace.specs.Words.{task_word, message_word}
+use Rattle.ccr_text.specs.Exact.{value_word}
 use Rattle.ccr_trace.specs.HistoryText.{cut_words, dropped_words, end_words}
 
 -- a branch's name, or NAME@K for its site K

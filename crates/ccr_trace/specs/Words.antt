@@ -1,6 +1,5 @@
 -- The words for names, and for what an event names.
 use Rattle.std.specs.Prelude.{ℕ, List, ◌∷◌, ◌++◌, map, flat_map, decimal}
-use Rattle.std.specs.List.{join_with_byte}
 use Rattle.ccr_base.specs.declared.names.TaskId.{TaskId}
 use Rattle.ccr_base.specs.declared.names.MsgId.{MsgId}
 use Rattle.ccr_base.specs.declared.names.MsgId.TheVariants.{Script, Task}
@@ -16,10 +15,6 @@ task_word task = 116 ∷ (decimal task.actor ++ 46 ∷ decimal task.attempt)
 abbrev pub message_word : MsgId → List ℕ
 message_word (Script actor place) = 115 ∷ (decimal actor ++ 46 ∷ decimal place)
 message_word (Task task place) = task_word task ++ 46 ∷ decimal place
-
--- the numbers of a value, joined by commas
-abbrev pub value_word : List ℕ → List ℕ
-value_word value = join_with_byte 44 (map decimal value)
 
 -- numbers, each behind a comma
 abbrev pub other_numbers : List ℕ → List ℕ

@@ -3,7 +3,8 @@
 ghost use Rattle.std.specs.Prelude.{◌≡◌, ◌++◌, ◌∷◌, [], OnOk, map, codes};
 ghost use Rattle.std.specs.List.{All};
 ghost use Rattle.ccr_text.specs.Spelling.{line_text};
-ghost use Rattle.ccr_trace.specs.Words.{task_word, message_word, value_word, spot_word, name_at, branch_names};
+ghost use Rattle.ccr_trace.specs.Words.{task_word, message_word, spot_word, name_at, branch_names};
+ghost use Rattle.ccr_text.specs.Exact.{value_word};
 ghost use Rattle.ccr_trace.specs.Said.{IsTask, IsMessage, IsDropped, HasNumbers};
 ghost use Rattle.ccr_trace.specs.Known.{IsShortSpot, IsShortEnd, IsShort};
 ghost use Rattle.ccr_trace.specs.HistoryText.{behind, cut_words, dropped_words, end_words, event_words, post_words};

@@ -8,7 +8,7 @@ ghost use Rattle.ccr_trace.specs.Known.{number_in, spot_known};
 ghost use Rattle.ccr_trace.specs.Answers.{Finds};
 
 use crate::cursor::Cursor;
-use crate::numbers::NumberedNames;
+use crate::numbered_names::NumberedNames;
 use crate::stop::Stop;
 use ccr_base::{CauseNo, List, Name, OutOfMemory, PortNo, Spot};
 use ccr_wiring::{ArbiterPart, CausePart, Parts, Wiring, valid_wirings_are_sound};

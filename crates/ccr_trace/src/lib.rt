@@ -10,7 +10,7 @@ mod forms;
 mod known;
 mod laws;
 mod names;
-mod numbers;
+mod numbered_names;
 mod pieces;
 mod plain;
 mod prepending;

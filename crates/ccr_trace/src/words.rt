@@ -2,7 +2,8 @@
 
 ghost use Rattle.std.specs.Prelude.{◌≡◌, ◌<◌, ◌^◌, ◌++◌, ◌∷◌, OnOk, decimal};
 ghost use Rattle.std.specs.List.{All};
-ghost use Rattle.ccr_trace.specs.Words.{task_word, message_word, value_word, other_numbers, spot_word};
+ghost use Rattle.ccr_trace.specs.Words.{task_word, message_word, other_numbers, spot_word};
+ghost use Rattle.ccr_text.specs.Exact.{value_word};
 ghost use Rattle.ccr_trace.specs.Said.{IsTask, IsMessage, HasNumbers};
 ghost use Rattle.ccr_trace.specs.Known.{IsShortSpot};
 

@@ -3,7 +3,7 @@ use Rattle.std.proofs.Common.{Bool, subst, length, false, eqb, eq-eqb, ne_eqb, �
 use Rattle.std.proofs.lemmas.List.{map-append}
 use Rattle.ccr_turns.specs.Steps.{won}
 use Rattle.ccr_turns.specs.Views.{Sat, view, hold}
-use Rattle.ccr_turns.specs.Logs.{numbers_of, log, mark, noted, log_stamps, marks_of}
+use Rattle.ccr_turns.specs.Logs.{numbers_of, log, log_entry, noted, log_stamps, logged_of}
 use Rattle.ccr_turns.specs.Lists.{last_of}
 use Rattle.ccr_turns.specs.Histories.{history_stamps, past}
 use Rattle.ccr_turns.specs.Seated.{IsAtRest, Ready, Won, HasTurn, Entered}
@@ -17,30 +17,30 @@ use Rattle.atomic_table.specs.Table.{step}
 use Rattle.ccr_turns.specs.declared.history.Hold.{Hold}
 use Rattle.ccr_turns.specs.declared.history.Held.{Held}
 use Rattle.ccr_turns.specs.declared.history.Cell.{Cell}
-use Rattle.ccr_turns.specs.declared.history.Mark.{Mark}
+use Rattle.ccr_turns.specs.declared.history.LogEntry.{LogEntry}
 use Rattle.ccr_turns.specs.declared.history.Log.{Log}
 use Rattle.ccr_turns.specs.declared.kept.Keep.{Keep}
 use Rattle.ccr_turns.proofs.Rows.{last_more}
 
 module _ {N X : Type 0} where
-  pub last_mark : (marks : List (Mark N X)) (m : Mark N X) → last_of 0 (log_stamps (marks ++ m ∷ [])) ≡ m.stamp
-  last_mark marks m = ap (last_of 0) (map-append (λ (d : Mark N X). d.stamp) marks (m ∷ [])) ∙ last_more 0 (log_stamps marks) m.stamp
+  pub last_logged : (logged : List (LogEntry N X)) (m : LogEntry N X) → last_of 0 (log_stamps (logged ++ m ∷ [])) ≡ m.stamp
+  last_logged logged m = ap (last_of 0) (map-append (λ (d : LogEntry N X). d.stamp) logged (m ∷ [])) ∙ last_more 0 (log_stamps logged) m.stamp
 
 pub last_stamp : {N : Type 0} (es : List (Held N)) (e : Held N) → last_of 0 (history_stamps (es ++ e ∷ [])) ≡ e.stamp
 last_stamp es e = ap (last_of 0) (map-append (λ (d : Held _). d.stamp) es (e ∷ [])) ∙ last_more 0 (history_stamps es) e.stamp
 
 module _ {O N X : Type 0} where
-  pub turn_of : (number : ℕ) (marks : List (Mark N X)) (place : ℕ) (before : List (Held N)) (now : X) (keep : Keep) (m₀ m : Sat O N X) → m₀ ≡ (view (log number marks ∷ []) None, [])
-      → HasTurn place m before now keep → m.0.logs ≡ m₀.0.logs → m ≡ (view (log number marks ∷ []) (Some (hold place before now keep)), (place, None) ∷ [])
-  turn_of number marks place before now keep m₀ m is turn logs =
-      let a : m.0.logs ≡ log number marks ∷ [] = logs ∙ ap (λ (y : Sat O N X). y.0.logs) is in
+  pub turn_of : (number : ℕ) (logged : List (LogEntry N X)) (place : ℕ) (before : List (Held N)) (now : X) (keep : Keep) (m₀ m : Sat O N X) → m₀ ≡ (view (log number logged ∷ []) None, [])
+      → HasTurn place m before now keep → m.0.logs ≡ m₀.0.logs → m ≡ (view (log number logged ∷ []) (Some (hold place before now keep)), (place, None) ∷ [])
+  turn_of number logged place before now keep m₀ m is turn logs =
+      let a : m.0.logs ≡ log number logged ∷ [] = logs ∙ ap (λ (y : Sat O N X). y.0.logs) is in
       turn ∙ (λ d. (view (a d) (Some (hold place before now keep)), (place, None) ∷ []))
 
-  pub after_entry : (number : ℕ) (marks : List (Mark N X)) (place : ℕ) (before : List (Held N)) (now : X) (keep : Keep) (e : Held N) (m n : Sat O N X) (c : Cell O N)
-      → m ≡ (view (log number marks ∷ []) (Some (hold place before now keep)), (place, None) ∷ []) → past c ≡ before ++ e ∷ [] → Entered place m c n
-      → n ≡ (view (log number (marks ++ mark place e.stamp e.note now (last_of 0 (history_stamps before)) ∷ []) ∷ []) None, [])
-  after_entry number marks place before now keep e m n c is more told =
-      let first = told.1 e (hold place before now keep) (ap (λ (y : Sat O N X). y.0.hold) is) more ∙ ap (λ (y : Sat O N X). view (noted y.0.logs (mark place e.stamp e.note now (last_of 0 (history_stamps before)))) None) is in
+  pub after_entry : (number : ℕ) (logged : List (LogEntry N X)) (place : ℕ) (before : List (Held N)) (now : X) (keep : Keep) (e : Held N) (m n : Sat O N X) (c : Cell O N)
+      → m ≡ (view (log number logged ∷ []) (Some (hold place before now keep)), (place, None) ∷ []) → past c ≡ before ++ e ∷ [] → Entered place m c n
+      → n ≡ (view (log number (logged ++ log_entry place e.stamp e.note now (last_of 0 (history_stamps before)) ∷ []) ∷ []) None, [])
+  after_entry number logged place before now keep e m n c is more told =
+      let first = told.1 e (hold place before now keep) (ap (λ (y : Sat O N X). y.0.hold) is) more ∙ ap (λ (y : Sat O N X). view (noted y.0.logs (log_entry place e.stamp e.note now (last_of 0 (history_stamps before)))) None) is in
       let second = told.0 in λ d. (first d, second d)
 
   -- a seat that took a lock
@@ -63,14 +63,14 @@ module _ {N X : Type 0} where
   no_hold None e = refl
   no_hold (Some h) e = absurd (cc)
 
-  pub one_log : (number : ℕ) (ls : List (Log N X)) → numbers_of ls ≡ number ∷ [] → ls ≡ log number (marks_of ls) ∷ []
+  pub one_log : (number : ℕ) (ls : List (Log N X)) → numbers_of ls ≡ number ∷ [] → ls ≡ log number (logged_of ls) ∷ []
   one_log number [] e = absurd (let a = ap length e in omega arith)
-  one_log number (l ∷ []) e = let is : l.number ≡ number = cc in λ d. log (is d) l.marks ∷ []
+  one_log number (l ∷ []) e = let is : l.number ≡ number = cc in λ d. log (is d) l.logged ∷ []
   one_log number (l ∷ k ∷ ls) e = absurd (let a = ap length e in omega arith)
 
 module _ {O N X : Type 0} where
   -- a seat at rest has one log and nothing else
-  pub at_rest : (number last : ℕ) (m : Sat O N X) → IsAtRest number last m → m ≡ (view (log number (marks_of m.0.logs) ∷ []) None, [])
+  pub at_rest : (number last : ℕ) (m : Sat O N X) → IsAtRest number last m → m ≡ (view (log number (logged_of m.0.logs) ∷ []) None, [])
   at_rest number last m resting =
       let logs = one_log number m.0.logs resting.2 in
       let free = no_hold m.0.hold resting.0 in
@@ -78,9 +78,9 @@ module _ {O N X : Type 0} where
       λ d. (view (logs d) (free d), empty d)
 
   -- and a seat with that is at rest
-  pub rests : (number last : ℕ) (marks : List (Mark N X)) (m : Sat O N X) → m ≡ (view (log number marks ∷ []) None, []) → last_of 0 (log_stamps marks) ≡ last → IsAtRest number last m
-  rests number last marks m is e =
-      (ap (λ (y : Sat O N X). is_some y.0.hold) is, ap (λ (y : Sat O N X). length y.1) is, ap (λ (y : Sat O N X). numbers_of y.0.logs) is, ap (λ (y : Sat O N X). last_of 0 (log_stamps (marks_of y.0.logs))) is ∙ e)
+  pub rests : (number last : ℕ) (logged : List (LogEntry N X)) (m : Sat O N X) → m ≡ (view (log number logged ∷ []) None, []) → last_of 0 (log_stamps logged) ≡ last → IsAtRest number last m
+  rests number last logged m is e =
+      (ap (λ (y : Sat O N X). is_some y.0.hold) is, ap (λ (y : Sat O N X). length y.1) is, ap (λ (y : Sat O N X). numbers_of y.0.logs) is, ap (λ (y : Sat O N X). last_of 0 (log_stamps (logged_of y.0.logs))) is ∙ e)
 
   pub ready : (number last : ℕ) (m : Sat O N X) → IsAtRest number last m → Ready m
   ready number last m resting =

@@ -14,12 +14,12 @@ use Rattle.ccr_turns.specs.Locks.{IsLeft, Agrees, sifted_of, HasWhole}
 use Rattle.ccr_turns.specs.Seated.{IsLaid, HasCells, Lifted}
 use Rattle.ccr_turns.specs.Lists.{total, below, last_of, Each}
 use Rattle.ccr_turns.specs.Logs.{log, fresh, told, FitsLog}
-use Rattle.ccr_turns.specs.Views.{Sat, view, weight, opening_view, first_logs, later_logs, cut_left, cut_right, joined, spent}
+use Rattle.ccr_turns.specs.Views.{Sat, view, weight, opening_view, first_logs, later_logs, split_left, split_right, joined, spent}
 use Rattle.ccr_turns.specs.Histories.{left_by, Place, entries, history_stamps, keeps, sifted, past, IsRight}
 use Rattle.ccr_turns.specs.Rule.{Orderly, Settled}
 use Rattle.ccr_turns.specs.declared.history.Held.{Held}
 use Rattle.ccr_turns.specs.declared.history.Cell.{Cell}
-use Rattle.ccr_turns.specs.declared.history.Mark.{Mark}
+use Rattle.ccr_turns.specs.declared.history.LogEntry.{LogEntry}
 use Rattle.ccr_turns.specs.declared.history.Log.{Log}
 use Rattle.ccr_turns.specs.declared.history.Hold.{Hold}
 use Rattle.ccr_turns.specs.declared.history.View.{View}
@@ -41,9 +41,9 @@ module _ {N X : Type 0} where
   in-later [] k l e = (k, e)
   in-later (x ∷ xs) k l e = (suc k, e)
 
-  in-fresh : (k n i : ℕ) (l : Log N X) → get_elem? (fresh k n) i ≡ some l → l.marks ≡ []
+  in-fresh : (k n i : ℕ) (l : Log N X) → get_elem? (fresh k n) i ≡ some l → l.logged ≡ []
   in-fresh k zero i l e = absurd (some-ne-none l (sym e))
-  in-fresh k (suc n) zero l e = ap (λ (y : Log N X). y.marks) (sym (some-injective (log k []) l e))
+  in-fresh k (suc n) zero l e = ap (λ (y : Log N X). y.logged) (sym (some-injective (log k []) l e))
   in-fresh k (suc n) (suc i) l e = in-fresh (suc k) n i l e
 
 module _ {O N X : Type 0} where
@@ -52,11 +52,11 @@ module _ {O N X : Type 0} where
   next_fresh k zero n m sum few is = absurd (omega arith)
   next_fresh k (suc left) n m sum few is = (fresh (suc k) left, is)
 
-  pub after_cut : (k left n : ℕ) (m m' : Sat O N X) → left + k ≡ n → k < n → m ≡ (view (fresh k left) None, []) → m' ≡ (cut_left m.0, []) → (some-left : ℕ) × (some-left + (k + 1) ≡ n) × (m' ≡ (view (fresh (k + 1) some-left) None, []))
+  pub after_cut : (k left n : ℕ) (m m' : Sat O N X) → left + k ≡ n → k < n → m ≡ (view (fresh k left) None, []) → m' ≡ (split_left m.0, []) → (some-left : ℕ) × (some-left + (k + 1) ≡ n) × (m' ≡ (view (fresh (k + 1) some-left) None, []))
   after_cut k zero n m m' sum few is cut = absurd (omega arith)
   after_cut k (suc left) n m m' sum few is cut =
       let next : suc k ≡ k + 1 = omega arith in
-      (left, omega arith, cut ∙ (ap (λ (y : Sat O N X). (cut_left y.0, [])) is ∙ ap (λ j. (view (fresh j left) None, [])) next))
+      (left, omega arith, cut ∙ (ap (λ (y : Sat O N X). (split_left y.0, [])) is ∙ ap (λ j. (view (fresh j left) None, [])) next))
 
 fresh-total : (N X : Type 0) (f : ℕ → ℕ) (k n : ℕ) → total (λ (l : Log N X). f l.number) (fresh k n) + below f k ≡ below f (k + n)
 fresh-total N X f k zero = let e : k ≡ k + 0 = omega arith in let a = ap (below f) e in omega arith
@@ -135,8 +135,8 @@ module _ {O N X A R : Type 0} (value : O → X) (after : X → N → X) (may : X
   idle-hold : (v : V) (u : V) (h : Hold N X) → v ≡ u → v.hold ≡ None → u.hold ≡ Some h → ⊥
   idle-hold v u h e free is = no_some v.hold h free (ap (λ (y : V). y.hold) e ∙ is)
 
-  pub splits : (id : ℕ) (v : V) → v.hold ≡ None → Splits Rule id v (cut_left v) (cut_right v)
-  splits id v free s o me = let w : V = cut_left v in let x : V = cut_right v in let vs : List V = set s.views id w in
+  pub splits : (id : ℕ) (v : V) → v.hold ≡ None → Splits Rule id v (split_left v) (split_right v)
+  splits id v free s o me = let w : V = split_left v in let x : V = split_right v in let vs : List V = set s.views id w in
       reseated s o (vs ++ x ∷ [])
       (λ j u h at is. ⊎_elim
       (λ (q : get_elem? vs j ≡ some u). ⊎_elim (λ (r : (j ≡ id) × (w ≡ u)). absurd (idle-hold w u h r.1 refl is)) (λ (r : (j ≢ id) × (get_elem? s.views j ≡ some u)). r.1) (at_set s.views id j w u q))
@@ -217,8 +217,8 @@ module _ {O N X A R : Type 0} (value : O → X) (after : X → N → X) (may : X
         holds = λ j u h e is. absurd (no_some None h refl (ap (λ (y : V). y.hold) (only-one (opening_view seats) j u e) ∙ is));
         one = λ j k u w h g at1 at2 is1 is2 e. absurd (no_some None h refl (ap (λ (y : V). y.hold) (only-one (opening_view seats) j u at1) ∙ is1));
         right = λ i p e. empty p (sym (ap (λ (y : Place N X). y.1) (at i p e).2)) (entries places);
-        logs = λ j u k l e in-log. let blank : l.marks ≡ [] = in-fresh 0 seats k l (ap (λ (y : V). get_elem? y.logs k) (only-one (opening_view seats) j u e) ∙ in-log) in
-            subst (λ (ms : List (Mark N X)). FitsLog after places (entries places) (log l.number ms)) (sym blank) record {
+        logs = λ j u k l e in-log. let blank : l.logged ≡ [] = in-fresh 0 seats k l (ap (λ (y : V). get_elem? y.logs k) (only-one (opening_view seats) j u e) ∙ in-log) in
+            subst (λ (ms : List (LogEntry N X)). FitsLog after places (entries places) (log l.number ms)) (sym blank) record {
               stamped = tt;
               low = omega arith;
               same = λ i p e'. ap (λ (y : Place N X). told after i l.number y.0 0 y.1) (at i p e').2;
@@ -273,12 +273,12 @@ module _ {O N X A R : Type 0} (value : O → X) (after : X → N → X) (may : X
 
     agrees : (j : ℕ) (l : Log N X) → get_elem? logs j ≡ some l → Agrees value after objects whole l
     agrees j l at = let fits = t.fits j l at in record {
-      rising = stamps_rise 0 l.marks fits.stamped;
+      rising = stamps_rise 0 l.logged fits.stamped;
       stamped = fits.stamped;
       same = λ i x k at-x at-k. let here = left_at i x (there_by_slice objects i x at-x) in let p = here.0 in let c = here.1 in
           let same-k : (c.object, p.1) ≡ k = some-injective (c.object, p.1) k (sym here.6 ∙ there_by_slice whole i k at-k) in
           fits.same i p here.2 ∙ (ap (λ (y : X). told after i l.number y 0 p.1) here.3 ∙ ap (λ (q : O × List (Held N)). told after i l.number (value x) 0 q.1) same-k);
-      inside = all_from_each (λ (m : Mark N X). m.place < length objects) l.marks (subst (λ n. Each (λ (m : Mark N X). m.place < n) l.marks) (sym as_many) fits.inside);
+      inside = all_from_each (λ (m : LogEntry N X). m.place < length objects) l.logged (subst (λ n. Each (λ (m : LogEntry N X). m.place < n) l.logged) (sym as_many) fits.inside);
     }
 
     -- what was lifted out is of each history what is kept

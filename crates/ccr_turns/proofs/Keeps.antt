@@ -12,14 +12,14 @@ use prog.Atomic.{either}
 use Rattle.atomic_table.specs.Table.{State, step, Act, keeps, takes, gives, Valid, carried_after, stepped, Allows, rest}
 use Rattle.atomic_table.proofs.Lists.{at_set, set_here, set_else, set_again, at_map, exchanged}
 use Rattle.ccr_turns.specs.Lists.{Rises, last_of, Each}
-use Rattle.ccr_turns.specs.Logs.{at_place, told, log_stamps, mark, log, FitsLog}
+use Rattle.ccr_turns.specs.Logs.{at_place, told, log_stamps, log_entry, log, FitsLog}
 use Rattle.ccr_turns.specs.Histories.{history_stamps, left_by, Place, entries, past, IsSifted, IsRight}
 use Rattle.ccr_turns.specs.Views.{view, hold, weight, Sat}
 use Rattle.ccr_turns.specs.Rule.{Holds, Orderly}
 use Rattle.ccr_turns.specs.Steps.{won, left, entered}
 use Rattle.ccr_turns.specs.declared.history.Held.{Held}
 use Rattle.ccr_turns.specs.declared.history.Cell.{Cell}
-use Rattle.ccr_turns.specs.declared.history.Mark.{Mark}
+use Rattle.ccr_turns.specs.declared.history.LogEntry.{LogEntry}
 use Rattle.ccr_turns.specs.declared.history.Log.{Log}
 use Rattle.ccr_turns.specs.declared.history.Hold.{Hold}
 use Rattle.ccr_turns.specs.declared.history.View.{View}
@@ -241,21 +241,21 @@ module _ {O N X A R : Type 0} (value : O → X) (after : X → N → X) (may : X
   other_number s o id j k v u apart me them has has' =
       let a = (below-only k seats).0 in let b = o.numbers (only k) in let d = terms_le (weight (only k)) s.views id j v u apart me them in omega arith
 
-  pub enters : (slots id number : ℕ) (marks : List (Mark N X)) (place : ℕ) (es : List (Held N)) (x : X) (c : Cell O N) (e : Held N) → past c ≡ es ++ e ∷ [] → value c.object ≡ after x e.note → IsSifted seen c
-      → ((ask : A) × (reply : R) × may x ask reply e.note) → e.seat ≡ number → e.stamp ≡ max (last_of 0 (history_stamps es)) (last_of 0 (log_stamps marks)) + 1 → length (past c) < 2 ^ 64
-      → Allows Rule slots id (holding (log number marks ∷ []) place es x c.keep (Some c)) place (λ _. 0) (λ _. entered (step slots place 0 0 none) (holding (log number marks ∷ []) place es x c.keep (Some c)) 0)
-  enters slots id number marks place es x c e is now sifted given mine stamp small s o wide me _ =
+  pub enters : (slots id number : ℕ) (logged : List (LogEntry N X)) (place : ℕ) (es : List (Held N)) (x : X) (c : Cell O N) (e : Held N) → past c ≡ es ++ e ∷ [] → value c.object ≡ after x e.note → IsSifted seen c
+      → ((ask : A) × (reply : R) × may x ask reply e.note) → e.seat ≡ number → e.stamp ≡ max (last_of 0 (history_stamps es)) (last_of 0 (log_stamps logged)) + 1 → length (past c) < 2 ^ 64
+      → Allows Rule slots id (holding (log number logged ∷ []) place es x c.keep (Some c)) place (λ _. 0) (λ _. entered (step slots place 0 0 none) (holding (log number logged ∷ []) place es x c.keep (Some c)) 0)
+  enters slots id number logged place es x c e is now sifted given mine stamp small s o wide me _ =
       let h : Hold N X = hold place es x c.keep in
-      let v : V = view (log number marks ∷ []) (Some h) in
-      let m : Mark N X = mark place e.stamp e.note x (last_of 0 (history_stamps es)) in
-      let w : V = view (log number (marks ++ m ∷ []) ∷ []) None in
+      let v : V = view (log number logged ∷ []) (Some h) in
+      let m : LogEntry N X = log_entry place e.stamp e.note x (last_of 0 (history_stamps es)) in
+      let w : V = view (log number (logged ++ m ∷ []) ∷ []) None in
       let t = o.holds id v h me refl in
       let p : Place N X = t.place in
       let p' : Place N X = (p.0, p.1 ++ e ∷ []) in
       let places : List (Place N X) = set o.places place p' in
       let near : place < length o.places = within o.places place p t.at in
       let long : length places ≡ length o.places = length-set o.places place p' in
-      let my-log = o.logs id v 0 (log number marks) me refl in
+      let my-log = o.logs id v 0 (log number logged) me refl in
       let right = o.right place p t.at in
       let one-more : length (p.1 ++ e ∷ []) ≡ length p.1 + 1 = length-append p.1 (e ∷ []) in
       let more : entries places ≡ entries o.places + 1 = let a = total-set (λ (q : Place N X). length q.1) o.places place p p' t.at in omega arith in
@@ -266,11 +266,11 @@ module _ {O N X A R : Type 0} (value : O → X) (after : X → N → X) (may : X
       let whole : past c ≡ p.1 ++ e ∷ [] = is ∙ ap (λ (l : List (Held N)). l ++ e ∷ []) t.history in
       let has : 0 < weight (only number) v = let a = only-same number number refl in omega arith in
       let stamps-more : history_stamps (p.1 ++ e ∷ []) ≡ history_stamps p.1 ++ e.stamp ∷ [] = map-append (λ (d : Held N). d.stamp) p.1 (e ∷ []) in
-      let marks-more : log_stamps (marks ++ m ∷ []) ≡ log_stamps marks ++ e.stamp ∷ [] = map-append (λ (d : Mark N X). d.stamp) marks (m ∷ []) in
+      let logged-more : log_stamps (logged ++ m ∷ []) ≡ log_stamps logged ++ e.stamp ∷ [] = map-append (λ (d : LogEntry N X). d.stamp) logged (m ∷ []) in
       let after-e : value c.object ≡ left_by after p.0 (p.1 ++ e ∷ []) = now ∙ (ap (λ (y : X). after y e.note) t.now ∙ sym (left_by_more after p.0 p.1 e)) in
       let given' : (ask : A) × (reply : R) × may (left_by after p.0 p.1) ask reply e.note = subst (λ (y : X). (ask : A) × (reply : R) × may y ask reply e.note) t.now given in
-      let mine-same : at_place place (marks ++ m ∷ []) ≡ told after place number p.0 0 (p.1 ++ e ∷ []) =
-      at_place_here place marks m refl ∙ (ap (λ (l : List (Mark N X)). l ++ m ∷ []) (my-log.same place p t.at) ∙ ((λ d. told after place number p.0 0 p.1 ++ mark place e.stamp e.note (t.now d) (sym last-es d) ∷ []) ∙ sym (told_here after place number p.0 0 p.1 e mine))) in (
+      let mine-same : at_place place (logged ++ m ∷ []) ≡ told after place number p.0 0 (p.1 ++ e ∷ []) =
+      at_place_here place logged m refl ∙ (ap (λ (l : List (LogEntry N X)). l ++ m ∷ []) (my-log.same place p t.at) ∙ ((λ d. told after place number p.0 0 p.1 ++ log_entry place e.stamp e.note (t.now d) (sym last-es d) ∷ []) ∙ sym (told_here after place number p.0 0 p.1 e mine))) in (
         w,
         gives,
         tt,
@@ -288,14 +288,14 @@ module _ {O N X A R : Type 0} (value : O → X) (after : X → N → X) (may : X
             (λ (y : (i ≢ place) × (get_elem? o.places i ≡ some q)). let old = o.right i q y.1 in
             record { rising = old.rising; low = let a = old.low in omega arith; fits = old.fits; given = old.given; known = old.known })
             (at_set o.places place i p' q at))
-            (λ k l at. subst (FitsLog after places (entries places)) (only-one (log number (marks ++ m ∷ [])) k l at) record {
-              stamped = stamped_more 0 marks m my-log.stamped stamp;
-              low = subst (λ (l : List ℕ). last_of 0 l ≤ entries places) (sym marks-more) (let a = last_more 0 (log_stamps marks) e.stamp in omega arith);
+            (λ k l at. subst (FitsLog after places (entries places)) (only-one (log number (logged ++ m ∷ [])) k l at) record {
+              stamped = stamped_more 0 logged m my-log.stamped stamp;
+              low = subst (λ (l : List ℕ). last_of 0 l ≤ entries places) (sym logged-more) (let a = last_more 0 (log_stamps logged) e.stamp in omega arith);
               same = λ i q at-i. ⊎_elim
-                  (λ (y : (i ≡ place) × (p' ≡ q)). subst (λ (z : ℕ × Place N X). at_place z.0 (marks ++ m ∷ []) ≡ told after z.0 number z.1.0 0 z.1.1) (λ d. (sym y.0 d, y.1 d)) mine-same)
-                  (λ (y : (i ≢ place) × (get_elem? o.places i ≡ some q)). at_place_else i marks m (λ z. y.0 (sym z)) ∙ my-log.same i q y.1)
+                  (λ (y : (i ≡ place) × (p' ≡ q)). subst (λ (z : ℕ × Place N X). at_place z.0 (logged ++ m ∷ []) ≡ told after z.0 number z.1.0 0 z.1.1) (λ d. (sym y.0 d, y.1 d)) mine-same)
+                  (λ (y : (i ≢ place) × (get_elem? o.places i ≡ some q)). at_place_else i logged m (λ z. y.0 (sym z)) ∙ my-log.same i q y.1)
                   (at_set o.places place i p' q at-i);
-              inside = subst (λ n. Each (λ (d : Mark N X). d.place < n) (marks ++ m ∷ [])) (sym long) (each_more (λ (d : Mark N X). d.place < length o.places) marks m my-log.inside near);
+              inside = subst (λ n. Each (λ (d : LogEntry N X). d.place < n) (logged ++ m ∷ [])) (sym long) (each_more (λ (d : LogEntry N X). d.place < length o.places) logged m my-log.inside near);
             })
             (λ j u k l apart them in-log. let old = o.logs j u k l them in-log in
             let other : e.seat ≢ l.number = λ z. other_number s o id j number v u apart me them has
@@ -304,11 +304,11 @@ module _ {O N X A R : Type 0} (value : O → X) (after : X → N → X) (may : X
               stamped = old.stamped;
               low = let a = old.low in omega arith;
               same = λ i q at-i. ⊎_elim
-                  (λ (y : (i ≡ place) × (p' ≡ q)). subst (λ (z : ℕ × Place N X). at_place z.0 l.marks ≡ told after z.0 l.number z.1.0 0 z.1.1) (λ d. (sym y.0 d, y.1 d))
+                  (λ (y : (i ≡ place) × (p' ≡ q)). subst (λ (z : ℕ × Place N X). at_place z.0 l.logged ≡ told after z.0 l.number z.1.0 0 z.1.1) (λ d. (sym y.0 d, y.1 d))
                   (old.same place p t.at ∙ sym (told_else after place l.number p.0 0 p.1 e other)))
                   (λ (y : (i ≢ place) × (get_elem? o.places i ≡ some q)). old.same i q y.1)
                   (at_set o.places place i p' q at-i);
-              inside = subst (λ n. Each (λ (d : Mark N X). d.place < n) l.marks) (sym long) old.inside;
+              inside = subst (λ n. Each (λ (d : LogEntry N X). d.place < n) l.logged) (sym long) old.inside;
             }),
         (
           refl,
@@ -316,14 +316,14 @@ module _ {O N X A R : Type 0} (value : O → X) (after : X → N → X) (may : X
               let same-h : h ≡ h' = same_Some h h' is-h in
               let same-c : c ≡ c' = same_Some c c' (ap (λ (l : List (ℕ × S)). (first_of (Some c) l)) is-c) in
               let same-e : e ≡ e' = last_same es e e' (sym is ∙ (ap (λ (y : Cell O N). past y) same-c ∙ (is-e ∙ ap (λ (y : Hold N X). y.history ++ e' ∷ []) (sym same-h)))) in
-              λ d. view (log number (marks ++ mark ((same-h d).place) ((same-e d).stamp) ((same-e d).note) ((same-h d).now) (last_of 0 (history_stamps ((same-h d).history))) ∷ []) ∷ []) None,
+              λ d. view (log number (logged ++ log_entry ((same-h d).place) ((same-e d).stamp) ((same-e d).note) ((same-h d).now) (last_of 0 (history_stamps ((same-h d).history))) ∷ []) ∷ []) None,
         ),
       )
 
-  pub enters_at : (slots id : ℕ) (m old : M) (number : ℕ) (marks : List (Mark N X)) (place : ℕ) (es : List (Held N)) (x : X) (c : Cell O N) (e : Held N)
-      → old ≡ holding (log number marks ∷ []) place es x c.keep None → m ≡ (old.0, (place, Some c) ∷ rest old.1) → past c ≡ es ++ e ∷ [] → value c.object ≡ after x e.note → IsSifted seen c
-      → ((ask : A) × (reply : R) × may x ask reply e.note) → e.seat ≡ number → e.stamp ≡ max (last_of 0 (history_stamps es)) (last_of 0 (log_stamps marks)) + 1 → length (past c) < 2 ^ 64
+  pub enters_at : (slots id : ℕ) (m old : M) (number : ℕ) (logged : List (LogEntry N X)) (place : ℕ) (es : List (Held N)) (x : X) (c : Cell O N) (e : Held N)
+      → old ≡ holding (log number logged ∷ []) place es x c.keep None → m ≡ (old.0, (place, Some c) ∷ rest old.1) → past c ≡ es ++ e ∷ [] → value c.object ≡ after x e.note → IsSifted seen c
+      → ((ask : A) × (reply : R) × may x ask reply e.note) → e.seat ≡ number → e.stamp ≡ max (last_of 0 (history_stamps es)) (last_of 0 (log_stamps logged)) + 1 → length (past c) < 2 ^ 64
       → Allows Rule slots id m place (λ _. 0) (λ _. entered (step slots place 0 0 none) m 0)
-  enters_at slots id m old number marks place es x c e was is-m is now sifted given mine stamp small =
-      let path : holding (log number marks ∷ []) place es x c.keep (Some c) ≡ m = sym (is-m ∙ ap (λ (y : M). (y.0, (place, Some c) ∷ rest y.1)) was) in
-      subst (λ (y : M). Allows Rule slots id y place (λ _. 0) (λ _. entered (step slots place 0 0 none) y 0)) path (enters slots id number marks place es x c e is now sifted given mine stamp small)
+  enters_at slots id m old number logged place es x c e was is-m is now sifted given mine stamp small =
+      let path : holding (log number logged ∷ []) place es x c.keep (Some c) ≡ m = sym (is-m ∙ ap (λ (y : M). (y.0, (place, Some c) ∷ rest y.1)) was) in
+      subst (λ (y : M). Allows Rule slots id y place (λ _. 0) (λ _. entered (step slots place 0 0 none) y 0)) path (enters slots id number logged place es x c e is now sifted given mine stamp small)

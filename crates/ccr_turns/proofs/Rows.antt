@@ -1,5 +1,5 @@
 -- Lists, weights and places.
-use Rattle.std.proofs.Common.{Bool, true, false, ◌≡◌, ◌≢◌, ℕ, zero, suc, ◌+◌, ◌-◌, ◌*◌, ◌^◌, ◌<◌, ◌≤◌, max, cond, eqb, eq-eqb, ne_eqb, List, [], ◌∷◌, ◌++◌, map, length, take, get_or, set, sym, refl, ap, ◌∙◌, subst, inl, inr, ◌⊎◌, arith, Some, None}
+use Rattle.std.proofs.Common.{Bool, true, false, ◌≡◌, ◌≢◌, ℕ, zero, suc, ◌+◌, ◌-◌, ◌*◌, ◌^◌, ◌<◌, ◌≤◌, max, cond, eqb, eq-eqb, ne_eqb, List, [], ◌∷◌, ◌++◌, map, length, get_or, set, sym, refl, ap, ◌∙◌, subst, inl, inr, ◌⊎◌, arith, Some, None}
 use mathlib.Core.Option.{some, some-injective, some-ne-none}
 use Rattle.std.specs.Prelude.{slice_get, All}
 use Rattle.std.specs.List.{AllZip, count_by, range_with_len}
@@ -11,10 +11,10 @@ use mathlib.Core.Logic.{dite}
 use native.Mathlib.Decide.{ℕ_discrete}
 use lib.ListN.{get_elem?}
 use Rattle.ccr_turns.specs.Histories.{history_stamps, left_by, Given, Place, entries}
-use Rattle.ccr_turns.specs.Logs.{log_stamps, Stamped, mark, at_place, told}
+use Rattle.ccr_turns.specs.Logs.{log_stamps, Stamped, log_entry, at_place, told}
 use Rattle.ccr_turns.specs.Lists.{total, below, Rises, last_of, Each}
 use Rattle.ccr_turns.specs.declared.history.Held.{Held}
-use Rattle.ccr_turns.specs.declared.history.Mark.{Mark}
+use Rattle.ccr_turns.specs.declared.history.LogEntry.{LogEntry}
 
 read : {A : Type 0} (xs : List A) (i : ℕ) (a : A) → get_elem? xs i ≡ some a → get_or xs i a ≡ a
 read [] i a at = refl
@@ -83,34 +83,34 @@ each_more P [] y h p = (p, tt)
 each_more P (x ∷ xs) y h p = (h.0, each_more P xs y h.1 p)
 
 module _ {N X : Type 0} where
-  pub stamped_more : (a : ℕ) (ms : List (Mark N X)) (m : Mark N X) → Stamped a ms → m.stamp ≡ max m.earlier (last_of a (log_stamps ms)) + 1 → Stamped a (ms ++ m ∷ [])
+  pub stamped_more : (a : ℕ) (ms : List (LogEntry N X)) (m : LogEntry N X) → Stamped a ms → m.stamp ≡ max m.earlier (last_of a (log_stamps ms)) + 1 → Stamped a (ms ++ m ∷ [])
   stamped_more a [] m s e = (e, tt)
   stamped_more a (x ∷ xs) m s e = (s.0, stamped_more x.stamp xs m s.1 e)
 
-  pub at_place_here : (p : ℕ) (ms : List (Mark N X)) (m : Mark N X) → m.place ≡ p → at_place p (ms ++ m ∷ []) ≡ at_place p ms ++ m ∷ []
+  pub at_place_here : (p : ℕ) (ms : List (LogEntry N X)) (m : LogEntry N X) → m.place ≡ p → at_place p (ms ++ m ∷ []) ≡ at_place p ms ++ m ∷ []
   at_place_here p [] m e = ap (λ b. cond b (m ∷ []) []) (eq-eqb m.place p e)
   at_place_here p (x ∷ xs) m e = dite (ℕ_discrete x.place p)
-      (λ y. let t = eq-eqb x.place p y in rw t (ap (λ (l : List (Mark N X)). x ∷ l) (at_place_here p xs m e)))
+      (λ y. let t = eq-eqb x.place p y in rw t (ap (λ (l : List (LogEntry N X)). x ∷ l) (at_place_here p xs m e)))
       (λ n. let t = ne_eqb x.place p n in rw t (at_place_here p xs m e))
 
-  pub at_place_else : (p : ℕ) (ms : List (Mark N X)) (m : Mark N X) → m.place ≢ p → at_place p (ms ++ m ∷ []) ≡ at_place p ms
+  pub at_place_else : (p : ℕ) (ms : List (LogEntry N X)) (m : LogEntry N X) → m.place ≢ p → at_place p (ms ++ m ∷ []) ≡ at_place p ms
   at_place_else p [] m e = ap (λ b. cond b (m ∷ []) []) (ne_eqb m.place p e)
-  at_place_else p (x ∷ xs) m e = ap (λ (l : List (Mark N X)). cond (eqb x.place p) (x ∷ l) l) (at_place_else p xs m e)
+  at_place_else p (x ∷ xs) m e = ap (λ (l : List (LogEntry N X)). cond (eqb x.place p) (x ∷ l) l) (at_place_else p xs m e)
 
 module _ {N X : Type 0} (after : X → N → X) where
   pub left_by_more : (x : X) (es : List (Held N)) (e : Held N) → left_by after x (es ++ e ∷ []) ≡ after (left_by after x es) e.note
   left_by_more x [] e = refl
   left_by_more x (d ∷ ds) e = left_by_more (after x d.note) ds e
 
-  pub told_here : (p k : ℕ) (x : X) (a : ℕ) (es : List (Held N)) (e : Held N) → e.seat ≡ k → told after p k x a (es ++ e ∷ []) ≡ told after p k x a es ++ mark p e.stamp e.note (left_by after x es) (last_of a (history_stamps es)) ∷ []
-  told_here p k x a [] e is = ap (λ b. cond b (mark p e.stamp e.note x a ∷ []) []) (eq-eqb e.seat k is)
+  pub told_here : (p k : ℕ) (x : X) (a : ℕ) (es : List (Held N)) (e : Held N) → e.seat ≡ k → told after p k x a (es ++ e ∷ []) ≡ told after p k x a es ++ log_entry p e.stamp e.note (left_by after x es) (last_of a (history_stamps es)) ∷ []
+  told_here p k x a [] e is = ap (λ b. cond b (log_entry p e.stamp e.note x a ∷ []) []) (eq-eqb e.seat k is)
   told_here p k x a (d ∷ ds) e is = dite (ℕ_discrete d.seat k)
-      (λ y. let t = eq-eqb d.seat k y in rw t (ap (λ (l : List (Mark N X)). mark p d.stamp d.note x a ∷ l) (told_here p k (after x d.note) d.stamp ds e is)))
+      (λ y. let t = eq-eqb d.seat k y in rw t (ap (λ (l : List (LogEntry N X)). log_entry p d.stamp d.note x a ∷ l) (told_here p k (after x d.note) d.stamp ds e is)))
       (λ n. let t = ne_eqb d.seat k n in rw t (told_here p k (after x d.note) d.stamp ds e is))
 
   pub told_else : (p k : ℕ) (x : X) (a : ℕ) (es : List (Held N)) (e : Held N) → e.seat ≢ k → told after p k x a (es ++ e ∷ []) ≡ told after p k x a es
-  told_else p k x a [] e is = ap (λ b. cond b (mark p e.stamp e.note x a ∷ []) []) (ne_eqb e.seat k is)
-  told_else p k x a (d ∷ ds) e is = ap (λ (l : List (Mark N X)). cond (eqb d.seat k) (mark p d.stamp d.note x a ∷ l) l) (told_else p k (after x d.note) d.stamp ds e is)
+  told_else p k x a [] e is = ap (λ b. cond b (log_entry p e.stamp e.note x a ∷ []) []) (ne_eqb e.seat k is)
+  told_else p k x a (d ∷ ds) e is = ap (λ (l : List (LogEntry N X)). cond (eqb d.seat k) (log_entry p d.stamp d.note x a ∷ l) l) (told_else p k (after x d.note) d.stamp ds e is)
 
 module _ {N X A R : Type 0} (after : X → N → X) (may : X → A → R → N → Type 0) where
   pub given_more : (x : X) (es : List (Held N)) (e : Held N) → Given after may x es → ((ask : A) × (reply : R) × may (left_by after x es) ask reply e.note) → Given after may x (es ++ e ∷ [])
@@ -165,11 +165,6 @@ one-counts g (x ∷ xs) (suc j) v e h = let a = h 0 x (λ z. omega arith) refl i
 pub no-total : {A : Type 0} (g : A → ℕ) (xs : List A) → length xs ≡ 0 → total g xs ≡ 0
 no-total g [] e = refl
 no-total g (x ∷ xs) e = absurd (omega arith)
-
-pub take_more : {A : Type 0} (l : List A) (i : ℕ) (a : A) → get_elem? l i ≡ some a → take (suc i) l ≡ take i l ++ a ∷ []
-take_more [] i a e = absurd (some-ne-none a (sym e))
-take_more (x ∷ xs) zero a e = ap (λ (y : _). y ∷ []) (some-injective x a e)
-take_more (x ∷ xs) (suc i) a e = ap (λ (l : List _). x ∷ l) (take_more xs i a e)
 
 -- what holds of each element holds of one that was read
 pub all_at : {A : Type 0} (P : A → Type 0) (xs : List A) (i : ℕ) (a : A) → All P xs → get_elem? xs i ≡ some a → P a
@@ -236,6 +231,6 @@ pub range-more : (n : ℕ) → range_with_len 0 (n + 1) ≡ range_with_len 0 n +
 range-more n = let e : n + 1 ≡ suc n = omega arith in let z : 0 + n ≡ n = omega arith in ap (range_with_len 0) e ∙ (range-next 0 n ∙ ap (λ k. range_with_len 0 n ++ k ∷ []) z)
 
 module _ {N X : Type 0} where
-  pub stamps_rise : (a : ℕ) (ms : List (Mark N X)) → Stamped a ms → Rises a (log_stamps ms)
+  pub stamps_rise : (a : ℕ) (ms : List (LogEntry N X)) → Stamped a ms → Rises a (log_stamps ms)
   stamps_rise a [] s = tt
   stamps_rise a (m ∷ ms) s = (let e = s.0 in omega arith, stamps_rise m.stamp ms s.1)

@@ -3,9 +3,9 @@ use Rattle.std.specs.Prelude.{◌≡◌, Bool, ℕ, ◌+◌, ◌<◌, max, All, 
 use Rattle.std.specs.List.{slice_get, AllZip}
 use Rattle.ccr_turns.specs.Lists.{Rises, last_of}
 use Rattle.ccr_turns.specs.Histories.{history_stamps, left_by, sifted, Given}
-use Rattle.ccr_turns.specs.Logs.{mark, log, log_stamps, Stamped, at_place, marks_of, told}
+use Rattle.ccr_turns.specs.Logs.{log_entry, log, log_stamps, Stamped, at_place, logged_of, told}
 use Rattle.ccr_turns.specs.declared.history.Held.{Held}
-use Rattle.ccr_turns.specs.declared.history.Mark.{Mark}
+use Rattle.ccr_turns.specs.declared.history.LogEntry.{LogEntry}
 use Rattle.ccr_turns.specs.declared.history.Log.{Log}
 use Rattle.ccr_turns.specs.declared.kept.Keep.{Keep}
 use Rattle.ccr_turns.specs.declared.kept.Kept.{Ghosts}
@@ -39,8 +39,8 @@ module _ {O A R N X : Type 0} {kept : Ghosts O A R N X} where
   number_of seat = seat.number
 
   -- the entries that the seat has made, in their order
-  abbrev pub log_of : Seat O A R N X kept → List (Mark N X)
-  log_of seat = marks_of seat.token.me.0.logs
+  abbrev pub log_of : Seat O A R N X kept → List (LogEntry N X)
+  log_of seat = logged_of seat.token.me.0.logs
 
   -- these entries, with the number
   abbrev pub full_log : Seat O A R N X kept → Log N X
@@ -48,9 +48,9 @@ module _ {O A R N X : Type 0} {kept : Ghosts O A R N X} where
 
 -- The log has one entry more: at this place, with a stamp that is one more than the greater of the last there and the last in the log.
 -- The object there had a value that may give this reply and that note to the ask. `Agrees` says which value and which last stamp these are.
-abbrev pub Acts : {N X A R : Type 0} → (X → A → R → N → Type 0) → ℕ → A → R → List (Mark N X) → List (Mark N X) → Type 0
+abbrev pub Acts : {N X A R : Type 0} → (X → A → R → N → Type 0) → ℕ → A → R → List (LogEntry N X) → List (LogEntry N X) → Type 0
 Acts {N} {X} may place ask reply old new =
-    (stamp : ℕ) × (note : N) × (before : X) × (earlier : ℕ) × (new ≡ old ++ mark place stamp note before earlier ∷ []) × (stamp ≡ max earlier (last_of 0 (log_stamps old)) + 1) × may before ask reply note
+    (stamp : ℕ) × (note : N) × (before : X) × (earlier : ℕ) × (new ≡ old ++ log_entry place stamp note before earlier ∷ []) × (stamp ≡ max earlier (last_of 0 (log_stamps old)) + 1) × may before ask reply note
 
 -- an object and the history of its place, at the close, after this start
 pub record IsLeft {O N X A R : Type 0} (value : O → X) (after : X → N → X) (may : X → A → R → N → Type 0) (seats : ℕ) (start : O) (left : O × List (Held N)) : Type 0 where
@@ -61,13 +61,17 @@ pub record IsLeft {O N X A R : Type 0} (value : O → X) (after : X → N → X)
   -- each entry is a seat's
   pub seated : All (λ (entry : Held N). entry.seat < seats) left.1
 
+-- at the place the log has the seat's entries of what was left there, and no others
+abbrev pub HasEntriesOf : {O N X : Type 0} → (O → X) → (X → N → X) → Log N X → ℕ → O → O × List (Held N) → Type 0
+HasEntriesOf value after l place start left = at_place place l.logged ≡ told after place l.number (value start) 0 left.1
+
 -- a seat's log, and the objects with their histories at the close
 pub record Agrees {O N X : Type 0} (value : O → X) (after : X → N → X) (starts : List O) (kept : List (O × List (Held N))) (l : Log N X) : Type 0 where
-  pub rising : Rises 0 (log_stamps l.marks)
-  pub stamped : Stamped 0 l.marks
+  pub rising : Rises 0 (log_stamps l.logged)
+  pub stamped : Stamped 0 l.logged
   -- at each place the log has the seat's entries of that history, and no others
-  pub same : (place : ℕ) (start : O) (left : O × List (Held N)) → slice_get starts place ≡ Some start → slice_get kept place ≡ Some left → at_place place l.marks ≡ told after place l.number (value start) 0 left.1
-  pub inside : All (λ (m : Mark N X). m.place < length starts) l.marks
+  pub same : (place : ℕ) (start : O) (left : O × List (Held N)) → slice_get starts place ≡ Some start → slice_get kept place ≡ Some left → HasEntriesOf value after l place start left
+  pub inside : All (λ (m : LogEntry N X). m.place < length starts) l.logged
 
 -- of an object and its history, the object and the entries that are kept
 abbrev pub sifted_of : {O N : Type 0} → (N → Bool) → O × List (Held N) → O × List (Held N)

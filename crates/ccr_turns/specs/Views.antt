@@ -38,11 +38,11 @@ module _ {N X : Type 0} where
   later_logs (l ∷ ls) = ls
 
   -- a seat gives its first log to a new seat
-  abbrev pub cut_left : View N X → View N X
-  cut_left v = view (later_logs v.logs) None
+  abbrev pub split_left : View N X → View N X
+  split_left v = view (later_logs v.logs) None
 
-  abbrev pub cut_right : View N X → View N X
-  cut_right v = view (first_logs v.logs) None
+  abbrev pub split_right : View N X → View N X
+  split_right v = view (first_logs v.logs) None
 
   -- a seat takes over the logs of another, which is spent
   abbrev pub joined : View N X → View N X → View N X

@@ -1,7 +1,7 @@
 //! The rule of the table, and what each kind of step tells.
 
 ghost use Rattle.ccr_turns.specs.Rule.{Orderly};
-ghost use Rattle.ccr_turns.specs.Views.{opening_view, cut_left, cut_right, joined, spent};
+ghost use Rattle.ccr_turns.specs.Views.{opening_view, split_left, split_right, joined, spent};
 ghost use Rattle.ccr_turns.specs.Steps.{won, left, entered};
 
 use crate::history::{Cell, View};
@@ -61,12 +61,12 @@ impl<O: Kept> Play<Slot<O>, ViewOf<O>> for Enter<O> {
 }
 
 /// A new seat gets the first log.
-pub struct Cut;
+pub struct SplitSeat;
 
-impl<N, X> Split<View<N, X>> for Cut {
-    ghost left = { cut_left };
+impl<N, X> Split<View<N, X>> for SplitSeat {
+    ghost left = { split_left };
 
-    ghost right = { cut_right };
+    ghost right = { split_right };
 }
 
 /// A seat takes over the logs of another.

@@ -17,7 +17,7 @@ use Rattle.ccr_wiretext.specs.Drafts.{Declared, with_budget, with_queue, with_po
 use Rattle.ccr_wiretext.specs.Forms.{budget_form, queue_form, name_form, set_form, cause_form, combine_form, receive_form, branch_form, post_form, fail_form, caused_form, await_form, script_form, end_form, arbiter_end_form}
 use Rattle.ccr_wiretext.specs.Blocks.{group_of, branch_line, apart, outside_line, handler_line, arbiter_line, poster_line, line_in}
 use Rattle.ccr_wiretext.specs.Lines.{IsBranch, SaysOutside, SaysInHandler, SaysInArbiter, SaysInPoster, Says}
-use Rattle.ccr_wiretext.proofs.Steps.{bind_ok, ok_is, no_more_ok}
+use Rattle.ccr_wiretext.proofs.ReadTellsSteps.{bind_ok, ok_is, no_more_ok}
 use Rattle.ccr_wiretext.proofs.FormsRead.{budget_said, budget_read, queue_said, queue_read, name_said, name_read, set_said, set_read, cause_said, cause_read, combine_said, combine_read, receive_said, receive_read, branch_said, branch_read, post_said, post_read, fail_said, fail_read, caused_said, caused_read, await_said, await_read, script_said, script_read, arbiter_end_said, arbiter_end_read}
 
 outside_said : (draft : Declared) (first : Keyword) (words : Words) (new : Declared) → outside_line draft first words ≡ Ok new → SaysOutside draft first words new

@@ -21,7 +21,7 @@ use Rattle.ccr_wiretext.specs.Names.{Naming, as_arbiter}
 use Rattle.ccr_wiretext.specs.Drafts.{Declared}
 use Rattle.ccr_wiretext.specs.Fields.{new_name, reference, numbers_after, several, single, value_in, value, part, group, expr, interleave}
 use Rattle.ccr_wiretext.specs.Grammar.{IsNew, Refers, IsNumber, IsWithin, IsPolicy, IsGroup, IsValueWord, IsExpr, IsInterleave}
-use Rattle.ccr_wiretext.proofs.Steps.{bind_ok, ok_is, unless_ok, or_code_ok, word_ok, none_is}
+use Rattle.ccr_wiretext.proofs.ReadTellsSteps.{bind_ok, ok_is, unless_ok, or_code_ok, word_ok, none_is}
 use Rattle.ccr_wiretext.proofs.Each.{both}
 use Rattle.ccr_wiretext.proofs.ValuesRead.{value_in_said, value_in_read, no_value}
 

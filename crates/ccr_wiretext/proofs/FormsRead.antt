@@ -24,7 +24,7 @@ use Rattle.ccr_wiretext.specs.Patterns.{pattern, all_members, combined, causes}
 use Rattle.ccr_wiretext.specs.Forms.{crowds, budget_form, queue_form, name_form, set_form, cause_form, combine_form, branch_tail, receive_room, receive_form, branch_form, post_form, fail_form, caused_form, await_form, script_form, arbiter_end_form}
 use Rattle.ccr_wiretext.specs.Grammar.{IsNew, IsGroup, IsExpr, AreCauses}
 use Rattle.ccr_wiretext.specs.Lines.{IsBudget, IsQueue, IsName, IsSet, IsCause, IsCombine, IsBranchTail, IsReceive, IsBranch, IsAction, IsPost}
-use Rattle.ccr_wiretext.proofs.Steps.{bind_ok, ok_is, unless_ok, no_more_ok, limit_ok, limit_read}
+use Rattle.ccr_wiretext.proofs.ReadTellsSteps.{bind_ok, ok_is, unless_ok, no_more_ok, limit_ok, limit_read}
 use Rattle.ccr_wiretext.proofs.FieldsRead.{new_name_said, new_name_read, reference_said, reference_read, within_said, within_read, policy_said, policy_read, group_said, group_read, value_said, value_read, expr_said, expr_read}
 use Rattle.ccr_wiretext.proofs.PortsRead.{port_said, port_read}
 use Rattle.ccr_wiretext.proofs.PatternsRead.{pattern_said, pattern_read, all_members_said, all_members_read, combined_said, combined_read, causes_said, causes_read}

@@ -1,7 +1,7 @@
 pub mod Slots
 pub mod Rooms
 pub mod Written
-pub mod Steps
+pub mod ReadTellsSteps
 pub mod Each
 pub mod ValuesRead
 pub mod FieldsRead
@@ -14,10 +14,10 @@ pub mod Fit
 pub mod NamesApart
 pub mod SpotCounts
 pub mod Sound
-pub mod LineFacts
+pub mod LinesFit
 pub mod PlainPosts
 pub mod NamesAdded
 pub mod SoundLines
 pub mod NoCode
-pub mod AnswerFacts
+pub mod AnswersTellTexts
 pub mod Round

@@ -20,7 +20,7 @@ use Rattle.ccr_wiretext.specs.Grammar.{IsNew}
 use Rattle.ccr_wiretext.proofs.Each.{each_more}
 use Rattle.ccr_wiretext.proofs.NamesApart.{NamesApart, name_added}
 use Rattle.ccr_wiretext.proofs.Sound.{whole, KindFit}
-use Rattle.ccr_wiretext.proofs.LineFacts.{Known}
+use Rattle.ccr_wiretext.proofs.LinesFit.{Known}
 
 -- ---- one more of a list
 

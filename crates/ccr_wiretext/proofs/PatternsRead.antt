@@ -19,7 +19,7 @@ use Rattle.ccr_wiretext.specs.Drafts.{Declared}
 use Rattle.ccr_wiretext.specs.Fields.{port, interleave}
 use Rattle.ccr_wiretext.specs.Patterns.{pred, new_port, slot, slots, taken, gathered, pattern, members, all_members, is_combined, new_member, further, combined, causes}
 use Rattle.ccr_wiretext.specs.Grammar.{IsPort, IsPred, IsSlot, IsSlots, IsGather, IsPattern, ArePorts, IsInterleave, AreInterleaves, AreCauses}
-use Rattle.ccr_wiretext.proofs.Steps.{bind_ok, ok_is, unless_ok, or_code_ok, no_more_ok}
+use Rattle.ccr_wiretext.proofs.ReadTellsSteps.{bind_ok, ok_is, unless_ok, or_code_ok, no_more_ok}
 use Rattle.ccr_wiretext.proofs.FieldsRead.{within_said, within_read, number_read, limit_as, numbered_said, keyed, interleave_said, interleave_read}
 use Rattle.ccr_wiretext.proofs.Each.{neither}
 use Rattle.ccr_wiretext.proofs.PortsRead.{port_said, port_read}

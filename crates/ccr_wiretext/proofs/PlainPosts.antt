@@ -6,7 +6,7 @@ use Rattle.std.specs.Char.{is_ascii_digit}
 use Rattle.std.specs.Option.{option_map}
 use Rattle.std.proofs.lemmas.Bool.Decides.{nat_tests}
 use Rattle.std.proofs.lemmas.List.Splits.{join_with_byte-slice_split, length-slice_split}
-use Rattle.ccr_text.specs.Words.{is_digits, is_mark, number_of, value_after, words_of, is_clean}
+use Rattle.ccr_text.specs.Words.{is_digits, is_graphic, number_of, value_after, words_of, is_clean}
 use Rattle.ccr_text.specs.Lines.{cut, first_line}
 use Rattle.ccr_text.specs.Exact.{exact_number_of, number_first, parts, where_spelled}
 use Rattle.ccr_text.proofs.Digits.{digit_mark}
@@ -83,7 +83,7 @@ digits_alone digits n e = by (is_digits digits) (nat_lt (value_after 0 digits) (
     by true b is some = let parts = both (not (length digits == 0)) (list_all is_ascii_digit digits) is in (not_true (length digits == 0) parts.0, parts.1)
     by false b is some = absurd cc
 
-pub digits_marks : (digits : List ℕ) → list_all is_ascii_digit digits ≡ true → list_all is_mark digits ≡ true
+pub digits_marks : (digits : List ℕ) → list_all is_ascii_digit digits ≡ true → list_all is_graphic digits ≡ true
 digits_marks [] e = refl
 digits_marks (b ∷ digits) e = let parts = both (is_ascii_digit b) (list_all is_ascii_digit digits) e in rw (digit_mark b parts.0, digits_marks digits parts.1) refl
 
@@ -109,7 +109,7 @@ space_more : (so : List (List ℕ)) (rest text after : List ℕ) → IsSoFar so 
 space_more so rest text after taken is = taken_more so true rest text [] 32 after taken is refl refl no_feed
 
 -- one word more, and the space behind it
-word_more : (so : List (List ℕ)) (rest text word after : List ℕ) → IsSoFar so rest text → rest ≡ word ++ 32 ∷ after → list_all is_mark word ≡ true → (length word == 0) ≡ false → IsSoFar (so ++ word ∷ []) after text
+word_more : (so : List (List ℕ)) (rest text word after : List ℕ) → IsSoFar so rest text → rest ≡ word ++ 32 ∷ after → list_all is_graphic word ≡ true → (length word == 0) ≡ false → IsSoFar (so ++ word ∷ []) after text
 word_more so rest text word after taken is marks some =
     subst (λ (words : List (List ℕ)). IsSoFar (so ++ words) after text) (alone_is word some) (taken_more so true rest text word 32 after taken is marks refl no_feed)
 
@@ -132,7 +132,7 @@ indented_some text b bytes (inl same) = subst (λ (t : List ℕ). t ≢ []) (sym
 indented_some text b bytes (inr spaced) = subst (λ (t : List ℕ). t ≢ []) (sym spaced) (some_text 32 (codes " " ++ b ∷ bytes))
 
 -- what one scan finds is the line's
-pub post_found : (text rest words port numbers behind : List ℕ) (n : ℕ) → IsIndented text rest → rest ≡ codes "post " ++ words → words ≡ port ++ 32 ∷ numbers → list_all is_mark port ≡ true → port ≢ [] → number_first (parts 10 numbers) ≡ Some (n, parts 10 behind)
+pub post_found : (text rest words port numbers behind : List ℕ) (n : ℕ) → IsIndented text rest → rest ≡ codes "post " ++ words → words ≡ port ++ 32 ∷ numbers → list_all is_graphic port ≡ true → port ≢ [] → number_first (parts 10 numbers) ≡ Some (n, parts 10 behind)
     → (digits : List ℕ) × (number_of digits ≡ Some n) × (words_of (first_line text) ≡ codes "post" ∷ port ∷ digits ∷ []) × (is_clean (first_line text) ≡ true) × (cut text ≡ first_line text ∷ cut behind) × (length behind < length text)
 post_found text rest words port numbers behind n indented begins named marks some number =
     let found = number_found numbers behind n number in

@@ -14,7 +14,7 @@ use Rattle.ccr_wiretext.specs.Names.{as_port, as_set}
 use Rattle.ccr_wiretext.specs.Drafts.{Declared, members_of}
 use Rattle.ccr_wiretext.specs.Fields.{slash_index, member, set_port, port_at, port_of, port}
 use Rattle.ccr_wiretext.specs.Grammar.{IsPlain, IsPort}
-use Rattle.ccr_wiretext.proofs.Steps.{bind_ok, ok_is, or_code_ok}
+use Rattle.ccr_wiretext.proofs.ReadTellsSteps.{bind_ok, ok_is, or_code_ok}
 
 abbrev is_slash : ℕ → Bool
 is_slash b = b == 47

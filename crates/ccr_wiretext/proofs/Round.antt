@@ -11,4 +11,4 @@ pub mod Combining
 pub mod Posting
 pub mod Validity
 pub mod Fitting
-pub mod Whole
+pub mod TextSaysItsWiring

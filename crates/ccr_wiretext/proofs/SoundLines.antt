@@ -35,7 +35,7 @@ use Rattle.ccr_wiretext.proofs.Each.{each_push}
 use Rattle.ccr_wiretext.proofs.Fit.{ActionFit, BranchFit, PostFit}
 use Rattle.ccr_wiretext.proofs.SpotCounts.{uncrowded_more, arbiters_same}
 use Rattle.ccr_wiretext.proofs.Sound.{KindFit, Sound, queue_fits, port_fits, set_fits, cause_fits, handler_fits, arbiter_fits, poster_fits, domain_fits}
-use Rattle.ccr_wiretext.proofs.LineFacts.{policy_fit, members_fit, causes_fit, branch_fit, action_fit, value_fit, interleaves_fit, port_there, receive_group, group_may}
+use Rattle.ccr_wiretext.proofs.LinesFit.{policy_fit, members_fit, causes_fit, branch_fit, action_fit, value_fit, interleaves_fit, port_there, receive_group, group_may}
 use Rattle.ccr_wiretext.proofs.NamesAdded.{sum_push, flat_push, known_more, queue_adds, port_adds, set_adds, cause_adds, handler_adds, arbiter_adds, branch_adds, poster_adds, names_same, posters_same}
 
 -- the ports that an arbiter's spots name

@@ -16,7 +16,7 @@ use Rattle.ccr_wiretext.specs.Drafts.{Declared, nothing}
 use Rattle.ccr_wiretext.specs.Blocks.{line_in}
 use Rattle.ccr_wiretext.specs.Reading.{So, version_word, version_of, after_words, after_all, after_line, closed, at_end, at_line, reading_after, reading_text}
 use Rattle.ccr_wiretext.specs.Lines.{Says, IsBlank, AreLines, AreHeadedLines, IsText}
-use Rattle.ccr_wiretext.proofs.Steps.{bind_ok, ok_is, or_code_ok}
+use Rattle.ccr_wiretext.proofs.ReadTellsSteps.{bind_ok, ok_is, or_code_ok}
 use Rattle.ccr_wiretext.proofs.BlocksRead.{line_said, line_read}
 
 -- a line that is no comment, by its first word

@@ -14,9 +14,9 @@ use Rattle.ccr_text.specs.Words.{value_after, is_digits, number_of}
 use Rattle.ccr_text.specs.Fields.{or_code}
 use Rattle.ccr_wiretext.specs.Fields.{pieces, numbers_after, several, single, value_in}
 use Rattle.ccr_wiretext.specs.Grammar.{IsNumber, AreNumbers, IsList, IsOne, IsValueWord}
-use Rattle.ccr_wiretext.specs.Spelling.{value_word}
+use Rattle.ccr_text.specs.Exact.{value_word}
 use Rattle.ccr_wiretext.specs.Values.{IsNumeral}
-use Rattle.ccr_wiretext.proofs.Steps.{bind_ok, ok_is, or_code_ok}
+use Rattle.ccr_wiretext.proofs.ReadTellsSteps.{bind_ok, ok_is, or_code_ok}
 use Rattle.ccr_wiretext.proofs.Each.{both, neither}
 
 abbrev is_comma : ℕ → Bool

@@ -1,6 +1,6 @@
 -- The canonical text of the parts: which lines it has, and which words stand on each.
 use Rattle.std.specs.Prelude.{ℕ, List, [], ◌∷◌, ◌++◌, ◌==◌, if◌then◌else◌, map, flat_map, codes, decimal, unwrap_or}
-use Rattle.std.specs.List.{slice_get, join_with_byte}
+use Rattle.std.specs.List.{slice_get}
 use Rattle.std.specs.Option.{option_map_or}
 use Rattle.ccr_base.specs.declared.policies.Policy.{Policy}
 use Rattle.ccr_base.specs.declared.policies.Policy.TheVariants as policies
@@ -27,6 +27,7 @@ use Rattle.ccr_wiring.specs.declared.parts.PosterPart.{PosterPart}
 use Rattle.ccr_wiring.specs.declared.parts.DomainPart.{DomainPart}
 use Rattle.ccr_wiring.specs.declared.parts.Kind.TheVariants as arbiters
 use Rattle.ccr_text.specs.Spelling.{text_of}
+use Rattle.ccr_text.specs.Exact.{value_word}
 use Rattle.ccr_text.specs.Fields.{Words}
 
 -- the name of a port. The others are likewise
@@ -78,10 +79,6 @@ set_words parts part = codes "portset" ∷ part.name ∷ map (port_name parts) p
 -- the line of a cause
 abbrev pub cause_words : Parts → CausePart → Words
 cause_words parts part = codes "cause" ∷ part.name ∷ port_name parts part.port ∷ []
-
--- the numbers of a value, with commas between them
-abbrev pub value_word : List ℕ → List ℕ
-value_word value = join_with_byte 44 (map decimal value)
 
 -- how an expression is written
 abbrev pub expr_words : Expr → Words

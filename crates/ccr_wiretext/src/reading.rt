@@ -20,6 +20,9 @@ use ccr_wiring::{Parts, Unfit, Wiring};
 use std::alloc::Global;
 use std::marker::Model;
 
+/// The most bytes that a wiring or a service may have.
+pub const MAX_WIRING_TEXT: usize = 1_048_576;
+
 /// What is declared so far: nothing before the line that gives the version.
 #[derive(Drop)]
 struct Reader {
@@ -174,7 +177,7 @@ fn read_text(alloc: Global, text: &[u8]) -> Result<Parts, ReadRefused>
 }
 
 /// The parts that a text says, or its first offending line and the code. Near linear in the text's length.
-pub fn read_parts(alloc: Global, text: &[u8]) -> Result<Parts, ReadRefused>
+fn read_parts(alloc: Global, text: &[u8]) -> Result<Parts, ReadRefused>
     requires { length text.now ≤ most_wiring_bytes }
     ensures reading { IsReading result (reading_text text.now) }
     ensures grammar { IfOk result (λ parts. IsText text.now parts) }

@@ -1,7 +1,8 @@
 //! The words of the canonical lines.
 
 ghost use Rattle.std.specs.Prelude.{◌≡◌, [], ◌∷◌, ◌++◌, OnOk, IfOk, map, flat_map, decimal};
-ghost use Rattle.ccr_wiretext.specs.Spelling.{port_name, queue_name, cause_name, handler_name, arbiter_name, version_words, combine_words, value_word, budget_words, policy_words, queue_words, port_words, set_words, cause_words, expr_words, action_words, end_words, pred_words, slot_words, pattern_words, group_words, branch_words, post_words};
+ghost use Rattle.ccr_wiretext.specs.Spelling.{port_name, queue_name, cause_name, handler_name, arbiter_name, version_words, combine_words, budget_words, policy_words, queue_words, port_words, set_words, cause_words, expr_words, action_words, end_words, pred_words, slot_words, pattern_words, group_words, branch_words, post_words};
+ghost use Rattle.ccr_text.specs.Exact.{value_word};
 ghost use Rattle.std.specs.List.{All};
 ghost use Rattle.ccr_wiretext.specs.Values.{IsNumeral, IsValue, IsExprValued, IsActionValued, IsPredValued, IsPatternValued};
 

@@ -1,11 +1,11 @@
-pub mod NameLemmas
+pub mod RepeatedNames
 pub mod Lists
 pub mod Crowds
-pub mod SpotLemmas
+pub mod SpotsAreListed
 pub mod Validity
 pub mod Positions
 pub mod Noted
 pub mod Untaken
-pub mod DomainLemmas
+pub mod DomainsOfOwnKind
 pub mod Soundness
 pub mod Apart

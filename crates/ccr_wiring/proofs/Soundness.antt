@@ -28,8 +28,8 @@ use Rattle.ccr_wiring.specs.Limits.{is_outside, slot_is_outside, pattern_is_outs
 use Rattle.ccr_wiring.specs.Spots.{pattern_ports, times, named_ports, has_crowded}
 use Rattle.ccr_wiring.specs.Valid.{IsValid, IsSound, IsSmall, IsSlotFilled, IsPatternFilled, IsActionNamed, IsPostNamed}
 use Rattle.ccr_wiring.proofs.Lists.{neither, none_at}
-use Rattle.ccr_wiring.proofs.SpotLemmas.{length-placements}
-use Rattle.ccr_wiring.proofs.DomainLemmas.{kept_domain}
+use Rattle.ccr_wiring.proofs.SpotsAreListed.{length-placements}
+use Rattle.ccr_wiring.proofs.DomainsOfOwnKind.{kept_domain}
 use Rattle.ccr_wiring.proofs.Validity.{no_codes, within, few_branches, few_actions}
 
 -- a number that is not beyond the count is below it

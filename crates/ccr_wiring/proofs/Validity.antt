@@ -16,7 +16,7 @@ use Rattle.ccr_wiring.specs.Repeats.{has_repeat}
 use Rattle.ccr_wiring.specs.Versions.{has_strange_version, has_newer}
 use Rattle.ccr_wiring.specs.Codes.{code_of}
 use Rattle.ccr_wiring.proofs.Lists.{neither, none_at}
-use Rattle.ccr_wiring.proofs.SpotLemmas.{length-all_branches}
+use Rattle.ccr_wiring.proofs.SpotsAreListed.{length-all_branches}
 
 pub record Within (parts : Parts) : Type 0 where
   pub budget : nat_lt 10000 parts.budget ≡ false

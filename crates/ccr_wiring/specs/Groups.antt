@@ -20,6 +20,15 @@ may_have kinds.Interleave groups.Exclusive = true
 may_have kinds.Interleave groups.Concurrent = true
 may_have _ _ = false
 
+-- whether the group fires once at most
+abbrev pub is_once : Group → Bool
+is_once groups.Once = true
+is_once groups.Always = false
+is_once groups.Choice = false
+is_once groups.Teardown = false
+is_once groups.Exclusive = false
+is_once groups.Concurrent = false
+
 -- whether the kind is that of a receive
 abbrev pub is_receive : Kind → Bool
 is_receive kinds.Receive = true

@@ -73,6 +73,14 @@ abbrev pub branch_of : Spot → ℕ
 branch_of (Branch branch) = branch
 branch_of (Site branch site) = branch
 
+-- the queue of the spot's branch
+abbrev pub queue_of_spot : Parts → Spot → ℕ
+queue_of_spot wiring spot = option_map_or (λ (s : Placement). s.branch.queue) (placement wiring (branch_of spot)) 0
+
+-- the domain of the spot's branch
+abbrev pub domain_of_spot : Parts → Spot → ℕ
+domain_of_spot wiring spot = option_map_or (λ (s : Placement). s.domain) (placement wiring (branch_of spot)) 0
+
 -- whether the spot is a branch and not a site
 abbrev pub is_branch : Spot → Bool
 is_branch (Branch branch) = true

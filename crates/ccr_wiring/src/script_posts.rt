@@ -8,7 +8,7 @@ use std::marker::Model;
 
 /// What stands behind the port.
 #[derive(Drop)]
-enum Form {
+enum CompactPost {
     /// One number, and no cause.
     One(u64),
     Full(Box<Sent>),
@@ -17,7 +17,7 @@ enum Form {
 /// A post of a script; contracts see it as what is sent.
 #[derive(Drop)]
 pub struct ScriptPost {
-    form: Form,
+    compact: CompactPost,
     port: PortNo,
 }
 
@@ -27,7 +27,7 @@ impl Model for ScriptPost {
 
     ghost Value = { Seen };
 
-    ghost view = { λ post. sent_kept post.port post.form };
+    ghost view = { λ post. sent_kept post.port post.compact };
 }
 
 /// The number of a post that has one, and no cause.
@@ -50,37 +50,37 @@ impl ScriptPost {
         ensures { IfOk result (λ post. post ≡ sent) }
     {
         let port = sent.port;
-        let form = match one_number(&sent) {
-            Some(number) => Form::One(number),
-            None => Form::Full(Box::new(alloc, sent)?),
+        let compact = match one_number(&sent) {
+            Some(number) => CompactPost::One(number),
+            None => CompactPost::Full(Box::new(alloc, sent)?),
         };
-        Ok(ScriptPost { form, port })
+        Ok(ScriptPost { compact, port })
     }
 
     pub fn port(&self) -> PortNo
         ensures { result ≡ self.now.port }
     {
-        match &self.form {
-            Form::One(_) => self.port,
-            Form::Full(sent) => sent.port,
+        match &self.compact {
+            CompactPost::One(_) => self.port,
+            CompactPost::Full(sent) => sent.port,
         }
     }
 
     pub fn value(&self) -> Value
         ensures { result ≡ self.now.value }
     {
-        match &self.form {
-            Form::One(number) => Value::one(*number),
-            Form::Full(sent) => sent.value,
+        match &self.compact {
+            CompactPost::One(number) => Value::one(*number),
+            CompactPost::Full(sent) => sent.value,
         }
     }
 
     pub fn causes(&self) -> &[CauseNo]
         ensures { result.now ≡ self.now.causes }
     {
-        match &self.form {
-            Form::One(_) => &[],
-            Form::Full(sent) => sent.causes.as_slice(),
+        match &self.compact {
+            CompactPost::One(_) => &[],
+            CompactPost::Full(sent) => sent.causes.as_slice(),
         }
     }
 }

@@ -14,7 +14,7 @@ use Rattle.std.proofs.lemmas.List.Sums.{AllPass-from_list_all}
 use Rattle.clap.specs.Lexer.{has_byte, name_and_value, long_of, long_of_rest, short_of, short_of_rest, strip_byte}
 use Rattle.ccr_words.specs.Parts.{at_end, option_turn, Given, Part, State, Text, given_so_far, has, json, left_over, name_of, new_option_turn, option_of, schedule, size, takes_value, text_of, with_part, word, workers}
 use Rattle.ccr_words.specs.Table.{is_number, load_of, meaning, plain_request, request_of, number, number_or, workers_alone}
-use Rattle.ccr_words.specs.Said.{begins_with, given_after, asked_for, turn, next_turn, plain_turn}
+use Rattle.ccr_words.specs.AskedFor.{begins_with, given_after, asked_for, turn, next_turn, plain_turn}
 use Rattle.ccr_words.specs.Parsing.{begins_with_hyphen, hyphen_or_left_over, other_turn, value_turn, parsed_after, parsed_turn, parsed_said, texts}
 use Rattle.ccr_words.specs.declared.requests.Request.{Request}
 use Rattle.ccr_words.specs.declared.requests.Request.TheVariants.{Read}

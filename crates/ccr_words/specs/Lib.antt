@@ -1,5 +1,5 @@
 pub mod Parts
 pub mod Table
-pub mod Said
+pub mod AskedFor
 pub mod Parsing
 pub mod Clap

@@ -1,4 +1,4 @@
--- The same as `said`, in the order in which clap looks: each word has to be text, and a value that begins with a hyphen is
+-- The same as `asked_for`, in the order in which clap looks: each word has to be text, and a value that begins with a hyphen is
 -- refused at once. Only the private functions that call clap, and proofs, cite it; `proofs/Same` shows that both say the same.
 use Rattle.std.specs.Prelude.{◌≡◌, ◌||◌, ◌∷◌, Bool, true, false, List, [], Option, Some, None, if◌then◌else◌, codes, is_some, option_and_then}
 use Rattle.std.specs.List.{list_all}

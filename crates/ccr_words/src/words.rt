@@ -3,7 +3,7 @@
 ghost use Rattle.std.specs.Prelude.{◌≡◌, IfOk, IfSome};
 ghost use Rattle.ccr_words.specs.Parts.{Given};
 ghost use Rattle.ccr_words.specs.Table.{meaning, IsWithin};
-ghost use Rattle.ccr_words.specs.Said.{asked_for};
+ghost use Rattle.ccr_words.specs.AskedFor.{asked_for};
 ghost use Rattle.ccr_words.specs.Parsing.{HasGiven};
 
 use crate::parsing::{matches_of, texts_of};

@@ -28,7 +28,7 @@ use Rattle.ccr_claim.specs.declared.asks.Asked.{Asked}
 use Rattle.ccr_claim.specs.Attempts.{had_in}
 use Rattle.ccr_actor.specs.Actors.{State, name_at}
 use Rattle.ccr_runs.specs.Views.{queue_of}
-use Rattle.ccr_net.proofs.Parts.Marks.{has_name}
+use Rattle.ccr_net.proofs.Parts.PostsKeepMarks.{has_name}
 
 -- the items, less the marked ones where the claim is of a task that has fired
 abbrev pub unmarked_by : List TaskId → PortState → List Msg

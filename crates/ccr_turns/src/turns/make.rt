@@ -1,8 +1,8 @@
 //! Making the locks and their seats.
 
-ghost use Rattle.std.specs.Prelude.{◌≡◌, ◌≤◌, [], length, map, replicate, All, IfOk, vec_capacity};
+ghost use Rattle.std.specs.Prelude.{◌≡◌, ◌≤◌, ◌+◌, [], length, map, replicate, All, IfOk, vec_capacity};
 ghost use Rattle.std.specs.List.{AllZip, range_with_len};
-ghost use Rattle.ccr_base.specs.Bounds.{most_places};
+ghost use Rattle.ccr_base.specs.Bounds.{most_actors, most_places};
 ghost use Rattle.ccr_turns.specs.Logs.{fresh};
 ghost use Rattle.ccr_turns.specs.Views.{view};
 ghost use Rattle.ccr_turns.specs.Seated.{IsLaid};
@@ -56,7 +56,7 @@ impl<O: Kept> Turns<O> {
         seats: u32,
         keep: Keep,
     ) -> Result<(Turns<O>, List<Seat<O>>), OutOfMemory>
-        requires seats { (1 ≤ seats) × (seats ≤ 33) }
+        requires seats { (1 ≤ seats) × (seats ≤ most_actors + 1) }
         requires places { (1 ≤ length objects) × (length objects ≤ most_places) }
 
         ensures objects { IfOk result (λ made. starts made.0 ≡ objects) }

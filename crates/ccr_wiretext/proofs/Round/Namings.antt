@@ -11,7 +11,7 @@ use Rattle.ccr_base.proofs.Booleans.{not_refuted}
 use Rattle.ccr_text.specs.Words.{is_name_of}
 use Rattle.ccr_text.specs.Names.{meaning_of}
 use Rattle.ccr_wiring.specs.Names.{has_name, has_repeated, has_malformed}
-use Rattle.ccr_wiring.proofs.NameLemmas.{apart_left}
+use Rattle.ccr_wiring.proofs.RepeatedNames.{apart_left}
 use Rattle.ccr_wiretext.specs.declared.named.Named.{Named}
 use Rattle.ccr_wiretext.specs.Names.{Naming}
 use Rattle.ccr_wiretext.specs.Grammar.{IsNew, Refers}

@@ -14,7 +14,8 @@ use Rattle.ccr_wiretext.specs.Keywords.{keyword}
 use Rattle.ccr_wiretext.specs.Names.{Naming}
 use Rattle.ccr_wiretext.specs.Drafts.{Declared, script_count, with_poster, with_post, end_poster}
 use Rattle.ccr_wiretext.specs.Grammar.{IsNew}
-use Rattle.ccr_wiretext.specs.Spelling.{port_name, cause_name, value_word, post_words, end_words, poster_lines}
+use Rattle.ccr_wiretext.specs.Spelling.{port_name, cause_name, post_words, end_words, poster_lines}
+use Rattle.ccr_text.specs.Exact.{value_word}
 use Rattle.ccr_wiretext.specs.Values.{IsValue, IsPosterValued}
 use Rattle.ccr_wiretext.proofs.Each.{Each}
 use Rattle.ccr_wiretext.proofs.Fit.{PostFit, PosterFit}

@@ -22,7 +22,7 @@ use Rattle.ccr_wiretext.specs.Values.{IsPredValued, IsPatternValued}
 use Rattle.ccr_wiretext.proofs.Each.{Each, none_passes}
 use Rattle.ccr_wiretext.proofs.Fit.{SlotFit, PatternFit, BranchFit}
 use Rattle.ccr_wiretext.proofs.SpotCounts.{Uncrowded}
-use Rattle.ccr_wiretext.proofs.LineFacts.{same_ports}
+use Rattle.ccr_wiretext.proofs.LinesFit.{same_ports}
 use Rattle.ccr_wiretext.proofs.Round.Leads.{each_all}
 use Rattle.ccr_wiretext.proofs.Round.Terms.{Again, word_more, words_on, name_word, number_word, within_says, pred_says, pred_clean}
 use Rattle.ccr_wiretext.proofs.Round.Known.{KnowsPorts, KnowsQueues, KnowsHandlers, port_says, port_word, not_before}

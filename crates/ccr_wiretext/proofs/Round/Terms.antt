@@ -11,14 +11,15 @@ use Rattle.ccr_base.specs.declared.handlers.Expr.TheVariants as exprs
 use Rattle.ccr_base.specs.declared.patterns.Pred.{Pred}
 use Rattle.ccr_base.specs.declared.patterns.Pred.TheVariants as preds
 use Rattle.ccr_base.proofs.Booleans.{not_true}
-use Rattle.ccr_text.specs.Words.{is_mark, value_after, is_digits, number_of, may_be_in_name, is_name_of}
+use Rattle.ccr_text.specs.Words.{is_graphic, value_after, is_digits, number_of, may_be_in_name, is_name_of}
 use Rattle.ccr_text.specs.Spelling.{AreWords}
 use Rattle.ccr_text.specs.Fields.{Words}
 use Rattle.ccr_text.proofs.Digits.{digit_mark}
 use Rattle.ccr_wiring.specs.Versions.{is_long}
 use Rattle.ccr_wiretext.specs.Values.{IsNumeral, IsValue, IsExprValued, IsPredValued}
 use Rattle.ccr_wiretext.specs.Grammar.{IsPlain, IsNumber, IsWithin, IsPolicy, AreNumbers, IsOne, IsValueWord, IsExpr, IsPred}
-use Rattle.ccr_wiretext.specs.Spelling.{policy_words, value_word, expr_words, pred_words}
+use Rattle.ccr_wiretext.specs.Spelling.{policy_words, expr_words, pred_words}
+use Rattle.ccr_text.specs.Exact.{value_word}
 use Rattle.ccr_wiretext.proofs.Each.{Each, both}
 use Rattle.ccr_wiretext.proofs.Fit.{PolicyFit, OldFit, ExprFit}
 use Rattle.ccr_wiretext.proofs.Round.Leads.{each_all}
@@ -29,7 +30,7 @@ Again = (n : ℕ) → n < 2 ^ 64 → number_of (decimal n) ≡ Some n
 
 -- some bytes, and only bytes of words
 abbrev pub IsWord : List ℕ → Type 0
-IsWord word = ((length word == 0) ≡ false) × (list_all is_mark word ≡ true)
+IsWord word = ((length word == 0) ≡ false) × (list_all is_graphic word ≡ true)
 
 -- one word more
 pub word_more : (word : List ℕ) (words : Words) → IsWord word → AreWords words → AreWords (word ∷ words)
@@ -47,10 +48,10 @@ all_none : (f g : ℕ → Bool) → ((b : ℕ) → f b ≡ true → g b ≡ fals
 all_none f g none [] e = refl
 all_none f g none (b ∷ bytes) e = let parts = both (f b) (list_all f bytes) e in rw (none b parts.0, all_none f g none bytes parts.1) refl
 
-letter_mark : (b : ℕ) → is_ascii_alphabetic b ≡ true → is_mark b ≡ true
+letter_mark : (b : ℕ) → is_ascii_alphabetic b ≡ true → is_graphic b ≡ true
 letter_mark b e = grind (arith, nat_tests, e)
 
-name_mark : (b : ℕ) → may_be_in_name b ≡ true → is_mark b ≡ true
+name_mark : (b : ℕ) → may_be_in_name b ≡ true → is_graphic b ≡ true
 name_mark b e = grind (arith, nat_tests, e)
 
 letter_plain : (b : ℕ) → is_ascii_alphabetic b ≡ true → (b == 47) ≡ false
@@ -69,7 +70,7 @@ pub name_word : (name : List ℕ) → is_name_of name ≡ true → IsWord name
 name_word [] e = absurd cc
 name_word (first ∷ others) e =
     let parts = named_parts first others e in
-    (grind (arith, nat_tests), rw (letter_mark first parts.0, all_more may_be_in_name is_mark name_mark others parts.1) refl)
+    (grind (arith, nat_tests), rw (letter_mark first parts.0, all_more may_be_in_name is_graphic name_mark others parts.1) refl)
 
 pub name_plain : (name : List ℕ) → is_name_of name ≡ true → IsPlain name
 name_plain [] e = absurd cc
@@ -84,7 +85,7 @@ digits_word digits n e = by (is_digits digits && nat_lt (value_after 0 digits) (
     by true is h =
         let parts = both (is_digits digits) (nat_lt (value_after 0 digits) (2 ^ 64)) is in
         let digit = both (not (length digits == 0)) (list_all is_ascii_digit digits) parts.0 in
-        (not_true (length digits == 0) digit.0, all_more is_ascii_digit is_mark digit_mark digits digit.1)
+        (not_true (length digits == 0) digit.0, all_more is_ascii_digit is_graphic digit_mark digits digit.1)
     by false is h = absurd cc
 
 pub number_word : Again → (n : ℕ) → n < 2 ^ 64 → IsWord (decimal n)
@@ -114,9 +115,9 @@ numbers_again : Again → (value : List ℕ) → Each IsNumeral value → AreNum
 numbers_again again [] each = tt
 numbers_again again (n ∷ value) each = (again n each.0, numbers_again again value each.1)
 
-marks_on : (xs ys : List ℕ) → list_all is_mark xs ≡ true → list_all is_mark ys ≡ true → list_all is_mark (xs ++ ys) ≡ true
+marks_on : (xs ys : List ℕ) → list_all is_graphic xs ≡ true → list_all is_graphic ys ≡ true → list_all is_graphic (xs ++ ys) ≡ true
 marks_on [] ys first second = second
-marks_on (b ∷ xs) ys first second = let parts = both (is_mark b) (list_all is_mark xs) first in rw (parts.0, marks_on xs ys parts.1 second) refl
+marks_on (b ∷ xs) ys first second = let parts = both (is_graphic b) (list_all is_graphic xs) first in rw (parts.0, marks_on xs ys parts.1 second) refl
 
 -- two words with a comma between them
 with_comma : (xs ys : List ℕ) → IsWord xs → IsWord ys → IsWord (xs ++ 44 ∷ ys)

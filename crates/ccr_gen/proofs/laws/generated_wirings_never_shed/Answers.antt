@@ -1,4 +1,4 @@
-use Rattle.ccr_gen.proofs.Whole.{few_posts, never_shed}
+use Rattle.ccr_gen.proofs.PostsNeverGrow.{few_posts, never_shed}
 use Rattle.ccr_gen.proofs.laws.generated_wirings_never_shed.Goals as goal
 
 pub returns-clause-posts : goal.returns-clause-posts

@@ -1,6 +1,6 @@
 use Rattle.std.proofs.Common.{◌∙◌, sym, ap, append-nil}
 use Rattle.ccr_ledger.specs.Rows.{row}
-use Rattle.ccr_ledger.proofs.Rest.{taken-one}
+use Rattle.ccr_ledger.proofs.GrowingRows.{taken-one}
 use Rattle.ccr_ledger.proofs.asked.row_of.Goals as goal
 use Rattle.ccr_ledger.proofs.asked.row_of.Goals.{in-Some+in_ok-push, in_default}
 

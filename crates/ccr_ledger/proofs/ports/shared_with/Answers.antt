@@ -1,5 +1,5 @@
 use Rattle.std.proofs.Common.{arith}
-use Rattle.ccr_ledger.proofs.Rest.{shares-none}
+use Rattle.ccr_ledger.proofs.GrowingRows.{shares-none}
 use Rattle.ccr_ledger.proofs.ports.shared_with.Goals as goal
 
 pub returns-else-number-len-clause-shared : goal.returns-else-number-len-clause-shared

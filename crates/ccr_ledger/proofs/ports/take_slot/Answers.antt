@@ -1,5 +1,5 @@
 use Rattle.std.proofs.Common.{arith}
-use Rattle.ccr_ledger.proofs.Rest.{takes-none-fitting}
+use Rattle.ccr_ledger.proofs.GrowingRows.{takes-none-fitting}
 use Rattle.ccr_ledger.proofs.ports.take_slot.Goals as goal
 
 pub returns-else-number-len-clause-taken : goal.returns-else-number-len-clause-taken

@@ -1,5 +1,5 @@
-use Rattle.ccr_net.proofs.Played.Asks.{ask_facts}
-use Rattle.ccr_net.proofs.Played.Places.{stands}
+use Rattle.ccr_net.proofs.Played.NextAsksAreMet.{ask_facts}
+use Rattle.ccr_net.proofs.Played.PlacesByNumber.{stands}
 use Rattle.ccr_net.proofs.laws.asks_name_what_the_wiring_has.Goals as goal
 
 pub returns-clause-known : goal.returns-clause-known

@@ -1,4 +1,4 @@
-use Rattle.ccr_net.proofs.Kept.Closers.{closers_start}
+use Rattle.ccr_net.proofs.Kept.ClosersFireNothing.{closers_start}
 use Rattle.ccr_net.proofs.laws.closers_are_new_to_runs.Goals as goal
 
 pub returns : goal.returns

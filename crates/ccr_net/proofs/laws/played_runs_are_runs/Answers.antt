@@ -1,5 +1,5 @@
-use Rattle.ccr_net.proofs.Played.Facts.{step_facts}
-use Rattle.ccr_net.proofs.Played.Runs.{played}
+use Rattle.ccr_net.proofs.Played.EachPlaceAnswers.{step_facts}
+use Rattle.ccr_net.proofs.Played.PlayedRunsAreRuns.{played}
 use Rattle.ccr_net.proofs.laws.played_runs_are_runs.Goals as goal
 
 pub returns-clause-run : goal.returns-clause-run

@@ -1,4 +1,4 @@
-use Rattle.ccr_net.proofs.Kept.Refines.{visible_legal, visible_covered}
+use Rattle.ccr_net.proofs.Kept.RunsAreLegal.{visible_legal, visible_covered}
 use Rattle.ccr_net.proofs.laws.visible_runs_are_legal_and_covered.Goals as goal
 
 pub returns-clause-legal : goal.returns-clause-legal

@@ -1,7 +1,7 @@
 use Rattle.std.proofs.Common.{◌≡◌, IfOk, sym, ◌∙◌, ap, subst}
 use Rattle.ccr_object.specs.Objects.{after_at, placed}
 use Rattle.ccr_net.specs.Acted.{deed_at, placed_in}
-use Rattle.ccr_net.proofs.Played.Acted.{deed_given, on_ok, on_err, placed_in-here, placed_in-set, placed_in-other}
+use Rattle.ccr_net.proofs.Played.OneMoreAct.{deed_given, on_ok, on_err, placed_in-here, placed_in-set, placed_in-other}
 use Rattle.ccr_net.proofs.plain.answer_at.Goals as goal
 
 pub returns-clause-deed : goal.returns-clause-deed

@@ -1,6 +1,6 @@
 use Rattle.std.proofs.Common.{◌+◌, sym, subst}
 use Rattle.ccr_net.specs.Schedules.{AreStarted}
-use Rattle.ccr_net.proofs.Played.Turns.{started_push}
+use Rattle.ccr_net.proofs.Played.PlayedRunsGoOn.{started_push}
 use Rattle.ccr_net.proofs.schedules.all_actors.Goals as goal
 
 pub loop-number-preserved : goal.loop-number-preserved

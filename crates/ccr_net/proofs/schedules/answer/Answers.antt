@@ -1,7 +1,7 @@
 use Rattle.std.proofs.Common.{ap, ◌∙◌}
 use Rattle.ccr_claim.specs.Asks.{fits}
-use Rattle.ccr_net.proofs.Played.Acted.{ok_both}
-use Rattle.ccr_net.proofs.Played.Turns.{answer_of}
+use Rattle.ccr_net.proofs.Played.OneMoreAct.{ok_both}
+use Rattle.ccr_net.proofs.Played.PlayedRunsGoOn.{answer_of}
 use Rattle.ccr_net.proofs.schedules.answer.Goals as goal
 
 pub reply-requires-clause-met : goal.reply-requires-clause-met

@@ -1,7 +1,7 @@
 use Rattle.std.proofs.Common.{◌<◌, sym, subst}
 use Rattle.ccr_actor.specs.Acting.{Acting}
-use Rattle.ccr_net.proofs.Played.Acted.{ok_ok}
-use Rattle.ccr_net.proofs.Played.Turns.{step_of}
+use Rattle.ccr_net.proofs.Played.OneMoreAct.{ok_ok}
+use Rattle.ccr_net.proofs.Played.PlayedRunsGoOn.{step_of}
 use Rattle.ccr_net.proofs.schedules.make_step.Goals as goal
 
 pub answer-requires-clause-seat : goal.answer-requires-clause-seat

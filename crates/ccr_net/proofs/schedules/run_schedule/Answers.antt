@@ -8,7 +8,7 @@ use Rattle.ccr_actor.specs.Acting.{Acting}
 use Rattle.ccr_runs.specs.declared.entries.Entry.{Entry}
 use Rattle.ccr_runs.specs.EntryRuns.{made_by, never, scheduled_from, with_made, IsRunAfter}
 use Rattle.ccr_net.specs.Schedules.{AreStarted, IsPlayed}
-use Rattle.ccr_net.proofs.Played.Turns.{ahead_so, played_run, played_start}
+use Rattle.ccr_net.proofs.Played.PlayedRunsGoOn.{ahead_so, played_run, played_start}
 use Rattle.ccr_net.proofs.schedules.run_schedule.Goals as goal
 
 pub loop-turn-init : goal.loop-turn-init

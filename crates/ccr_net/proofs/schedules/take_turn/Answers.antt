@@ -2,8 +2,8 @@ use Rattle.std.proofs.Common.{◌≡◌, false, get_or, sym, ap, ◌∙◌}
 use Rattle.std.proofs.lemmas.Option.{slice_get-get_or}
 use Rattle.ccr_actor.specs.Acting.{is_at_rest}
 use Rattle.ccr_runs.specs.EntryRuns.{never}
-use Rattle.ccr_net.proofs.Played.Acted.{ok_ok}
-use Rattle.ccr_net.proofs.Played.Turns.{acting_quiet, acting_so, asks_one, met_so, rest_made, rests, same_read, seat_few, step_made, step_played}
+use Rattle.ccr_net.proofs.Played.OneMoreAct.{ok_ok}
+use Rattle.ccr_net.proofs.Played.PlayedRunsGoOn.{acting_quiet, acting_so, asks_one, met_so, rest_made, rests, same_read, seat_few, step_made, step_played}
 use Rattle.ccr_net.proofs.schedules.take_turn.Goals as goal
 
 pub returns-then-at_rest-clause-made : goal.returns-then-at_rest-clause-made

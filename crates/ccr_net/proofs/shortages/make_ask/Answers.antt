@@ -4,7 +4,7 @@ use Rattle.ccr_claim.specs.Asks.{is_refusable}
 use Rattle.ccr_actor.specs.Acting.{Acting, shortened}
 use Rattle.ccr_net.specs.Schedules.{IsAnswered}
 use Rattle.ccr_net.specs.Shortages.{is_refused}
-use Rattle.ccr_net.proofs.Played.Refusals.{refusable, taken_turn}
+use Rattle.ccr_net.proofs.Played.RefusedActorsGoOn.{refusable, taken_turn}
 use Rattle.ccr_net.proofs.shortages.make_ask.Goals as goal
 
 pub answer-requires-clause-met : goal.answer-requires-clause-met

@@ -9,8 +9,8 @@ use Rattle.ccr_actor.specs.Acting.{Acting}
 use Rattle.ccr_runs.specs.EntryRuns.{never, IsRun}
 use Rattle.ccr_net.specs.Schedules.{AreStarted, IsPlayed}
 use Rattle.ccr_net.specs.Shortages.{nothing_yet}
-use Rattle.ccr_net.proofs.Played.Refusals.{IsAhead, ahead_ends, ahead_on, ahead_run, shortened_none}
-use Rattle.ccr_net.proofs.Played.Turns.{played_start}
+use Rattle.ccr_net.proofs.Played.RefusedActorsGoOn.{IsAhead, ahead_ends, ahead_on, ahead_run, shortened_none}
+use Rattle.ccr_net.proofs.Played.PlayedRunsGoOn.{played_start}
 use Rattle.ccr_net.proofs.shortages.run_short.Goals as goal
 
 pub loop-turn-init : goal.loop-turn-init

@@ -1,4 +1,4 @@
-use Rattle.ccr_net.proofs.Played.Refusals.{IsAhead}
+use Rattle.ccr_net.proofs.Played.RefusedActorsGoOn.{IsAhead}
 use Rattle.ccr_net.proofs.shortages.run_short.Given as goal
 
 -- the turns so far, and those still to come, give the whole run

@@ -1,8 +1,8 @@
 use Rattle.std.proofs.Common.{◌≡◌, false, get_or, sym, ap, ◌∙◌}
 use Rattle.std.proofs.lemmas.Option.{slice_get-get_or}
 use Rattle.ccr_actor.specs.Acting.{is_at_rest}
-use Rattle.ccr_net.proofs.Played.Refusals.{if_ok, rest_turned, turn_few, turn_turned, turn_wiring}
-use Rattle.ccr_net.proofs.Played.Turns.{acting_quiet, acting_so, asks_one, met_so, rests, same_read, seat_few}
+use Rattle.ccr_net.proofs.Played.RefusedActorsGoOn.{if_ok, rest_turned, turn_few, turn_turned, turn_wiring}
+use Rattle.ccr_net.proofs.Played.PlayedRunsGoOn.{acting_quiet, acting_so, asks_one, met_so, rests, same_read, seat_few}
 use Rattle.ccr_net.proofs.shortages.take_turn.Goals as goal
 
 pub returns-then-at_rest-clause-run : goal.returns-then-at_rest-clause-run

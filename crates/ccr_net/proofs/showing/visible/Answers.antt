@@ -1,6 +1,6 @@
 use Rattle.std.proofs.Common.{◌≡◌, true, sym, subst}
 use Rattle.ccr_model.specs.Legal.{IsLegal, is_covered}
-use Rattle.ccr_net.proofs.Kept.Refines.{visible_legal, visible_covered}
+use Rattle.ccr_net.proofs.Kept.RunsAreLegal.{visible_legal, visible_covered}
 use Rattle.ccr_net.proofs.showing.visible.Goals as goal
 
 pub returns-clause-legal : goal.returns-clause-legal

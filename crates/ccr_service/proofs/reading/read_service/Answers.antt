@@ -1,7 +1,7 @@
 use Rattle.std.proofs.Common.{Err, subst, sym}
 use Rattle.ccr_service.specs.Grammar.{IsText}
 use Rattle.ccr_service.proofs.Keeping.{read_so}
-use Rattle.ccr_service.proofs.Said.{said_of, says_nothing}
+use Rattle.ccr_service.proofs.ReadingIsExact.{said_of, says_nothing}
 use Rattle.ccr_service.proofs.reading.read_service.Goals as goal
 
 pub of-requires : goal.of-requires

@@ -1,4 +1,4 @@
-use Rattle.ccr_wiretext.proofs.Round.Whole.{written_read}
+use Rattle.ccr_wiretext.proofs.Round.TextSaysItsWiring.{written_read}
 use Rattle.ccr_wiretext.proofs.laws.what_is_written_is_read.Goals as goal
 
 pub returns : goal.returns

@@ -1,4 +1,4 @@
-use Rattle.ccr_wiretext.proofs.AnswerFacts.{says, is_valid, says_nothing}
+use Rattle.ccr_wiretext.proofs.AnswersTellTexts.{says, is_valid, says_nothing}
 use Rattle.ccr_wiretext.proofs.reading.read_parts.Goals as goal
 
 pub returns-clause-grammar : goal.returns-clause-grammar

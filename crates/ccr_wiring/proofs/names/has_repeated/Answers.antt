@@ -1,7 +1,7 @@
 use Rattle.std.proofs.Common.{◌≡◌, ℕ, ◌+◌, List, [], ◌∷◌, ◌++◌, map, drop, get_or, Bor, sym, ap, subst, ◌∙◌}
 use Rattle.std.specs.Prelude.{if◌then◌else◌}
 use Rattle.ccr_wiring.specs.Names.{has_repeated}
-use Rattle.ccr_wiring.proofs.NameLemmas.{repeated_from_none, repeated_after, seen_again, seen_next, not_false, not_true}
+use Rattle.ccr_wiring.proofs.RepeatedNames.{repeated_from_none, repeated_after, seen_again, seen_next, not_false, not_true}
 use Rattle.ccr_wiring.proofs.names.has_repeated.Goals as goal
 
 pub loop-name-init : goal.loop-name-init

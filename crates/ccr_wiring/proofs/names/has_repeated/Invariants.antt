@@ -1,6 +1,6 @@
 use Rattle.std.proofs.Common.{◌≡◌, map, drop}
 use Rattle.ccr_wiring.specs.Names.{has_repeated}
-use Rattle.ccr_wiring.proofs.NameLemmas.{repeated_after}
+use Rattle.ccr_wiring.proofs.RepeatedNames.{repeated_after}
 use Rattle.ccr_wiring.proofs.names.has_repeated.Given as goal
 
 -- what is left has a name that was seen, or one twice

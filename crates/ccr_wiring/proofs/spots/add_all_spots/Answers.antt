@@ -1,7 +1,7 @@
 use Rattle.std.proofs.Common.{◌≡◌, List, ◌++◌, ◌+◌, length, drop, sym, ap, ◌∙◌, length-append, arith}
 use Rattle.ccr_wiring.specs.declared.parts.BranchPart.{BranchPart}
 use Rattle.ccr_wiring.specs.Spots.{branch_spots, all_branches}
-use Rattle.ccr_wiring.proofs.SpotLemmas.{all_drop, spots_next}
+use Rattle.ccr_wiring.proofs.SpotsAreListed.{all_drop, spots_next}
 use Rattle.ccr_wiring.proofs.spots.add_all_spots.Goals as goal
 
 pub loop-arbiter-preserved : goal.loop-arbiter-preserved

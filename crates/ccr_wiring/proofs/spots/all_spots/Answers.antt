@@ -1,5 +1,5 @@
 use Rattle.std.proofs.Common.{sym, ◌∙◌, arith}
-use Rattle.ccr_wiring.proofs.SpotLemmas.{spots_listed}
+use Rattle.ccr_wiring.proofs.SpotsAreListed.{spots_listed}
 use Rattle.ccr_wiring.proofs.Validity.{few_branches}
 use Rattle.ccr_wiring.proofs.spots.all_spots.Goals as goal
 

@@ -5,7 +5,7 @@ use Rattle.ccr_actor.specs.declared.course.Part.TheVariants as parts
 use Rattle.ccr_actor.specs.Actors.{State}
 use Rattle.ccr_actor.specs.Courses.{IsAnswered, IsStep, answer_needs, answer_unnumbered, heard_needs, state_of, target}
 use Rattle.ccr_actor.proofs.Needed.{driven_needs, on_err}
-use Rattle.ccr_actor.proofs.Steps.{always_ok, first_spot, driven_target}
+use Rattle.ccr_actor.proofs.StepsOfAttempts.{always_ok, first_spot, driven_target}
 use Rattle.ccr_actor.proofs.course.Course.answer.Goals as goal
 
 pub returns-in-Drive-clause-step : goal.returns-in-Drive-clause-step

@@ -7,7 +7,7 @@ use Rattle.ccr_actor.specs.Acting.{kept}
 use Rattle.ccr_actor.specs.Actors.{State, end_attempt}
 use Rattle.ccr_actor.specs.Courses.{EndsSo, IsHeard, IsGivenUp, IsPast, is_memory, fired_on, heard, heard_needs, state_of}
 use Rattle.ccr_actor.proofs.Needed.{heard_wants, on_err, wants}
-use Rattle.ccr_actor.proofs.Steps.{heard_in, ends, first_spot, is_first, hand_alone, fired_in, given_in, always_ok, always_err}
+use Rattle.ccr_actor.proofs.StepsOfAttempts.{heard_in, ends, first_spot, is_first, hand_alone, fired_in, given_in, always_ok, always_err}
 use Rattle.ccr_actor.proofs.course.Course.hear.Goals as goal
 
 fired_so : (c : goal.After-fire) (spot : Spot) (more : List Spot) → c.args.self.now.spots ≡ spot ∷ more → EndsSo (heard c.args.self.now.wiring.now c.args.self.now.number (state_of c.args.self.now) spot more c.args.reply) (fired_on c.args.self.now.wiring.now (state_of c.args.self.now) spot more c.in-Fired.waits c.answer.new.attempt.hand) c.answer.new.attempt

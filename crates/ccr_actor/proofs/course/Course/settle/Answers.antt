@@ -4,7 +4,7 @@ use Rattle.ccr_claim.specs.Attempts.{over_dropped}
 use Rattle.ccr_actor.specs.Acting.{kept}
 use Rattle.ccr_actor.specs.Actors.{State, admit_too}
 use Rattle.ccr_actor.specs.Courses.{IsStep, dropped_by, state_of}
-use Rattle.ccr_actor.proofs.Steps.{ends_kept, past_phase, same_state, settled_drop}
+use Rattle.ccr_actor.proofs.StepsOfAttempts.{ends_kept, past_phase, same_state, settled_drop}
 use Rattle.ccr_actor.proofs.course.Course.settle.Goals as goal
 
 pub returns-in-Some-clause-step : goal.returns-in-Some-clause-step

@@ -1,7 +1,7 @@
 use Rattle.std.proofs.Common.{subst, sym}
 use Rattle.ccr_runs.specs.EntryRuns.{IsRun}
 use Rattle.ccr_net.specs.Served.{Served}
-use Rattle.ccr_net.proofs.Owed.Serving.{roomy_run}
+use Rattle.ccr_net.proofs.Owed.ServingKeepsRoom.{roomy_run}
 use Rattle.ccr_net.proofs.net.PlainNet.full.Goals as goal
 
 pub returns-clause-run : goal.returns-clause-run

@@ -4,7 +4,7 @@ use Rattle.ccr_wiring.specs.declared.parts.Parts.{Parts}
 use Rattle.ccr_wiring.specs.Valid.{IsValid}
 use Rattle.ccr_wiring.proofs.Soundness.{sound}
 use Rattle.ccr_net.specs.Served.{seats}
-use Rattle.ccr_net.proofs.Owed.Serving.{roomy_start}
+use Rattle.ccr_net.proofs.Owed.ServingKeepsRoom.{roomy_start}
 use Rattle.ccr_net.proofs.net.PlainNet.start.Goals as goal
 
 pub overflow_cast-posters : goal.overflow_cast-posters

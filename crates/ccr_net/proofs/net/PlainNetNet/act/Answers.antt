@@ -10,8 +10,8 @@ use Rattle.ccr_net.specs.Owed.{cost, gain, most}
 use Rattle.ccr_runs.specs.Played.{entry_of, number_at, steps_in}
 use Rattle.ccr_runs.specs.EntryRuns.{entry_for, replies_of, with_made}
 use Rattle.ccr_net.specs.Served.{Served}
-use Rattle.ccr_net.proofs.Known.Replies.{reply_named}
-use Rattle.ccr_net.proofs.Owed.Serving.{acts_from, act_added, act_costs, act_gains, act_heard, act_made, act_met, act_others, act_roomy, act_seat, free_so, push_so, room_so, some_so}
+use Rattle.ccr_net.proofs.Known.RepliesAreKnown.{reply_named}
+use Rattle.ccr_net.proofs.Owed.ServingKeepsRoom.{acts_from, act_added, act_costs, act_gains, act_heard, act_made, act_met, act_others, act_roomy, act_seat, free_so, push_so, room_so, some_so}
 use Rattle.ccr_net.proofs.net.PlainNetNet.act.Goals as goal
 
 pub reply-requires-clause-seat : goal.reply-requires-clause-seat

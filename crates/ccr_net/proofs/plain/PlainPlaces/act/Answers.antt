@@ -7,8 +7,8 @@ use Rattle.ccr_object.specs.Objects.{after_at}
 use Rattle.ccr_runs.specs.declared.acts.Act.{Act}
 use Rattle.ccr_net.specs.Acted.{act_after, act_at, deed_at, scene_after, stamp_of, placed_in, seen_acts, IsLeft, PlainState}
 use Rattle.ccr_runs.specs.Played.{position_of}
-use Rattle.ccr_net.proofs.Played.Acted.{IsLeft-act, act_here, seen-push}
-use Rattle.ccr_net.proofs.Played.Fitting.{fitting_answer}
+use Rattle.ccr_net.proofs.Played.OneMoreAct.{IsLeft-act, act_here, seen-push}
+use Rattle.ccr_net.proofs.Played.AnswersFit.{fitting_answer}
 use Rattle.ccr_net.proofs.plain.PlainPlaces.act.Goals as goal
 
 -- the stamp, by what the acts left

@@ -1,7 +1,7 @@
 use Rattle.std.proofs.Common.{sym, ◌∙◌}
 use Rattle.ccr_runs.specs.Played.{number_at}
 use Rattle.ccr_net.specs.Acted.{scene_after}
-use Rattle.ccr_net.proofs.Played.Fitting.{met_replies}
+use Rattle.ccr_net.proofs.Played.AnswersFit.{met_replies}
 use Rattle.ccr_net.proofs.plain.PlainPlaces.reply.Goals as goal
 
 pub unreachable-requires-in_default-answer : goal.unreachable-requires-in_default-answer

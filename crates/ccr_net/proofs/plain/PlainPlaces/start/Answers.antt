@@ -3,7 +3,7 @@ use Rattle.ccr_object.specs.declared.deed.Deed.{Deed}
 use Rattle.ccr_object.specs.Objects.{placed}
 use Rattle.ccr_runs.specs.declared.acts.Act.{Act}
 use Rattle.ccr_net.specs.Acted.{IsLeft}
-use Rattle.ccr_net.proofs.Played.Acted.{IsLeft-start}
+use Rattle.ccr_net.proofs.Played.OneMoreAct.{IsLeft-start}
 use Rattle.ccr_net.proofs.plain.PlainPlaces.start.Goals as goal
 
 pub invariant_of-result : goal.invariant_of-result

@@ -1,11 +1,11 @@
 use Rattle.std.proofs.Common.{◌+◌, max, [], ◌∷◌, ◌++◌, ◌∙◌, sym, ap, arith, Some, None}
 use lib.ListN.{get_elem?}
-use Rattle.ccr_turns.specs.Logs.{log, mark, marks_of}
+use Rattle.ccr_turns.specs.Logs.{log, log_entry, logged_of}
 use Rattle.ccr_turns.specs.Lists.{last_of}
 use Rattle.ccr_turns.specs.Views.{view, hold}
 use Rattle.ccr_turns.specs.Histories.{history_stamps, past}
 use Rattle.ccr_turns.specs.Locks.{log_of}
-use Rattle.ccr_turns.proofs.Acting.{at_rest, rests, ready, turn_of, after_entry, last_mark}
+use Rattle.ccr_turns.proofs.Acting.{at_rest, rests, ready, turn_of, after_entry, last_logged}
 use Rattle.ccr_turns.proofs.turns.Turns.act.Goals as goal
 
 pub win-cell-requires : goal.win-cell-requires
@@ -28,7 +28,7 @@ enter-requires-clause-entry g c =
     let acted = c.in-Ok.ensures.acted in
     record {
       number = seat.number;
-      marks = log_of seat;
+      logged = log_of seat;
       before = past c.win-cell.result;
       now = g.O.Kept.value c.win-cell.result.object;
       entry = acted.1.0;
@@ -48,11 +48,11 @@ invariant_of-seat g c =
     let took = c.win-cell.ensures.took in
     let acted = c.in-Ok.ensures.acted in
     let e = acted.1.0 in
-    let more = mark c.args.place e.stamp e.note (g.O.Kept.value c.win-cell.result.object) (last_of 0 (history_stamps (past c.win-cell.result))) in
+    let more = log_entry c.args.place e.stamp e.note (g.O.Kept.value c.win-cell.result.object) (last_of 0 (history_stamps (past c.win-cell.result))) in
     record {
       rests = rests _ _ (log_of seat ++ more ∷ []) _
           (after_entry _ _ _ _ _ _ e _ _ c.play.new.cell (turn_of _ (log_of seat) _ _ _ _ _ _ is took.0 took.1) acted.1.1 c.enter.ensures.entered)
-          (last_mark (log_of seat) more ∙ acted.1.5);
+          (last_logged (log_of seat) more ∙ acted.1.5);
     }
 
 pub returns-in-Ok-clause-ok : goal.returns-in-Ok-clause-ok
@@ -66,7 +66,7 @@ returns-in-Ok-clause-ok g c =
       e.note,
       g.O.Kept.value c.win-cell.result.object,
       last_of 0 (history_stamps (past c.win-cell.result)),
-      ap (λ m. marks_of m.0.logs) (after_entry _ _ _ _ _ _ e _ _ c.play.new.cell (turn_of _ (log_of seat) _ _ _ _ _ _ is took.0 took.1) acted.1.1 c.enter.ensures.entered),
+      ap (λ m. logged_of m.0.logs) (after_entry _ _ _ _ _ _ e _ _ c.play.new.cell (turn_of _ (log_of seat) _ _ _ _ _ _ is took.0 took.1) acted.1.1 c.enter.ensures.entered),
       acted.1.5 ∙ (acted.0 ∙ ap (λ n. max (last_of 0 (history_stamps (past c.win-cell.result))) n + 1) (sym seat.rests.3)),
       acted.1.3,
     )

@@ -6,7 +6,7 @@ use Rattle.ccr_claim.specs.declared.asks.Asked.{Asked}
 use Rattle.ccr_claim.specs.Asks.{fits}
 use Rattle.ccr_actor.specs.Acting.{Acting}
 use Rattle.ccr_object.specs.Objects.{is_due}
-use Rattle.ccr_runs.specs.Played.{number_at, position_of, rules}
+use Rattle.ccr_runs.specs.Played.{number_at, position_of, protocol}
 use Rattle.ccr_runs.specs.EntryRuns.{never}
 use Rattle.ccr_space.specs.Spaces.{IsGoing, IsHeard, log, number, wiring_of}
 use Rattle.ccr_space.proofs.Stepping.{Stepped, acts_due, comes_next, heard_on, made_met, stepped, unmet_not}
@@ -38,7 +38,7 @@ returns-in-Ok-clause-pass g c =
     let same = c.act.ensures.seat.1 in
     record {
       seat = c.act.ensures.seat.0;
-      proper = subst (λ n. IsProper (rules w never) (record { actor = n; given = [] }) 0 (log_of c.act.new.seat)) (sym same) s.proper;
+      proper = subst (λ n. IsProper (protocol w never) (record { actor = n; given = [] }) 0 (log_of c.act.new.seat)) (sym same) s.proper;
       going = λ on. subst (λ n. IsGoing w n (log_of c.act.new.seat) c.heard-step.new.actor) (sym same)
           (heard_on w k (log c.args.pass.now) (log_of c.act.new.seat) c.args.pass.now.actor c.heard-step.new.actor (one_of g c) c.in-Ok.answer (going g c) c.ask-place.ensures.asked
           (subst (λ (a : Acting). IsHeard a c.in-Ok.answer c.heard-step.new.actor) c.ask-place.ensures.sent (c.heard-step.ensures.going on)) s.state);
